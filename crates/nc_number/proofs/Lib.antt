@@ -1,0 +1,11 @@
+pub mod DecimalDigits
+pub mod Halves
+pub mod LastDigits
+pub mod PrintedRoom
+pub mod ReadsBack
+pub mod Remainders
+pub mod Roots
+pub mod Spellings
+pub mod TrailingZeros
+pub mod Wide
+pub mod WordLiterals

@@ -1,0 +1,12 @@
+-- How long the printed parts are.
+use Rattle.std.proofs.Common.{ℕ, ◌≤◌, ◌^◌, ◌/◌, length, arith}
+use Rattle.std.specs.Fmt.{decimal}
+use Rattle.std.proofs.lemmas.Fmt.{length-decimal-le}
+
+-- the whole part of a value
+pub value_room : (size : ℕ) → size ≤ 99999999999999 → length (decimal (size / 1000000)) ≤ 8
+value_room size small = length-decimal-le 8 (size / 1000000) (omega arith) (omega arith) (omega arith)
+
+-- the whole part of a length
+pub length_room : (size : ℕ) → size ≤ 2 ^ 63 → length (decimal (size / 1000)) ≤ 16
+length_room size small = length-decimal-le 16 (size / 1000) (omega arith) (omega arith) (omega arith)

@@ -1,0 +1,35 @@
+-- What remainders are.
+use Rattle.std.proofs.Common.{◌≡◌, ◌≢◌, ◌<◌, ◌%◌, suc, ℤ, pos, negsuc, ◌+ℤ◌, ◌*ℤ◌, ◌-ℤ◌, Bool, true, false, cond, refl, sym, subst, ◌∙◌}
+use Rattle.std.specs.Prelude.{unsigned_abs, int_rem, int_div, Ok, Err}
+use Rattle.std.specs.Int.{is_negative}
+use Rattle.std.proofs.lemmas.Int.{rem_below, quot-rem}
+use Rattle.nc_number.specs.declared.fault.NumberFault.TheVariants.{ZeroDivide}
+use Rattle.nc_number.specs.Arithmetic.{is_zero, remainder_of}
+use Rattle.nc_number.proofs.Halves.{negative_pos, negative_neg}
+use Rattle.nc_number.proofs.Wide.{rest_is, below_divisor}
+
+pub rest_sign : (a b : ℤ) → int_rem a b ≢ pos 0 → is_negative (int_rem a b) ≡ is_negative a
+rest_sign (pos n) b nonzero = negative_pos _ ∙ sym (negative_pos n)
+rest_sign (negsuc n) b nonzero = negative_neg (suc n % unsigned_abs b) nonzero
+
+pub rest_of : (a b r : ℤ) → remainder_of a b ≡ Ok r → (is_zero b ≡ false) × (int_rem a b ≡ r)
+rest_of a b r is = go (is_zero b) refl is
+  where
+    go : (test : Bool) → is_zero b ≡ test → cond test (Err ZeroDivide) (Ok (a -ℤ int_div a b *ℤ b)) ≡ Ok r → (is_zero b ≡ false) × (int_rem a b ≡ r)
+    go true zero same = cc
+    go false nonzero same = (nonzero, rest_is a b ∙ cc)
+
+-- a remainder is smaller than the divisor, has the dividend's sign, and differs from the dividend by whole divisors
+pub rest_is_smaller : (a b r : ℤ) → remainder_of a b ≡ Ok r → unsigned_abs r < unsigned_abs b
+rest_is_smaller a b r is =
+    let of = rest_of a b r is in
+    subst (λ z. unsigned_abs z < unsigned_abs b) of.1 (rem_below a b (below_divisor b of.0))
+
+pub rest_keeps_sign : (a b r : ℤ) → remainder_of a b ≡ Ok r → r ≢ pos 0 → is_negative r ≡ is_negative a
+rest_keeps_sign a b r is =
+    subst (λ z. z ≢ pos 0 → is_negative z ≡ is_negative a) (rest_of a b r is).1 (rest_sign a b)
+
+pub rest_of_multiples : (a b r : ℤ) → remainder_of a b ≡ Ok r → (q : ℤ) × (a ≡ q *ℤ b +ℤ r)
+rest_of_multiples a b r is =
+    let of = rest_of a b r is in
+    (int_div a b, subst (λ z. a ≡ int_div a b *ℤ b +ℤ z) of.1 (sym (quot-rem a b)))

@@ -1,0 +1,8 @@
+use Rattle.nc_number.proofs.ReadsBack.{length_minus, length_reads_back}
+use Rattle.nc_number.proofs.laws.a_printed_length_reads_back.Goals as goal
+
+pub returns-clause-value : goal.returns-clause-value
+returns-clause-value c = length_reads_back
+
+pub returns-clause-minus : goal.returns-clause-minus
+returns-clause-minus c = length_minus

@@ -1,0 +1,11 @@
+use Rattle.nc_number.proofs.Remainders.{rest_is_smaller, rest_keeps_sign, rest_of_multiples}
+use Rattle.nc_number.proofs.laws.a_remainder_keeps_the_sign.Goals as goal
+
+pub returns-clause-smaller : goal.returns-clause-smaller
+returns-clause-smaller c = rest_is_smaller
+
+pub returns-clause-sign : goal.returns-clause-sign
+returns-clause-sign c = rest_keeps_sign
+
+pub returns-clause-multiple : goal.returns-clause-multiple
+returns-clause-multiple c = rest_of_multiples

@@ -1,0 +1,87 @@
+-- The arithmetic of values, as mathematics on whole counts of millionths.
+use Rattle.std.specs.Prelude.{ℕ, zero, suc, ◌+◌, ◌*◌, ◌/◌, ◌%◌, Bool, not, ◌==◌, ◌&&◌, nat_le, if◌then◌else◌, ℤ, pos, ◌+ℤ◌, ◌-ℤ◌, ◌*ℤ◌, unsigned_abs, int_div, bit_and, bit_or, bit_xor, Result, Ok, Err}
+use Rattle.std.specs.Int.{is_negative, div_ceil}
+use Rattle.nc_number.specs.declared.fault.NumberFault.{NumberFault}
+use Rattle.nc_number.specs.declared.fault.NumberFault.TheVariants.{Overflow, ZeroDivide, NegativeRoot, NotWhole}
+use Rattle.nc_number.specs.Signs.{with_sign, differ}
+use Rattle.nc_number.specs.Range.{is_in_range}
+
+-- z where it is a value, and Overflow where it is past the range
+abbrev pub checked : ℤ → Result ℤ NumberFault
+checked z = if is_in_range z then Ok z else Err Overflow
+
+abbrev pub is_zero : ℤ → Bool
+is_zero z = unsigned_abs z == 0
+
+-- the whole number nearest to n / d: one more than the quotient where half of d or more is left
+abbrev pub nearest : ℕ → ℕ → ℕ
+nearest n d = if nat_le d (2 * (n % d)) then n / d + 1 else n / d
+
+-- the whole number nearest to a / b, halves away from zero
+abbrev pub half : ℤ → ℤ → ℤ
+half a b = with_sign (differ (is_negative a) (is_negative b)) (nearest (unsigned_abs a) (unsigned_abs b))
+
+abbrev pub sum_of : ℤ → ℤ → Result ℤ NumberFault
+sum_of a b = checked (a +ℤ b)
+
+abbrev pub difference_of : ℤ → ℤ → Result ℤ NumberFault
+difference_of a b = checked (a -ℤ b)
+
+abbrev pub product_of : ℤ → ℤ → Result ℤ NumberFault
+product_of a b = checked (half (a *ℤ b) (pos 1000000))
+
+abbrev pub quotient_of : ℤ → ℤ → Result ℤ NumberFault
+quotient_of a b = if is_zero b then Err ZeroDivide else checked (half (a *ℤ pos 1000000) b)
+
+-- what is left of a when b is taken away as often as the quotient, its fraction dropped, says
+abbrev pub remainder_of : ℤ → ℤ → Result ℤ NumberFault
+remainder_of a b = if is_zero b then Err ZeroDivide else Ok (a -ℤ int_div a b *ℤ b)
+
+-- the whole units of a value, without its sign
+abbrev pub units : ℤ → ℕ
+units a = unsigned_abs a / 1000000
+
+-- a whole number from 0 to 2,147,483,647
+abbrev pub has_bits : ℤ → Bool
+has_bits a = (not (is_negative a) && (unsigned_abs a % 1000000 == 0)) && nat_le (units a) 2147483647
+
+-- an operation on the bits of two whole numbers
+abbrev pub on_bits : (ℕ → ℕ → ℕ) → ℤ → ℤ → Result ℤ NumberFault
+on_bits operation a b =
+    if has_bits a && has_bits b then checked (pos (operation (units a) (units b) * 1000000)) else Err NotWhole
+
+abbrev pub and_of : ℤ → ℤ → Result ℤ NumberFault
+and_of a b = on_bits bit_and a b
+
+abbrev pub or_of : ℤ → ℤ → Result ℤ NumberFault
+or_of a b = on_bits bit_or a b
+
+abbrev pub xor_of : ℤ → ℤ → Result ℤ NumberFault
+xor_of a b = on_bits bit_xor a b
+
+-- the greatest number up to `most` whose square is at most n
+unfoldable pub greatest_root : ℕ → ℕ → ℕ
+greatest_root n zero = zero
+greatest_root n (suc most) = if nat_le (suc most * suc most) n then suc most else greatest_root n most
+
+-- the greatest number whose square is at most n
+abbrev pub square_root : ℕ → ℕ
+square_root n = greatest_root n n
+
+abbrev pub root_of : ℤ → Result ℤ NumberFault
+root_of a = if is_negative a then Err NegativeRoot else Ok (pos (square_root (unsigned_abs a * 1000000)))
+
+abbrev pub rounded : ℤ → Result ℤ NumberFault
+rounded a = checked (half a (pos 1000000) *ℤ pos 1000000)
+
+-- the fraction dropped
+abbrev pub dropped : ℤ → Result ℤ NumberFault
+dropped a = checked (with_sign (is_negative a) (units a * 1000000))
+
+-- the magnitude raised to a whole number
+abbrev pub raised : ℤ → Result ℤ NumberFault
+raised a = checked (with_sign (is_negative a) (div_ceil (unsigned_abs a) 1000000 * 1000000))
+
+-- the increments of 0.001 nearest to a value, halves away from zero
+abbrev pub increments_of : ℤ → ℤ
+increments_of a = half a (pos 1000)

@@ -1,0 +1,10 @@
+use Rattle.std.specs.Prelude.{ℕ, Bool, true, false, not, if◌then◌else◌, ℤ, pos, neg_ℤ}
+
+-- n, or -n where the sign is a minus
+abbrev pub with_sign : Bool → ℕ → ℤ
+with_sign minus n = if minus then neg_ℤ (pos n) else pos n
+
+-- one of the two signs is a minus, and not both
+abbrev pub differ : Bool → Bool → Bool
+differ true b = not b
+differ false b = b

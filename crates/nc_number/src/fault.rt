@@ -1,0 +1,83 @@
+use std::alloc::{AllocError, AllocFailed};
+use std::error::Error as Fault;
+use thiserror::Error;
+
+/// Why a number can't be had.
+#[derive(Clone, Copy, Debug, PartialEq, Eq, Error)]
+pub enum NumberFault {
+    /// The exact rounded result is past the range of a value.
+    #[error("overflow")]
+    Overflow,
+    /// A division by 0.
+    #[error("division by zero")]
+    ZeroDivide,
+    /// The root of a value below 0.
+    #[error("root of a negative value")]
+    NegativeRoot,
+    /// An operand of a bit call that is no whole number from 0 to 2,147,483,647.
+    #[error("no whole number from 0 to 2147483647")]
+    NotWhole,
+    /// A literal of more than 8 whole digits or more than 6 fraction digits.
+    #[error("too many digits")]
+    TooManyDigits,
+}
+
+/// Memory ran out; nothing was changed.
+#[derive(Clone, Copy, Debug, PartialEq, Eq, Error)]
+#[error("out of memory")]
+pub struct NoMemory;
+
+impl From<AllocError> for NoMemory {
+    fn from(_e: AllocError) -> Self {
+        NoMemory
+    }
+}
+
+impl<T: Drop> From<AllocFailed<T>> for NoMemory {
+    fn from(_e: AllocFailed<T>) -> Self {
+        NoMemory
+    }
+}
+
+/// The error of a call that takes memory and has a fault of its own, `E`.
+#[derive(Clone, Copy, Debug, PartialEq, Eq, Error)]
+#[error_bound(E: Fault + Copy)]
+pub enum Failing<E> {
+    #[error(transparent)]
+    Fault(E),
+    #[error("out of memory")]
+    NoMemory,
+}
+
+impl<E> From<NoMemory> for Failing<E> {
+    ghost use Rattle.std.specs.Prelude.{◌≡◌};
+    ghost use Rattle.nc_number.specs.declared.fault.Failing.TheVariants.{NoMemory as memory};
+
+    ghost from_gives = { λ _ e. e ≡ memory };
+
+    fn from(_e: NoMemory) -> Self {
+        Failing::NoMemory
+    }
+}
+
+impl<E> From<AllocError> for Failing<E> {
+    ghost use Rattle.std.specs.Prelude.{◌≡◌};
+    ghost use Rattle.nc_number.specs.declared.fault.Failing.TheVariants.{NoMemory as memory};
+
+    ghost from_gives = { λ _ e. e ≡ memory };
+
+    fn from(_e: AllocError) -> Self {
+        Failing::NoMemory
+    }
+}
+
+impl<E, T: Drop> From<AllocFailed<T>> for Failing<E> {
+    ghost use Rattle.std.specs.Prelude.{◌≡◌};
+    ghost use Rattle.nc_number.specs.declared.fault.Failing.TheVariants.{NoMemory as memory};
+
+    ghost from_gives = { λ _ e. e ≡ memory };
+
+    fn from(_e: AllocFailed<T>) -> Self {
+        Failing::NoMemory
+    }
+}

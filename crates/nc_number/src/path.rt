@@ -1,0 +1,31 @@
+ghost use Rattle.std.specs.Prelude.{◌≡◌};
+ghost use Rattle.nc_number.specs.Path.{number_of, other_of};
+
+/// A path of the machine: one turret with its own tape.
+#[derive(Clone, Copy, Debug, PartialEq, Eq)]
+pub enum Path {
+    One,
+    Two,
+}
+
+impl Path {
+    /// 1 or 2.
+    pub fn number(self) -> u8
+        ensures { result ≡ number_of self }
+    {
+        match self {
+            Path::One => 1,
+            Path::Two => 2,
+        }
+    }
+
+    /// The path beside this one.
+    pub fn other(self) -> Path
+        ensures { result ≡ other_of self }
+    {
+        match self {
+            Path::One => Path::Two,
+            Path::Two => Path::One,
+        }
+    }
+}

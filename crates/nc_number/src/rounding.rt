@@ -1,0 +1,66 @@
+ghost use Rattle.std.specs.Prelude.{◌≡◌, ◌≢◌, ◌^◌, ◌<◌, unsigned_abs, IsOk};
+ghost use Rattle.nc_number.specs.Arithmetic.{nearest, half, rounded, dropped, raised, increments_of};
+
+use crate::fault::NumberFault;
+use crate::value::Value;
+
+pub(crate) const MICRO_IN_UNIT: i128 = 1_000_000;
+
+const MICRO_IN_INCREMENT: i128 = 1_000;
+
+/// The whole number nearest to a quotient, halves upwards.
+fn nearest(size: u128, by: u128) -> u128
+    requires divisor { 0 < by }
+    requires divisor_room { by < 2 ^ 120 }
+    requires room { size < 2 ^ 120 }
+    ensures { result ≡ nearest size by }
+{
+    if by <= 2 * (size % by) {
+        size / by + 1
+    } else {
+        size / by
+    }
+}
+
+/// The whole number nearest to `a / b`, halves away from zero.
+pub(crate) fn half(a: i128, b: i128) -> i128
+    requires divisor { 0 < unsigned_abs b }
+    requires room { unsigned_abs a < 2 ^ 120 }
+    requires divisor_room { unsigned_abs b < 2 ^ 120 }
+    ensures { result ≡ half a b }
+{
+    let size = nearest(a.unsigned_abs(), b.unsigned_abs()) as i128;
+    if (a < 0) == (b < 0) { size } else { -size }
+}
+
+/// The nearest whole number, halves away from zero.
+pub fn round(a: Value) -> Result<Value, NumberFault>
+    ensures { result ≡ rounded a }
+{
+    Value::checked(half(a.wide(), MICRO_IN_UNIT) * MICRO_IN_UNIT)
+}
+
+/// The number with its fraction dropped.
+pub fn fix(a: Value) -> Result<Value, NumberFault>
+    ensures whole { result ≡ dropped a }
+    ensures fits { IsOk result }
+{
+    let micro = a.wide();
+    Value::checked(micro / MICRO_IN_UNIT * MICRO_IN_UNIT)
+}
+
+/// The number with its magnitude raised to a whole number.
+pub fn fup(a: Value) -> Result<Value, NumberFault>
+    ensures { result ≡ raised a }
+{
+    let micro = a.wide();
+    let size = micro.unsigned_abs().div_ceil(MICRO_IN_UNIT as u128) as i128 * MICRO_IN_UNIT;
+    Value::checked(if micro < 0 { -size } else { size })
+}
+
+/// The increments of 0.001 nearest to a value, halves away from zero.
+pub fn to_increment(a: Value) -> i64
+    ensures { result ≡ increments_of a }
+{
+    half(a.wide(), MICRO_IN_INCREMENT) as i64
+}
