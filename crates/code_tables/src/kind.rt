@@ -1,0 +1,52 @@
+/// What a G code does, whatever its number is in a system.
+#[derive(Clone, Copy, Debug, PartialEq, Eq)]
+pub enum CodeKind {
+    /// Positioning at rapid traverse.
+    Rapid,
+    /// A straight cut.
+    Feed,
+    /// An arc clockwise.
+    ArcCw,
+    /// An arc counter-clockwise.
+    ArcCcw,
+    /// One pass of a thread.
+    Thread,
+    /// The cycle that cuts along Z.
+    CycleTurn,
+    /// The cycle that threads along Z.
+    CycleThread,
+    /// The cycle that cuts along X.
+    CycleFace,
+    /// Constant surface speed.
+    Surface,
+    /// A fixed speed of the spindle.
+    Spindle,
+    /// Feed by the minute.
+    PerMin,
+    /// Feed by the revolution.
+    PerRev,
+    /// Inch input, which this control refuses.
+    Inch,
+    /// Metric input.
+    Metric,
+    /// No compensation of the nose radius.
+    NoseOff,
+    /// Compensation of the nose radius, which this control refuses.
+    NoseOn,
+    /// A work offset.
+    Work,
+    /// A dwell.
+    Dwell,
+    /// Setting of an offset.
+    Setting,
+    /// Return to the reference position.
+    Home,
+    /// The highest speed of the spindle.
+    Limit,
+    /// A rapid in machine coordinates.
+    Machine,
+    /// A call of a macro.
+    MacroCall,
+    /// Accepted, and without effect.
+    Idle,
+}

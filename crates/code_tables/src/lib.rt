@@ -1,0 +1,22 @@
+//! What a G code means, as one table that a machine builder can read.
+//!
+//! A `CodeTable` has a row for each code of a system: the code, its modal group, and its kind, which
+//! is what the code does whatever its number. No code stands twice. Looking up a code gives its row,
+//! and of several codes of one group the last one counts. These contracts hold for a table of any
+//! number of rows, so that a second system is a second table and nothing else.
+#![tactic(auto)]
+
+mod group;
+mod kind;
+mod row;
+mod system;
+mod table;
+
+pub use group::{
+    FEED_GROUP, IDLE_GROUP, MOTION_GROUP, NOSE_GROUP, ONE_SHOT_GROUP, SPINDLE_GROUP, UNIT_GROUP,
+    WORK_GROUP,
+};
+pub use kind::CodeKind;
+pub use row::Row;
+pub use system::system_a;
+pub use table::CodeTable;
