@@ -1,0 +1,5 @@
+pub mod Filled
+pub mod Fused
+pub mod Images
+pub mod Kept
+pub mod Written

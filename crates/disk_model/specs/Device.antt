@@ -1,0 +1,77 @@
+-- What a disk holds, what its calls do to it, and what a crash may leave of it.
+use Rattle.std.specs.Prelude.{◌≡◌, ◌⊎◌, ℕ, ◌+◌, ◌-◌, ◌^◌, ◌≤◌, ◌<◌, min, max, List, ◌++◌, length, take, drop, slice_index, replicate, Option, Some, None, Result, IsErr}
+
+-- All that can be said of a disk at one moment.
+pub record DiskState : Type 1 where
+  pub reads : Option (List ℕ)  -- what a read gives, where the disk tells its content
+  pub image : List ℕ → Type 0  -- a crash now may leave these bytes
+  pub image_since : ℕ → List ℕ → Type 0  -- a crash at some moment since that time may have left them
+  pub clock : ℕ  -- the time, which each call moves
+  pub calls : ℕ  -- how many calls the disk has had
+  pub reach : ℕ  -- the greatest end that a write was asked for
+  pub faults : ℕ  -- how many calls have failed
+
+-- the disk tells its content, and a read gives these bytes
+abbrev pub Reads : DiskState → List ℕ → Type 0
+Reads disk bytes = disk.reads ≡ Some bytes
+
+-- one more, where the count is kept in 64 bits and stays at its last value
+abbrev pub next : ℕ → ℕ
+next count = min (count + 1) (2 ^ 64 - 1)
+
+-- the count rose, or stands at its last value
+abbrev pub Rose : ℕ → ℕ → Type 0
+Rose before now = next before ≤ now
+
+-- old, with these bytes at this offset; where that is past the end, zeros stand between
+abbrev pub written_over : List ℕ → ℕ → List ℕ → List ℕ
+written_over old at bytes = take at (old ++ replicate (at - length old) 0) ++ bytes ++ drop (at + length bytes) old
+
+-- What a write of n bytes that did not end may leave: any bytes in its range and behind the old end, and any length up to the
+-- range's end. The rest stays.
+pub record Torn (at n : ℕ) (old new : List ℕ) : Type 0 where
+  pub no_shorter : length old ≤ length new
+  pub no_longer : length new ≤ max (length old) (at + n)
+  pub outside : (i : ℕ) → i < length old → (i < at) ⊎ (at + n ≤ i) → slice_index new i ≡ slice_index old i
+
+-- nothing happens to what a crash may leave
+abbrev pub Stays : List ℕ → List ℕ → Type 0
+Stays old new = new ≡ old
+
+-- One call: at each moment inside it a crash leaves what it might have left before, after a step of this kind.
+pub record Elapses (step : List ℕ → List ℕ → Type 0) (old new : DiskState) : Type 0 where
+  pub later : old.clock ≤ new.clock
+  pub moves : next old.clock ≤ new.clock
+  pub covered : (c : List ℕ) → old.image c → new.image_since old.clock c
+  pub inside : (c : List ℕ) → new.image_since old.clock c → (b : List ℕ) × old.image b × step b c
+  pub before : (t : ℕ) (c : List ℕ) → t ≤ old.clock → new.image_since t c → old.image_since t c ⊎ new.image_since old.clock c
+
+-- A call that writes nothing.
+pub record Looks (old new : DiskState) : Type 0 where
+  pub time : Elapses Stays old new
+  pub same : new.reads ≡ old.reads
+  pub counted : (bytes : List ℕ) → Reads old bytes → new.calls ≡ next old.calls
+  pub reach : (bytes : List ℕ) → Reads old bytes → new.reach ≡ old.reach
+
+-- A write of n bytes, done or failed.
+pub record Tears (at n : ℕ) (old new : DiskState) : Type 0 where
+  pub time : Elapses (Torn at n) old new
+  pub told : (bytes : List ℕ) → Reads old bytes → (c : List ℕ) × Reads new c × Torn at n bytes c
+  pub untold : old.reads ≡ None → new.reads ≡ None
+  pub counted : (bytes : List ℕ) → Reads old bytes → new.calls ≡ next old.calls
+  pub reach : (bytes : List ℕ) → Reads old bytes → new.reach ≡ max old.reach (at + n)
+
+-- the count of faults never falls, and an error comes only where it rose
+pub record HasCause {T E : Type 0} (old new : DiskState) (result : Result T E) : Type 0 where
+  pub later : old.faults ≤ new.faults
+  pub failed : IsErr result → Rose old.faults new.faults
+
+-- a crash leaves this and nothing else
+abbrev pub Only : List ℕ → (List ℕ → Type 0) → Type 0
+Only bytes image = (c : List ℕ) → image c → c ≡ bytes
+
+-- The three facts of a disk agree with one another.
+pub record IsCoherent (disk : DiskState) : Type 0 where
+  pub counts_now : (t : ℕ) (c : List ℕ) → t ≤ disk.clock → disk.image c → disk.image_since t c
+  pub only_now : (c : List ℕ) → disk.image_since disk.clock c → disk.image c
+  pub as_read : (bytes : List ℕ) → Reads disk bytes → disk.image bytes

@@ -1,0 +1,92 @@
+-- What a disk in memory holds.
+use Rattle.std.specs.Prelude.{◌≡◌, ◌⊎◌, ℕ, ◌+◌, ◌^◌, ◌≤◌, ◌<◌, ◌==◌, ◌||◌, nat_le, nat_lt, Bool, List, [], length, slice_index, Some}
+use Rattle.std.specs.List.{list_any}
+use Rattle.disk_model.specs.declared.stretch.Stretch.{Stretch}
+use Rattle.disk_model.specs.Device.{DiskState}
+use Rattle.disk_model.specs.Image.{IsOutside, IsImage, greatest_end}
+
+pub record Memory : Type 0 where
+  pub bytes : List ℕ  -- what a read gives
+  pub synced : List ℕ  -- what was on the disk at the last sync
+  pub written : List Stretch  -- where it was written since
+  pub earlier_synced : List ℕ  -- the same two up to that sync
+  pub earlier_written : List Stretch
+  pub synced_at : ℕ  -- the number of calls just after that sync
+  pub room : ℕ  -- how many bytes the disk has room for
+  pub call_room : ℕ  -- how many calls its record has room for
+  pub failing : List ℕ  -- the numbers of the calls that are to fail, from 1
+  pub calls : ℕ
+  pub reach : ℕ
+  pub faults : ℕ
+
+-- the next call fails: its number is listed, or the record is full
+abbrev pub next_fails : Memory → Bool
+next_fails m = nat_le m.call_room m.calls || list_any (λ n. n == m.calls + 1) m.failing
+
+-- it is a write up to this end, which fails besides past the room
+abbrev pub write_fails : Memory → ℕ → Bool
+write_fails m end = next_fails m || nat_lt m.room end
+
+-- what a crash now may leave: an image since the last sync, of which what a read gives is one
+abbrev pub CrashLeaves : Memory → List ℕ → Type 0
+CrashLeaves m c = IsImage m.synced m.written c ⊎ (c ≡ m.bytes)
+
+-- what a crash before the last sync may have left, as far back as the sync before it
+abbrev pub CrashLeft : Memory → ℕ → List ℕ → Type 0
+CrashLeft m t c = (t < m.synced_at) × (t < m.calls) × IsImage m.earlier_synced m.earlier_written c
+
+abbrev pub memory_state : Memory → DiskState
+memory_state m = record {
+  reads = Some m.bytes;
+  image = CrashLeaves m;
+  image_since = λ t c. CrashLeaves m c ⊎ CrashLeft m t c;
+  clock = m.calls;
+  calls = m.calls;
+  reach = m.reach;
+  faults = m.faults;
+}
+
+-- what is true of every disk in memory
+pub record IsKept (m : Memory) : Type 0 where
+  pub image : IsImage m.synced m.written m.bytes
+  pub settled : m.synced_at ≤ m.calls
+  pub bytes_fit : length m.bytes ≤ m.room
+  pub ends_fit : greatest_end (length m.synced) m.written ≤ m.room
+  pub recorded : length m.written ≤ m.calls
+  pub small : m.room < 2 ^ 62
+  pub calls_fit : m.calls < 2 ^ 64
+  pub faults_fit : m.faults < 2 ^ 64
+
+-- What a crash leaves that fills each unsynced byte with this one.
+pub record IsFilled (with : ℕ) (synced : List ℕ) (written : List Stretch) (c : List ℕ) : Type 0 where
+  pub len : length c ≡ greatest_end (length synced) written
+  pub outside : (i : ℕ) → i < length synced → IsOutside i written → slice_index c i ≡ slice_index synced i
+  pub inside : (i : ℕ) → i < length c → ((i < length synced) × IsOutside i written → ⊥) → slice_index c i ≡ with
+
+-- a disk that has had no call
+abbrev pub fresh : List ℕ → ℕ → ℕ → List ℕ → Memory
+fresh bytes room call_room failing = record {
+  bytes = bytes;
+  synced = bytes;
+  written = [];
+  earlier_synced = [];
+  earlier_written = [];
+  synced_at = 0;
+  room = room;
+  call_room = call_room;
+  failing = failing;
+  calls = 0;
+  reach = 0;
+  faults = 0;
+}
+
+-- the same disk after a crash that left these bytes
+abbrev pub crashed : Memory → List ℕ → Memory
+crashed m bytes = record m {
+  bytes = bytes;
+  synced = bytes;
+  written = [];
+  earlier_synced = m.synced;
+  earlier_written = m.written;
+  synced_at = m.calls;
+}

@@ -1,0 +1,130 @@
+// A disk that stops.
+ghost use Rattle.std.specs.Prelude.{◌≡◌, ◌+◌, ◌-◌, ◌^◌, ◌≤◌, ◌<◌, ◌++◌, ◌==◌, List, ℕ, length, take, drop, min, max, IfOk, OnOk, is_err, not, IsTrue};
+ghost use Rattle.disk_model.specs.Device.{Reads, written_over, next, Looks, Tears, HasCause, Only};
+
+use crate::{Disk, Failed, MemoryDisk};
+use std::marker::Model;
+
+/// A disk that passes so many calls on to a disk in memory, and then fails every call, as after a stop: none of them reaches the
+/// disk in memory.
+#[derive(Drop)]
+pub struct FuseDisk {
+    inner: MemoryDisk,
+    passes: u64,
+    burnt: u64,
+    reach: u128,
+}
+
+impl Model for FuseDisk {
+    ghost use Rattle.disk_model.specs.Fuse.{Fuse};
+
+    ghost Value = { Fuse };
+
+    ghost use Rattle.disk_model.specs.FuseInside.{fuse_of, IsBurntOut};
+
+    ghost view = { fuse_of };
+
+    ghost invariant = { IsBurntOut };
+}
+
+impl FuseDisk {
+    ghost use Rattle.disk_model.specs.Fuse.{Fuse, fuse_state};
+
+    pub fn new(inner: MemoryDisk, passes: u64) -> FuseDisk
+        ensures { result ≡ record { inner = inner; passes = passes; burnt = 0; reach = 0 } }
+    {
+        FuseDisk {
+            inner,
+            passes,
+            burnt: 0,
+            reach: 0,
+        }
+    }
+
+    pub fn into_inner(self) -> MemoryDisk
+        ensures { result ≡ self.inner }
+    {
+        self.inner
+    }
+
+    // Takes a call, and says whether it is passed on.
+    fn passes_on(&mut self) -> bool
+        ensures passes { result ≡ not (self.old.passes == 0) }
+        ensures passed { IsTrue result → self.new ≡ record self.old { passes = self.old.passes - 1 } }
+        ensures whole { IsTrue result → self.old.burnt ≡ 0 }
+        ensures stopped { IsTrue (not result) → self.new ≡ record self.old { burnt = next self.old.burnt } }
+        ensures fits { self.old.burnt < 2 ^ 64 }
+    {
+        if self.passes == 0 {
+            self.burnt = self.burnt.saturating_add(1);
+            return false;
+        }
+        self.passes -= 1;
+        true
+    }
+}
+
+impl Disk for FuseDisk {
+    ghost use Rattle.disk_model.specs.Fuse.{fuse_state, fuse_coherent, fuse_fails, fuse_write_fails};
+
+    ghost state = { fuse_state };
+
+    ghost coherent = { fuse_coherent };
+
+    fn faults(&self) -> u64 {
+        self.inner.faults().saturating_add(self.burnt)
+    }
+
+    fn len(&mut self) -> Result<u64, Failed>
+        ensures exact { is_err result ≡ fuse_fails self.old }
+        ensures length { IfOk result (λ n. (bytes : List ℕ) → Reads (fuse_state self.old) bytes → n ≡ length bytes) }
+        ensures small { IfOk result (λ n. n < 2 ^ 62) }
+        ensures looks { Looks (fuse_state self.old) (fuse_state self.new) }
+        ensures cause { HasCause (fuse_state self.old) (fuse_state self.new) result }
+    {
+        if !self.passes_on() {
+            return Err(Failed);
+        }
+        self.inner.len()
+    }
+
+    fn read_at(&mut self, at: u64, into: &mut [u8]) -> Result<usize, Failed>
+        ensures exact { is_err result ≡ fuse_fails self.old }
+        ensures within { IfOk result (λ n. n ≤ length into.old) }
+        ensures count { IfOk result (λ n. (bytes : List ℕ) → Reads (fuse_state self.old) bytes → n ≡ min (length into.old) (length bytes - at)) }
+        ensures got { IfOk result (λ n. (bytes : List ℕ) → Reads (fuse_state self.old) bytes → into.new ≡ take n (drop at bytes) ++ drop n into.old) }
+        ensures looks { Looks (fuse_state self.old) (fuse_state self.new) }
+        ensures cause { HasCause (fuse_state self.old) (fuse_state self.new) result }
+    {
+        if !self.passes_on() {
+            return Err(Failed);
+        }
+        self.inner.read_at(at, into)
+    }
+
+    fn write_at(&mut self, at: u64, bytes: &[u8]) -> Result<(), Failed>
+        ensures exact { is_err result ≡ fuse_write_fails self.old (at + length bytes.now) }
+        ensures written { OnOk result ((old : List ℕ) → Reads (fuse_state self.old) old → Reads (fuse_state self.new) (written_over old at bytes.now)) }
+        ensures small { OnOk result (at + length bytes.now < 2 ^ 62) }
+        ensures tears { Tears at (length bytes.now) (fuse_state self.old) (fuse_state self.new) }
+        ensures cause { HasCause (fuse_state self.old) (fuse_state self.new) result }
+    {
+        if !self.passes_on() {
+            self.reach = self.reach.max(at as u128 + bytes.len() as u128);
+            return Err(Failed);
+        }
+        self.inner.write_at(at, bytes)
+    }
+
+    fn sync(&mut self) -> Result<(), Failed>
+        ensures exact { is_err result ≡ fuse_fails self.old }
+        ensures durable { OnOk result ((bytes : List ℕ) → Reads (fuse_state self.new) bytes → Only bytes (fuse_state self.new).image) }
+        ensures looks { Looks (fuse_state self.old) (fuse_state self.new) }
+        ensures cause { HasCause (fuse_state self.old) (fuse_state self.new) result }
+    {
+        if !self.passes_on() {
+            return Err(Failed);
+        }
+        self.inner.sync()
+    }
+}

@@ -1,0 +1,425 @@
+// A disk in memory, whose calls can be made to fail, and which can crash.
+ghost use Rattle.std.specs.Prelude.{◌≡◌, ◌⊎◌, ◌+◌, ◌-◌, ◌^◌, ◌≤◌, ◌<◌, ◌++◌, ◌==◌, [], ◌∷◌, List, ℕ, length, take, drop, min, IfOk, OnOk, OnErr, IfErr, IsOk, is_err, vec_capacity, replicate, max, nat_lt, nat_le};
+ghost use Rattle.std.specs.List.{list_any};
+ghost use Rattle.disk_model.specs.Device.{DiskState, Reads, next, written_over, Looks, Tears, HasCause, Only, IsCoherent};
+ghost use Rattle.disk_model.specs.Image.{IsImage, greatest_end};
+ghost use Rattle.disk_model.specs.Memory.{IsFilled};
+
+use crate::{Disk, Failed, NoMemory, Stretch};
+use std::alloc::Global;
+use std::marker::Model;
+use std::mem;
+
+/// How much room `MemoryDisk::of_bytes` leaves behind the bytes.
+const SPARE_ROOM: usize = 1_048_576;
+
+/// The least length that no disk has.
+const LENGTH_LIMIT: usize = 1 << 62;
+
+// What was on the disk at a sync, and where it was written since.
+#[derive(Drop)]
+struct Epoch {
+    synced: Vec<u8>,
+    written: Vec<Stretch>,
+}
+
+/// A disk in memory, with a fixed room for its bytes and for its record of calls.
+///
+/// A call fails exactly where its number, counted from 1, is listed, where the record is full, or where it writes past the room.
+/// A write that fails by its number writes nothing, and counts as written all the same.
+#[derive(Drop)]
+pub struct MemoryDisk {
+    bytes: Vec<u8>,
+    present: Epoch,
+    earlier: Epoch,
+    synced_at: u64,
+    room: usize,
+    call_room: usize,
+    failing: Vec<u64>,
+    calls: u64,
+    reach: u128,
+    faults: u64,
+}
+
+impl Model for MemoryDisk {
+    ghost use Rattle.disk_model.specs.Memory.{Memory};
+
+    ghost Value = { Memory };
+
+    ghost use Rattle.disk_model.specs.Inside.{memory_of, HasRoom};
+
+    ghost view = { memory_of };
+
+    ghost invariant = { HasRoom };
+}
+
+/// What a crash makes of the ranges that were written since the last sync.
+#[derive(Clone, Copy, Debug, PartialEq, Eq)]
+pub enum Crash {
+    /// They are as they were written.
+    Kept,
+    /// They are put back.
+    Lost,
+    /// Each byte of them, and each behind the old end, is this one.
+    Fill(u8),
+}
+
+impl MemoryDisk {
+    ghost use Rattle.disk_model.specs.Memory.{fresh};
+
+    /// An empty disk, with room for so many bytes and for a record of so many calls. `failing` are the numbers of the calls that
+    /// are to fail, from 1. A room of 2^62 bytes or more is `NoMemory`.
+    pub fn new(
+        alloc: Global,
+        room: usize,
+        calls: usize,
+        failing: &[u64],
+    ) -> Result<MemoryDisk, NoMemory>
+        ensures { IfOk result (λ d. d ≡ fresh [] room calls failing.now) }
+    {
+        if room >= LENGTH_LIMIT {
+            return Err(NoMemory);
+        }
+        let bytes = Vec::with_capacity(alloc, room)?;
+        MemoryDisk::with_bytes(alloc, bytes, room, calls, failing)
+    }
+
+    /// A disk that holds these bytes, with room for 1,048,576 more.
+    pub fn of_bytes(
+        alloc: Global,
+        bytes: Vec<u8>,
+        calls: usize,
+        failing: &[u64],
+    ) -> Result<MemoryDisk, NoMemory>
+        ensures { IfOk result (λ d. d ≡ fresh bytes.items (length bytes.items + 1048576) calls failing.now) }
+    {
+        let mut bytes = bytes;
+        bytes.reserve(SPARE_ROOM)?;
+        let room = bytes.len() + SPARE_ROOM;
+        if room >= LENGTH_LIMIT {
+            return Err(NoMemory);
+        }
+        MemoryDisk::with_bytes(alloc, bytes, room, calls, failing)
+    }
+
+    fn with_bytes(
+        alloc: Global,
+        bytes: Vec<u8>,
+        room: usize,
+        calls: usize,
+        failing: &[u64],
+    ) -> Result<MemoryDisk, NoMemory>
+        requires fits { length bytes.items ≤ room }
+        requires room { room ≤ vec_capacity bytes }
+        requires small { room < 2 ^ 62 }
+        ensures { IfOk result (λ d. d ≡ fresh bytes.items room calls failing.now) }
+    {
+        let mut present = Epoch::with_room(alloc, room, calls)?;
+        let earlier = Epoch::with_room(alloc, room, calls)?;
+        present.synced.extend_from_slice(&bytes)?;
+        Ok(MemoryDisk {
+            bytes,
+            present,
+            earlier,
+            synced_at: 0,
+            room,
+            call_room: calls,
+            failing: failing.to_vec(alloc)?,
+            calls: 0,
+            reach: 0,
+            faults: 0,
+        })
+    }
+
+    /// What a read gives.
+    pub fn bytes(&self) -> &[u8]
+        ensures { result.now ≡ self.now.bytes }
+    {
+        &self.bytes
+    }
+}
+
+impl Epoch {
+    fn with_room(alloc: Global, room: usize, calls: usize) -> Result<Epoch, NoMemory>
+        ensures synced { IfOk result (λ e. (e.synced.items ≡ []) × (room ≤ vec_capacity e.synced)) }
+        ensures written { IfOk result (λ e. (e.written.items ≡ []) × (calls ≤ vec_capacity e.written)) }
+    {
+        Ok(Epoch {
+            synced: Vec::with_capacity(alloc, room)?,
+            written: Vec::with_capacity(alloc, calls)?,
+        })
+    }
+}
+
+// Puts bytes in at an offset, and zeros where it lies behind the end.
+fn put_over(content: &mut Vec<u8>, at: usize, bytes: &[u8])
+    requires { at + length bytes.now ≤ vec_capacity content.old }
+    ensures items { content.new.items ≡ written_over content.old.items at bytes.now }
+    ensures capacity { vec_capacity content.old ≤ vec_capacity content.new }
+{
+    fill_up(content, at + bytes.len(), 0);
+    put_inside(content, at, bytes);
+}
+
+// Makes the content so long at least, with this byte behind its end.
+fn fill_up(content: &mut Vec<u8>, end: usize, with: u8)
+    requires { end ≤ vec_capacity content.old }
+    ensures items { content.new.items ≡ content.old.items ++ replicate (end - length content.old.items) with }
+    ensures capacity { vec_capacity content.old ≤ vec_capacity content.new }
+{
+    if content.len() < end {
+        content.resize(end, with).unwrap();
+    }
+}
+
+fn put_inside(content: &mut [u8], at: usize, bytes: &[u8])
+    requires { at + length bytes.now ≤ length content.old }
+    ensures { content.new ≡ take at content.old ++ bytes.now ++ drop (at + length bytes.now) content.old }
+{
+    content[at..at + bytes.len()].copy_from_slice(bytes);
+}
+
+fn is_listed(failing: &[u64], number: u64) -> bool
+    ensures { result ≡ list_any (λ n. n == number) failing.now }
+{
+    failing.iter().any(|n| *n == number)
+}
+
+impl MemoryDisk {
+    ghost use Rattle.disk_model.specs.Memory.{IsKept, memory_state, next_fails};
+
+    fn next_call_fails(&self) -> bool
+        ensures fails { result ≡ next_fails self.now }
+        ensures kept { IsKept self.now }
+    {
+        self.call_room as u64 <= self.calls || is_listed(&self.failing, self.calls + 1)
+    }
+
+    // Counts a call that writes nothing, and says whether it succeeds.
+    fn look(&mut self) -> Result<(), Failed>
+        ensures exact { is_err result ≡ next_fails self.old }
+        ensures ok { OnOk result (self.new ≡ record self.old { calls = self.old.calls + 1 }) }
+        ensures err { OnErr result (self.new ≡ record self.old { calls = next self.old.calls; faults = next self.old.faults }) }
+        ensures looks { Looks (memory_state self.old) (memory_state self.new) }
+        ensures kept { IsKept self.old }
+    {
+        let fails = self.next_call_fails();
+        self.calls = self.calls.saturating_add(1);
+        if fails {
+            self.faults = self.faults.saturating_add(1);
+            return Err(Failed);
+        }
+        Ok(())
+    }
+
+    // All that was written is on the disk.
+    fn settle(&mut self)
+        ensures { self.new ≡ record self.old {
+          synced = self.old.bytes;
+          written = [];
+          earlier_synced = self.old.synced;
+          earlier_written = self.old.written;
+          synced_at = self.old.calls;
+        } }
+    {
+        mem::swap(&mut self.present, &mut self.earlier);
+        self.present.synced.clear();
+        self.present.synced.extend_from_slice(&self.bytes).unwrap();
+        self.present.written.clear();
+        self.synced_at = self.calls;
+    }
+}
+
+impl MemoryDisk {
+    ghost use Rattle.disk_model.specs.Memory.{IsKept, next_fails};
+
+    // Counts a write up to this end, and says whether the record is full and whether the call fails.
+    fn count_write(&mut self, end: u128) -> (bool, bool)
+        ensures full { result.0 ≡ nat_le self.old.call_room self.old.calls }
+        ensures fails { result.1 ≡ next_fails self.old }
+        ensures new { self.new ≡ record self.old { calls = next self.old.calls; reach = max self.old.reach end } }
+        ensures kept { IsKept self.old }
+    {
+        let full = self.call_room as u64 <= self.calls;
+        let fails = self.next_call_fails();
+        self.calls = self.calls.saturating_add(1);
+        self.reach = self.reach.max(end);
+        (full, fails)
+    }
+
+    fn count_fault(&mut self)
+        ensures { self.new ≡ record self.old { faults = next self.old.faults } }
+    {
+        self.faults = self.faults.saturating_add(1);
+    }
+
+    // Notes where a write is made.
+    fn mark(&mut self, at: usize, len: usize)
+        requires within { at + len ≤ self.old.room }
+        requires counted { length self.old.written < self.old.calls }
+        requires recorded { length self.old.written < self.old.call_room }
+        ensures { self.new ≡ record self.old { written = self.old.written ++ (record { at = at; len = len }) ∷ [] } }
+    {
+        self.present.written.push_reserved(Stretch { at, len });
+    }
+
+    // Writes where it was noted before.
+    fn put(&mut self, at: usize, bytes: &[u8])
+        requires within { at + length bytes.now ≤ self.old.room }
+        requires image { IsImage self.old.synced self.old.written (written_over self.old.bytes at bytes.now) }
+        ensures { self.new ≡ record self.old { bytes = written_over self.old.bytes at bytes.now } }
+    {
+        put_over(&mut self.bytes, at, bytes);
+    }
+}
+
+impl MemoryDisk {
+    ghost use Rattle.disk_model.specs.Memory.{memory_state, crashed, IsFilled};
+
+    /// The disk after a crash, with what was written since the last sync as `pick` says. All of it is on the disk then. It takes
+    /// no memory.
+    pub fn crash(self, pick: Crash) -> MemoryDisk
+        ensures image { (memory_state self).image result.bytes }
+        ensures torn { IsImage self.synced self.written result.bytes }
+        ensures crashed { result ≡ crashed self result.bytes }
+        ensures kept { pick ≡ Crash.Kept → result.bytes ≡ self.bytes }
+        ensures lost { pick ≡ Crash.Lost → result.bytes ≡ self.synced }
+        ensures filled { (with : ℕ) → pick ≡ Crash.Fill with → IsFilled with self.synced self.written result.bytes }
+    {
+        let mut disk = self;
+        disk.lose(pick);
+        disk.settle();
+        disk
+    }
+
+    fn lose(&mut self, pick: Crash)
+        ensures image { IsImage self.old.synced self.old.written self.new.bytes }
+        ensures same { self.new ≡ record self.old { bytes = self.new.bytes } }
+        ensures kept { pick ≡ Crash.Kept → self.new.bytes ≡ self.old.bytes }
+        ensures lost { pick ≡ Crash.Lost → self.new.bytes ≡ self.old.synced }
+        ensures filled { (with : ℕ) → pick ≡ Crash.Fill with → IsFilled with self.old.synced self.old.written self.new.bytes }
+    {
+        match pick {
+            Crash::Kept => {}
+            Crash::Lost => copy_over(&self.present.synced, &mut self.bytes),
+            Crash::Fill(with) => {
+                copy_over(&self.present.synced, &mut self.bytes);
+                fill_stretches(&mut self.bytes, &self.present.written, with);
+            }
+        }
+    }
+}
+
+fn copy_over(from: &[u8], into: &mut Vec<u8>)
+    requires { length from.now ≤ vec_capacity into.old }
+    ensures items { into.new.items ≡ from.now }
+    ensures capacity { vec_capacity into.old ≤ vec_capacity into.new }
+{
+    into.clear();
+    into.extend_from_slice(from).unwrap();
+}
+
+// Fills each stretch with this byte, and what lies behind the old end.
+fn fill_stretches(content: &mut Vec<u8>, written: &[Stretch], with: u8)
+    requires { greatest_end (length content.old.items) written.now ≤ vec_capacity content.old }
+    ensures filled { IsFilled with content.old.items written.now content.new.items }
+    ensures capacity { vec_capacity content.old ≤ vec_capacity content.new }
+{
+    for stretch in written {
+        fill_up(content, stretch.at + stretch.len, with);
+        fill_inside(content, stretch.at, stretch.len, with);
+    }
+}
+
+fn fill_inside(content: &mut [u8], at: usize, len: usize, with: u8)
+    requires { at + len ≤ length content.old }
+    ensures items { content.new ≡ take at content.old ++ replicate len with ++ drop (at + len) content.old }
+    ensures len { length content.new ≡ length content.old }
+{
+    content[at..at + len].fill(with);
+}
+
+impl Disk for MemoryDisk {
+    ghost use Rattle.std.specs.Prelude.{◌≡◌, ◌+◌, ◌-◌, ◌^◌, ◌≤◌, ◌<◌, ◌++◌, List, ℕ, length, take, drop, min, IfOk, OnOk, is_err};
+    ghost use Rattle.disk_model.specs.Device.{Reads, written_over, Looks, Tears, HasCause, Only};
+    ghost use Rattle.disk_model.specs.Memory.{memory_state, next_fails, write_fails};
+    ghost use Rattle.disk_model.specs.Coherent.{memory_coherent};
+
+    ghost state = { memory_state };
+
+    ghost coherent = { memory_coherent };
+
+    fn faults(&self) -> u64 {
+        self.faults
+    }
+
+    fn len(&mut self) -> Result<u64, Failed>
+        ensures exact { is_err result ≡ next_fails self.old }
+        ensures length { IfOk result (λ n. (bytes : List ℕ) → Reads (memory_state self.old) bytes → n ≡ length bytes) }
+        ensures small { IfOk result (λ n. n < 2 ^ 62) }
+        ensures looks { Looks (memory_state self.old) (memory_state self.new) }
+        ensures cause { HasCause (memory_state self.old) (memory_state self.new) result }
+    {
+        self.look()?;
+        Ok(self.bytes.len() as u64)
+    }
+
+    fn read_at(&mut self, at: u64, into: &mut [u8]) -> Result<usize, Failed>
+        ensures exact { is_err result ≡ next_fails self.old }
+        ensures within { IfOk result (λ n. n ≤ length into.old) }
+        ensures count { IfOk result (λ n. (bytes : List ℕ) → Reads (memory_state self.old) bytes → n ≡ min (length into.old) (length bytes - at)) }
+        ensures got { IfOk result (λ n. (bytes : List ℕ) → Reads (memory_state self.old) bytes → into.new ≡ take n (drop at bytes) ++ drop n into.old) }
+        ensures looks { Looks (memory_state self.old) (memory_state self.new) }
+        ensures cause { HasCause (memory_state self.old) (memory_state self.new) result }
+    {
+        self.look()?;
+        Ok(read_into(&self.bytes, at, into))
+    }
+
+    fn write_at(&mut self, at: u64, bytes: &[u8]) -> Result<(), Failed>
+        ensures exact { is_err result ≡ write_fails self.old (at + length bytes.now) }
+        ensures written { OnOk result ((old : List ℕ) → Reads (memory_state self.old) old → Reads (memory_state self.new) (written_over old at bytes.now)) }
+        ensures small { OnOk result (at + length bytes.now < 2 ^ 62) }
+        ensures tears { Tears at (length bytes.now) (memory_state self.old) (memory_state self.new) }
+        ensures cause { HasCause (memory_state self.old) (memory_state self.new) result }
+    {
+        let end = at as u128 + bytes.len() as u128;
+        let (full, fails) = self.count_write(end);
+        if full || (self.room as u128) < end {
+            self.count_fault();
+            return Err(Failed);
+        }
+        self.mark(at as usize, bytes.len());
+        if fails {
+            self.count_fault();
+            return Err(Failed);
+        }
+        self.put(at as usize, bytes);
+        Ok(())
+    }
+
+    fn sync(&mut self) -> Result<(), Failed>
+        ensures exact { is_err result ≡ next_fails self.old }
+        ensures durable { OnOk result ((bytes : List ℕ) → Reads (memory_state self.new) bytes → Only bytes (memory_state self.new).image) }
+        ensures looks { Looks (memory_state self.old) (memory_state self.new) }
+        ensures cause { HasCause (memory_state self.old) (memory_state self.new) result }
+    {
+        self.look()?;
+        self.settle();
+        Ok(())
+    }
+}
+
+// Copies what stands from an offset on, as much as there is and the slice has room for.
+fn read_into(bytes: &[u8], at: u64, into: &mut [u8]) -> usize
+    ensures count { result ≡ min (length into.old) (length bytes.now - at) }
+    ensures got { into.new ≡ take result (drop at bytes.now) ++ drop result into.old }
+{
+    if bytes.len() as u64 <= at {
+        return 0;
+    }
+    let (_, rest) = bytes.split_at(at as usize);
+    let count = into.len().min(rest.len());
+    into[..count].copy_from_slice(&rest[..count]);
+    count
+}
