@@ -1,0 +1,13 @@
+pub mod Building
+pub mod GivenWords
+pub mod Numbers
+pub mod Parsed
+pub mod PlainWords
+pub mod Readings
+pub mod Steps
+pub mod Stories
+pub mod Subcommands
+pub mod TopWords
+pub mod Uses
+pub mod Walks
+pub mod WordKinds

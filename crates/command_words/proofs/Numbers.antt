@@ -1,0 +1,62 @@
+-- The value of a numeral of at most seven digits.
+use Rattle.std.proofs.Common.{◌≡◌, ℕ, ◌^◌, ◌<◌, ◌≤◌, true, false, ◌&&◌, List, [], ◌∷◌, length, Result, Ok, Some, None, refl, sym, ap, ◌∙◌, arith, inl, inr}
+use Rattle.std.specs.Char.{is_ascii_digit}
+use Rattle.std.specs.List.{list_all}
+use Rattle.std.specs.Prelude.{nat_le}
+use Rattle.std.specs.Str.{all_ascii_digits}
+use Rattle.std.specs.Str.Parse.{ParsesUnsigned, digits_value}
+use Rattle.std.proofs.lemmas.Bool.{and_parts, le-leb, leb-true}
+use Rattle.std.proofs.lemmas.Bool.Decides.{leb_tells}
+use Rattle.std.proofs.lemmas.Str.Parse.{IsNumeralModel, digits_value_short, numerals_by_value, parse_gives, tells_all_ascii_digits}
+use Rattle.command_words.specs.Number.{between, is_numeral, number_of}
+
+digits_alone : (text : List ℕ) → all_ascii_digits text ≡ list_all is_ascii_digit text
+digits_alone [] = refl
+digits_alone (d ∷ ds) = ap (λ b. is_ascii_digit d && b) (digits_alone ds)
+
+own : IsNumeralModel (λ ds. all_ascii_digits ds ≡ true) (digits_value 10)
+own = numerals_by_value (λ ds. all_ascii_digits ds ≡ true) tells_all_ascii_digits
+
+pub numeral_parses : {E : Type 0} → (text : List ℕ) (r : Result ℕ E) → ParsesUnsigned 32 10 text r → is_numeral text ≡ true → r ≡ Ok (digits_value 10 text)
+numeral_parses text r parses numeral =
+    let first = and_parts (nat_le 1 (length text)) (nat_le (length text) 7 && list_all is_ascii_digit text) numeral in
+    let second = and_parts (nat_le (length text) 7) (list_all is_ascii_digit text) first.1 in
+    let some : 1 ≤ length text = leb-true 1 (length text) first.0 in
+    let few : length text ≤ 7 = leb-true (length text) 7 second.0 in
+    let digits : all_ascii_digits text ≡ true = rw (digits_alone text) second.1 in
+    let small : digits_value 10 text < 10 ^ 7 = digits_value_short own text 7 digits few in
+    parse_gives own 32 text r parses digits (omega arith) (omega (arith, small))
+
+not_le : (a b : ℕ) → b < a → nat_le a b ≡ false
+not_le a b less = elim (leb_tells a b) [ inl within ↦ absurd (omega (arith, within.1)) | inr beyond ↦ beyond.0 ]
+
+pub no_numeral : (low high : ℕ) (text : List ℕ) → is_numeral text ≡ false → None ≡ number_of low high text
+unfolding number_of
+no_numeral low high text e = rw e refl
+
+numeral_gives : (low high : ℕ) (text : List ℕ) → is_numeral text ≡ true → number_of low high text ≡ between low high (digits_value 10 text)
+unfolding number_of
+numeral_gives low high text e = rw e refl
+
+pub number_in : (low high : ℕ) (text : List ℕ) (value : ℕ) → is_numeral text ≡ true → value ≡ digits_value 10 text → low ≤ value → value ≤ high
+    → Some value ≡ number_of low high text
+number_in low high text value numeral is_value above below =
+    let over : nat_le low value ≡ true = le-leb low value above in
+    let under : nat_le value high ≡ true = le-leb value high below in
+    let here : between low high value ≡ Some value = rw (over, under) refl in
+    sym (numeral_gives low high text numeral ∙ ap (between low high) (sym is_value) ∙ here)
+
+pub number_low : (low high : ℕ) (text : List ℕ) (value : ℕ) → is_numeral text ≡ true → value ≡ digits_value 10 text → value < low
+    → None ≡ number_of low high text
+number_low low high text value numeral is_value under =
+    let less : nat_le low value ≡ false = not_le low value under in
+    let here : between low high value ≡ None = rw less refl in
+    sym (numeral_gives low high text numeral ∙ ap (between low high) (sym is_value) ∙ here)
+
+pub number_high : (low high : ℕ) (text : List ℕ) (value : ℕ) → is_numeral text ≡ true → value ≡ digits_value 10 text → low ≤ value → high < value
+    → None ≡ number_of low high text
+number_high low high text value numeral is_value above over =
+    let more : nat_le low value ≡ true = le-leb low value above in
+    let beyond : nat_le value high ≡ false = not_le value high over in
+    let here : between low high value ≡ None = rw (more, beyond) refl in
+    sym (numeral_gives low high text numeral ∙ ap (between low high) (sym is_value) ∙ here)

@@ -1,0 +1,4 @@
+pub mod CommandWords
+pub mod Grammar
+pub mod Listed
+pub mod Number

@@ -1,0 +1,30 @@
+//! Laws of the command words, each the contract of a function that does nothing.
+ghost use Rattle.std.specs.Prelude.{◌≡◌, ℕ, Bool, true, List, [], ◌∷◌, ◌++◌, All, Some, codes, IsUtf8};
+ghost use Rattle.command_words.specs.CommandWords.{command_of};
+ghost use Rattle.command_words.specs.Listed.{AreNames, IsName, given, listed_command};
+
+/// The command that `clap` reads in any words, which are texts, is the listed one: the first word
+/// names a subcommand, and the words behind it are as many names as it takes and at most one
+/// `--blocks` where it takes one.
+pub fn law_of_commands()
+    ensures { (words : List (List ℕ)) → All IsUtf8 words → command_of words ≡ listed_command words }
+{}
+
+/// Behind a subcommand, words that do not begin with `-` are names, and so is `-` itself; behind
+/// `--` every word is a name.
+pub fn law_of_names()
+    ensures names { (limited : Bool) (words : List (List ℕ)) → AreNames words
+        → given limited words ≡ Some (record { names = words; limits = [] }) }
+    ensures dashes { (limited : Bool) (before after : List (List ℕ)) → AreNames before
+        → given limited (before ++ codes "--" ∷ after) ≡ Some (record { names = before ++ after; limits = [] }) }
+{}
+
+/// `--blocks` may stand anywhere among the names, with its text as the next word or behind `=`.
+pub fn law_of_limits()
+    ensures apart { (before after : List (List ℕ)) (text : List ℕ) → AreNames before → IsName text → AreNames after
+        → given true (before ++ codes "--blocks" ∷ text ∷ after)
+        ≡ Some (record { names = before ++ after; limits = text ∷ [] }) }
+    ensures attached { (before after : List (List ℕ)) (text : List ℕ) → AreNames before → AreNames after
+        → given true (before ++ (codes "--blocks=" ++ text) ∷ after)
+        ≡ Some (record { names = before ++ after; limits = text ∷ [] }) }
+{}
