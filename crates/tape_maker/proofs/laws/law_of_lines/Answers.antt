@@ -1,0 +1,8 @@
+use Rattle.tape_maker.proofs.MadeLines.{length_made, read_made}
+use Rattle.tape_maker.proofs.laws.law_of_lines.Goals as goal
+
+pub returns-clause-read : goal.returns-clause-read
+returns-clause-read c = read_made
+
+pub returns-clause-count : goal.returns-clause-count
+returns-clause-count c = length_made

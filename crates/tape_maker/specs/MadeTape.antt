@@ -1,0 +1,71 @@
+use Rattle.std.specs.Prelude.{ℕ, Bool, ◌+◌, ◌*◌, ◌%◌, ◌==◌, if◌then◌else◌, List, [], ◌∷◌, ◌++◌, map, codes}
+use Rattle.std.specs.List.{flat_map, range_with_len, slice_index}
+use Rattle.std.specs.Fmt.{decimal}
+use Rattle.tape_maker.specs.declared.path.Path.{Path}
+use Rattle.tape_maker.specs.declared.path.Path.TheVariants.{One, Two}
+
+-- A made tape: a head, fifty rounds and an end. A round is ninety-eight cuts, a line on a variable
+-- and a wait. The made number turns the places of the cuts and the codes of the waits.
+
+abbrev pub path_number : Path → ℕ
+path_number One = 1
+path_number Two = 2
+
+-- where a cut goes, in whole millimetres: the diameter, and how far before the zero of Z
+abbrev pub cut_diameter : Path → ℕ → ℕ → ℕ → ℕ
+cut_diameter path number round cut = 10 + (number + 7 * round + 3 * cut + path_number path) % 90
+
+abbrev pub cut_depth : ℕ → ℕ → ℕ → ℕ
+cut_depth number round cut = (number + round + cut) % 80
+
+-- a cut in a straight line
+unfoldable pub cut_line : Path → ℕ → ℕ → ℕ → List ℕ
+cut_line path number round cut =
+    codes "G01 X" ++ decimal (cut_diameter path number round cut) ++ codes ". Z-" ++ decimal (cut_depth number round cut) ++ codes "."
+
+-- path 1 counts the shared variable #501 in the odd rounds and path 2 copies it in the even ones; in its other rounds a path counts a local
+unfoldable pub variable_line : Path → ℕ → List ℕ
+variable_line One round = if round % 2 == 1 then codes "#501=#501+1" else codes "#1=#1+1"
+variable_line Two round = if round % 2 == 1 then codes "#1=#1+1" else codes "#502=#501"
+
+-- the wait that ends a round: the codes M100 to M197 in turn
+abbrev pub wait_code : ℕ → ℕ → ℕ
+wait_code number round = 100 + (number + round) % 98
+
+unfoldable pub wait_line : ℕ → ℕ → List ℕ
+wait_line number round = codes "M" ++ decimal (wait_code number round)
+
+unfoldable pub cuts : List ℕ
+cuts = range_with_len 0 98
+
+unfoldable pub round_lines : Path → ℕ → ℕ → List (List ℕ)
+round_lines path number round =
+    map (cut_line path number round) cuts ++ variable_line path round ∷ wait_line number round ∷ []
+
+unfoldable pub head_lines : List (List ℕ)
+head_lines = codes "%" ∷ codes "O0001" ∷ codes "G00 X200. Z100." ∷ codes "G99 F0.2" ∷ []
+
+unfoldable pub end_lines : List (List ℕ)
+end_lines = codes "M30" ∷ codes "%" ∷ []
+
+-- the rounds are counted from 1
+unfoldable pub rounds : List ℕ
+rounds = range_with_len 1 50
+
+unfoldable pub made_lines : Path → ℕ → List (List ℕ)
+made_lines path number = head_lines ++ flat_map (round_lines path number) rounds ++ end_lines
+
+-- lines as a text: a line feed ends each
+abbrev pub ended : List ℕ → List ℕ
+ended line = line ++ 10 ∷ []
+
+unfoldable pub text_of : List (List ℕ) → List ℕ
+text_of lines = flat_map ended lines
+
+-- the made tape of a path
+unfoldable pub made_tape : Path → ℕ → List ℕ
+made_tape path number = text_of (made_lines path number)
+
+-- a line whose first byte is M: a wait or the end of the program
+unfoldable pub begins_with_m : List ℕ → Bool
+begins_with_m line = slice_index line 0 == 77

@@ -1,0 +1,188 @@
+ghost use Rattle.std.specs.Prelude.{◌≡◌, ◌++◌, IfOk, OnOk};
+ghost use Rattle.std.specs.Fmt.{decimal};
+ghost use Rattle.tape_maker.specs.MadeTape.{cut_depth, cut_diameter, cut_line, ended, made_tape, round_lines, text_of, variable_line, wait_line};
+
+use crate::path::Path;
+use itoa::Buffer;
+use std::alloc::{AllocError, Global};
+use thiserror::Error;
+
+/// There was no memory for the tapes.
+#[derive(Clone, Copy, Debug, PartialEq, Eq, Error)]
+#[error("out of memory")]
+pub struct NoMemory;
+
+impl From<AllocError> for NoMemory {
+    fn from(_: AllocError) -> NoMemory {
+        NoMemory
+    }
+}
+
+/// How many rounds a tape has, and how many cuts a round has.
+const ROUNDS: u32 = 50;
+
+const CUTS: u32 = 98;
+
+/// The tapes of path 1 and path 2 that the number stands for.
+///
+/// Every number has its pair; the number turns the places of the cuts and the codes of the waits.
+/// Lengths are in whole millimetres, diameters from 10 to 99 and depths from 0 to 79. The waits are
+/// of M100 to M197, which are waiting codes of a control with the usual settings, and `M30` ends the
+/// program. The one error is want of memory.
+pub fn make_tapes(alloc: Global, number: u32) -> Result<(Vec<u8>, Vec<u8>), NoMemory>
+    ensures first { IfOk result (λ tapes. tapes.0.items ≡ made_tape Path.One number) }
+    ensures second { IfOk result (λ tapes. tapes.1.items ≡ made_tape Path.Two number) }
+{
+    let first = tape(alloc, Path::One, number)?;
+    let second = tape(alloc, Path::Two, number)?;
+    Ok((first, second))
+}
+
+fn tape(alloc: Global, path: Path, number: u32) -> Result<Vec<u8>, NoMemory>
+    ensures { IfOk result (λ tape. tape.items ≡ made_tape path number) }
+{
+    let mut text = Vec::new(alloc);
+    text.extend_from_slice(b"%\nO0001\nG00 X200. Z100.\nG99 F0.2\n")?;
+    for round in 1..ROUNDS + 1 {
+        put_round(&mut text, path, number, round)?;
+    }
+    text.extend_from_slice(b"M30\n%\n")?;
+    Ok(text)
+}
+
+fn put_round(text: &mut Vec<u8>, path: Path, number: u32, round: u32) -> Result<(), NoMemory>
+    ensures { OnOk result (text.new.items ≡ text.old.items ++ text_of (round_lines path number round)) }
+{
+    for cut in 0..CUTS {
+        put_cut(text, path, number, round, cut)?;
+    }
+    put_line(text, line_on_variable(path, round))?;
+    put_wait(text, number, round)
+}
+
+#[tactic(auto, unfolding(crate::specs::MadeTape::cut_line))]
+fn put_cut(
+    text: &mut Vec<u8>,
+    path: Path,
+    number: u32,
+    round: u32,
+    cut: u32,
+) -> Result<(), NoMemory>
+    ensures { OnOk result (text.new.items ≡ text.old.items ++ ended (cut_line path number round cut)) }
+{
+    put_number(text, b"G01 X", diameter(path, number, round, cut))?;
+    put_number(text, b". Z-", depth(number, round, cut))?;
+    put_line(text, b".")
+}
+
+/// The diameter of a cut, in whole millimetres: 10 to 99.
+fn diameter(path: Path, number: u32, round: u32, cut: u32) -> u64
+    ensures { result ≡ cut_diameter path number round cut }
+{
+    let place = match path {
+        Path::One => 1,
+        Path::Two => 2,
+    };
+    10 + (u64::from(number) + 7 * u64::from(round) + 3 * u64::from(cut) + place) % 90
+}
+
+/// How far a cut goes before the zero of Z, in whole millimetres: 0 to 79.
+fn depth(number: u32, round: u32, cut: u32) -> u64
+    ensures { result ≡ cut_depth number round cut }
+{
+    (u64::from(number) + u64::from(round) + u64::from(cut)) % 80
+}
+
+/// Path 1 counts `#501`, which the paths share, in the odd rounds; path 2 copies it in the even ones.
+#[tactic(auto, unfolding(crate::specs::MadeTape::variable_line))]
+fn line_on_variable(path: Path, round: u32) -> &'static [u8]
+    ensures { result.now ≡ variable_line path round }
+{
+    match (path, round % 2) {
+        (Path::One, 1) => b"#501=#501+1",
+        (Path::Two, 0) => b"#502=#501",
+        _ => b"#1=#1+1",
+    }
+}
+
+#[tactic(auto, unfolding(crate::specs::MadeTape::wait_line))]
+fn put_wait(text: &mut Vec<u8>, number: u32, round: u32) -> Result<(), NoMemory>
+    ensures { OnOk result (text.new.items ≡ text.old.items ++ ended (wait_line number round)) }
+{
+    let code = 100 + (u64::from(number) + u64::from(round)) % 98;
+    put_number(text, b"M", code)?;
+    put_line(text, b"")
+}
+
+fn put_number(text: &mut Vec<u8>, before: &[u8], number: u64) -> Result<(), NoMemory>
+    ensures { OnOk result (text.new.items ≡ text.old.items ++ before.now ++ decimal number) }
+{
+    let mut buffer = Buffer::new();
+    text.extend_from_slice(before)?;
+    text.extend_from_slice(buffer.format(number).as_bytes())?;
+    Ok(())
+}
+
+fn put_line(text: &mut Vec<u8>, line: &[u8]) -> Result<(), NoMemory>
+    ensures { OnOk result (text.new.items ≡ text.old.items ++ ended line.now) }
+{
+    text.extend_from_slice(line)?;
+    text.extend_from_slice(b"\n")?;
+    Ok(())
+}
+
+#[cfg(test)]
+mod tests {
+    use super::*;
+    use std::test::Fail;
+
+    /// A number, the path (1 or 2), a line counted from 1, and that line.
+    const LINES: [(u32, u8, usize, &str); 30] = [
+        (7, 1, 1, "%"),
+        (7, 1, 2, "O0001"),
+        (7, 1, 3, "G00 X200. Z100."),
+        (7, 1, 4, "G99 F0.2"),
+        (7, 1, 5, "G01 X25. Z-8."),
+        (7, 2, 5, "G01 X26. Z-8."),
+        (7, 1, 6, "G01 X28. Z-9."),
+        (7, 1, 103, "#501=#501+1"),
+        (7, 2, 103, "#1=#1+1"),
+        (7, 1, 104, "M108"),
+        (7, 2, 104, "M108"),
+        (7, 1, 203, "#1=#1+1"),
+        (7, 2, 203, "#502=#501"),
+        (7, 1, 5002, "G01 X29. Z-74."),
+        (7, 2, 5002, "G01 X30. Z-74."),
+        (7, 2, 5004, "M157"),
+        (7, 1, 5005, "M30"),
+        (7, 2, 5006, "%"),
+        (0, 1, 5, "G01 X18. Z-1."),
+        (0, 2, 104, "M101"),
+        (97, 1, 5, "G01 X25. Z-18."),
+        (97, 1, 104, "M100"),
+        (97, 2, 104, "M100"),
+        (98, 2, 5, "G01 X27. Z-19."),
+        (98, 1, 104, "M101"),
+        (999_999, 1, 5, "G01 X27. Z-0."),
+        (999_999, 2, 104, "M108"),
+        (4_294_967_295, 1, 5, "G01 X93. Z-16."),
+        (4_294_967_295, 2, 5, "G01 X94. Z-16."),
+        (4_294_967_295, 1, 104, "M188"),
+    ];
+
+    #[test]
+    fn lines_of_made_tapes(rt: HostRuntime) -> Result<(), Fail> {
+        for (number, path, line, want) in LINES {
+            let (first, second) = make_tapes(rt.alloc(), number)?;
+            let tape = if path == 1 { first } else { second };
+            let text = String::from_utf8(tape)?;
+            assert_eq!(rt;
+                text.lines().take(line).last(),
+                Some(want),
+                "line {line} of make {number}"
+            );
+            assert_eq!(rt; text.lines().count(), 5006);
+        }
+        Ok(())
+    }
+}
