@@ -1,0 +1,7 @@
+-- What a reader keeps, as contracts see it.
+use Rattle.nc_text.specs.declared.feed.Feed.{Feed}
+use Rattle.nc_text.specs.View.{before_of}
+use Rattle.nc_text.specs.Reading.{State}
+
+abbrev pub state_of : Feed → State
+state_of feed = record { skips = feed.skips; stage = feed.stage; kept = feed.kept.items; len = feed.len; before = before_of feed.progress }

@@ -1,0 +1,25 @@
+-- A text as lines.
+use Rattle.std.specs.Prelude.{ℕ, ◌+◌, Bool, true, false, ◌==◌, List, [], ◌∷◌, if◌then◌else◌}
+
+-- the bytes before a line feed, or before the end of the text
+pub record Line : Type 0 where
+  pub bytes : List ℕ
+  pub ended : Bool
+
+abbrev pub onto_line : ℕ → List Line → List Line
+onto_line b [] = record { bytes = b ∷ []; ended = false } ∷ []
+onto_line b (line ∷ lines) = record { bytes = b ∷ line.bytes; ended = line.ended } ∷ lines
+
+-- the lines of a text, each of which has a byte or a line feed
+abbrev pub lines_of : List ℕ → List Line
+lines_of [] = []
+lines_of (b ∷ bs) = if b == 10 then record { bytes = []; ended = true } ∷ lines_of bs else onto_line b (lines_of bs)
+
+-- a line that begins with `%` begins or ends the tape
+abbrev pub is_percent : List ℕ → Bool
+is_percent [] = false
+is_percent (b ∷ bs) = b == 37
+
+-- the bytes of a line of this length, with its line feed
+abbrev pub size_of : ℕ → Bool → ℕ
+size_of len ended = if ended then len + 1 else len

@@ -1,0 +1,162 @@
+-- A tape: lines before the first that begins with `%`, that line, the lines of the programs, the next line that
+-- begins with `%`, and lines behind it. The answer is the programs, or the fault of least line, and on it of least number.
+use Rattle.std.specs.Prelude.{ℕ, ◌+◌, Bool, true, false, not, ◌&&◌, nat_lt, nat_le, List, [], ◌∷◌, ◌++◌, length, Option, Some, None, Result, Ok, Err, is_some, if◌then◌else◌}
+use Rattle.std.specs.Option.{option_to_list, is_none}
+use Rattle.nc_text.specs.declared.fault.TextFault.{TextFault}
+use Rattle.nc_text.specs.declared.tape.Block.{Block}
+use Rattle.nc_text.specs.declared.tape.Program.{Program}
+use Rattle.nc_text.specs.declared.refusal.Refusal.{Refusal}
+use Rattle.nc_text.specs.declared.refusal.Refusal.TheVariants.{NoProgramNumber, NoEnd, LineTooLong, TooManyBlocks, TapeTooLong, WordRange}
+use Rattle.nc_text.specs.declared.said.Said.{Said}
+use Rattle.nc_text.specs.declared.said.Said.TheVariants as said
+use Rattle.nc_text.specs.declared.said.SaidBlock.{SaidBlock}
+use Rattle.nc_text.specs.Lines.{Line, lines_of, is_percent, size_of}
+use Rattle.nc_text.specs.Refusals.{refusal_number}
+use Rattle.nc_text.specs.Said.{line_says}
+
+-- what stands before a line
+pub record Before : Type 0 where
+  pub lines : ℕ
+  pub bytes : ℕ
+  -- the number of the first line that begins with `%`
+  pub percent : ℕ
+  pub blocks : ℕ
+  -- the programs before the one that is being read
+  pub done : List Program
+  pub current : Option Program
+
+abbrev pub nothing_read : Before
+nothing_read = record { lines = 0; bytes = 0; percent = 0; blocks = 0; done = []; current = None }
+
+abbrev pub programs_of : Before → List Program
+programs_of before = before.done ++ option_to_list before.current
+
+-- a refusal at the line behind
+abbrev pub fault_behind : Before → Refusal → TextFault
+fault_behind before refusal = record { number = refusal_number refusal; line = before.lines + 1 }
+
+-- a line of this length holds the first byte that is too many
+abbrev pub is_past_end : Before → ℕ → Bool → Bool
+is_past_end before len ended = nat_lt 4194304 (before.bytes + size_of len ended)
+
+-- with one line more
+abbrev pub next : Before → ℕ → Bool → Before
+next before len ended = record before { lines = before.lines + 1; bytes = before.bytes + size_of len ended }
+
+-- the least refusal of a line that begins with `%`
+abbrev pub percent_refusal : Before → ℕ → Bool → Option Refusal
+percent_refusal before len ended =
+    if nat_lt 512 len then Some LineTooLong else (if is_past_end before len ended then Some TapeTooLong else None)
+
+-- the least refusal of a line before the first and behind the second `%` line
+abbrev pub outer_refusal : Before → ℕ → Bool → Option Refusal
+outer_refusal before len ended = if is_past_end before len ended then Some TapeTooLong else None
+
+abbrev pub is_block : Said → Bool
+is_block said.Nothing = false
+is_block (said.Program number) = false
+is_block (said.Block block) = true
+
+abbrev pub is_said_in_range : Said → Bool
+is_said_in_range said.Nothing = true
+is_said_in_range (said.Program number) = is_some number
+is_said_in_range (said.Block block) = block.in_range
+
+-- the least refusal of a line that is readable by itself
+abbrev pub said_refusal : Before → ℕ → Bool → Said → Option Refusal
+said_refusal before len ended said =
+    if is_block said && is_none before.current then Some NoProgramNumber
+    else (if nat_lt 512 len then Some LineTooLong
+    else (if is_block said && nat_le 20000 before.blocks then Some TooManyBlocks
+    else (if is_past_end before len ended then Some TapeTooLong
+    else (if not (is_said_in_range said) then Some WordRange
+    else None))))
+
+abbrev pub program_at : ℕ → ℕ → Program
+program_at line number = record { number = number; line = line; blocks = [] }
+
+abbrev pub block_at : ℕ → SaidBlock → Block
+block_at line block = record { line = line; sequence = block.sequence; body = block.body }
+
+abbrev pub with_block : Block → Option Program → Option Program
+with_block block None = None
+with_block block (Some program) = Some (record program { blocks = program.blocks ++ block ∷ [] })
+
+abbrev pub with_program : Before → ℕ → Before
+with_program before number = record before { done = programs_of before; current = Some (program_at (before.lines + 1) number) }
+
+-- with what a line says
+abbrev pub with_said : Before → Said → Before
+with_said before said.Nothing = before
+with_said before (said.Program None) = before
+with_said before (said.Program (Some number)) = with_program before number
+with_said before (said.Block block) = record before { blocks = before.blocks + 1; current = with_block (block_at (before.lines + 1) block) before.current }
+
+abbrev pub unless_refused : Option Refusal → Before → Result Before Refusal
+unless_refused None before = Ok before
+unless_refused (Some refusal) before = Err refusal
+
+abbrev pub after_said : Before → ℕ → Bool → Result Said Refusal → Result Before Refusal
+after_said before len ended (Ok said) = unless_refused (said_refusal before len ended said) (next (with_said before said) len ended)
+after_said before len ended (Err refusal) = Err refusal
+
+-- with one line of the programs more
+abbrev pub after_line : ℕ → Before → List ℕ → Bool → Result Before Refusal
+after_line skips before bytes ended = after_said before (length bytes) ended (line_says skips bytes ended)
+
+abbrev pub after_percent : Before → ℕ → Bool → Result Before Refusal
+after_percent before len ended = unless_refused (percent_refusal before len ended) (next before len ended)
+
+abbrev pub after_outer : Before → ℕ → Bool → Result Before Refusal
+after_outer before len ended = unless_refused (outer_refusal before len ended) (next before len ended)
+
+abbrev pub Answer : Type 0
+Answer = Result (List Program) TextFault
+
+-- a tape without any O number, and behind the second `%` line the tape
+abbrev pub no_program : Before → TextFault
+no_program before = record { number = refusal_number NoProgramNumber; line = before.percent }
+
+abbrev pub finished : Before → Answer
+finished before = if is_none before.current then Err (no_program before) else Ok (programs_of before)
+
+-- no second `%` line; the line is the last one
+abbrev pub unfinished : Before → Answer
+unfinished before =
+    if is_none before.current then Err (no_program before)
+    else Err (record { number = refusal_number NoEnd; line = before.lines })
+
+-- no `%` line at all
+abbrev pub not_begun : Answer
+not_begun = Err (record { number = refusal_number NoProgramNumber; line = 1 })
+
+abbrev pub goes_on : Before → Result Before Refusal → (Before → Answer) → Answer
+goes_on before (Ok after) rest = rest after
+goes_on before (Err refusal) rest = Err (fault_behind before refusal)
+
+-- behind the second `%` line
+abbrev pub in_rest : List Line → Before → Answer
+in_rest [] before = finished before
+in_rest (line ∷ lines) before = goes_on before (after_outer before (length line.bytes) line.ended) (in_rest lines)
+
+-- behind the first `%` line
+abbrev pub in_body : ℕ → List Line → Before → Answer
+in_body skips [] before = unfinished before
+in_body skips (line ∷ lines) before =
+    if is_percent line.bytes then goes_on before (after_percent before (length line.bytes) line.ended) (in_rest lines)
+    else goes_on before (after_line skips before line.bytes line.ended) (in_body skips lines)
+
+-- the first `%` line has been passed
+abbrev pub begun : Before → Before
+begun before = record before { percent = before.lines }
+
+-- before the first `%` line
+abbrev pub in_leader : ℕ → List Line → Before → Answer
+in_leader skips [] before = not_begun
+in_leader skips (line ∷ lines) before =
+    if is_percent line.bytes then goes_on before (after_percent before (length line.bytes) line.ended) (λ after. in_body skips lines (begun after))
+    else goes_on before (after_outer before (length line.bytes) line.ended) (in_leader skips lines)
+
+-- the tape of a text, where bit n of skips is switch n
+unfoldable pub tape_of : ℕ → List ℕ → Answer
+tape_of skips text = in_leader skips (lines_of text) nothing_read

@@ -1,0 +1,26 @@
+-- What was read, as contracts see it.
+use Rattle.std.specs.Prelude.{◌≡◌, Result, Ok, Err}
+use Rattle.nc_number.specs.declared.fault.Failing.{Failing}
+use Rattle.nc_number.specs.declared.fault.Failing.TheVariants.{Fault, NoMemory}
+use Rattle.nc_text.specs.declared.refusal.Refusal.{Refusal}
+use Rattle.nc_text.specs.declared.progress.Progress.{Progress}
+use Rattle.nc_text.specs.Tape.{Before}
+
+abbrev pub before_of : Progress → Before
+before_of progress = record {
+  lines = progress.lines;
+  bytes = progress.bytes;
+  percent = progress.percent;
+  blocks = progress.blocks;
+  done = progress.done.items;
+  current = progress.current;
+}
+
+-- a line was taken as the definition says, unless memory ran out
+abbrev pub AdvancesTo : Failing Refusal → Result Before Refusal → Type 0
+AdvancesTo (Fault refusal) read = read ≡ Err refusal
+AdvancesTo NoMemory read = Unit {0}
+
+abbrev pub Advances : {A : Type 0} → Result A (Failing Refusal) → Before → Result Before Refusal → Type 0
+Advances (Ok x) new read = read ≡ Ok new
+Advances (Err error) new read = AdvancesTo error read

@@ -1,0 +1,112 @@
+ghost use Rattle.std.specs.Prelude.{◌≡◌, ◌≤◌, length, IfOk, IfSome};
+ghost use Rattle.std.specs.List.{prefix_len};
+ghost use Rattle.nc_text.specs.Pieces.{is_comment};
+ghost use Rattle.nc_text.specs.Front.{behind_comments, is_switch, switch_behind, behind_digit, switch_of, behind_switch, sentence_of, is_statement, is_number_sign};
+
+use crate::sign::Sign;
+use std::alloc::{AllocError, Global};
+
+/// How many comments the signs begin with.
+fn comments_len(signs: &[Sign]) -> usize
+    ensures count { result ≡ prefix_len is_comment signs.now }
+    ensures within { result ≤ length signs.now }
+{
+    let mut at = 0usize;
+    for sign in signs {
+        if sign.byte != b'(' {
+            return at;
+        }
+        at += 1;
+    }
+    at
+}
+
+/// The signs from the first on that is no comment.
+pub(crate) fn behind_comments(signs: &[Sign]) -> &[Sign]
+    ensures { result.now ≡ behind_comments signs.now }
+{
+    let (_, rest) = signs.split_at(comments_len(signs));
+    rest
+}
+
+fn is_switch(byte: u8) -> bool
+    ensures { result ≡ is_switch byte }
+{
+    b'1' <= byte && byte <= b'9'
+}
+
+/// The switch that a skip sign names by what stands behind it, and what stands behind that.
+fn skip_sign(signs: &[Sign]) -> (u8, &[Sign])
+    ensures switch { result.0 ≡ switch_behind signs.now }
+    ensures rest { result.1.now ≡ behind_digit signs.now }
+    ensures range { result.0 ≤ 9 }
+{
+    match signs {
+        [] => (1, signs),
+        [digit, rest @ ..] => {
+            if is_switch(digit.byte) {
+                (digit.byte - b'0', rest)
+            } else {
+                (1, signs)
+            }
+        }
+    }
+}
+
+/// The switch of the skip sign that a block may begin with, and what stands behind it.
+pub(crate) fn front(signs: &[Sign]) -> (Option<u8>, &[Sign])
+    ensures switch { result.0 ≡ switch_of signs.now }
+    ensures rest { result.1.now ≡ behind_switch signs.now }
+    ensures range { IfSome result.0 (λ switch. switch ≤ 9) }
+{
+    match signs {
+        [] => (None, signs),
+        [first, rest @ ..] => {
+            if first.byte == b'/' {
+                let (switch, behind) = skip_sign(rest);
+                (Some(switch), behind)
+            } else {
+                (None, signs)
+            }
+        }
+    }
+}
+
+/// The text of the signs without comments.
+pub(crate) fn sentence(alloc: Global, signs: &[Sign]) -> Result<Vec<u8>, AllocError>
+    ensures { IfOk result (λ text. text.items ≡ sentence_of signs.now) }
+{
+    signs
+        .iter()
+        .filter(|sign| sign.byte != b'(')
+        .map(|sign| sign.byte)
+        .collect(alloc)
+}
+
+/// Whether the text begins as a statement does.
+pub(crate) fn is_statement(text: &[u8]) -> bool
+    ensures { result ≡ is_statement text.now }
+{
+    text.starts_with(b"#")
+        || text.starts_with(b"IF")
+        || text.starts_with(b"WHILE")
+        || text.starts_with(b"GOTO")
+        || text.starts_with(b"DO")
+        || text.starts_with(b"END")
+}
+
+/// How many signs of a literal the signs begin with.
+pub(crate) fn number_len(signs: &[Sign]) -> usize
+    ensures count { result ≡ prefix_len is_number_sign signs.now }
+    ensures within { result ≤ length signs.now }
+{
+    let mut at = 0usize;
+    for sign in signs {
+        let byte = sign.byte;
+        if !(byte.is_ascii_digit() || byte == b'.' || byte == b'+' || byte == b'-') {
+            return at;
+        }
+        at += 1;
+    }
+    at
+}

@@ -1,0 +1,291 @@
+ghost use Rattle.std.specs.Prelude.{◌≡◌, ◌<◌, ◌≤◌, false, IsTrue, Ok, Err, OnOk};
+ghost use Rattle.nc_text.specs.Lines.{size_of};
+ghost use Rattle.nc_text.specs.Tape.{nothing_read, is_past_end, next, percent_refusal, outer_refusal, said_refusal, is_block, is_said_in_range, with_said, with_program, begun, after_outer, after_percent, after_said, unfinished, finished};
+ghost use Rattle.nc_text.specs.Reading.{Gives};
+ghost use Rattle.nc_text.specs.declared.said.Said.TheVariants as said;
+
+use crate::fault::TextFault;
+use crate::refusal::Refusal;
+use crate::said::{Said, SaidBlock};
+use crate::tape::{Block, BlockList, Program, Tape};
+use nc_number::Failing;
+use std::alloc::{AllocError, Global};
+
+/// The longest line, in bytes without its line feed.
+const LINE_BYTES: u32 = 512;
+
+const TAPE_BYTES: u64 = 4_194_304;
+
+const BLOCKS: u32 = 20_000;
+
+/// What was read before the present line.
+#[derive(Debug, Drop)]
+pub(crate) struct Progress {
+    pub lines: u32,
+    pub bytes: u32,
+    /// The number of the first line that begins with `%`.
+    pub percent: u32,
+    pub blocks: u32,
+    /// The programs before the one that is being read.
+    pub done: Vec<Program>,
+    pub current: Option<Program>,
+    ghost few_lines: { lines ≤ bytes },
+    ghost few_bytes: { bytes ≤ 4194304 },
+    ghost few_blocks: { blocks ≤ 20000 },
+}
+
+impl Progress {
+    ghost use Rattle.nc_text.specs.View.{before_of, Advances};
+
+    pub(crate) fn new(alloc: Global) -> Self
+        ensures { before_of result ≡ nothing_read }
+    {
+        Progress {
+            lines: 0,
+            bytes: 0,
+            percent: 0,
+            blocks: 0,
+            done: Vec::new(alloc),
+            current: None,
+        }
+    }
+
+    /// Whether a line of this length holds the first byte that is too many.
+    fn is_past_end(&self, len: u32, ended: bool) -> bool
+        ensures { result ≡ is_past_end (before_of self.now) len ended }
+    {
+        u64::from(self.bytes) + size_of(len, ended) > TAPE_BYTES
+    }
+
+    /// The least refusal of a line that begins with `%`.
+    fn percent_refusal(&self, len: u32, ended: bool) -> Option<Refusal>
+        ensures { result ≡ percent_refusal (before_of self.now) len ended }
+    {
+        if len > LINE_BYTES {
+            Some(Refusal::LineTooLong)
+        } else if self.is_past_end(len, ended) {
+            Some(Refusal::TapeTooLong)
+        } else {
+            None
+        }
+    }
+
+    /// The least refusal of a line outside the `%` lines.
+    fn outer_refusal(&self, len: u32, ended: bool) -> Option<Refusal>
+        ensures { result ≡ outer_refusal (before_of self.now) len ended }
+    {
+        if self.is_past_end(len, ended) {
+            Some(Refusal::TapeTooLong)
+        } else {
+            None
+        }
+    }
+
+    /// The least refusal of a line that is readable by itself.
+    fn said_refusal(&self, len: u32, ended: bool, said: &Said) -> Option<Refusal>
+        ensures { result ≡ said_refusal (before_of self.now) len ended said.now }
+    {
+        let is_block = is_block(said);
+        if is_block && self.current.is_none() {
+            Some(Refusal::NoProgramNumber)
+        } else if len > LINE_BYTES {
+            Some(Refusal::LineTooLong)
+        } else if is_block && self.blocks >= BLOCKS {
+            Some(Refusal::TooManyBlocks)
+        } else if self.is_past_end(len, ended) {
+            Some(Refusal::TapeTooLong)
+        } else if !is_in_range(said) {
+            Some(Refusal::WordRange)
+        } else {
+            None
+        }
+    }
+
+    /// Goes on behind a line.
+    fn pass(&mut self, len: u32, ended: bool)
+        requires some { 0 < size_of len ended }
+        requires fits { is_past_end (before_of self.old) len ended ≡ false }
+        ensures { before_of self.new ≡ next (before_of self.old) len ended }
+    {
+        self.bytes += size_of(len, ended) as u32;
+        self.lines += 1;
+    }
+
+    /// The line that was passed last is the first `%` line.
+    pub(crate) fn begin(&mut self)
+        ensures { before_of self.new ≡ begun (before_of self.old) }
+    {
+        self.percent = self.lines;
+    }
+
+    fn begin_program(&mut self, alloc: Global, number: u32) -> Result<(), AllocError>
+        ensures { OnOk result (before_of self.new ≡ with_program (before_of self.old) number) }
+    {
+        let line = self.lines + 1;
+        if let Some(program) = self.current.take() {
+            self.done.push(program)?;
+        }
+        self.current = Some(Program {
+            number,
+            line,
+            blocks: BlockList::empty(alloc),
+        });
+        Ok(())
+    }
+
+    fn add_block(&mut self, block: SaidBlock) -> Result<(), AllocError>
+        requires { self.old.blocks < 20000 }
+        ensures { OnOk result (before_of self.new ≡ with_said (before_of self.old) (said.Block block)) }
+    {
+        let line = self.lines + 1;
+        let SaidBlock {
+            sequence,
+            in_range: _,
+            body,
+        } = block;
+        if let Some(program) = self.current.take() {
+            let mut program = program;
+            program.blocks.push(Block {
+                line,
+                sequence,
+                body,
+            })?;
+            self.current = Some(program);
+        }
+        self.blocks += 1;
+        Ok(())
+    }
+
+    /// Takes what a line says.
+    fn take(&mut self, alloc: Global, said: Said) -> Result<(), AllocError>
+        requires { IsTrue (is_block said) → self.old.blocks < 20000 }
+        ensures { OnOk result (before_of self.new ≡ with_said (before_of self.old) said) }
+    {
+        match said {
+            Said::Nothing => Ok(()),
+            Said::Program(None) => Ok(()),
+            Said::Program(Some(number)) => self.begin_program(alloc, number),
+            Said::Block(block) => self.add_block(block),
+        }
+    }
+
+    /// Takes a line before the first `%` line, or one behind the second.
+    pub(crate) fn pass_outer(&mut self, len: u32, ended: bool) -> Result<(), Failing<Refusal>>
+        requires { 0 < size_of len ended }
+        ensures { Advances result (before_of self.new) (after_outer (before_of self.old) len ended) }
+    {
+        if let Some(refusal) = self.outer_refusal(len, ended) {
+            return Err(Failing::Fault(refusal));
+        }
+        self.pass(len, ended);
+        Ok(())
+    }
+
+    /// Takes a line that begins with `%`.
+    pub(crate) fn pass_percent(&mut self, len: u32, ended: bool) -> Result<(), Failing<Refusal>>
+        requires { 0 < size_of len ended }
+        ensures { Advances result (before_of self.new) (after_percent (before_of self.old) len ended) }
+    {
+        if let Some(refusal) = self.percent_refusal(len, ended) {
+            return Err(Failing::Fault(refusal));
+        }
+        self.pass(len, ended);
+        Ok(())
+    }
+
+    /// Takes a line of the programs that is readable by itself.
+    pub(crate) fn pass_said(
+        &mut self,
+        alloc: Global,
+        len: u32,
+        ended: bool,
+        said: Said,
+    ) -> Result<(), Failing<Refusal>>
+        requires { 0 < size_of len ended }
+        ensures { Advances result (before_of self.new) (after_said (before_of self.old) len ended (Ok said)) }
+    {
+        if let Some(refusal) = self.said_refusal(len, ended, &said) {
+            return Err(Failing::Fault(refusal));
+        }
+        self.take(alloc, said)?;
+        self.pass(len, ended);
+        Ok(())
+    }
+
+    /// The refusal of a tape without a second `%` line.
+    pub(crate) fn unfinished(&self) -> TextFault
+        ensures { unfinished (before_of self.now) ≡ Err result }
+    {
+        if self.current.is_none() {
+            no_program(self.percent)
+        } else {
+            TextFault {
+                number: Refusal::NoEnd.number(),
+                line: self.lines,
+            }
+        }
+    }
+
+    /// The tape behind its second `%` line.
+    pub(crate) fn finish(self) -> Result<Tape, Failing<TextFault>>
+        ensures { Gives result (finished (before_of self)) }
+    {
+        let Progress {
+            lines: _,
+            bytes: _,
+            percent,
+            blocks: _,
+            done,
+            current,
+        } = self;
+        match current {
+            None => Err(Failing::Fault(no_program(percent))),
+            Some(program) => {
+                let mut programs = done;
+                programs.push(program)?;
+                Ok(Tape::of(programs))
+            }
+        }
+    }
+}
+
+/// The refusal of a tape without any O number.
+fn no_program(percent: u32) -> TextFault
+    ensures { result ≡ record { number = 13; line = percent } }
+{
+    TextFault {
+        number: Refusal::NoProgramNumber.number(),
+        line: percent,
+    }
+}
+
+/// The bytes of a line of this length, with its line feed.
+fn size_of(len: u32, ended: bool) -> u64
+    ensures { result ≡ size_of len ended }
+{
+    if ended {
+        u64::from(len) + 1
+    } else {
+        u64::from(len)
+    }
+}
+
+fn is_block(said: &Said) -> bool
+    ensures { result ≡ is_block said.now }
+{
+    match said {
+        Said::Nothing => false,
+        Said::Program(_) => false,
+        Said::Block(_) => true,
+    }
+}
+
+fn is_in_range(said: &Said) -> bool
+    ensures { result ≡ is_said_in_range said.now }
+{
+    match said {
+        Said::Nothing => true,
+        Said::Program(number) => number.is_some(),
+        Said::Block(block) => block.in_range,
+    }
+}

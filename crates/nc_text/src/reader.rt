@@ -1,0 +1,70 @@
+ghost use Rattle.std.specs.Prelude.{◌≡◌, [], ◌++◌, ℕ, List, IfOk, IsOk, OnOk};
+ghost use Rattle.nc_text.specs.declared.fault.TextFault.{TextFault};
+ghost use Rattle.nc_text.specs.Tape.{tape_of};
+ghost use Rattle.nc_text.specs.Reading.{HasRead, HasRefused, IsRefused, IfRefused, Gives};
+
+use crate::fault::TextFault;
+use crate::feed::Feed;
+use crate::tape::Tape;
+use nc_number::{Failing, NoMemory};
+use std::alloc::Global;
+use std::marker::Model;
+
+/// Reads a tape that comes in pieces.
+///
+/// What it answers depends on the joined bytes alone. Of them it keeps the tape so far and the present line;
+/// of the lines before the first and behind the second `%` line it keeps nothing.
+#[derive(Debug, Drop)]
+pub struct Reader {
+    feed: Feed,
+}
+
+impl Model for Reader {
+    ghost use Rattle.nc_text.specs.Reading.{State};
+
+    ghost Value = { State };
+
+    ghost use Rattle.nc_text.specs.FeedView.{state_of};
+
+    ghost view = { λ r. state_of r.feed };
+}
+
+impl Reader {
+    /// A reader that was given nothing. Bit n of `skips` is switch n: a block with the skip sign of a switch
+    /// that is set counts as absent, but must be readable.
+    pub fn new(alloc: Global, skips: u16) -> Result<Reader, NoMemory>
+        // It takes no memory yet.
+        ensures made { IsOk result }
+        ensures reads { IfOk result (λ reader. HasRead reader skips []) }
+    {
+        Ok(Reader {
+            feed: Feed::new(alloc, skips),
+        })
+    }
+
+    /// Takes the next piece of the tape. It refuses where a line that has ended decides the answer, whatever
+    /// follows; from then on every call gives the same refusal. Where memory ran out, part of the tape is lost, and
+    /// every later call says so again.
+    pub fn feed(&mut self, piece: &[u8]) -> Result<(), Failing<TextFault>>
+        ensures reads { (skips : ℕ) (bytes : List ℕ) → HasRead self.old skips bytes → OnOk result (HasRead self.new skips (bytes ++ piece.now)) }
+        ensures refuses { (skips : ℕ) (bytes : List ℕ) → HasRead self.old skips bytes → IfRefused result (λ fault. IsRefused skips (bytes ++ piece.now) fault) }
+        ensures refused { IfRefused result (λ fault. HasRefused self.new fault) }
+        ensures same { (fault : TextFault) → HasRefused self.old fault → (result ≡ Err (Failing.Fault fault)) × (self.new ≡ self.old) }
+    {
+        if let Err(error) = self.feed.answer() {
+            return Err(error);
+        }
+        self.feed.take_all(piece);
+        self.feed.answer()
+    }
+
+    /// Ends the tape, and answers its programs or its refusal: the least line at which one holds, and there the
+    /// least number.
+    pub fn finish(self) -> Result<Tape, Failing<TextFault>>
+        ensures exact { (skips : ℕ) (bytes : List ℕ) → HasRead self skips bytes → Gives result (tape_of skips bytes) }
+        ensures same { (fault : TextFault) → HasRefused self fault → result ≡ Err (Failing.Fault fault) }
+    {
+        let Reader { feed } = self;
+        feed.finish()
+    }
+}

@@ -1,0 +1,133 @@
+ghost use Rattle.std.specs.Prelude.{◌≡◌, ◌+◌, ◌-◌, ◌^◌, ◌<◌, ◌≤◌, false, length, IfOk};
+ghost use Rattle.nc_text.specs.Signs.{is_blank, is_allowed, scan_of, without_return, without_blanks, without_last, signs_of, are_allowed};
+ghost use Rattle.nc_text.specs.Places.{ArePlaced};
+ghost use Rattle.std.specs.List.{suffix_len};
+
+use std::alloc::{AllocError, Global};
+
+/// A byte of a line that counts, in upper case, and its place in the line. A comment is its opening bracket.
+#[derive(Clone, Copy, Debug, PartialEq, Eq)]
+pub(crate) struct Sign {
+    pub place: u32,
+    pub byte: u8,
+}
+
+/// What a line has outside spaces and comments, and whether its last comment is open.
+#[derive(Debug, Drop)]
+pub(crate) struct Signs {
+    pub list: Vec<Sign>,
+    pub unclosed: bool,
+}
+
+fn is_blank(byte: u8) -> bool
+    ensures { result ≡ is_blank byte }
+{
+    byte == b' ' || byte == b'\t'
+}
+
+fn is_allowed(byte: u8) -> bool
+    ensures { result ≡ is_allowed byte }
+{
+    byte.is_ascii_uppercase()
+        || byte.is_ascii_digit()
+        || byte == b'.'
+        || byte == b'+'
+        || byte == b'-'
+        || byte == b'/'
+        || byte == b'('
+        || byte == b')'
+        || byte == b'#'
+        || byte == b'['
+        || byte == b']'
+        || byte == b'='
+        || byte == b'*'
+}
+
+/// Whether each byte may stand where it does.
+pub(crate) fn are_allowed(signs: &[Sign]) -> bool
+    ensures { result ≡ are_allowed signs.now }
+{
+    signs.iter().all(|sign| is_allowed(sign.byte))
+}
+
+/// A line without the carriage return before its line feed.
+fn without_return(line: &[u8], ended: bool) -> &[u8]
+    ensures { result.now ≡ without_return line.now ended }
+{
+    if !ended {
+        return line;
+    }
+    match line {
+        [front @ .., b'\r'] => front,
+        _ => line,
+    }
+}
+
+fn blanks_at_end(line: &[u8]) -> usize
+    ensures count { result ≡ suffix_len is_blank line.now }
+    ensures within { result ≤ length line.now }
+{
+    let mut rest = line.len();
+    while rest > 0 && is_blank(line[rest - 1]) {
+        rest -= 1;
+    }
+    line.len() - rest
+}
+
+fn without_blanks(line: &[u8]) -> &[u8]
+    ensures { result.now ≡ without_blanks line.now }
+{
+    let (front, _) = line.split_at(line.len() - blanks_at_end(line));
+    front
+}
+
+fn without_semicolon(line: &[u8]) -> &[u8]
+    ensures { result.now ≡ without_last 59 line.now }
+{
+    match line {
+        [front @ .., b';'] => front,
+        _ => line,
+    }
+}
+
+/// The bytes of a line that count.
+fn scan(alloc: Global, line: &[u8]) -> Result<Signs, AllocError>
+    requires { length line.now < 2 ^ 32 - 1 }
+    ensures list { IfOk result (λ signs. signs.list.items ≡ (scan_of line.now false 0).list) }
+    ensures unclosed { IfOk result (λ signs. signs.unclosed ≡ (scan_of line.now false 0).unclosed) }
+    ensures placed { IfOk result (λ signs. ArePlaced signs.list.items) }
+    ensures short { IfOk result (λ signs. length signs.list.items < 2 ^ 32) }
+{
+    let mut list = Vec::new(alloc);
+    let mut inside = false;
+    let mut place = 0u32;
+    for byte in line {
+        if !inside && !is_blank(*byte) {
+            list.push(Sign {
+                place,
+                byte: byte.to_ascii_uppercase(),
+            })?;
+        }
+        inside = if inside { *byte != b')' } else { *byte == b'(' };
+        place += 1;
+    }
+    Ok(Signs {
+        list,
+        unclosed: inside,
+    })
+}
+
+/// What counts of a line.
+#[tactic(auto, unfolding(crate::specs::Signs::signs_of))]
+pub(crate) fn read_signs(alloc: Global, line: &[u8], ended: bool) -> Result<Signs, AllocError>
+    requires { length line.now < 2 ^ 32 - 1 }
+    ensures list { IfOk result (λ signs. signs.list.items ≡ (signs_of line.now ended).list) }
+    ensures unclosed { IfOk result (λ signs. signs.unclosed ≡ (signs_of line.now ended).unclosed) }
+    ensures placed { IfOk result (λ signs. ArePlaced signs.list.items) }
+    ensures short { IfOk result (λ signs. length signs.list.items < 2 ^ 32) }
+{
+    scan(
+        alloc,
+        without_semicolon(without_blanks(without_return(line, ended))),
+    )
+}
