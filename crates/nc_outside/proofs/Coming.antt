@@ -1,0 +1,27 @@
+-- The count of planned faults as calls go on.
+use Rattle.std.proofs.Common.{◌≡◌, ℕ, ◌+◌, ◌<◌, ◌≤◌, cond, List, get_or, remove, Contains, arith}
+use Rattle.std.proofs.lemmas.Bool.Decides.{nat_tests}
+use Rattle.std.proofs.lemmas.List.Sums.{sum_by-le-sum_by, sum_by-remove}
+use Rattle.nc_outside.specs.Plan.{has_come, fault_count}
+
+-- one planned fault, counted
+abbrev come : ℕ → ℕ → ℕ
+come calls number = cond (has_come calls number) 1 0
+
+come_stays : (m n x : ℕ) → m ≤ n → come m x ≤ come n x
+come_stays m n x h = grind (arith, nat_tests)
+
+-- the count never falls
+pub fault_count-≤ : (m n : ℕ) (failing : List ℕ) → m ≤ n → fault_count m failing ≤ fault_count n failing
+fault_count-≤ m n failing h = sum_by-le-sum_by (come m) (come n) failing (λ x. come_stays m n x h)
+
+-- it rises where the call that is made is one that was to fail
+pub fault_count-< : (n : ℕ) (failing : List ℕ) → Contains failing (n + 1) → fault_count n failing < fault_count (n + 1) failing
+fault_count-< n failing found =
+    let at_place : get_or failing found.0 (n + 1) ≡ n + 1 = found.2 in
+    let rest = sum_by-le-sum_by (come n) (come (n + 1)) (remove failing found.0) (λ x. come_stays n (n + 1) x (omega arith)) in
+    let before = sum_by-remove (come n) failing found.0 (n + 1) found.1 in
+    let after = sum_by-remove (come (n + 1)) failing found.0 (n + 1) found.1 in
+    let not_yet : come n (get_or failing found.0 (n + 1)) ≡ 0 = rw at_place (grind (arith, nat_tests)) in
+    let now : come (n + 1) (get_or failing found.0 (n + 1)) ≡ 1 = rw at_place (grind (arith, nat_tests)) in
+    omega arith

@@ -1,0 +1,160 @@
+//! A shelf in memory.
+ghost use Rattle.std.specs.Prelude.{◌≡◌, ◌≢◌, ℕ, ◌+◌, ◌-◌, ◌^◌, ◌<◌, ◌≤◌, ◌↔◌, List, min, ◌++◌, length, Some, None, Err, OnOk, OnErr, IfOk, IsSomeAnd, IsErrOf, MatchOption};
+ghost use Rattle.nc_outside.specs.Faults.{Rose};
+ghost use Rattle.nc_outside.specs.Files.{file_named};
+ghost use Rattle.nc_outside.specs.Kept.{files_of};
+ghost use Rattle.nc_outside.specs.Plan.{fault_count, FailsNext};
+
+use crate::plan::Plan;
+use crate::{FetchFault, Shelf};
+use nc_number::NoMemory;
+use std::alloc::Global;
+use std::marker::Model;
+
+/// Files in memory, and the numbers of the calls that are to fail.
+#[derive(Drop)]
+pub struct MemoryShelf {
+    files: Vec<(String, Vec<u8>)>,
+    plan: Plan,
+}
+
+impl Model for MemoryShelf {
+    ghost use Rattle.nc_outside.specs.Kept.{KeptFiles, files_of};
+
+    ghost Value = { KeptFiles };
+
+    ghost view = { λ s. record { files = files_of s.files.items; failing = s.plan.failing.items; calls = s.plan.calls } };
+}
+
+impl MemoryShelf {
+    /// A shelf with these files, of which the `failing` calls of `fetch` are to fail, counted from 1.
+    pub fn new(
+        alloc: Global,
+        files: Vec<(String, Vec<u8>)>,
+        failing: &[u64],
+    ) -> Result<Self, NoMemory>
+        ensures files { IfOk result (λ shelf. shelf.files ≡ files_of files.items) }
+        ensures plan { IfOk result (λ shelf. (shelf.failing ≡ failing.now) × (shelf.calls ≡ 0)) }
+    {
+        let plan = Plan::new(alloc, failing)?;
+        Ok(MemoryShelf { files, plan })
+    }
+}
+
+// The bytes of the first file of that name.
+fn find<'a>(files: &'a [(String, Vec<u8>)], name: &str) -> Option<&'a [u8]>
+    ensures { MatchOption result (file_named name.now (files_of files.now) ≡ None)
+        (λ bytes. file_named name.now (files_of files.now) ≡ Some bytes.now) }
+{
+    for (held, bytes) in files {
+        if name == held.as_str() {
+            return Some(bytes.as_slice());
+        }
+    }
+    None
+}
+
+// Appends the bytes of the file of that name, where they are few enough.
+fn read(
+    files: &[(String, Vec<u8>)],
+    name: &str,
+    into: &mut Vec<u8>,
+    max: usize,
+) -> Result<(), FetchFault>
+    ensures ok { OnOk result ((bytes : List ℕ) × (file_named name.now (files_of files.now) ≡ Some bytes)
+        × (length bytes ≤ max) × (into.new.items ≡ into.old.items ++ bytes)) }
+    ensures absent { IsErrOf result FetchFault.Absent → file_named name.now (files_of files.now) ≡ None }
+    ensures too_long { IsErrOf result FetchFault.TooLong
+        → IsSomeAnd (file_named name.now (files_of files.now)) (λ bytes. max < length bytes) }
+    ensures never { result ≢ Err FetchFault.Failed }
+    ensures err { OnErr result (into.new.items ≡ into.old.items) }
+{
+    let Some(bytes) = find(files, name) else {
+        return Err(FetchFault::Absent);
+    };
+    if bytes.len() > max {
+        return Err(FetchFault::TooLong);
+    }
+    into.extend_from_slice(bytes)?;
+    Ok(())
+}
+
+impl Shelf for MemoryShelf {
+    ghost files = { λ shelf. Some shelf.files };
+
+    ghost faults = { λ shelf. fault_count shelf.calls shelf.failing };
+
+    fn faults(&self) -> u64 {
+        self.plan.faults()
+    }
+
+    fn fetch(&mut self, name: &str, into: &mut Vec<u8>, max: usize) -> Result<(), FetchFault>
+        // It fails exactly by its number.
+        ensures planned { IsErrOf result FetchFault.Failed ↔ FailsNext self.old.calls self.old.failing }
+        ensures calls { self.new.calls ≡ min (self.old.calls + 1) (2 ^ 64 - 1) }
+        ensures kept { (self.new.files ≡ self.old.files) × (self.new.failing ≡ self.old.failing) }
+
+        ensures ok { OnOk result ((bytes : List ℕ) × (file_named name.now self.old.files ≡ Some bytes)
+            × (length bytes ≤ max) × (into.new.items ≡ into.old.items ++ bytes)) }
+        ensures absent { IsErrOf result FetchFault.Absent → file_named name.now self.old.files ≡ None }
+        ensures too_long { IsErrOf result FetchFault.TooLong
+            → IsSomeAnd (file_named name.now self.old.files) (λ bytes. max < length bytes) }
+        ensures failed { IsErrOf result FetchFault.Failed
+            → Rose (fault_count self.old.calls self.old.failing) (fault_count self.new.calls self.new.failing) }
+        ensures err { OnErr result (into.new.items ≡ into.old.items) }
+        ensures later { fault_count self.old.calls self.old.failing ≤ fault_count self.new.calls self.new.failing }
+    {
+        if self.plan.call() {
+            return Err(FetchFault::Failed);
+        }
+        read(&self.files, name, into, max)
+    }
+}
+
+#[cfg(test)]
+mod tests {
+    use super::*;
+    use std::test::Fail;
+
+    fn fetch<S: Shelf>(
+        shelf: &mut S,
+        name: &str,
+        into: &mut Vec<u8>,
+        max: usize,
+    ) -> (Result<(), FetchFault>, u64) {
+        let outcome = shelf.fetch(name, into, max);
+        (outcome, shelf.faults())
+    }
+
+    #[test]
+    fn the_first_file_of_a_name_is_appended_and_planned_calls_fail(
+        rt: HostRuntime,
+    ) -> Result<(), Fail> {
+        let alloc = rt.alloc();
+        let mut files = Vec::new(alloc);
+        for (name, bytes) in [("a", "G00"), ("b", ""), ("a", "M30")] {
+            let file = (
+                String::from_str(alloc, name)?,
+                bytes.as_bytes().to_vec(alloc)?,
+            );
+            files.push(file)?;
+        }
+        let mut shelf = MemoryShelf::new(alloc, files, &[5, 3])?;
+        for (name, max, outcome, faults, text) in [
+            ("a", 3, Ok(()), 0, "%G00"),
+            ("a", 2, Err(FetchFault::TooLong), 0, "%"),
+            ("a", 9, Err(FetchFault::Failed), 1, "%"),
+            ("c", 9, Err(FetchFault::Absent), 1, "%"),
+            ("c", 9, Err(FetchFault::Failed), 2, "%"),
+            ("b", 0, Ok(()), 2, "%"),
+            ("A", 9, Err(FetchFault::Absent), 2, "%"),
+        ] {
+            let mut into = b"%".to_vec(alloc)?;
+            let (answered, count) = fetch(&mut shelf, name, &mut into, max);
+            assert_eq!(rt; answered, outcome, "{name} {max}");
+            assert_eq!(rt; count, faults, "{name} {max}");
+            assert_eq!(rt; into.as_slice(), text.as_bytes(), "{name} {max}");
+        }
+        Ok(())
+    }
+}
