@@ -1,0 +1,62 @@
+-- The laws of both kinds of variables.
+use Rattle.std.proofs.Common.{◌≡◌, ℕ, ◌<◌, ◌==◌, List, [], ◌∷◌, ◌++◌, true, false, cond, Option, None, Some, length, arith, refl, sym, ◌∙◌, ap, inl, inr, unwrap_or, eq-eqb}
+use Rattle.std.specs.Option.{option_or}
+use Rattle.std.proofs.lemmas.Bool.{cases_eq, ne_eqb}
+use Rattle.std.proofs.lemmas.List.{get_or-set_same, get_or-set_other, get_or-replicate}
+use Rattle.std.proofs.Math.ListN.{length-set}
+use Rattle.nc_number.specs.declared.value.Var.{Var}
+use Rattle.nc_number.specs.declared.value.Var.TheVariants.{Vacant}
+use Rattle.common_vars.specs.declared.links.Write.{Write}
+use Rattle.common_vars.specs.Common.{IsCommon, AreCommon, none_written, value_of, with_value, after_writes, latest_of}
+use Rattle.common_vars.specs.Writes.{is_write_of, latest_write, value_after}
+
+common_small : (v : ℕ) → IsCommon v → v < 1000
+common_small v (inl low) = omega (arith, low.1)
+common_small v (inr high) = omega (arith, high.1)
+
+after_one : (own : List Var) (v u : ℕ) (to : Var) → length own ≡ 1000 → u < 1000
+    → value_of v (with_value u to own) ≡ unwrap_or (cond (u == v) (Some to) None) (value_of v own)
+after_one own v u to sized small =
+    elim (cases_eq u v) [
+      | inl same ↦
+          let test : (u == v) ≡ true = eq-eqb u v same in
+          rw (test, same) (get_or-set_same own v to Vacant (omega arith))
+      | inr other ↦
+          let test : (u == v) ≡ false = ne_eqb u v other in
+          rw test (get_or-set_other own u v to Vacant (λ e. other (sym e)))
+    ]
+
+unwrap_or-or : (o p : Option Var) (d : Var) → unwrap_or (option_or o p) d ≡ unwrap_or o (unwrap_or p d)
+unwrap_or-or None p d = refl
+unwrap_or-or (Some x) p d = refl
+
+after_all : (writes : List (ℕ × Var)) (own : List Var) (v : ℕ) → length own ≡ 1000 → AreCommon writes
+    → value_of v (after_writes writes own) ≡ unwrap_or (latest_of v writes) (value_of v own)
+after_all [] own v sized common = refl
+after_all (w ∷ later) own v sized common =
+    after_all later (with_value w.0 w.1 own) v (length-set own w.0 w.1 ∙ sized) common.1
+    ∙ ap (unwrap_or (latest_of v later)) (after_one own v w.0 w.1 sized (common_small w.0 common.0))
+    ∙ sym (unwrap_or-or (latest_of v later) _ (value_of v own))
+
+pub latest_is_held : (writes : List (ℕ × Var)) (v : ℕ) → IsCommon v → AreCommon writes
+    → value_of v (after_writes writes none_written) ≡ unwrap_or (latest_of v writes) Vacant
+latest_is_held writes v common all =
+    after_all writes none_written v refl all
+    ∙ ap (unwrap_or (latest_of v writes)) (get_or-replicate 1000 v Vacant Vacant (common_small v common))
+
+option_or-assoc : (a b c : Option Var) → option_or (option_or a b) c ≡ option_or a (option_or b c)
+option_or-assoc None b c = refl
+option_or-assoc (Some x) b c = refl
+
+one_more : (writes : List Write) (w : Write) (k v : ℕ)
+    → latest_write k v (writes ++ w ∷ []) ≡ option_or (cond (is_write_of k v w) (Some w.value) None) (latest_write k v writes)
+one_more [] w k v = elim (is_write_of k v w) as (λ b. option_or None (cond b (Some w.value) None) ≡ option_or (cond b (Some w.value) None) None) [ true ↦ refl | false ↦ refl ]
+one_more (x ∷ writes) w k v =
+    ap (λ o. option_or o (cond (is_write_of k v x) (Some x.value) None)) (one_more writes w k v)
+    ∙ option_or-assoc _ (latest_write k v writes) _
+
+pub seen_from_its_stamp : (writes : List Write) (w : Write) (k v : ℕ)
+    → value_after k v (writes ++ w ∷ []) ≡ cond (is_write_of k v w) w.value (value_after k v writes)
+seen_from_its_stamp writes w k v =
+    ap (λ o. unwrap_or o Vacant) (one_more writes w k v)
+    ∙ elim (is_write_of k v w) as (λ b. unwrap_or (option_or (cond b (Some w.value) None) (latest_write k v writes)) Vacant ≡ cond b w.value (value_after k v writes)) [ true ↦ refl | false ↦ refl ]

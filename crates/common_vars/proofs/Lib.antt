@@ -1,0 +1,4 @@
+pub mod Grown
+pub mod Latest
+pub mod Laws
+pub mod Steps
