@@ -1,0 +1,123 @@
+-- Words and runs at the head of a text.
+use Rattle.std.proofs.Common.{◌≡◌, ℕ, suc, ◌+◌, ◌≤◌, ◌==◌, ◌&&◌, not, Bool, true, false, cond, List, [], ◌∷◌, ◌++◌, length, take, drop, Option, None, Some, refl, sym, ◌∙◌, ap, subst, arith, inl, inr, eqb-true, eq-eqb}
+use Rattle.std.specs.Option.{option_or, option_map}
+use Rattle.std.specs.List.{list_all, prefix_len, position_or_len}
+use Rattle.std.proofs.lemmas.Bool.{and_parts}
+use Rattle.std.proofs.lemmas.List.{take-append-drop}
+use Rattle.std.proofs.Math.Seq.{take-append_seam, drop-append_seam}
+use Rattle.macro_expr.specs.declared.tree.Op.{Op}
+use Rattle.macro_expr.specs.Words.{behind, first_word, product_words, sum_words, product_operator, sum_operator, run, behind_run, begins, is_number_byte}
+use Rattle.macro_expr.specs.Grammar.{IsWord}
+
+pub behind-append : (word rest : List ℕ) → behind word (word ++ rest) ≡ Some rest
+behind-append [] rest = refl
+behind-append (w ∷ word) rest =
+    let same : (w == w) ≡ true = eq-eqb w w refl in
+    ap (λ t. cond t (behind word (word ++ rest)) None) same ∙ behind-append word rest
+
+pub behind-sound : (word text rest : List ℕ) → behind word text ≡ Some rest → text ≡ word ++ rest
+behind-sound [] text rest found = cc
+behind-sound (w ∷ word) [] rest found = cc
+behind-sound (w ∷ word) (b ∷ text) rest found = go (behind-sound word text rest) (b == w) refl found
+  where
+    go : (behind word text ≡ Some rest → text ≡ word ++ rest) → (t : Bool) → (b == w) ≡ t
+        → cond t (behind word text) None ≡ Some rest → b ∷ text ≡ w ∷ (word ++ rest)
+    go further true same found =
+        let e : b ≡ w = eqb-true b w same in
+        let f : text ≡ word ++ rest = further found in
+        cc
+    go further false other found = cc
+
+-- what a table of words finds is a word of it
+pub first_word-sound : {A : Type 0} (words : List (List ℕ × A)) (text rest : List ℕ) (m : A)
+    → first_word words text ≡ Some (m, rest) → (t : List ℕ) × IsWord words t m × (text ≡ t ++ rest)
+first_word-sound [] text rest m found = absurd (let no : ⊥ = cc in no)
+first_word-sound {A} (w ∷ words) text rest m found = go (first_word-sound words text rest m) (behind w.0 text) refl found
+  where
+    go : (first_word words text ≡ Some (m, rest) → (t : List ℕ) × IsWord words t m × (text ≡ t ++ rest))
+        → (o : Option (List ℕ)) → behind w.0 text ≡ o
+        → option_or (option_map (λ rest. (w.1, rest)) o) (first_word words text) ≡ Some (m, rest)
+        → (t : List ℕ) × IsWord (w ∷ words) t m × (text ≡ t ++ rest)
+    go further None is found =
+        let f = further found in
+        (f.0, inr f.1, f.2)
+    go further (Some r) is found =
+        let pair : ◌≡◌ {A = A × List ℕ} (m, rest) (w.1, r) = cc in
+        let meaning : m ≡ w.1 = ap (λ q. q.0) pair in
+        let same : r ≡ rest = sym (ap (λ q. q.1) pair) in
+        (w.0, inl (refl, meaning), behind-sound w.0 text rest (is ∙ ap Some same))
+
+-- how a word of operators begins a text
+pub record Leads (operator : List ℕ → Option (Op × List ℕ)) (word : List ℕ) (op : Op) (rest : List ℕ) : Type 0 where
+  pub found : operator (word ++ rest) ≡ Some (op, rest)
+  pub quiet : begins is_number_byte (word ++ rest) ≡ false
+  pub long : 1 ≤ length word
+
+leads_at : (operator : List ℕ → Option (Op × List ℕ)) (word w : List ℕ) (op o : Op) (rest : List ℕ)
+    → (word ≡ w) × (op ≡ o) → Leads operator w o rest → Leads operator word op rest
+leads_at operator word w op o rest same leads =
+    let P : List ℕ → Type 0 = λ x. Leads operator x op rest in
+    let Q : Op → Type 0 = λ x. Leads operator w x rest in
+    subst P (sym same.0) (subst Q (sym same.1) leads)
+
+pub product_leads : (word : List ℕ) (op : Op) (rest : List ℕ) → IsWord product_words word op
+    → Leads product_operator word op rest
+unfolding product_operator
+product_leads word op rest (inl same) = leads_at _ _ _ _ _ rest same (record { found = refl; quiet = refl; long = omega arith })
+product_leads word op rest (inr (inl same)) = leads_at _ _ _ _ _ rest same (record { found = refl; quiet = refl; long = omega arith })
+product_leads word op rest (inr (inr (inl same))) = leads_at _ _ _ _ _ rest same (record { found = refl; quiet = refl; long = omega arith })
+product_leads word op rest (inr (inr (inr (inl same)))) = leads_at _ _ _ _ _ rest same (record { found = refl; quiet = refl; long = omega arith })
+product_leads word op rest (inr (inr (inr (inr none)))) = absurd none
+
+pub sum_leads : (word : List ℕ) (op : Op) (rest : List ℕ) → IsWord sum_words word op
+    → Leads sum_operator word op rest
+unfolding sum_operator
+sum_leads word op rest (inl same) = leads_at _ _ _ _ _ rest same (record { found = refl; quiet = refl; long = omega arith })
+sum_leads word op rest (inr (inl same)) = leads_at _ _ _ _ _ rest same (record { found = refl; quiet = refl; long = omega arith })
+sum_leads word op rest (inr (inr (inl same))) = leads_at _ _ _ _ _ rest same (record { found = refl; quiet = refl; long = omega arith })
+sum_leads word op rest (inr (inr (inr (inl same)))) = leads_at _ _ _ _ _ rest same (record { found = refl; quiet = refl; long = omega arith })
+sum_leads word op rest (inr (inr (inr (inr none)))) = absurd none
+
+-- no word of sums is one of products
+pub sum_ends_product : (word : List ℕ) (op : Op) (rest : List ℕ) → IsWord sum_words word op
+    → product_operator (word ++ rest) ≡ None
+unfolding product_operator
+sum_ends_product word op rest (inl same) = ap (λ w. product_operator (w ++ rest)) same.0
+sum_ends_product word op rest (inr (inl same)) = ap (λ w. product_operator (w ++ rest)) same.0
+sum_ends_product word op rest (inr (inr (inl same))) = ap (λ w. product_operator (w ++ rest)) same.0
+sum_ends_product word op rest (inr (inr (inr (inl same)))) = ap (λ w. product_operator (w ++ rest)) same.0
+sum_ends_product word op rest (inr (inr (inr (inr none)))) = absurd none
+
+count_run : (p : ℕ → Bool) (t rest : List ℕ) → list_all p t ≡ true → begins p rest ≡ false
+    → position_or_len (λ b. not (p b)) (t ++ rest) ≡ length t
+count_run p [] [] all quiet = refl
+count_run p [] (b ∷ rest) all quiet = ap (λ x. cond (not (not x)) (1 + prefix_len (λ b. not (not (p b))) rest) 0) quiet
+count_run p (b ∷ t) rest all quiet =
+    let parts = and_parts (p b) (list_all p t) all in
+    let further : position_or_len (λ b. not (p b)) (t ++ rest) ≡ length t = count_run p t rest parts.1 quiet in
+    ap (λ x. cond (not (not x)) (1 + prefix_len (λ b. not (not (p b))) (t ++ rest)) 0) parts.0
+    ∙ (let e : 1 + prefix_len (λ b. not (not (p b))) (t ++ rest) ≡ suc (length t) = omega (arith, further) in e)
+
+-- a run and what stands behind it
+pub run_whole : (p : ℕ → Bool) (t rest : List ℕ) → list_all p t ≡ true → begins p rest ≡ false
+    → (run p (t ++ rest) ≡ t) × (behind_run p (t ++ rest) ≡ rest)
+run_whole p t rest all quiet =
+    let count = count_run p t rest all quiet in (
+      ap (λ n. take n (t ++ rest)) count ∙ take-append_seam t rest,
+      ap (λ n. drop n (t ++ rest)) count ∙ drop-append_seam t rest,
+    )
+
+pub run_splits : (p : ℕ → Bool) (text : List ℕ) → text ≡ run p text ++ behind_run p text
+run_splits p text = sym (take-append-drop (position_or_len (λ b. not (p b)) text) text)
+
+pub run_all : (p : ℕ → Bool) (text : List ℕ) → list_all p (run p text) ≡ true
+run_all p [] = refl
+run_all p (b ∷ text) = go (run_all p text) (p b) refl
+  where
+    go : list_all p (run p text) ≡ true → (t : Bool) → p b ≡ t
+        → list_all p (take (cond (not (not t)) (1 + prefix_len (λ b. not (not (p b))) text) 0) (b ∷ text)) ≡ true
+    go further true passes =
+        let e : 1 + prefix_len (λ b. not (not (p b))) text ≡ suc (prefix_len (λ b. not (not (p b))) text) = omega arith in
+        ap (λ n. list_all p (take n (b ∷ text))) e
+        ∙ ap (λ x. x && list_all p (run p text)) passes ∙ further
+    go further false stops = refl

@@ -1,0 +1,10 @@
+pub mod Prefixes
+pub mod Chains
+pub mod Scans
+pub mod Heads
+pub mod ChainLaws
+pub mod Complete
+pub mod Sound
+pub mod Trees
+pub mod StatementsComplete
+pub mod StatementsSound

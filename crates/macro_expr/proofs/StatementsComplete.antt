@@ -1,0 +1,140 @@
+-- A statement of the grammar is read as that statement.
+use Rattle.std.proofs.Common.{◌≡◌, ℕ, ◌==◌, nat_lt, true, false, cond, List, [], ◌++◌, Some, Ok, refl, sym, ◌∙◌, ap, subst, append_assoc, inl, inr}
+use Rattle.std.specs.Prelude.{codes}
+use Rattle.std.specs.Char.{is_ascii_digit}
+use Rattle.std.proofs.lemmas.Bool.{le-ltb}
+use Rattle.std.proofs.lemmas.List.{append-nil}
+use Rattle.macro_expr.specs.declared.tree.Rel.{Rel}
+use Rattle.macro_expr.specs.Tree.{Tree, Test, Aim, ToNumber, ToNumberOf, Sentence, Assign, Goto, IfGoto, IfThen, WhileDo, DoOnly, EndLoop}
+use Rattle.macro_expr.specs.Words.{relation_words, loop_words, behind, relation, keyword, loop_of, loop_word, product_operator, sum_operator, begins}
+use Rattle.macro_expr.specs.Reading.{Read, refused, ◌>>=◌, word_at, digits_at, bracket_at, variable_at, inside}
+use Rattle.macro_expr.specs.Statements.{expression_at, relation_found, relation_at, condition_at, or_no_condition, test_at, numbered, target_at, loop_at, assignment_at, branch_by, branch_at, if_at, while_at, statement_by, statement_at, whole}
+use Rattle.macro_expr.specs.Grammar.{IsWord, IsWhole, IsVariable, fixed, computed, IsWithin, IsExpression, IsTest, compares, IsTarget, line, line_of, line_in, IsAssignment, assigns, IsStatement, assign, goto, if_goto, if_then, while_do, do_only, end_loop}
+use Rattle.macro_expr.proofs.Complete.{NoSum, digits_read, begins_it, closed, bracket_read, variable_read, within_read}
+
+-- how a relation begins a text
+record Compares (word : List ℕ) (rel : Rel) (rest : List ℕ) : Type 0 where
+  found : relation (word ++ rest) ≡ Some (rel, rest)
+  quiet : NoSum (word ++ rest)
+
+compares_at : (word w : List ℕ) (rel r : Rel) (rest : List ℕ) → (word ≡ w) × (rel ≡ r) → Compares w r rest → Compares word rel rest
+compares_at word w rel r rest same c =
+    let P : List ℕ → Type 0 = λ x. Compares x rel rest in
+    let Q : Rel → Type 0 = λ x. Compares w x rest in
+    subst P (sym same.0) (subst Q (sym same.1) c)
+
+compares_of : (word : List ℕ) (rel : Rel) (rest : List ℕ) → IsWord relation_words word rel → Compares word rel rest
+unfolding relation product_operator sum_operator
+compares_of word rel rest (inl same) = compares_at _ _ _ _ rest same (record { found = refl; quiet = record { product = record { number = refl; operator = refl }; operator = refl } })
+compares_of word rel rest (inr (inl same)) = compares_at _ _ _ _ rest same (record { found = refl; quiet = record { product = record { number = refl; operator = refl }; operator = refl } })
+compares_of word rel rest (inr (inr (inl same))) = compares_at _ _ _ _ rest same (record { found = refl; quiet = record { product = record { number = refl; operator = refl }; operator = refl } })
+compares_of word rel rest (inr (inr (inr (inl same)))) = compares_at _ _ _ _ rest same (record { found = refl; quiet = record { product = record { number = refl; operator = refl }; operator = refl } })
+compares_of word rel rest (inr (inr (inr (inr (inl same))))) = compares_at _ _ _ _ rest same (record { found = refl; quiet = record { product = record { number = refl; operator = refl }; operator = refl } })
+compares_of word rel rest (inr (inr (inr (inr (inr (inl same)))))) = compares_at _ _ _ _ rest same (record { found = refl; quiet = record { product = record { number = refl; operator = refl }; operator = refl } })
+compares_of word rel rest (inr (inr (inr (inr (inr (inr none)))))) = absurd none
+
+inner_reads : (n : ℕ) (t : List ℕ) (e : Tree) → IsWithin n t e → (rest : List ℕ)
+    → inside n (t ++ (codes "]" ++ rest)) ≡ Ok (e, codes "]" ++ rest)
+inner_reads n t e is rest = within_read n t e is (codes "]" ++ rest) (closed rest)
+
+nothing_follows : NoSum []
+unfolding product_operator sum_operator
+nothing_follows = record { product = record { number = refl; operator = refl }; operator = refl }
+
+pub expression_read : (t : List ℕ) (e : Tree) → IsExpression t e → inside 6 t ≡ Ok (e, [])
+expression_read t e is = ap (inside 6) (sym (append-nil t)) ∙ within_read 6 t e is [] nothing_follows
+
+abbrev pub closing : Tree → Rel → (Tree × List ℕ) → Read Test
+closing left rel right = word_at (codes "]") right.1 >>= λ rest. Ok (record { left = left; rel = rel; right = right.0 }, rest)
+
+condition_read : (c : List ℕ) (test : Test) → IsTest c test → (rest : List ℕ) → condition_at (c ++ rest) ≡ Ok (test, rest)
+unfolding condition_at relation_at word_at
+condition_read _ _ (compares t word u rel left right is_left is_rel is_right) rest =
+    let after_right : List ℕ = codes "]" ++ rest in
+    let c = compares_of word rel (u ++ after_right) is_rel in
+    let apart : (t ++ (word ++ (u ++ codes "]"))) ++ rest ≡ t ++ (word ++ (u ++ after_right)) = simp append_assoc in
+    let behind_rel : (Rel × List ℕ) → Read Test = λ r. inside 5 r.1 >>= λ x. closing left r.0 x in
+    let behind_left : (Tree × List ℕ) → Read Test = λ l. relation_found (relation l.1) >>= λ r. inside 5 r.1 >>= λ x. closing l.0 r.0 x in
+    ap (λ xs. inside 5 xs >>= behind_left) apart
+    ∙ ap (λ r. r >>= behind_left) (within_read 5 t left is_left (word ++ (u ++ after_right)) c.quiet)
+    ∙ ap (λ o. relation_found o >>= behind_rel) c.found
+    ∙ ap (λ r. r >>= (λ x. closing left rel x)) (inner_reads 5 u right is_right rest)
+
+test_read : (c : List ℕ) (test : Test) → IsTest c test → (rest : List ℕ) → test_at (c ++ rest) ≡ Ok (test, rest)
+unfolding test_at
+test_read c test is rest = ap or_no_condition (condition_read c test is rest)
+
+as_number : (t : List ℕ) (n : ℕ) → IsWhole t n → digits_at t ≡ Ok (n, [])
+as_number t n is = ap digits_at (sym (append-nil t)) ∙ digits_read t n is [] refl
+
+as_variable : (t : List ℕ) (v : Tree) → IsVariable (IsWithin 5) t v → variable_at (inside 5) t ≡ Ok (v, [])
+as_variable t v is =
+    ap (variable_at (inside 5)) (sym (append-nil t)) ∙ variable_read (inside 5) (IsWithin 5) (inner_reads 5) t v is [] refl
+
+abbrev pub as_aim_of : Tree × List ℕ → Read Aim
+as_aim_of v = Ok (ToNumberOf v.0, v.1)
+
+target_read : (t : List ℕ) (aim : Aim) → IsTarget t aim → target_at t ≡ Ok (aim, [])
+unfolding target_at
+target_read _ _ (line t n is small) =
+    let digit : begins is_ascii_digit t ≡ true =
+    ap (begins is_ascii_digit) (sym (append-nil t)) ∙ begins_it is_ascii_digit t [] is.bytes is.literal in
+    let test : nat_lt 99999 n ≡ false = le-ltb 99999 n small in
+    ap (λ x. cond x (digits_at t >>= λ n. numbered n.0 n.1)
+    (cond (begins (λ b. b == 35) t) (variable_at (inside 5) t >>= as_aim_of) (bracket_at (inside 5) t >>= as_aim_of))) digit
+    ∙ ap (λ r. r >>= (λ (n : ℕ × List ℕ). numbered n.0 n.1)) (as_number t n is)
+    ∙ ap (λ x. cond x (refused 64) (Ok (ToNumber n, []))) test
+target_read _ _ (line_of _ _ (fixed t n is)) = ap (λ r. r >>= as_aim_of) (as_variable _ _ (fixed t n is))
+target_read _ _ (line_of _ _ (computed t e is)) = ap (λ r. r >>= as_aim_of) (as_variable _ _ (computed t e is))
+target_read _ _ (line_in t e is) =
+    let all : (codes "[" ++ (t ++ codes "]")) ++ [] ≡ codes "[" ++ (t ++ codes "]") = append-nil (codes "[" ++ (t ++ codes "]")) in
+    ap (λ r. r >>= as_aim_of)
+    (ap (bracket_at (inside 5)) (sym all) ∙ bracket_read (inside 5) (IsWithin 5) (inner_reads 5) t e is [])
+
+loop_read : (word : List ℕ) (m : ℕ) → IsWord loop_words word m → loop_at word ≡ Ok (m, [])
+unfolding loop_at loop_of loop_word
+loop_read word m (inl same) = ap loop_at same.0 ∙ ap (λ m. Ok (m, [])) (sym same.1)
+loop_read word m (inr (inl same)) = ap loop_at same.0 ∙ ap (λ m. Ok (m, [])) (sym same.1)
+loop_read word m (inr (inr (inl same))) = ap loop_at same.0 ∙ ap (λ m. Ok (m, [])) (sym same.1)
+loop_read word m (inr (inr (inr none))) = absurd none
+
+abbrev pub equals : Tree × List ℕ → Read (Tree × Tree)
+equals v = word_at (codes "=") v.1 >>= λ rest. inside 6 rest >>= λ e. Ok ((v.0, e.0), e.1)
+
+assignment_read : (t : List ℕ) (v e : Tree) → IsAssignment t v e → assignment_at t ≡ Ok ((v, e), [])
+unfolding assignment_at word_at
+assignment_read _ _ _ (assigns t u v e is_variable is) =
+    ap (λ r. r >>= equals) (variable_read (inside 5) (IsWithin 5) (inner_reads 5) t v is_variable (codes "=" ++ u) refl)
+    ∙ ap (λ r. r >>= (λ e. Ok ((v, e.0), e.1))) (expression_read u e is)
+
+starts_as_variable : (t : List ℕ) (v e : Tree) → IsAssignment t v e → begins (λ b. b == 35) t ≡ true
+starts_as_variable _ _ _ (assigns _ u _ e (fixed t n w) is) = refl
+starts_as_variable _ _ _ (assigns _ u _ e (computed t x w) is) = refl
+
+abbrev pub as_assign : (Tree × Tree) × List ℕ → Read Sentence
+as_assign a = Ok (Assign a.0.0 a.0.1, a.1)
+
+statement_read : (t : List ℕ) (s : Sentence) → IsStatement t s → statement_at t ≡ Ok (s, [])
+unfolding statement_at if_at while_at branch_at word_at keyword
+statement_read _ _ (assign t v e is) =
+    ap (λ x. cond x (assignment_at t >>= as_assign) (statement_by (keyword t))) (starts_as_variable t v e is)
+    ∙ ap (λ r. r >>= as_assign) (assignment_read t v e is)
+statement_read _ _ (goto t aim is) = ap (λ r. r >>= (λ aim. Ok (Goto aim.0, aim.1))) (target_read t aim is)
+statement_read _ _ (if_goto c t test aim is_test is) =
+    ap (λ r. r >>= (λ x. branch_by x.0 (behind (codes "GOTO") x.1) x.1)) (test_read c test is_test (codes "GOTO" ++ t))
+    ∙ ap (λ r. r >>= (λ aim. Ok (IfGoto test aim.0, aim.1))) (target_read t aim is)
+statement_read _ _ (if_then c t test v e is_test is) =
+    ap (λ r. r >>= (λ x. branch_by x.0 (behind (codes "GOTO") x.1) x.1)) (test_read c test is_test (codes "THEN" ++ t))
+    ∙ ap (λ r. r >>= (λ a. Ok (IfThen test a.0.0 a.0.1, a.1))) (assignment_read t v e is)
+statement_read _ _ (while_do c word test m is_test is) =
+    ap (λ r. r >>= (λ x. word_at (codes "DO") x.1 >>= λ rest. loop_at rest >>= λ m. Ok (WhileDo x.0 m.0, m.1))) (test_read c test is_test (codes "DO" ++ word))
+    ∙ ap (λ r. r >>= (λ m. Ok (WhileDo test m.0, m.1))) (loop_read word m is)
+statement_read _ _ (do_only word m is) = ap (λ r. r >>= (λ m. Ok (DoOnly m.0, m.1))) (loop_read word m is)
+statement_read _ _ (end_loop word m is) = ap (λ r. r >>= (λ m. Ok (EndLoop m.0, m.1))) (loop_read word m is)
+
+-- a text with a tree is read whole
+pub whole_expression_read : (t : List ℕ) (e : Tree) → IsExpression t e → whole (expression_at t) ≡ Ok e
+whole_expression_read t e is = ap whole (expression_read t e is)
+
+pub whole_statement_read : (t : List ℕ) (s : Sentence) → IsStatement t s → whole (statement_at t) ≡ Ok s
+whole_statement_read t s is = ap whole (statement_read t s is)

@@ -1,0 +1,6 @@
+use Rattle.std.proofs.Common.{◌≡◌, ◌++◌, drop, false}
+use Rattle.macro_expr.specs.Limits.{cleaned}
+use Rattle.macro_expr.proofs.limits.cleaned.Given as goal
+
+abbrev pub invariant-loop-b : goal.invariant-loop-b
+invariant-loop-b l = l.clean.items ++ cleaned l.comment (drop l.b-index l.text) ≡ cleaned false l.text

@@ -1,0 +1,101 @@
+-- The grammar of expressions and statements: which trees a cleaned text has.
+use Rattle.std.specs.Prelude.{◌≡◌, ℕ, zero, suc, ◌/◌, ◌≤◌, Bool, true, false, List, [], ◌∷◌, ◌++◌, ℤ, unsigned_abs, codes, ◌⊎◌}
+use Rattle.std.specs.Char.{is_ascii_digit}
+use Rattle.std.specs.List.{list_all}
+use Rattle.nc_number.specs.Literals.{is_literal, has_too_many_digits, literal_micro}
+use Rattle.macro_expr.specs.declared.tree.Fun.{Fun}
+use Rattle.macro_expr.specs.declared.tree.Op.{Op}
+use Rattle.macro_expr.specs.declared.tree.Rel.{Rel}
+use Rattle.macro_expr.specs.Tree.{Tree, Number, Variable, VariableOf, Signed, Applied, Joined, Test, Aim, ToNumber, ToNumberOf, Sentence, Assign, Goto, IfGoto, IfThen, WhileDo, DoOnly, EndLoop}
+use Rattle.macro_expr.specs.Words.{product_words, sum_words, sign_words, function_words, relation_words, loop_words, is_number_byte}
+
+-- the text is a word of the table, with this meaning
+abbrev pub IsWord : {A : Type 0} → List (List ℕ × A) → List ℕ → A → Type 0
+IsWord [] t meaning = ⊥
+IsWord (w ∷ words) t meaning = ((t ≡ w.0) × (meaning ≡ w.1)) ⊎ IsWord words t meaning
+
+-- a number of so many millionths, with or without a point, and without a sign
+pub record IsNumber (t : List ℕ) (micro : ℤ) : Type 0 where
+  pub bytes : list_all is_number_byte t ≡ true
+  pub literal : is_literal t ≡ true
+  pub short : has_too_many_digits t ≡ false
+  pub value : micro ≡ literal_micro t
+
+-- a whole number, of digits alone
+pub record IsWhole (t : List ℕ) (n : ℕ) : Type 0 where
+  pub bytes : list_all is_ascii_digit t ≡ true
+  pub literal : is_literal t ≡ true
+  pub short : has_too_many_digits t ≡ false
+  pub value : n ≡ unsigned_abs (literal_micro t) / 1000000
+
+-- var = "#" digits | "#" "[" expr "]", where Inner says what stands in brackets
+pub data IsVariable (Inner : List ℕ → Tree → Type 0) : List ℕ → Tree → Type 0 where
+  fixed : (t : List ℕ) (n : ℕ) → IsWhole t n → IsVariable Inner (codes "#" ++ t) (Variable n)
+  computed : (t : List ℕ) (e : Tree) → Inner t e → IsVariable Inner (codes "#" ++ (codes "[" ++ (t ++ codes "]"))) (VariableOf e)
+
+-- prim = literal without sign | var | "[" expr "]" | fun "[" expr "]"
+pub data IsPrim (Inner : List ℕ → Tree → Type 0) : List ℕ → Tree → Type 0 where
+  number : (t : List ℕ) (micro : ℤ) → IsNumber t micro → IsPrim Inner t (Number micro)
+  variable : (t : List ℕ) (v : Tree) → IsVariable Inner t v → IsPrim Inner t v
+  bracket : (t : List ℕ) (e : Tree) → Inner t e → IsPrim Inner (codes "[" ++ (t ++ codes "]")) e
+  function : (name t : List ℕ) (f : Fun) (e : Tree) → IsWord function_words name f → Inner t e
+      → IsPrim Inner (name ++ (codes "[" ++ (t ++ codes "]"))) (Applied f e)
+
+-- a prim with its sign, if it has one
+pub data IsSigned (Inner : List ℕ → Tree → Type 0) : List ℕ → Tree → Type 0 where
+  plain : (t : List ℕ) (e : Tree) → IsPrim Inner t e → IsSigned Inner t e
+  signed : (word t : List ℕ) (minus : Bool) (e : Tree) → IsWord sign_words word minus → IsPrim Inner t e
+      → IsSigned Inner (word ++ t) (Signed minus e)
+
+-- first { operator operand }, from left to right
+pub data IsChain (words : List (List ℕ × Op)) (First Operand : List ℕ → Tree → Type 0) : List ℕ → Tree → Type 0 where
+  one : (t : List ℕ) (e : Tree) → First t e → IsChain words First Operand t e
+  more : (t word u : List ℕ) (op : Op) (left right : Tree) → IsChain words First Operand t left → IsWord words word op
+      → Operand u right → IsChain words First Operand (t ++ (word ++ u)) (Joined op left right)
+
+-- term = prim { ( "*" | "/" | "AND" | "MOD" ) prim }
+abbrev pub IsProduct : (List ℕ → Tree → Type 0) → List ℕ → Tree → Type 0
+IsProduct Inner = IsChain product_words (IsPrim Inner) (IsPrim Inner)
+
+-- expr = [ "+" | "-" ] term { ( "+" | "-" | "OR" | "XOR" ) term }, and the sign is the first prim's
+abbrev pub IsSum : (List ℕ → Tree → Type 0) → List ℕ → Tree → Type 0
+IsSum Inner = IsChain sum_words (IsChain product_words (IsSigned Inner) (IsPrim Inner)) (IsProduct Inner)
+
+-- an expression whose brackets nest less than so deep
+abbrev pub IsWithin : ℕ → List ℕ → Tree → Type 0
+IsWithin zero t e = ⊥
+IsWithin (suc n) t e = IsSum (IsWithin n) t e
+
+-- an expression: its brackets nest five deep at most
+abbrev pub IsExpression : List ℕ → Tree → Type 0
+IsExpression t e = IsWithin 6 t e
+
+-- cond = "[" expr rel expr "]"
+pub data IsTest : List ℕ → Test → Type 0 where
+  compares : (t word u : List ℕ) (rel : Rel) (left right : Tree) → IsWithin 5 t left → IsWord relation_words word rel
+      → IsWithin 5 u right
+      → IsTest (codes "[" ++ (t ++ (word ++ (u ++ codes "]")))) (record { left = left; rel = rel; right = right })
+
+-- target = digits | var | "[" expr "]", with digits in the range of a sequence number
+pub data IsTarget : List ℕ → Aim → Type 0 where
+  line : (t : List ℕ) (n : ℕ) → IsWhole t n → n ≤ 99999 → IsTarget t (ToNumber n)
+  line_of : (t : List ℕ) (v : Tree) → IsVariable (IsWithin 5) t v → IsTarget t (ToNumberOf v)
+  line_in : (t : List ℕ) (e : Tree) → IsWithin 5 t e → IsTarget (codes "[" ++ (t ++ codes "]")) (ToNumberOf e)
+
+-- assign = var "=" expr
+pub data IsAssignment : List ℕ → Tree → Tree → Type 0 where
+  assigns : (t u : List ℕ) (v e : Tree) → IsVariable (IsWithin 5) t v → IsExpression u e
+      → IsAssignment (t ++ (codes "=" ++ u)) v e
+
+-- a statement
+pub data IsStatement : List ℕ → Sentence → Type 0 where
+  assign : (t : List ℕ) (v e : Tree) → IsAssignment t v e → IsStatement t (Assign v e)
+  goto : (t : List ℕ) (aim : Aim) → IsTarget t aim → IsStatement (codes "GOTO" ++ t) (Goto aim)
+  if_goto : (c t : List ℕ) (test : Test) (aim : Aim) → IsTest c test → IsTarget t aim
+      → IsStatement (codes "IF" ++ (c ++ (codes "GOTO" ++ t))) (IfGoto test aim)
+  if_then : (c t : List ℕ) (test : Test) (v e : Tree) → IsTest c test → IsAssignment t v e
+      → IsStatement (codes "IF" ++ (c ++ (codes "THEN" ++ t))) (IfThen test v e)
+  while_do : (c word : List ℕ) (test : Test) (m : ℕ) → IsTest c test → IsWord loop_words word m
+      → IsStatement (codes "WHILE" ++ (c ++ (codes "DO" ++ word))) (WhileDo test m)
+  do_only : (word : List ℕ) (m : ℕ) → IsWord loop_words word m → IsStatement (codes "DO" ++ word) (DoOnly m)
+  end_loop : (word : List ℕ) (m : ℕ) → IsWord loop_words word m → IsStatement (codes "END" ++ word) (EndLoop m)

@@ -1,0 +1,7 @@
+pub mod Tree
+pub mod Words
+pub mod Reading
+pub mod Statements
+pub mod Limits
+pub mod Answers
+pub mod Grammar

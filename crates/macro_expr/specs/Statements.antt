@@ -1,0 +1,111 @@
+-- Reading a statement from left to right.
+use Rattle.std.specs.Prelude.{ℕ, ◌==◌, nat_lt, List, length, Option, Some, None, Result, Ok, Err, codes, if◌then◌else◌}
+use Rattle.std.specs.Char.{is_ascii_digit}
+use Rattle.macro_expr.specs.declared.tree.ExprFault.{ExprFault}
+use Rattle.macro_expr.specs.declared.tree.Rel.{Rel}
+use Rattle.macro_expr.specs.declared.words.Keyword.{Keyword}
+use Rattle.macro_expr.specs.declared.words.Keyword.TheVariants as word
+use Rattle.macro_expr.specs.Tree.{Tree, Test, Aim, ToNumber, ToNumberOf, Sentence, Assign, Goto, IfGoto, IfThen, WhileDo, DoOnly, EndLoop}
+use Rattle.macro_expr.specs.Words.{behind, relation, keyword, loop_of, run, behind_run, begins}
+use Rattle.macro_expr.specs.Reading.{◌>>=◌, Read, refused, word_at, digits_at, bracket_at, variable_at, inside}
+
+-- Brackets nest five deep, so that what stands in brackets has four more.
+abbrev pub expression_at : List ℕ → Read Tree
+expression_at = inside 6
+
+abbrev pub relation_found : Option (Rel × List ℕ) → Read Rel
+relation_found None = refused 20
+relation_found (Some found) = Ok found
+
+unfoldable pub relation_at : List ℕ → Read Rel
+relation_at text = relation_found (relation text)
+
+-- a condition, with the refusal of the place where reading fails
+unfoldable pub condition_at : List ℕ → Read Test
+condition_at text = do
+  opened ← word_at (codes "[") text
+  left ← inside 5 opened
+  rel ← relation_at left.1
+  right ← inside 5 rel.1
+  rest ← word_at (codes "]") right.1
+  Ok (record { left = left.0; rel = rel.0; right = right.0 }, rest)
+
+abbrev pub or_no_condition : Read Test → Read Test
+or_no_condition (Ok test) = Ok test
+or_no_condition (Err fault) = refused 22
+
+-- the condition behind IF or WHILE
+unfoldable pub test_at : List ℕ → Read Test
+test_at text = or_no_condition (condition_at text)
+
+-- a sequence number of a block
+abbrev pub numbered : ℕ → List ℕ → Read Aim
+numbered n rest = if nat_lt 99999 n then refused 64 else Ok (ToNumber n, rest)
+
+unfoldable pub target_at : List ℕ → Read Aim
+target_at text =
+    if begins is_ascii_digit text then (digits_at text >>= λ n. numbered n.0 n.1)
+    else if begins (λ b. b == 35) text then (variable_at (inside 5) text >>= λ v. Ok (ToNumberOf v.0, v.1))
+    else (bracket_at (inside 5) text >>= λ e. Ok (ToNumberOf e.0, e.1))
+
+abbrev pub loop_found : Option ℕ → List ℕ → Read ℕ
+loop_found None rest = refused 24
+loop_found (Some m) rest = Ok (m, rest)
+
+-- the number of a loop
+unfoldable pub loop_at : List ℕ → Read ℕ
+loop_at text = loop_found (loop_of (run is_ascii_digit text)) (behind_run is_ascii_digit text)
+
+-- a variable and what it is to hold
+unfoldable pub assignment_at : List ℕ → Read (Tree × Tree)
+assignment_at text = do
+  v ← variable_at (inside 5) text
+  rest ← word_at (codes "=") v.1
+  e ← expression_at rest
+  Ok ((v.0, e.0), e.1)
+
+-- what stands behind the condition of an IF
+abbrev pub branch_by : Test → Option (List ℕ) → List ℕ → Read Sentence
+branch_by test (Some behind_goto) text = do
+  aim ← target_at behind_goto
+  Ok (IfGoto test aim.0, aim.1)
+branch_by test None text = do
+  rest ← word_at (codes "THEN") text
+  a ← assignment_at rest
+  Ok (IfThen test a.0.0 a.0.1, a.1)
+
+unfoldable pub branch_at : Test → List ℕ → Read Sentence
+branch_at test text = branch_by test (behind (codes "GOTO") text) text
+
+unfoldable pub if_at : List ℕ → Read Sentence
+if_at text = do
+  test ← test_at text
+  branch_at test.0 test.1
+
+unfoldable pub while_at : List ℕ → Read Sentence
+while_at text = do
+  test ← test_at text
+  rest ← word_at (codes "DO") test.1
+  m ← loop_at rest
+  Ok (WhileDo test.0 m.0, m.1)
+
+-- what stands behind the word that begins a statement
+abbrev pub statement_for : Keyword → List ℕ → Read Sentence
+statement_for word.If text = if_at text
+statement_for word.While text = while_at text
+statement_for word.Goto text = target_at text >>= λ aim. Ok (Goto aim.0, aim.1)
+statement_for word.Do text = loop_at text >>= λ m. Ok (DoOnly m.0, m.1)
+statement_for word.End text = loop_at text >>= λ m. Ok (EndLoop m.0, m.1)
+
+abbrev pub statement_by : Option (Keyword × List ℕ) → Read Sentence
+statement_by None = refused 20
+statement_by (Some found) = statement_for found.0 found.1
+
+unfoldable pub statement_at : List ℕ → Read Sentence
+statement_at text =
+    if begins (λ b. b == 35) text then (assignment_at text >>= λ a. Ok (Assign a.0.0 a.0.1, a.1))
+    else statement_by (keyword text)
+
+-- nothing may stand behind it
+abbrev pub whole : {A : Type 0} → Read A → Result A ExprFault
+whole read = read >>= λ x. if length x.1 == 0 then Ok x.0 else refused 20

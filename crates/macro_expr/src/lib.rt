@@ -1,0 +1,17 @@
+//! Macro expressions and statements of the tape.
+//!
+//! [`parse_expr`] and [`parse_statement`] read a text and give its tree. The grammar stands in the
+//! specs as a relation between texts and trees; a tree is given exactly where there is one, and
+//! else the number of the refusal.
+
+#![tactic(auto)]
+
+mod limits;
+mod parse;
+mod reading;
+mod statements;
+mod tree;
+mod words;
+
+pub use parse::{no_text_has_two_trees, parse_expr, parse_statement};
+pub use tree::{Cond, Expr, ExprFault, Fun, Op, Rel, Statement, Target, VarRef};

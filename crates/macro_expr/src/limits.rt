@@ -1,0 +1,106 @@
+ghost use Rattle.std.specs.Prelude.{◌≡◌, ◌==◌, ◌++◌, nat_eq, false, IfOk};
+ghost use Rattle.std.specs.Char.{is_ascii_digit};
+ghost use Rattle.macro_expr.specs.Limits.{cleaned, ends, are_too_many, begins_long, has_long_number, open_behind, has_deep_brackets, has_many_variables};
+
+use crate::words::{begins_with_digit, digits, significant};
+use nc_number::NoMemory;
+use std::alloc::Global;
+
+/// How many brackets may be open at once.
+const MOST_BRACKETS: usize = 5;
+
+/// How many variables a text may name.
+const MOST_VARIABLES: usize = 32;
+
+/// The text without spaces, tabs and comments, and in upper case.
+pub(crate) fn cleaned(alloc: Global, text: &[u8]) -> Result<Vec<u8>, NoMemory>
+    ensures { IfOk result (λ clean. clean.items ≡ cleaned false text.now) }
+{
+    let mut clean = Vec::new(alloc);
+    let mut comment = false;
+    for b in text {
+        if comment {
+            comment = *b != b')';
+        } else if *b == b'(' {
+            comment = true;
+        } else if *b != b' ' && *b != b'\t' {
+            clean.push(b.to_ascii_uppercase())?;
+        }
+    }
+    Ok(clean)
+}
+
+fn ends_with_digit(text: &[u8]) -> bool
+    ensures { result ≡ ends is_ascii_digit text.now }
+{
+    !text.is_empty() && text[text.len() - 1].is_ascii_digit()
+}
+
+fn ends_with_point(text: &[u8]) -> bool
+    ensures { result ≡ ends (λ b. b == 46) text.now }
+{
+    !text.is_empty() && text[text.len() - 1] == b'.'
+}
+
+/// Whether these digits, behind that text, are more than a number may have.
+fn are_too_many(before: &[u8], number: &[u8]) -> bool
+    ensures { result ≡ are_too_many before.now number.now }
+{
+    if ends_with_point(before) {
+        return number.len() > 6;
+    }
+    if before.ends_with(b"DO") || before.ends_with(b"END") {
+        return false;
+    }
+    significant(number).len() > 8
+}
+
+/// Whether a number with too many digits begins between the texts.
+fn begins_long(before: &[u8], text: &[u8]) -> bool
+    ensures { result ≡ begins_long before.now text.now }
+{
+    if !begins_with_digit(text) || ends_with_digit(before) {
+        return false;
+    }
+    let (number, _) = digits(text);
+    are_too_many(before, number)
+}
+
+/// Whether a number in the text has too many digits.
+#[tactic(auto, unfolding(crate::specs::Limits::has_long_number))]
+pub(crate) fn has_long_number(text: &[u8]) -> bool
+    ensures { result ≡ has_long_number text.now }
+{
+    for i in 0..text.len() {
+        let (before, rest) = text.split_at(i);
+        if begins_long(before, rest) {
+            return true;
+        }
+    }
+    false
+}
+
+/// Whether more than five brackets are open at once.
+#[tactic(auto, unfolding(crate::specs::Limits::has_deep_brackets))]
+pub(crate) fn has_deep_brackets(text: &[u8]) -> bool
+    ensures { result ≡ has_deep_brackets text.now }
+{
+    let mut opened = 0;
+    for b in text {
+        match b {
+            b'[' if opened == MOST_BRACKETS => return true,
+            b'[' => opened += 1,
+            b']' if opened > 0 => opened -= 1,
+            _ => {}
+        }
+    }
+    false
+}
+
+/// Whether the text names more than 32 variables.
+#[tactic(auto, unfolding(crate::specs::Limits::has_many_variables))]
+pub(crate) fn has_many_variables(text: &[u8]) -> bool
+    ensures { result ≡ has_many_variables text.now }
+{
+    text.iter().filter(|b| **b == b'#').count() > MOST_VARIABLES
+}

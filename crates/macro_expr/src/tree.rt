@@ -1,0 +1,102 @@
+use nc_number::Value;
+use thiserror::Error;
+
+/// An expression. Brackets leave no node.
+#[derive(Debug, Drop)]
+#[cycle(tree)]
+pub enum Expr {
+    /// A number that is written out.
+    Lit(Value),
+    /// A variable.
+    Look(VarRef),
+    /// The expression behind a sign; `true` is minus.
+    Sign(bool, Box<Expr>),
+    /// A function of the expression.
+    Call(Fun, Box<Expr>),
+    /// Two expressions with an operator between them.
+    Two(Op, Box<Expr>, Box<Expr>),
+}
+
+/// Which variable is meant.
+#[derive(Debug, Drop)]
+#[cycle(tree)]
+pub enum VarRef {
+    /// The one of this number.
+    Fixed(u32),
+    /// The one whose number the expression gives.
+    Computed(Box<Expr>),
+}
+
+/// A function.
+#[derive(Clone, Copy, Debug, PartialEq, Eq)]
+pub enum Fun {
+    Sqrt,
+    Abs,
+    Fix,
+    Fup,
+    Round,
+}
+
+/// An operator.
+#[derive(Clone, Copy, Debug, PartialEq, Eq)]
+pub enum Op {
+    Add,
+    Sub,
+    BitOr,
+    BitXor,
+    Mul,
+    Div,
+    BitAnd,
+    Modulo,
+}
+
+/// How a condition compares.
+#[derive(Clone, Copy, Debug, PartialEq, Eq)]
+pub enum Rel {
+    Eq,
+    Ne,
+    Gt,
+    Ge,
+    Lt,
+    Le,
+}
+
+/// A condition.
+#[derive(Debug, Drop)]
+pub struct Cond {
+    pub left: Expr,
+    pub rel: Rel,
+    pub right: Expr,
+}
+
+/// Where a jump leads.
+#[derive(Debug, Drop)]
+pub enum Target {
+    /// To this sequence number.
+    Fixed(u32),
+    /// To the sequence number that the expression gives.
+    Computed(Expr),
+}
+
+/// A statement: what stands in a block in place of words.
+#[derive(Debug, Drop)]
+pub enum Statement {
+    Assign(VarRef, Expr),
+    Goto(Target),
+    IfGoto(Cond, Target),
+    IfThen(Cond, VarRef, Expr),
+    WhileDo(Cond, u8),
+    DoOnly(u8),
+    EndLoop(u8),
+}
+
+/// Why a text has no tree.
+///
+/// 5: too many digits; 20: no expression or statement; 21: more than five brackets; 22: no
+/// condition behind IF or WHILE; 23: an unknown function; 24: a loop number other than 1, 2 and 3;
+/// 25: more than 32 variables; 64: a sequence number out of its range.
+#[derive(Clone, Copy, Debug, PartialEq, Eq, Error)]
+#[error("refusal {number}")]
+pub struct ExprFault {
+    pub number: u8,
+}

@@ -1,0 +1,254 @@
+ghost use Rattle.std.specs.Prelude.{◌≡◌, ◌≤◌, ◌==◌, not, length, take, drop, position, unwrap_or, IfSome};
+ghost use Rattle.std.specs.Option.{option_map};
+ghost use Rattle.std.specs.Char.{is_ascii_digit};
+ghost use Rattle.nc_number.specs.Literals.{significant};
+ghost use Rattle.macro_expr.specs.Words.{behind, product_operator, sum_operator, relation, sign, function_word, function_of, keyword, loop_word, loop_of, is_letter, is_number_byte, run, behind_run, begins};
+
+use crate::tree::{Fun, Op, Rel};
+
+/// The word that begins a statement other than an assignment.
+#[derive(Clone, Copy, Debug, PartialEq, Eq)]
+pub enum Keyword {
+    If,
+    While,
+    Goto,
+    Do,
+    End,
+}
+
+/// What stands behind the word, where the text begins with it.
+pub(crate) fn behind<'a>(text: &'a [u8], word: &[u8]) -> Option<&'a [u8]>
+    ensures { option_map (λ rest. rest.now) result ≡ behind word.now text.now }
+{
+    text.strip_prefix(word)
+}
+
+/// The operator of a product with which the text begins, and what stands behind it.
+#[tactic(auto, unfolding(crate::specs::Words::product_operator))]
+pub(crate) fn product_operator(text: &[u8]) -> Option<(Op, &[u8])>
+    ensures { option_map (λ found. (found.0, found.1.now)) result ≡ product_operator text.now }
+{
+    if let Some(rest) = behind(text, b"*") {
+        return Some((Op::Mul, rest));
+    }
+    if let Some(rest) = behind(text, b"/") {
+        return Some((Op::Div, rest));
+    }
+    if let Some(rest) = behind(text, b"AND") {
+        return Some((Op::BitAnd, rest));
+    }
+    let rest = behind(text, b"MOD")?;
+    Some((Op::Modulo, rest))
+}
+
+/// The operator of a sum with which the text begins, and what stands behind it.
+#[tactic(auto, unfolding(crate::specs::Words::sum_operator))]
+pub(crate) fn sum_operator(text: &[u8]) -> Option<(Op, &[u8])>
+    ensures { option_map (λ found. (found.0, found.1.now)) result ≡ sum_operator text.now }
+{
+    if let Some(rest) = behind(text, b"+") {
+        return Some((Op::Add, rest));
+    }
+    if let Some(rest) = behind(text, b"-") {
+        return Some((Op::Sub, rest));
+    }
+    if let Some(rest) = behind(text, b"OR") {
+        return Some((Op::BitOr, rest));
+    }
+    let rest = behind(text, b"XOR")?;
+    Some((Op::BitXor, rest))
+}
+
+/// The relation with which the text begins, and what stands behind it.
+#[tactic(auto, unfolding(crate::specs::Words::relation))]
+pub(crate) fn relation(text: &[u8]) -> Option<(Rel, &[u8])>
+    ensures { option_map (λ found. (found.0, found.1.now)) result ≡ relation text.now }
+{
+    if let Some(rest) = behind(text, b"EQ") {
+        return Some((Rel::Eq, rest));
+    }
+    if let Some(rest) = behind(text, b"NE") {
+        return Some((Rel::Ne, rest));
+    }
+    if let Some(rest) = behind(text, b"GT") {
+        return Some((Rel::Gt, rest));
+    }
+    if let Some(rest) = behind(text, b"GE") {
+        return Some((Rel::Ge, rest));
+    }
+    if let Some(rest) = behind(text, b"LT") {
+        return Some((Rel::Lt, rest));
+    }
+    let rest = behind(text, b"LE")?;
+    Some((Rel::Le, rest))
+}
+
+/// The sign with which the text begins, `true` for minus, and what stands behind it.
+#[tactic(auto, unfolding(crate::specs::Words::sign))]
+pub(crate) fn sign(text: &[u8]) -> Option<(bool, &[u8])>
+    ensures { option_map (λ found. (found.0, found.1.now)) result ≡ sign text.now }
+{
+    if let Some(rest) = behind(text, b"+") {
+        return Some((false, rest));
+    }
+    let rest = behind(text, b"-")?;
+    Some((true, rest))
+}
+
+/// The function whose name begins the text, and what stands behind it.
+#[tactic(auto, unfolding(crate::specs::Words::function_word))]
+fn function_word(text: &[u8]) -> Option<(Fun, &[u8])>
+    ensures { option_map (λ found. (found.0, found.1.now)) result ≡ function_word text.now }
+{
+    if let Some(rest) = behind(text, b"SQRT") {
+        return Some((Fun::Sqrt, rest));
+    }
+    if let Some(rest) = behind(text, b"ABS") {
+        return Some((Fun::Abs, rest));
+    }
+    if let Some(rest) = behind(text, b"FIX") {
+        return Some((Fun::Fix, rest));
+    }
+    if let Some(rest) = behind(text, b"FUP") {
+        return Some((Fun::Fup, rest));
+    }
+    let rest = behind(text, b"ROUND")?;
+    Some((Fun::Round, rest))
+}
+
+/// The function of this name.
+#[tactic(auto, unfolding(crate::specs::Words::function_of))]
+pub(crate) fn function_of(name: &[u8]) -> Option<Fun>
+    ensures { result ≡ function_of name.now }
+{
+    let (function, rest) = function_word(name)?;
+    if rest.is_empty() {
+        Some(function)
+    } else {
+        None
+    }
+}
+
+/// The word that begins a statement, and what stands behind it.
+#[tactic(auto, unfolding(crate::specs::Words::keyword))]
+pub(crate) fn leading_keyword(text: &[u8]) -> Option<(Keyword, &[u8])>
+    ensures { option_map (λ found. (found.0, found.1.now)) result ≡ keyword text.now }
+{
+    if let Some(rest) = behind(text, b"IF") {
+        return Some((Keyword::If, rest));
+    }
+    if let Some(rest) = behind(text, b"WHILE") {
+        return Some((Keyword::While, rest));
+    }
+    if let Some(rest) = behind(text, b"GOTO") {
+        return Some((Keyword::Goto, rest));
+    }
+    if let Some(rest) = behind(text, b"DO") {
+        return Some((Keyword::Do, rest));
+    }
+    let rest = behind(text, b"END")?;
+    Some((Keyword::End, rest))
+}
+
+/// The loop number with which the text begins, and what stands behind it.
+#[tactic(auto, unfolding(crate::specs::Words::loop_word))]
+fn loop_word(text: &[u8]) -> Option<(u8, &[u8])>
+    ensures { option_map (λ found. (found.0, found.1.now)) result ≡ loop_word text.now }
+{
+    if let Some(rest) = behind(text, b"1") {
+        return Some((1, rest));
+    }
+    if let Some(rest) = behind(text, b"2") {
+        return Some((2, rest));
+    }
+    let rest = behind(text, b"3")?;
+    Some((3, rest))
+}
+
+/// The loop of this number.
+#[tactic(auto, unfolding(crate::specs::Words::loop_of))]
+pub(crate) fn loop_of(number: &[u8]) -> Option<u8>
+    ensures { result ≡ loop_of number.now }
+{
+    let (number, rest) = loop_word(number)?;
+    if rest.is_empty() { Some(number) } else { None }
+}
+
+/// Whether the text begins with a digit.
+pub(crate) fn begins_with_digit(text: &[u8]) -> bool
+    ensures { result ≡ begins is_ascii_digit text.now }
+{
+    match text {
+        [b, ..] => b.is_ascii_digit(),
+        [] => false,
+    }
+}
+
+fn first_no_digit(text: &[u8]) -> Option<usize>
+    ensures { result ≡ position (λ b. not (is_ascii_digit b)) text.now }
+{
+    text.iter().position(|b| !b.is_ascii_digit())
+}
+
+fn first_no_number_byte(text: &[u8]) -> Option<usize>
+    ensures { result ≡ position (λ b. not (is_number_byte b)) text.now }
+{
+    text.iter()
+        .position(|b| !(b.is_ascii_digit() || *b == b'.'))
+}
+
+fn first_no_letter(text: &[u8]) -> Option<usize>
+    ensures { result ≡ position (λ b. not (is_letter b)) text.now }
+{
+    text.iter().position(|b| !(*b >= b'A' && *b <= b'Z'))
+}
+
+/// The text before the place and behind it; all of it is before no place.
+fn split(text: &[u8], at: Option<usize>) -> (&[u8], &[u8])
+    requires { IfSome at (λ at. at ≤ length text.now) }
+    ensures before { result.0.now ≡ take (unwrap_or at (length text.now)) text.now }
+    ensures behind { result.1.now ≡ drop (unwrap_or at (length text.now)) text.now }
+{
+    match at {
+        Some(at) => text.split_at(at),
+        None => (text, &[]),
+    }
+}
+
+/// The digits at the head, and what stands behind them.
+pub(crate) fn digits(text: &[u8]) -> (&[u8], &[u8])
+    ensures run { result.0.now ≡ run is_ascii_digit text.now }
+    ensures rest { result.1.now ≡ behind_run is_ascii_digit text.now }
+{
+    split(text, first_no_digit(text))
+}
+
+/// The digits and points at the head, and what stands behind them.
+pub(crate) fn number_bytes(text: &[u8]) -> (&[u8], &[u8])
+    ensures run { result.0.now ≡ run is_number_byte text.now }
+    ensures rest { result.1.now ≡ behind_run is_number_byte text.now }
+{
+    split(text, first_no_number_byte(text))
+}
+
+/// The letters at the head, and what stands behind them.
+pub(crate) fn letters(text: &[u8]) -> (&[u8], &[u8])
+    ensures run { result.0.now ≡ run is_letter text.now }
+    ensures rest { result.1.now ≡ behind_run is_letter text.now }
+{
+    split(text, first_no_letter(text))
+}
+
+fn first_significant(digits: &[u8]) -> Option<usize>
+    ensures { result ≡ position (λ d. not (d == 48)) digits.now }
+{
+    digits.iter().position(|d| *d != b'0')
+}
+
+/// The digits without the zeros that they begin with.
+pub(crate) fn significant(digits: &[u8]) -> &[u8]
+    ensures { result.now ≡ significant digits.now }
+{
+    let (_, rest) = split(digits, first_significant(digits));
+    rest
+}
