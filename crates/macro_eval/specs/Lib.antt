@@ -1,0 +1,4 @@
+pub mod Meaning
+pub mod Postfix
+pub mod Relations
+pub mod Sample

@@ -1,0 +1,107 @@
+-- What an expression means: its value, the shared variable that must be read next, or an alarm; and the reads left.
+use Rattle.std.specs.Prelude.{ℕ, ◌/◌, ◌%◌, ◌==◌, Bool, not, List, [], ◌∷◌, Result, Ok, Err, ℤ, pos, neg_ℤ, unsigned_abs, if◌then◌else◌}
+use Rattle.std.specs.Int.{is_negative}
+use Rattle.nc_number.specs.declared.value.Var.{Var}
+use Rattle.nc_number.specs.declared.value.Var.TheVariants.{Vacant, Is}
+use Rattle.nc_number.specs.declared.fault.NumberFault.{NumberFault}
+use Rattle.nc_number.specs.declared.fault.NumberFault.TheVariants.{Overflow, ZeroDivide, NegativeRoot, NotWhole, TooManyDigits}
+use Rattle.nc_number.specs.Arithmetic.{sum_of, difference_of, product_of, quotient_of, remainder_of, and_of, or_of, xor_of, root_of, rounded, dropped, raised}
+use Rattle.macro_expr.specs.declared.tree.Fun.{Fun}
+use Rattle.macro_expr.specs.declared.tree.Fun.TheVariants.{Sqrt, Abs, Fix, Fup, Round}
+use Rattle.macro_expr.specs.declared.tree.Op.{Op}
+use Rattle.macro_expr.specs.declared.tree.Op.TheVariants.{Add, Sub, BitOr, BitXor, Mul, Div, BitAnd, Modulo}
+use Rattle.macro_expr.specs.Tree.{Tree, Number, Variable, VariableOf, Signed, Applied, Joined}
+use Rattle.macro_eval.specs.declared.scope.Look.{Look}
+use Rattle.macro_eval.specs.declared.scope.Look.TheVariants as look
+use Rattle.macro_eval.specs.declared.scope.VarFault.{VarFault}
+use Rattle.macro_eval.specs.declared.scope.Eval.{Eval}
+use Rattle.macro_eval.specs.declared.scope.Eval.TheVariants.{Got, Need, Fault}
+
+-- in arithmetic a vacant variable counts as 0
+abbrev pub number_of : Var → ℤ
+number_of Vacant = pos 0
+number_of (Is z) = z
+
+abbrev pub alarm_of : NumberFault → ℕ
+alarm_of Overflow = 1
+alarm_of ZeroDivide = 2
+alarm_of NegativeRoot = 3
+alarm_of NotWhole = 4
+alarm_of TooManyDigits = 5
+
+-- a computed number
+abbrev pub made : Result ℤ NumberFault → Eval
+made (Ok z) = Got (Is z)
+made (Err fault) = Fault (alarm_of fault)
+
+-- behind a sign, which makes a number
+abbrev pub with_sign : Bool → ℤ → ℤ
+with_sign minus z = if minus then neg_ℤ z else z
+
+abbrev pub signed : Bool → Var → Eval
+signed minus v = Got (Is (with_sign minus (number_of v)))
+
+abbrev pub function_value : Fun → ℤ → Result ℤ NumberFault
+function_value Sqrt z = root_of z
+function_value Abs z = Ok (pos (unsigned_abs z))
+function_value Fix z = dropped z
+function_value Fup z = raised z
+function_value Round z = rounded z
+
+abbrev pub applied : Fun → Var → Eval
+applied f v = made (function_value f (number_of v))
+
+abbrev pub operator_value : Op → ℤ → ℤ → Result ℤ NumberFault
+operator_value Add a b = sum_of a b
+operator_value Sub a b = difference_of a b
+operator_value BitOr a b = or_of a b
+operator_value BitXor a b = xor_of a b
+operator_value Mul a b = product_of a b
+operator_value Div a b = quotient_of a b
+operator_value BitAnd a b = and_of a b
+operator_value Modulo a b = remainder_of a b
+
+abbrev pub joined : Op → Var → Var → Eval
+joined op a b = made (operator_value op (number_of a) (number_of b))
+
+-- an answer, and the reads that are left
+abbrev pub Answer : Type 0
+Answer = Eval × List Var
+
+-- the next read, or the need of one
+abbrev pub next_read : ℕ → List Var → Answer
+next_read n [] = (Need n, [])
+next_read n (v ∷ left) = (Got v, left)
+
+-- what a look at variable n gives
+abbrev pub seen : Result Look VarFault → ℕ → List Var → Answer
+seen (Ok (look.Is v)) n reads = (Got v, reads)
+seen (Ok look.Shared) n reads = next_read n reads
+seen (Err fault) n reads = (Fault 30, reads)
+
+module _ (table : ℕ → Result Look VarFault) where
+  abbrev pub looked_at : ℕ → List Var → Answer
+  looked_at n reads = seen (table n) n reads
+
+  -- the variable whose number was computed: it must be whole, and no number below 0 names a variable
+  abbrev pub looked_up : Var → List Var → Answer
+  looked_up v reads =
+      if not (unsigned_abs (number_of v) % 1000000 == 0) then (Fault 4, reads)
+      else if is_negative (number_of v) then (Fault 30, reads)
+      else looked_at (unsigned_abs (number_of v) / 1000000) reads
+
+-- goes on with a value; a need or an alarm is the answer
+abbrev pub then_with : Answer → (Var → List Var → Answer) → Answer
+then_with (Got v, left) next = next v left
+then_with (Need n, left) next = (Need n, left)
+then_with (Fault n, left) next = (Fault n, left)
+
+-- the meaning of a tree, read from left to right
+abbrev pub meaning : (ℕ → Result Look VarFault) → Tree → List Var → Answer
+meaning table (Number z) reads = (Got (Is z), reads)
+meaning table (Variable n) reads = looked_at table n reads
+meaning table (VariableOf e) reads = then_with (meaning table e reads) (looked_up table)
+meaning table (Signed minus e) reads = then_with (meaning table e reads) (λ v left. (signed minus v, left))
+meaning table (Applied f e) reads = then_with (meaning table e reads) (λ v left. (applied f v, left))
+meaning table (Joined op a b) reads =
+    then_with (meaning table a reads) (λ v left. then_with (meaning table b left) (λ w left. (joined op v w, left)))

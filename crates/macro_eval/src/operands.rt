@@ -1,0 +1,50 @@
+ghost use Rattle.std.specs.Prelude.{◌≡◌, ◌<◌, [], ◌∷◌, length};
+
+use crate::code::OPERANDS;
+use nc_number::Var;
+use std::marker::Model;
+
+/// The operands of an evaluation, the last one first.
+#[derive(Drop)]
+pub struct Operands {
+    values: [Var; OPERANDS],
+    height: usize,
+}
+
+impl Model for Operands {
+    ghost use Rattle.std.specs.Prelude.{◌≤◌, List, take, reverse};
+    ghost use Rattle.nc_number.specs.declared.value.Var.{Var};
+
+    ghost Value = { List Var };
+
+    ghost view = { λ stack. reverse (take stack.height stack.values) };
+
+    ghost invariant = { λ stack. stack.height ≤ 16 };
+}
+
+impl Operands {
+    pub(crate) fn new() -> Operands
+        ensures { result ≡ [] }
+    {
+        Operands {
+            values: [Var::Vacant; OPERANDS],
+            height: 0,
+        }
+    }
+
+    pub(crate) fn push(&mut self, value: Var)
+        requires { length self.old < OPERANDS }
+        ensures { self.new ≡ value ∷ self.old }
+    {
+        self.values[self.height] = value;
+        self.height += 1;
+    }
+
+    pub(crate) fn pop(&mut self) -> Var
+        requires { 0 < length self.old }
+        ensures { self.old ≡ result ∷ self.new }
+    {
+        self.height -= 1;
+        self.values[self.height]
+    }
+}

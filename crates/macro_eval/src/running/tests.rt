@@ -1,0 +1,147 @@
+ghost use Rattle.macro_eval.specs.Sample.{sample_table};
+
+use super::{count_reads, eval};
+use crate::code::compile;
+use crate::compare::{holds, micro};
+use crate::scope::{Eval, Look, Scope, VarFault};
+use macro_expr::{Rel, parse_expr};
+use nc_number::{Value, Var};
+use std::alloc::Global;
+use std::test::Fail;
+
+/// `#0` and `#1` are vacant, `#2` is 2.5, `#3` is 3, `#500` is shared, and there is no other.
+struct Sample;
+
+impl Scope for Sample {
+    ghost table = { λ _ v. sample_table v };
+
+    fn look(&self, variable: u32) -> Result<Look, VarFault> {
+        match variable {
+            0 | 1 => Ok(Look::Is(Var::Vacant)),
+            2 => Ok(Look::Is(Var::Is(Value::of(2_500_000).unwrap()))),
+            3 => Ok(Look::Is(Var::Is(Value::of(3_000_000).unwrap()))),
+            500 => Ok(Look::Shared),
+            _ => Err(VarFault::Range),
+        }
+    }
+}
+
+/// What kind of answer it is, and its number: 0 vacant, 1 a value in millionths, 2 the variable
+/// that is needed, 3 an alarm.
+fn shown(answer: &Eval) -> (u8, i64) {
+    match answer {
+        Eval::Got(variable) => (u8::from(is_number(variable)), micro(variable)),
+        Eval::Need(variable) => (2, i64::from(*variable)),
+        Eval::Fault(number) => (3, i64::from(*number)),
+    }
+}
+
+fn is_number(variable: &Var) -> bool {
+    match variable {
+        Var::Vacant => false,
+        Var::Is(_) => true,
+    }
+}
+
+/// The answer for a text, and how many reads it takes; 9 where the text has no tree.
+fn answer(alloc: Global, text: &str, reads: &[Var]) -> (u8, i64, usize) {
+    let Ok(tree) = parse_expr(alloc, text.as_bytes()) else {
+        return (9, 0, 0);
+    };
+    let Ok(code) = compile(alloc, &tree) else {
+        return (9, 0, 0);
+    };
+    let (kind, number) = shown(&eval(&code, &Sample, reads));
+    (kind, number, count_reads(&code, &Sample, reads))
+}
+
+fn number(micro: i64) -> Var {
+    match Value::of(micro) {
+        Some(value) => Var::Is(value),
+        None => Var::Vacant,
+    }
+}
+
+static VALUES: [(&str, u8, i64); 39] = [
+    ("2+3*4", 1, 14_000_000),
+    ("5 XOR 3 AND 1", 1, 4_000_000),
+    ("-7 MOD 3", 1, -1_000_000),
+    ("7 MOD [-3]", 1, 1_000_000),
+    ("SQRT[2]", 1, 1_414_213),
+    ("ROUND[-2.5]", 1, -3_000_000),
+    ("ROUND[2.4]", 1, 2_000_000),
+    ("FIX[-2.9]", 1, -2_000_000),
+    ("FUP[2.1]", 1, 3_000_000),
+    ("ABS[-1.5]", 1, 1_500_000),
+    ("99999999.999999+0.000001", 3, 1),
+    ("99999999.999999", 1, 99_999_999_999_999),
+    ("-99999999.999999", 1, -99_999_999_999_999),
+    ("-99999999.999999-0.000001", 3, 1),
+    ("99999999.999999+0.000001-1", 3, 1),
+    ("1/3", 1, 333_333),
+    ("2/3", 1, 666_667),
+    ("1/0", 3, 2),
+    ("1 MOD 0", 3, 2),
+    ("1/#1", 3, 2),
+    ("SQRT[-1]", 3, 3),
+    ("1.5 AND 1", 3, 4),
+    ("-1 AND 1", 3, 4),
+    ("99999999 OR 0", 1, 99_999_999_000_000),
+    ("10-4-3", 1, 3_000_000),
+    ("8/4/2", 1, 1_000_000),
+    ("-2*3+1", 1, -5_000_000),
+    ("[#1]", 0, 0),
+    ("#1", 0, 0),
+    ("+#1", 1, 0),
+    ("-#1", 1, 0),
+    ("#1+2", 1, 2_000_000),
+    ("ABS[#1]", 1, 0),
+    ("#[1+1]", 1, 2_500_000),
+    ("#[#3]", 1, 3_000_000),
+    ("#[#2]", 3, 4),
+    ("#9", 3, 30),
+    ("#[#1]", 0, 0),
+    ("#[-1]", 3, 30),
+];
+
+#[test]
+fn each_expression_has_its_value(rt: HostRuntime) -> Result<(), Fail> {
+    for (text, kind, number) in &VALUES {
+        assert_eq!(rt; answer(rt.alloc(), text, &[]), (*kind, *number, 0));
+    }
+    Ok(())
+}
+
+static READS: [(&str, usize, u8, i64, usize); 10] = [
+    ("#500+#500", 0, 2, 500, 0),
+    ("#500+#500", 1, 2, 500, 1),
+    ("#500+#500", 2, 1, 502_000_000, 2),
+    ("#500+#500", 3, 1, 502_000_000, 2),
+    ("#500*#500+#500", 3, 1, 1_000_000_000, 3),
+    ("1/0+#500", 1, 3, 2, 0),
+    ("#500/0", 0, 2, 500, 0),
+    ("#500/0", 1, 3, 2, 1),
+    ("#[#500]", 1, 1, 2_500_000, 1),
+    ("#[#500*0+500]", 2, 1, 500_000_000, 2),
+];
+
+#[test]
+fn each_shared_variable_takes_the_next_read(rt: HostRuntime) -> Result<(), Fail> {
+    let reads = [number(2_000_000), number(500_000_000), Var::Vacant];
+    for (text, count, kind, number, taken) in &READS {
+        let (some, _) = reads.split_at((*count).min(3));
+        assert_eq!(rt; answer(rt.alloc(), text, some), (*kind, *number, *taken));
+    }
+    Ok(())
+}
+
+#[test]
+fn a_vacant_variable_is_not_zero(rt: HostRuntime) {
+    assert!(rt; !holds(Rel::Eq, Var::Vacant, number(0)));
+    assert!(rt; holds(Rel::Eq, Var::Vacant, Var::Vacant));
+    assert!(rt; holds(Rel::Ne, Var::Vacant, number(0)));
+    assert!(rt; holds(Rel::Ge, Var::Vacant, number(0)));
+    assert!(rt; !holds(Rel::Gt, Var::Vacant, number(0)));
+    assert!(rt; holds(Rel::Lt, number(-1), Var::Vacant));
+    assert!(rt; holds(Rel::Le, number(1), number(1)));
+}
