@@ -1,0 +1,8 @@
+use Rattle.run_records.proofs.Stamps.{one_entry, no_cause}
+use Rattle.run_records.proofs.laws.an_entry_has_one_spelling.Goals as goal
+
+pub returns-clause-one : goal.returns-clause-one
+returns-clause-one c = one_entry
+
+pub returns-clause-read_again : goal.returns-clause-read_again
+returns-clause-read_again c = no_cause

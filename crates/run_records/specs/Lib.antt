@@ -1,0 +1,4 @@
+pub mod Causes
+pub mod Headers
+pub mod Room
+pub mod Spelling

@@ -1,0 +1,7 @@
+-- What callers see of a list of records: the records, and for how many of them there is room.
+use Rattle.std.specs.Prelude.{ℕ, List}
+use Rattle.run_records.specs.declared.entry.Entry.{Entry}
+
+pub record Entries : Type 0 where
+  pub items : List Entry
+  pub room : ℕ

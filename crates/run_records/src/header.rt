@@ -1,0 +1,128 @@
+// The header of a run, and its bytes.
+ghost use Rattle.std.specs.Prelude.{◌≡◌, ◌+◌, ◌*◌, ◌^◌, ◌≤◌, ◌<◌, ◌++◌, [], ◌∷◌, ℕ, List, length, take, drop, IfOk, IfErr, IfSome, IfNone, OnOk};
+ghost use Rattle.run_records.specs.declared.header.Header.{Header};
+ghost use Rattle.run_records.specs.declared.header.HeaderFault.TheVariants.{NoMemory as Memory};
+ghost use Rattle.run_records.specs.Headers.{text_bytes, header_mark, header_bytes, IsShort};
+
+use crate::ByteList;
+use byteorder::{BigEndian, ByteOrder};
+use nc_number::NoMemory;
+use std::alloc::{AllocError, Global};
+use thiserror::Error;
+
+/// `TWIN`, and version 1.
+const MARK: [u8; 6] = [84, 87, 73, 78, 0, 1];
+
+/// What a run is made with: the texts of the settings and of the two tapes.
+#[derive(Debug, Drop)]
+pub struct Header {
+    pub settings: ByteList,
+    pub left: ByteList,
+    pub right: ByteList,
+}
+
+/// Why bytes are no header.
+#[derive(Clone, Copy, Debug, PartialEq, Eq, Error)]
+pub enum HeaderFault {
+    /// They spell none: cause 7.
+    #[error("bad header")]
+    Bad,
+    /// There is no memory left.
+    #[error("out of memory")]
+    NoMemory,
+}
+
+impl From<AllocError> for HeaderFault {
+    ghost from_gives = { λ _ fault. fault ≡ Memory };
+
+    fn from(_e: AllocError) -> HeaderFault {
+        HeaderFault::NoMemory
+    }
+}
+
+/// The bytes of a header.
+pub fn put_header(alloc: Global, header: &Header) -> Result<Vec<u8>, NoMemory>
+    requires { IsShort header.now }
+    ensures { IfOk result (λ bytes. bytes.items ≡ header_bytes header.now) }
+{
+    let mut bytes = Vec::from_slice(alloc, &MARK)?;
+    put_text(&mut bytes, header.settings.as_slice())?;
+    put_text(&mut bytes, header.left.as_slice())?;
+    put_text(&mut bytes, header.right.as_slice())?;
+    Ok(bytes)
+}
+
+fn put_text(into: &mut Vec<u8>, text: &[u8]) -> Result<(), NoMemory>
+    requires { length text.now < 2 ^ 32 }
+    ensures { OnOk result (into.new.items ≡ into.old.items ++ text_bytes text.now) }
+{
+    let mut size = [0; 4];
+    BigEndian::write_u32(&mut size, text.len() as u32);
+    into.extend_from_slice(&size)?;
+    into.extend_from_slice(text)?;
+    Ok(())
+}
+
+/// Reads a header that these bytes spell, all of them.
+pub fn take_header(alloc: Global, bytes: &[u8]) -> Result<Header, HeaderFault>
+    ensures header { IfOk result (λ header. bytes.now ≡ header_bytes header) }
+    ensures bad { IfErr result (λ fault. fault ≡ HeaderFault.Bad → (header : Header) → IsShort header → bytes.now ≡ header_bytes header → ⊥) }
+{
+    let Some((settings, left, right)) = texts_of(bytes) else {
+        return Err(HeaderFault::Bad);
+    };
+    Ok(Header {
+        settings: ByteList::of(settings.to_vec(alloc)?),
+        left: ByteList::of(left.to_vec(alloc)?),
+        right: ByteList::of(right.to_vec(alloc)?),
+    })
+}
+
+// The three texts of a header.
+fn texts_of(bytes: &[u8]) -> Option<(&[u8], &[u8], &[u8])>
+    ensures some { IfSome result (λ texts. bytes.now ≡ header_mark ++ text_bytes texts.0.now ++ text_bytes texts.1.now ++ text_bytes texts.2.now) }
+    ensures none { IfNone result ((header : Header) → IsShort header → bytes.now ≡ header_bytes header → ⊥) }
+{
+    let Some(rest) = behind_mark(bytes) else {
+        return None;
+    };
+    let Some((settings, rest)) = text_at(rest) else {
+        return None;
+    };
+    let Some((left, rest)) = text_at(rest) else {
+        return None;
+    };
+    let Some((right, rest)) = text_at(rest) else {
+        return None;
+    };
+    if !rest.is_empty() {
+        return None;
+    }
+    Some((settings, left, right))
+}
+
+fn behind_mark(bytes: &[u8]) -> Option<&[u8]>
+    ensures some { IfSome result (λ rest. bytes.now ≡ header_mark ++ rest.now) }
+    ensures none { IfNone result ((rest : List ℕ) → bytes.now ≡ header_mark ++ rest → ⊥) }
+{
+    match bytes {
+        [84, 87, 73, 78, 0, 1, rest @ ..] => Some(rest),
+        _ => None,
+    }
+}
+
+// A text and what stands behind it.
+fn text_at(bytes: &[u8]) -> Option<(&[u8], &[u8])>
+    ensures some { IfSome result (λ found. (bytes.now ≡ text_bytes found.0.now ++ found.1.now) × (length found.0.now < 2 ^ 32)) }
+    ensures none { IfNone result ((text rest : List ℕ) → length text < 2 ^ 32 → bytes.now ≡ text_bytes text ++ rest → ⊥) }
+{
+    if bytes.len() < 4 {
+        return None;
+    }
+    let (size, rest) = bytes.split_at(4);
+    let size = BigEndian::read_u32(size) as usize;
+    if rest.len() < size {
+        return None;
+    }
+    Some(rest.split_at(size))
+}

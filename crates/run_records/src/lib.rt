@@ -1,0 +1,21 @@
+//! The records of a run, and the header before them, as bytes.
+//!
+//! A record is what one path did in one step: its kind, and for each read of a shared variable the number of records there were at
+//! that moment. The layer above leans on this: bytes equal entry and header both ways, each has one spelling, and a spelling is read
+//! again whatever follows it.
+#![tactic(auto)]
+
+mod entry;
+mod header;
+mod laws;
+mod lists;
+mod reading;
+#[cfg(test)]
+mod tests;
+
+pub use entry::{Entry, EntryKind, put_entry};
+pub use header::{Header, HeaderFault, put_header, take_header};
+pub use laws::{a_header_has_one_spelling, an_entry_has_one_spelling};
+pub use lists::{ByteList, EntryList, StampList};
+pub use nc_number::NoMemory;
+pub use reading::take_entry;
