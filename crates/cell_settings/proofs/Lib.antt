@@ -1,0 +1,4 @@
+pub mod TextLines
+pub mod Switches
+pub mod Kept
+pub mod LineByLine

@@ -1,0 +1,15 @@
+-- The bits of a mask of switches.
+use Rattle.std.proofs.Common.{◌≡◌, ℕ, ◌^◌, ◌≤◌, max, bit_or, inl, inr, sym, ◌∙◌, arith}
+use Rattle.std.specs.Int.{bit_at}
+use Rattle.std.proofs.lemmas.Bool.{cases_eq}
+use Rattle.std.proofs.lemmas.Nat.Bits.{bit_at_or, bit_at-pow_other}
+use Rattle.cell_settings.specs.Settings.{IsSwitches}
+
+-- a mask with one switch more
+pub switches_more : (mask switch : ℕ) → IsSwitches mask → 1 ≤ switch → switch ≤ 9 → IsSwitches (bit_or mask (2 ^ switch))
+switches_more mask switch before least greatest = record {
+  only = λ n set. elim (cases_eq n switch) [
+    | inl same ↦ (omega arith, omega arith)
+    | inr other ↦ before.only n (let either : max (bit_at mask n) (bit_at (2 ^ switch) n) ≡ 1 = sym (bit_at_or mask (2 ^ switch) n) ∙ set in omega (arith, either, bit_at-pow_other switch n other))
+  ];
+}

@@ -1,0 +1,91 @@
+-- The settings that a text gives.
+use Rattle.std.specs.Prelude.{ℕ, ◌+◌, ◌^◌, Bool, true, List, [], ◌∷◌, Option, Some, None, Result, Ok, Err, pos, slice_index, slice_set, bit_or}
+use Rattle.std.specs.Str.Lines.{lines}
+use Rattle.nc_number.specs.declared.path.Path.{Path}
+use Rattle.nc_number.specs.declared.path.Path.TheVariants.{One, Two}
+use Rattle.nc_number.specs.declared.point.Point.{Point}
+use Rattle.cell_settings.specs.declared.preset.Preset.{Preset}
+use Rattle.cell_settings.specs.declared.entry.Entry.{Entry}
+use Rattle.cell_settings.specs.declared.entry.Entry.TheVariants as says
+use Rattle.cell_settings.specs.Entry.{line_says}
+use Rattle.cell_settings.specs.Preset.{with_preset}
+
+-- the settings without where they lie in memory
+pub record Cell : Type 0 where
+  pub wait_low : ℕ
+  pub wait_high : ℕ
+  pub shared100 : ℕ
+  pub shared500 : ℕ
+  pub bits : Bool
+  pub skips : List ℕ
+  pub place : List Point
+  pub home : List Point
+  pub records : ℕ
+  pub presets : List Preset
+
+abbrev pub origin : Point
+origin = record { x = pos 0; z = pos 0 }
+
+-- the settings of an empty text
+abbrev pub standard : Cell
+standard = record {
+  wait_low = 100;
+  wait_high = 197;
+  shared100 = 0;
+  shared500 = 100;
+  bits = true;
+  skips = 0 ∷ 0 ∷ [];
+  place = origin ∷ origin ∷ [];
+  home = origin ∷ origin ∷ [];
+  records = 4000000;
+  presets = [];
+}
+
+-- where a list with an element for each path has that path's
+abbrev pub index_of : Path → ℕ
+index_of One = 0
+index_of Two = 1
+
+-- one line more: it takes the place of an earlier one of its name and numbers, but a switch is added
+abbrev pub taken : Cell → Entry → Cell
+taken cell says.Nothing = cell
+taken cell (says.Wait low high) = record cell { wait_low = low; wait_high = high }
+taken cell (says.Shared100 n) = record cell { shared100 = n }
+taken cell (says.Shared500 n) = record cell { shared500 = n }
+taken cell (says.Paths bits) = record cell { bits = bits }
+taken cell (says.Skip path switch) = record cell { skips = slice_set cell.skips (index_of path) (bit_or (slice_index cell.skips (index_of path)) (2 ^ switch)) }
+taken cell (says.Place path to) = record cell { place = slice_set cell.place (index_of path) to }
+taken cell (says.Home path to) = record cell { home = slice_set cell.home (index_of path) to }
+taken cell (says.Offset preset) = record cell { presets = with_preset preset cell.presets }
+taken cell (says.Records n) = record cell { records = n }
+
+-- what all lines say together
+abbrev pub all_taken : Cell → List Entry → Cell
+all_taken cell [] = cell
+all_taken cell (entry ∷ entries) = all_taken (taken cell entry) entries
+
+abbrev pub with_entry : Option Entry → List Entry → List Entry
+with_entry None entries = entries
+with_entry (Some entry) entries = entry ∷ entries
+
+-- what each line says
+abbrev pub entries_of : List (List ℕ) → List Entry
+entries_of [] = []
+entries_of (line ∷ lines) = with_entry (line_says line) (entries_of lines)
+
+abbrev pub if_refused : Option Entry → ℕ → Option ℕ → Option ℕ
+if_refused None number rest = Some number
+if_refused (Some entry) number rest = rest
+
+-- the number of the first line that is not allowed, where the first of all has this number
+abbrev pub first_refused : ℕ → List (List ℕ) → Option ℕ
+first_refused number [] = None
+first_refused number (line ∷ lines) = if_refused (line_says line) number (first_refused (number + 1) lines)
+
+abbrev pub unless_refused : Option ℕ → Cell → Result Cell ℕ
+unless_refused None cell = Ok cell
+unless_refused (Some number) cell = Err number
+
+-- the settings of a text, or the number of its first line that is not allowed
+unfoldable pub settings_of : List ℕ → Result Cell ℕ
+settings_of text = unless_refused (first_refused 1 (lines text)) (all_taken standard (entries_of (lines text)))

@@ -1,0 +1,148 @@
+-- What a line of settings says. A line that is none of these is not allowed.
+use Rattle.std.specs.Prelude.{ℕ, ◌-◌, ◌≤◌, Bool, true, false, ◌==◌, List, [], ◌∷◌, Option, Some, None, codes, if◌then◌else◌}
+use Rattle.std.specs.List.{list_any}
+use Rattle.std.specs.Str.{bytes_eq}
+use Rattle.nc_number.specs.declared.path.Path.{Path}
+use Rattle.nc_number.specs.declared.path.Path.TheVariants.{One, Two}
+use Rattle.cell_settings.specs.declared.preset.PresetKind.{PresetKind}
+use Rattle.cell_settings.specs.declared.preset.PresetKind.TheVariants.{Work, Geometry, Wear}
+use Rattle.cell_settings.specs.declared.entry.Entry.{Entry}
+use Rattle.cell_settings.specs.declared.entry.Entry.TheVariants as says
+use Rattle.cell_settings.specs.Field.{◌>>=◌, number_in, fields_of}
+use Rattle.cell_settings.specs.Length.{point_of, IsInTravel}
+use Rattle.cell_settings.specs.Preset.{IsPreset}
+
+-- 1 or 2
+unfoldable pub path_of : List ℕ → Option Path
+path_of text = if bytes_eq text (codes "1") then Some One else (if bytes_eq text (codes "2") then Some Two else None)
+
+-- the first and the last waiting code
+unfoldable pub wait_of : List (List ℕ) → Option Entry
+wait_of (first ∷ last ∷ []) = do
+  low ← number_in 100 999 first
+  high ← number_in low 999 last
+  Some (says.Wait low high)
+wait_of _ = None
+
+-- how many variables from #100 on are shared
+unfoldable pub shared100_of : List (List ℕ) → Option Entry
+shared100_of (count ∷ []) = do
+  n ← number_in 0 100 count
+  Some (says.Shared100 n)
+shared100_of _ = None
+
+-- how many variables from #500 on are shared
+unfoldable pub shared500_of : List (List ℕ) → Option Entry
+shared500_of (count ∷ []) = do
+  n ← number_in 0 500 count
+  Some (says.Shared500 n)
+shared500_of _ = None
+
+-- how the P of a wait names the paths
+unfoldable pub paths_of : List (List ℕ) → Option Entry
+paths_of (form ∷ []) =
+    if bytes_eq form (codes "bits") then Some (says.Paths true)
+    else (if bytes_eq form (codes "numbers") then Some (says.Paths false) else None)
+paths_of _ = None
+
+-- a path, and a switch from 1 to 9
+unfoldable pub skip_of : List (List ℕ) → Option Entry
+skip_of (path ∷ switch ∷ []) = do
+  p ← path_of path
+  n ← number_in 1 9 switch
+  Some (says.Skip p n)
+skip_of _ = None
+
+-- the opening position of a path
+unfoldable pub place_of : List (List ℕ) → Option Entry
+place_of (path ∷ x ∷ z ∷ []) = do
+  p ← path_of path
+  to ← point_of x z
+  Some (says.Place p to)
+place_of _ = None
+
+-- the reference position of a path
+unfoldable pub home_of : List (List ℕ) → Option Entry
+home_of (path ∷ x ∷ z ∷ []) = do
+  p ← path_of path
+  to ← point_of x z
+  Some (says.Home p to)
+home_of _ = None
+
+-- 0 is the external work offset, 54 to 59 are G54 to G59
+unfoldable pub work_number : List ℕ → Option ℕ
+work_number text = if bytes_eq text (codes "0") then Some 0 else (do
+  n ← number_in 54 59 text
+  Some (n - 53))
+
+-- a work offset of a path
+unfoldable pub work_of : List (List ℕ) → Option Entry
+work_of (path ∷ number ∷ x ∷ z ∷ []) = do
+  p ← path_of path
+  n ← work_number number
+  to ← point_of x z
+  Some (says.Offset (record { path = p; kind = Work; number = n; to = to }))
+work_of _ = None
+
+-- a geometry or wear offset of a path
+unfoldable pub tool_of : PresetKind → List (List ℕ) → Option Entry
+tool_of kind (path ∷ number ∷ x ∷ z ∷ []) = do
+  p ← path_of path
+  n ← number_in 1 64 number
+  to ← point_of x z
+  Some (says.Offset (record { path = p; kind = kind; number = n; to = to }))
+tool_of kind _ = None
+
+-- how many records the journal may have
+unfoldable pub records_of : List (List ℕ) → Option Entry
+records_of (count ∷ []) = do
+  n ← number_in 1 4000000 count
+  Some (says.Records n)
+records_of _ = None
+
+-- what a name and its values say
+unfoldable pub named_of : List ℕ → List (List ℕ) → Option Entry
+named_of name values =
+    if bytes_eq name (codes "wait") then wait_of values
+    else (if bytes_eq name (codes "shared100") then shared100_of values
+    else (if bytes_eq name (codes "shared500") then shared500_of values
+    else (if bytes_eq name (codes "paths") then paths_of values
+    else (if bytes_eq name (codes "skip") then skip_of values
+    else (if bytes_eq name (codes "records") then records_of values
+    else None)))))
+
+unfoldable pub named_point_of : List ℕ → List (List ℕ) → Option Entry
+named_point_of name values =
+    if bytes_eq name (codes "place") then place_of values
+    else (if bytes_eq name (codes "home") then home_of values
+    else (if bytes_eq name (codes "work") then work_of values
+    else (if bytes_eq name (codes "tool") then tool_of Geometry values
+    else (if bytes_eq name (codes "wear") then tool_of Wear values
+    else named_of name values))))
+
+-- a line that begins with a bracket is a comment
+abbrev pub is_comment : List ℕ → Bool
+is_comment [] = false
+is_comment (first ∷ others) = first == 40
+
+-- an empty line and a comment say nothing
+unfoldable pub fields_say : List (List ℕ) → Option Entry
+fields_say [] = Some says.Nothing
+fields_say (name ∷ values) = if is_comment name then Some says.Nothing else named_point_of name values
+
+-- a line says what its fields say; a carriage return in it is not allowed
+unfoldable pub line_says : List ℕ → Option Entry
+line_says line = if list_any (λ b. b == 13) line then None else fields_say (fields_of line)
+
+-- the conditions of a line
+abbrev pub IsAllowed : Entry → Type 0
+IsAllowed says.Nothing = Unit {0}
+IsAllowed (says.Wait low high) = (100 ≤ low) × (low ≤ high) × (high ≤ 999)
+IsAllowed (says.Shared100 n) = n ≤ 100
+IsAllowed (says.Shared500 n) = n ≤ 500
+IsAllowed (says.Paths bits) = Unit {0}
+IsAllowed (says.Skip path switch) = (1 ≤ switch) × (switch ≤ 9)
+IsAllowed (says.Place path to) = IsInTravel to
+IsAllowed (says.Home path to) = IsInTravel to
+IsAllowed (says.Offset preset) = IsPreset preset
+IsAllowed (says.Records n) = (1 ≤ n) × (n ≤ 4000000)

@@ -1,0 +1,33 @@
+-- The fields of a line of settings.
+use Rattle.std.specs.Prelude.{ℕ, ◌+◌, ◌-◌, ◌*◌, Bool, not, ◌&&◌, ◌==◌, nat_lt, nat_le, slice_index, List, length, map, fold, filter, Option, Some, None, option_and_then, if◌then◌else◌}
+use Rattle.std.specs.List.{slice_split, list_all}
+use Rattle.std.specs.Char.{is_ascii_digit}
+use denote.Ref.{Bor}
+
+infixl 10 ◌>>=◌
+abbrev pub ◌>>=◌ : {A B : Type 0} → Option A → (A → Option B) → Option B
+o >>= f = option_and_then f o
+
+-- the texts that references point to
+abbrev pub texts : List (Bor (List ℕ)) → List (List ℕ)
+texts fields = map (λ field. field.now) fields
+
+-- the parts between spaces that have a byte
+abbrev pub fields_of : List ℕ → List (List ℕ)
+fields_of line = filter (λ field. not (length field == 0)) (slice_split (λ b. b == 32) line)
+
+-- the number that digits spell
+abbrev pub value_of : List ℕ → ℕ
+value_of digits = fold (λ n digit. n * 10 + (digit - 48)) 0 digits
+
+abbrev pub begins_with_zero : List ℕ → Bool
+begins_with_zero text = nat_lt 1 (length text) && slice_index text 0 == 48
+
+-- decimal digits, and no 0 before others
+abbrev pub is_number : List ℕ → Bool
+is_number text = (not (length text == 0) && list_all is_ascii_digit text) && not (begins_with_zero text)
+
+-- a number from low to high
+unfoldable pub number_in : ℕ → ℕ → List ℕ → Option ℕ
+number_in low high text =
+    if (is_number text && nat_le low (value_of text)) && nat_le (value_of text) high then Some (value_of text) else None

@@ -1,0 +1,7 @@
+pub mod Field
+pub mod Length
+pub mod Preset
+pub mod Entry
+pub mod Cell
+pub mod Settings
+pub mod View

@@ -1,0 +1,48 @@
+-- The offsets that the paths begin with.
+use Rattle.std.specs.Prelude.{ℕ, Bool, true, false, not, ◌&&◌, ◌==◌, ◌≤◌, List, [], ◌∷◌, ◌++◌, filter}
+use Rattle.nc_number.specs.declared.path.Path.{Path}
+use Rattle.nc_number.specs.declared.path.Path.TheVariants.{One, Two}
+use Rattle.cell_settings.specs.declared.preset.Preset.{Preset}
+use Rattle.cell_settings.specs.declared.preset.PresetKind.{PresetKind}
+use Rattle.cell_settings.specs.declared.preset.PresetKind.TheVariants.{Work, Geometry, Wear}
+use Rattle.cell_settings.specs.Length.{IsInTravel}
+
+abbrev pub is_path : Path → Path → Bool
+is_path One One = true
+is_path One Two = false
+is_path Two One = false
+is_path Two Two = true
+
+abbrev pub is_kind : PresetKind → PresetKind → Bool
+is_kind Work Work = true
+is_kind Geometry Geometry = true
+is_kind Wear Wear = true
+is_kind _ _ = false
+
+-- two offsets for the same path, kind and number
+abbrev pub is_same_place : Preset → Preset → Bool
+is_same_place a b = (is_path a.path b.path && is_kind a.kind b.kind) && a.number == b.number
+
+-- the offsets for other paths, kinds and numbers
+abbrev pub without_place : Preset → List Preset → List Preset
+without_place place presets = filter (λ other. not (is_same_place other place)) presets
+
+-- the offsets with one more, in the place of the one for its path, kind and number
+abbrev pub with_preset : Preset → List Preset → List Preset
+with_preset preset presets = without_place preset presets ++ preset ∷ []
+
+-- the numbers of a kind: 0 to 6 for work offsets, 1 to 64 for a tool's
+abbrev pub least_number : PresetKind → ℕ
+least_number Work = 0
+least_number Geometry = 1
+least_number Wear = 1
+
+abbrev pub greatest_number : PresetKind → ℕ
+greatest_number Work = 6
+greatest_number Geometry = 64
+greatest_number Wear = 64
+
+pub record IsPreset (preset : Preset) : Type 0 where
+  pub least : least_number preset.kind ≤ preset.number
+  pub greatest : preset.number ≤ greatest_number preset.kind
+  pub travel : IsInTravel preset.to

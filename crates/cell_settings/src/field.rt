@@ -1,0 +1,58 @@
+ghost use Rattle.std.specs.Prelude.{◌≡◌, ◌-◌, ◌^◌, ◌<◌, ◌≤◌, length, min, IfOk, IfSome};
+ghost use Rattle.cell_settings.specs.Field.{texts, fields_of, value_of, is_number, number_in};
+ghost use Rattle.std.specs.Char.{is_ascii_digit};
+ghost use Rattle.std.specs.List.{list_all};
+
+use std::alloc::{AllocError, Global};
+
+/// The fields of a line, without the spaces round them.
+pub(crate) fn fields(alloc: Global, line: &[u8]) -> Result<Vec<&[u8]>, AllocError>
+    ensures { IfOk result (λ v. texts v.items ≡ fields_of line.now) }
+{
+    line.split(|b| *b == b' ')
+        .filter(|field| !field.is_empty())
+        .collect(alloc)
+}
+
+fn are_digits(text: &[u8]) -> bool
+    ensures { result ≡ list_all is_ascii_digit text.now }
+{
+    text.iter().all(|b| b.is_ascii_digit())
+}
+
+/// Whether the text is decimal digits without a leading zero.
+fn is_number(text: &[u8]) -> bool
+    ensures { result ≡ is_number text.now }
+{
+    !text.is_empty() && are_digits(text) && !(text.len() > 1 && text[0] == b'0')
+}
+
+/// The number that digits spell, or the largest `u64` where it is larger.
+fn value(digits: &[u8]) -> u64
+    ensures { result ≡ min (value_of digits.now) (2 ^ 64 - 1) }
+{
+    let mut n = 0u64;
+    for digit in digits {
+        n = n
+            .saturating_mul(10)
+            .saturating_add(u64::from(digit.saturating_sub(b'0')));
+    }
+    n
+}
+
+/// The number of a field, from `low` to `high`.
+#[tactic(auto, unfolding(crate::specs::Field::number_in))]
+pub(crate) fn number_in(low: u32, high: u32, text: &[u8]) -> Option<u32>
+    ensures value { result ≡ number_in low high text.now }
+    ensures range { IfSome result (λ n. (low ≤ n) × (n ≤ high)) }
+{
+    if !is_number(text) {
+        return None;
+    }
+    let n = value(text);
+    if u64::from(low) <= n && n <= u64::from(high) {
+        Some(n as u32)
+    } else {
+        None
+    }
+}

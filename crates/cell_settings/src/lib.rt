@@ -1,0 +1,23 @@
+//! The settings of the cell: the waiting codes, the shared variables, the skip switches, the opening and
+//! reference positions, the offsets that the paths begin with, and the size of the journal.
+//!
+//! To the crates above it promises that [`Settings`] are what the text says, by the rules of the settings
+//! file, that they keep the conditions of those rules, and that a refusal names the first line that the
+//! rules don't allow.
+#![tactic(auto)]
+
+mod entry;
+mod field;
+mod length;
+mod line;
+mod named;
+mod preset;
+mod reading;
+mod settings;
+
+pub use preset::{Preset, PresetKind, PresetList};
+pub use reading::{SettingFault, read_settings};
+pub use settings::Settings;
+
+#[cfg(test)]
+mod tests;

@@ -1,0 +1,276 @@
+ghost use Rattle.std.specs.Prelude.{◌≡◌, ◌≤◌, IfSome};
+ghost use Rattle.cell_settings.specs.Field.{texts};
+ghost use Rattle.cell_settings.specs.Entry.{path_of, wait_of, shared100_of, shared500_of, paths_of, skip_of, place_of, home_of, work_number, work_of, tool_of, records_of, named_of, named_point_of, fields_say, IsAllowed};
+
+use crate::entry::Entry;
+use crate::field::number_in;
+use crate::length::read_point;
+use crate::preset::{Preset, PresetKind};
+use nc_number::Path;
+
+#[tactic(auto, unfolding(crate::specs::Entry::path_of))]
+fn read_path(text: &[u8]) -> Option<Path>
+    ensures { result ≡ path_of text.now }
+{
+    if text == b"1".as_slice() {
+        Some(Path::One)
+    } else if text == b"2".as_slice() {
+        Some(Path::Two)
+    } else {
+        None
+    }
+}
+
+#[tactic(auto, unfolding(crate::specs::Entry::wait_of))]
+fn wait(values: &[&[u8]]) -> Option<Entry>
+    ensures value { result ≡ wait_of (texts values.now) }
+    ensures allowed { IfSome result IsAllowed }
+{
+    match values {
+        [first, last] => {
+            let low = number_in(100, 999, first)?;
+            let high = number_in(low, 999, last)?;
+            Some(Entry::Wait {
+                low: low as u16,
+                high: high as u16,
+            })
+        }
+        _ => None,
+    }
+}
+
+#[tactic(auto, unfolding(crate::specs::Entry::shared100_of))]
+fn shared100(values: &[&[u8]]) -> Option<Entry>
+    ensures value { result ≡ shared100_of (texts values.now) }
+    ensures allowed { IfSome result IsAllowed }
+{
+    match values {
+        [count] => Some(Entry::Shared100(number_in(0, 100, count)?)),
+        _ => None,
+    }
+}
+
+#[tactic(auto, unfolding(crate::specs::Entry::shared500_of))]
+fn shared500(values: &[&[u8]]) -> Option<Entry>
+    ensures value { result ≡ shared500_of (texts values.now) }
+    ensures allowed { IfSome result IsAllowed }
+{
+    match values {
+        [count] => Some(Entry::Shared500(number_in(0, 500, count)?)),
+        _ => None,
+    }
+}
+
+#[tactic(auto, unfolding(crate::specs::Entry::paths_of))]
+fn paths(values: &[&[u8]]) -> Option<Entry>
+    ensures value { result ≡ paths_of (texts values.now) }
+    ensures allowed { IfSome result IsAllowed }
+{
+    match values {
+        [form] => {
+            if *form == b"bits".as_slice() {
+                Some(Entry::Paths { bits: true })
+            } else if *form == b"numbers".as_slice() {
+                Some(Entry::Paths { bits: false })
+            } else {
+                None
+            }
+        }
+        _ => None,
+    }
+}
+
+#[tactic(auto, unfolding(crate::specs::Entry::skip_of))]
+fn skip(values: &[&[u8]]) -> Option<Entry>
+    ensures value { result ≡ skip_of (texts values.now) }
+    ensures allowed { IfSome result IsAllowed }
+{
+    match values {
+        [path, switch] => {
+            let path = read_path(path)?;
+            let switch = number_in(1, 9, switch)?;
+            Some(Entry::Skip {
+                path,
+                switch: switch as u8,
+            })
+        }
+        _ => None,
+    }
+}
+
+#[tactic(auto, unfolding(crate::specs::Entry::place_of))]
+fn place(values: &[&[u8]]) -> Option<Entry>
+    ensures value { result ≡ place_of (texts values.now) }
+    ensures allowed { IfSome result IsAllowed }
+{
+    match values {
+        [path, x, z] => {
+            let path = read_path(path)?;
+            let to = read_point(x, z)?;
+            Some(Entry::Place { path, to })
+        }
+        _ => None,
+    }
+}
+
+#[tactic(auto, unfolding(crate::specs::Entry::home_of))]
+fn home(values: &[&[u8]]) -> Option<Entry>
+    ensures value { result ≡ home_of (texts values.now) }
+    ensures allowed { IfSome result IsAllowed }
+{
+    match values {
+        [path, x, z] => {
+            let path = read_path(path)?;
+            let to = read_point(x, z)?;
+            Some(Entry::Home { path, to })
+        }
+        _ => None,
+    }
+}
+
+/// 0 for the external work offset, 1 to 6 for G54 to G59.
+#[tactic(auto, unfolding(crate::specs::Entry::work_number))]
+fn work_number(text: &[u8]) -> Option<u8>
+    ensures value { result ≡ work_number text.now }
+    ensures range { IfSome result (λ n. n ≤ 6) }
+{
+    if text == b"0".as_slice() {
+        return Some(0);
+    }
+    let n = number_in(54, 59, text)?;
+    Some((n - 53) as u8)
+}
+
+#[tactic(auto, unfolding(crate::specs::Entry::work_of))]
+fn work(values: &[&[u8]]) -> Option<Entry>
+    ensures value { result ≡ work_of (texts values.now) }
+    ensures allowed { IfSome result IsAllowed }
+{
+    match values {
+        [path, number, x, z] => {
+            let path = read_path(path)?;
+            let number = work_number(number)?;
+            let to = read_point(x, z)?;
+            Some(Entry::Offset(Preset {
+                path,
+                kind: PresetKind::Work,
+                number,
+                to,
+            }))
+        }
+        _ => None,
+    }
+}
+
+#[tactic(auto, unfolding(crate::specs::Entry::tool_of))]
+fn geometry(values: &[&[u8]]) -> Option<Entry>
+    ensures value { result ≡ tool_of PresetKind.Geometry (texts values.now) }
+    ensures allowed { IfSome result IsAllowed }
+{
+    match values {
+        [path, number, x, z] => {
+            let path = read_path(path)?;
+            let number = number_in(1, 64, number)?;
+            let to = read_point(x, z)?;
+            Some(Entry::Offset(Preset {
+                path,
+                kind: PresetKind::Geometry,
+                number: number as u8,
+                to,
+            }))
+        }
+        _ => None,
+    }
+}
+
+#[tactic(auto, unfolding(crate::specs::Entry::tool_of))]
+fn wear(values: &[&[u8]]) -> Option<Entry>
+    ensures value { result ≡ tool_of PresetKind.Wear (texts values.now) }
+    ensures allowed { IfSome result IsAllowed }
+{
+    match values {
+        [path, number, x, z] => {
+            let path = read_path(path)?;
+            let number = number_in(1, 64, number)?;
+            let to = read_point(x, z)?;
+            Some(Entry::Offset(Preset {
+                path,
+                kind: PresetKind::Wear,
+                number: number as u8,
+                to,
+            }))
+        }
+        _ => None,
+    }
+}
+
+#[tactic(auto, unfolding(crate::specs::Entry::records_of))]
+fn records(values: &[&[u8]]) -> Option<Entry>
+    ensures value { result ≡ records_of (texts values.now) }
+    ensures allowed { IfSome result IsAllowed }
+{
+    match values {
+        [count] => Some(Entry::Records(number_in(1, 4_000_000, count)?)),
+        _ => None,
+    }
+}
+
+#[tactic(auto, unfolding(crate::specs::Entry::named_of))]
+fn named(name: &[u8], values: &[&[u8]]) -> Option<Entry>
+    ensures value { result ≡ named_of name.now (texts values.now) }
+    ensures allowed { IfSome result IsAllowed }
+{
+    if name == b"wait".as_slice() {
+        wait(values)
+    } else if name == b"shared100".as_slice() {
+        shared100(values)
+    } else if name == b"shared500".as_slice() {
+        shared500(values)
+    } else if name == b"paths".as_slice() {
+        paths(values)
+    } else if name == b"skip".as_slice() {
+        skip(values)
+    } else if name == b"records".as_slice() {
+        records(values)
+    } else {
+        None
+    }
+}
+
+#[tactic(auto, unfolding(crate::specs::Entry::named_point_of))]
+fn named_point(name: &[u8], values: &[&[u8]]) -> Option<Entry>
+    ensures value { result ≡ named_point_of name.now (texts values.now) }
+    ensures allowed { IfSome result IsAllowed }
+{
+    if name == b"place".as_slice() {
+        place(values)
+    } else if name == b"home".as_slice() {
+        home(values)
+    } else if name == b"work".as_slice() {
+        work(values)
+    } else if name == b"tool".as_slice() {
+        geometry(values)
+    } else if name == b"wear".as_slice() {
+        wear(values)
+    } else {
+        named(name, values)
+    }
+}
+
+/// What the fields of a line say.
+#[tactic(auto, unfolding(crate::specs::Entry::fields_say))]
+pub(crate) fn read_fields(fields: &[&[u8]]) -> Option<Entry>
+    ensures value { result ≡ fields_say (texts fields.now) }
+    ensures allowed { IfSome result IsAllowed }
+{
+    match fields {
+        [] => Some(Entry::Nothing),
+        [name, values @ ..] => {
+            if name.first() == Some(&b'(') {
+                Some(Entry::Nothing)
+            } else {
+                named_point(name, values)
+            }
+        }
+    }
+}

@@ -1,0 +1,115 @@
+ghost use Rattle.std.specs.Prelude.{◌≡◌, ◌^◌, ◌<◌, ◌≤◌, bit_or, All, OnOk};
+ghost use Rattle.cell_settings.specs.Settings.{IsWaitRange, IsSwitches};
+ghost use Rattle.cell_settings.specs.Length.{IsInTravel};
+ghost use Rattle.cell_settings.specs.Preset.{IsPreset};
+ghost use Rattle.cell_settings.specs.Cell.{index_of};
+
+use crate::entry::Entry;
+use crate::preset::{Preset, PresetList};
+use nc_number::{Path, Point};
+use std::alloc::{AllocFailed, Global};
+
+/// The settings of the cell. The path that a list of two speaks of is its place in the list.
+#[derive(Debug, Drop)]
+pub struct Settings {
+    /// The first waiting code.
+    pub wait_low: u16,
+    /// The last waiting code.
+    pub wait_high: u16,
+    /// How many variables from #100 on both paths share.
+    pub shared100: u32,
+    /// How many variables from #500 on both paths share.
+    pub shared500: u32,
+    /// Whether the P of a wait names the paths by bits, and not by their numbers.
+    pub bits: bool,
+    /// For each path its skip switches: bit n is switch n, 1 to 9.
+    pub skips: [u16; 2],
+    /// For each path its opening position, in machine coordinates.
+    pub place: [Point; 2],
+    /// For each path its reference position, in machine coordinates.
+    pub home: [Point; 2],
+    /// How many records the journal may have.
+    pub records: u32,
+    /// The offsets that the paths begin with; all others are 0.
+    pub presets: PresetList,
+    ghost wait_range: { IsWaitRange wait_low wait_high },
+    ghost shared100_range: { shared100 ≤ 100 },
+    ghost shared500_range: { shared500 ≤ 500 },
+    ghost switches: { All IsSwitches skips },
+    ghost places: { All IsInTravel place },
+    ghost homes: { All IsInTravel home },
+    ghost fewest_records: { 1 ≤ records },
+    ghost most_records: { records ≤ 4000000 },
+    ghost offsets: { All IsPreset presets },
+}
+
+impl Settings {
+    ghost use Rattle.cell_settings.specs.Cell.{standard, taken};
+    ghost use Rattle.cell_settings.specs.View.{view};
+    ghost use Rattle.cell_settings.specs.Entry.{IsAllowed};
+
+    /// The settings of an empty text.
+    pub(crate) fn standard(alloc: Global) -> Self
+        ensures { view result ≡ standard }
+    {
+        let origin = Point { x: 0, z: 0 };
+        Settings {
+            wait_low: 100,
+            wait_high: 197,
+            shared100: 0,
+            shared500: 100,
+            bits: true,
+            skips: [0, 0],
+            place: [origin, origin],
+            home: [origin, origin],
+            records: 4_000_000,
+            presets: PresetList::empty(alloc),
+        }
+    }
+
+    /// Takes what a line says.
+    pub(crate) fn take(&mut self, entry: Entry) -> Result<(), AllocFailed<Preset>>
+        requires { IsAllowed entry }
+        ensures { OnOk result (view self.new ≡ taken (view self.old) entry) }
+    {
+        match entry {
+            Entry::Nothing => {}
+            Entry::Wait { low, high } => {
+                self.wait_low = low;
+                self.wait_high = high;
+            }
+            Entry::Shared100(count) => self.shared100 = count,
+            Entry::Shared500(count) => self.shared500 = count,
+            Entry::Paths { bits } => self.bits = bits,
+            Entry::Skip { path, switch } => {
+                let at = index(path);
+                self.skips[at] = with_switch(self.skips[at], switch);
+            }
+            Entry::Place { path, to } => self.place[index(path)] = to,
+            Entry::Home { path, to } => self.home[index(path)] = to,
+            Entry::Offset(preset) => self.presets.set(preset)?,
+            Entry::Records(count) => self.records = count,
+        }
+        Ok(())
+    }
+}
+
+fn index(path: Path) -> usize
+    ensures value { result ≡ index_of path }
+    ensures range { result < 2 }
+{
+    match path {
+        Path::One => 0,
+        Path::Two => 1,
+    }
+}
+
+fn with_switch(mask: u16, switch: u8) -> u16
+    requires mask { IsSwitches mask }
+    requires least { 1 ≤ switch }
+    requires greatest { switch ≤ 9 }
+    ensures value { result ≡ bit_or mask (2 ^ switch) }
+    ensures kept { IsSwitches result }
+{
+    mask | 1 << switch
+}
