@@ -1,0 +1,9 @@
+pub mod Appending
+pub mod Beginning
+pub mod Chains
+pub mod Heads
+pub mod Moments
+pub mod Prefixes
+pub mod Reading
+pub mod Staged
+pub mod Unique

@@ -1,0 +1,126 @@
+-- What a crash leaves in each of the two steps of an append.
+use Rattle.std.proofs.Common.{◌≡◌, inl, inr, ℕ, ◌+◌, ◌^◌, ◌-◌, ◌≤◌, ◌<◌, List, [], ◌∷◌, ◌++◌, length, take, drop, replicate, get_or, refl, sym, ◌∙◌, ap, subst, arith, append_assoc, length-append, length-drop, take-append-drop}
+use Rattle.std.proofs.lemmas.List.{take_at, drop_at, drop-drop, take-append-le, drop_more, length-take, get_or-take, get_or-drop}
+use Rattle.std.proofs.lemmas.Grind.{same_number_lists}
+use Rattle.disk_model.specs.Device.{Torn, written_over}
+use Rattle.gate_file.specs.Chain.{entry, Opens, Spells, IsBeforeOrAfter}
+use Rattle.gate_file.proofs.Chains.{Front, front_of, opens_push, either_gate, length-entry}
+
+-- a torn write leaves what stands before it, and what stands behind it
+module _ (at n : ℕ) (old new : List ℕ) (torn : Torn at n old new) where
+  pub torn_front : at ≤ length old → take at new ≡ take at old
+  torn_front within =
+      let size : length (take at new) ≡ length (take at old) = omega (arith, length-take at new, length-take at old, torn.no_shorter) in
+      same_number_lists (take at new) (take at old) size
+      (λ i below. let ahead : i < at = omega (arith, length-take at new) in get_or-take at new i 0 ahead ∙ torn.outside i (omega arith) (inl ahead) ∙ sym (get_or-take at old i 0 ahead))
+
+  pub torn_back : at + n ≤ length old → drop (at + n) new ≡ drop (at + n) old
+  torn_back within =
+      let size : length (drop (at + n) new) ≡ length (drop (at + n) old) = omega (arith, length-drop (at + n) new, length-drop (at + n) old, torn.no_shorter, torn.no_longer) in
+      same_number_lists (drop (at + n) new) (drop (at + n) old) size
+      (λ i below. get_or-drop (at + n) new i 0 ∙ torn.outside (at + n + i) (omega (arith, length-drop (at + n) new, torn.no_longer)) (inr (omega arith)) ∙ sym (get_or-drop (at + n) old i 0))
+
+-- a write within the file puts its bytes there
+pub written_within : (old : List ℕ) (at : ℕ) (bytes : List ℕ) → at ≤ length old → written_over old at bytes ≡ take at old ++ bytes ++ drop (at + length bytes) old
+written_within old at bytes within = ap (λ (l : List ℕ). l ++ bytes ++ drop (at + length bytes) old) (take-append-le at old (replicate (at - length old) 0) within)
+
+module _ (bodies : List (List ℕ)) (end : ℕ) (body bytes behind : List ℕ) (short : length body < 2 ^ 32) (opens : Opens bodies bytes (0 ∷ behind)) (place : end + 1 + length behind ≡ length bytes) where
+  cut : Front bodies bytes (0 ∷ behind)
+  cut = front_of bodies bytes (0 ∷ behind) opens
+
+  front : List ℕ
+  front = cut.front
+
+  size : length front ≡ end
+  unfolding front
+  size = omega (arith, place, ap length cut.split, length-append cut.front (0 ∷ behind))
+
+  split : bytes ≡ front ++ 0 ∷ behind
+  unfolding front
+  split = cut.split
+
+  anew : (other : List ℕ) → Opens bodies (front ++ other) other
+  unfolding front
+  anew = cut.anew
+
+  halves : bytes ≡ (front ++ 0 ∷ []) ++ behind
+  halves = split ∙ sym (append_assoc front (0 ∷ []) behind)
+
+  size_shut : length (front ++ 0 ∷ []) ≡ end + 1
+  size_shut = omega (arith, size, length-append front (0 ∷ []))
+
+  shut_front : take (end + 1) bytes ≡ front ++ 0 ∷ []
+  shut_front = ap (take (end + 1)) halves ∙ take_at (front ++ 0 ∷ []) behind (end + 1) size_shut
+
+  -- the shut gate stands in each outcome of the first write
+  pub torn_behind : (n : ℕ) (c : List ℕ) → Torn (end + 1) n bytes c → Spells bodies c
+  torn_behind n c torn =
+      let begins : take (end + 1) c ≡ front ++ 0 ∷ [] = torn_front (end + 1) n bytes c torn (omega (arith, place)) ∙ shut_front in
+      let rest = drop (end + 1) c in
+      let whole : c ≡ front ++ 0 ∷ rest = sym (take-append-drop (end + 1) c) ∙ ap (λ (l : List ℕ). l ++ rest) begins ∙ append_assoc front (0 ∷ []) rest in
+      (0 ∷ rest, subst (λ (file : List ℕ). Opens bodies file (0 ∷ rest)) (sym whole) (anew (0 ∷ rest)), (rest, refl))
+
+  -- what stands behind the new body's gate
+  pub beyond : List ℕ
+  beyond = drop (length body + 5) behind
+
+  pub with_gate : ℕ → List ℕ
+  with_gate gate = front ++ gate ∷ (entry body ++ 0 ∷ beyond)
+
+  length-with_gate : (gate : ℕ) → length (with_gate gate) ≡ end + 6 + length body + length beyond
+  unfolding with_gate
+  length-with_gate gate = omega (arith, size, length-append front (gate ∷ (entry body ++ 0 ∷ beyond)), length-append (entry body) (0 ∷ beyond), length-entry body)
+
+  pub written_behind : (staged : List ℕ) → staged ≡ entry body ++ 0 ∷ [] → written_over bytes (end + 1) staged ≡ with_gate 0
+  unfolding with_gate beyond
+  written_behind staged is =
+      let long : length staged ≡ length body + 5 = omega (arith, ap length is, length-append (entry body) (0 ∷ []), length-entry body) in
+      let later : drop (end + 1 + length staged) bytes ≡ drop (length body + 5) behind =
+      ap (λ (n : ℕ). drop (end + 1 + n) bytes) long ∙ sym (drop-drop (length body + 5) (end + 1) bytes) ∙ ap (drop (length body + 5)) (ap (drop (end + 1)) halves ∙ drop_at (front ++ 0 ∷ []) behind (end + 1) size_shut) in
+      written_within bytes (end + 1) staged (omega (arith, place))
+      ∙ ap (λ (l : List ℕ). l ++ staged ++ drop (end + 1 + length staged) bytes) shut_front
+      ∙ ap (λ (l : List ℕ). front ++ 0 ∷ [] ++ staged ++ l) later
+      ∙ ap (λ (l : List ℕ). front ++ 0 ∷ [] ++ l ++ drop (length body + 5) behind) is
+      ∙ append_assoc (front ++ 0 ∷ []) (entry body ++ 0 ∷ []) (drop (length body + 5) behind)
+      ∙ append_assoc front (0 ∷ []) (entry body ++ 0 ∷ [] ++ drop (length body + 5) behind)
+      ∙ ap (λ (l : List ℕ). front ++ 0 ∷ l) (append_assoc (entry body) (0 ∷ []) (drop (length body + 5) behind))
+
+  gate_front : (gate : ℕ) → take end (with_gate gate) ≡ front
+  unfolding with_gate
+  gate_front gate = take_at front (gate ∷ (entry body ++ 0 ∷ beyond)) end size
+
+  gate_back : (gate : ℕ) → drop (end + 1) (with_gate gate) ≡ entry body ++ 0 ∷ beyond
+  unfolding with_gate
+  gate_back gate =
+      let sizes : length (front ++ gate ∷ []) ≡ end + 1 = omega (arith, size, length-append front (gate ∷ [])) in
+      ap (drop (end + 1)) (sym (append_assoc front (gate ∷ []) (entry body ++ 0 ∷ beyond))) ∙ drop_at (front ++ gate ∷ []) (entry body ++ 0 ∷ beyond) (end + 1) sizes
+
+  -- the body stands whole in each outcome of the second write
+  pub torn_gate : (c : List ℕ) → Torn end 1 (with_gate 0) c → IsBeforeOrAfter bodies body c
+  torn_gate c torn =
+      let long = length-with_gate 0 in
+      let gate = get_or c end 0 in
+      let begins : take end c ≡ front = torn_front end 1 (with_gate 0) c torn (omega (arith, long)) ∙ gate_front 0 in
+      let ends : drop (end + 1) c ≡ entry body ++ 0 ∷ beyond = torn_back end 1 (with_gate 0) c torn (omega (arith, long)) ∙ gate_back 0 in
+      let rest : drop end c ≡ gate ∷ (entry body ++ 0 ∷ beyond) = drop_more c end 0 (omega (arith, long, torn.no_shorter)) ∙ ap (λ (l : List ℕ). gate ∷ l) ends in
+      let whole : c ≡ front ++ gate ∷ (entry body ++ 0 ∷ beyond) = sym (take-append-drop end c) ∙ ap (λ (l : List ℕ). l ++ drop end c) begins ∙ ap (λ (l : List ℕ). front ++ l) rest in
+      either_gate bodies c front body beyond gate anew short whole
+
+  joined : front ++ (1 ∷ []) ++ (entry body ++ 0 ∷ beyond) ≡ with_gate 1
+  unfolding with_gate
+  joined = append_assoc front (1 ∷ []) (entry body ++ 0 ∷ beyond)
+
+  pub written_gate : written_over (with_gate 0) end (1 ∷ []) ≡ with_gate 1
+  written_gate =
+      written_within (with_gate 0) end (1 ∷ []) (omega (arith, length-with_gate 0))
+      ∙ ap (λ (l : List ℕ). l ++ (1 ∷ []) ++ drop (end + 1) (with_gate 0)) (gate_front 0)
+      ∙ ap (λ (l : List ℕ). front ++ (1 ∷ []) ++ l) (gate_back 0)
+      ∙ joined
+
+  -- and then the file has it, with a shut gate behind
+  pub opened : Opens (bodies ++ body ∷ []) (with_gate 1) (0 ∷ beyond)
+  unfolding with_gate
+  opened = opens_push bodies (front ++ 1 ∷ (entry body ++ 0 ∷ beyond)) (1 ∷ (entry body ++ 0 ∷ beyond)) (0 ∷ beyond) body (anew (1 ∷ (entry body ++ 0 ∷ beyond))) (record { gate = 1; is_open = λ (e : 1 ≡ 0). cc; short = short; bytes = refl })
+
+  pub opened_place : end + 5 + length body + 1 + length beyond ≡ length (with_gate 1)
+  opened_place = omega (arith, length-with_gate 1)

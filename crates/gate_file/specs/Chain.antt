@@ -1,0 +1,58 @@
+-- What a file of gates spells: gate, length, body, gate, length, body, and so on, up to the first shut gate. A gate is shut where
+-- its byte is 0, and open where it is any other byte, since a write that was stopped may leave any byte. What stands behind the
+-- first shut gate counts for nothing.
+use Rattle.std.specs.Prelude.{◌≡◌, ◌≢◌, ◌⊎◌, ℕ, ◌+◌, ◌^◌, ◌≤◌, ◌<◌, List, [], ◌∷◌, ◌++◌, length, take}
+use Rattle.std.specs.Int.{w32, to_be_bytes, from_be_bytes}
+
+-- a body behind its length, of four bytes, the high one first
+abbrev pub entry : List ℕ → List ℕ
+entry body = to_be_bytes w32 (length body) ++ body
+
+-- the file is an open gate and this body's entry, and then stands the rest
+pub record IsEntry (body file rest : List ℕ) : Type 0 where
+  pub gate : ℕ
+  pub is_open : gate ≢ 0
+  pub short : length body < 2 ^ 32
+  pub bytes : file ≡ gate ∷ (entry body ++ rest)
+
+-- the file begins with the entries of these bodies, each behind an open gate, and then stands the rest
+abbrev pub Opens : List (List ℕ) → List ℕ → List ℕ → Type 0
+Opens [] file rest = file ≡ rest
+Opens (body ∷ bodies) file rest = (after : List ℕ) × IsEntry body file after × Opens bodies after rest
+
+-- a shut gate stands first
+abbrev pub IsShut : List ℕ → Type 0
+IsShut file = (behind : List ℕ) × (file ≡ 0 ∷ behind)
+
+-- the file spells these bodies
+abbrev pub Spells : List (List ℕ) → List ℕ → Type 0
+Spells bodies file = (rest : List ℕ) × Opens bodies file rest × IsShut rest
+
+-- the file stands for no run
+abbrev pub IsNoRun : List ℕ → Type 0
+IsNoRun file = (length file ≤ 1) ⊎ IsShut file
+
+-- the first gate is open, and more than it is there
+abbrev pub IsRunThere : List ℕ → Type 0
+IsRunThere file = (1 < length file) × (IsShut file → ⊥)
+
+-- an open gate, whose entry with the gate behind it does not end inside the file
+pub record IsCutShort (file : List ℕ) : Type 0 where
+  pub gate : ℕ
+  pub rest : List ℕ
+  pub is_open : gate ≢ 0
+  pub bytes : file ≡ gate ∷ rest
+  pub short : (length rest < 4) ⊎ (length rest < from_be_bytes w32 (take 4 rest) + 5)
+
+-- the entry of the open gate at this offset is cut short, and those before it are whole
+pub record IsCutAt (at : ℕ) (file : List ℕ) : Type 0 where
+  pub bodies : List (List ℕ)
+  pub rest : List ℕ
+  pub begins : 1 < length file
+  pub opens : Opens bodies file rest
+  pub place : at + length rest ≡ length file
+  pub cut : IsCutShort rest
+
+-- the file spells these bodies, or these and one more
+abbrev pub IsBeforeOrAfter : List (List ℕ) → List ℕ → List ℕ → Type 0
+IsBeforeOrAfter bodies body file = Spells bodies file ⊎ Spells (bodies ++ body ∷ []) file

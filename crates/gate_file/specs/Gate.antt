@@ -1,0 +1,38 @@
+-- A file of gates on a disk.
+use Rattle.std.specs.Prelude.{◌≡◌, ℕ, ◌+◌, ◌*◌, ◌≤◌, Bool, List, ◌∷◌, length, Result, Ok, Err}
+use Rattle.gate_file.specs.declared.fault.GateFault.{GateFault}
+use Rattle.disk_model.specs.Device.{DiskState, Reads, Only}
+use Rattle.gate_file.specs.Chain.{Opens}
+
+-- what callers see of a file of gates: its disk, whether it may be written, and the offset of its shut gate
+pub record Gate (D : Type 0) : Type 0 where
+  pub disk : D
+  pub live : Bool
+  pub end : ℕ
+
+-- The disk spells these bodies, all of them are on the disk, and the shut gate stands at this offset.
+pub record Keeps (bodies : List (List ℕ)) (disk : DiskState) (end : ℕ) : Type 0 where
+  pub bytes : List ℕ
+  pub behind : List ℕ
+  pub reads : Reads disk bytes
+  pub opens : Opens bodies bytes (0 ∷ behind)
+  pub place : end + 1 + length behind ≡ length bytes
+  pub only : Only bytes disk.image
+
+-- An opening makes four calls at most for each gate that it reads, and four besides: it reads the gates of some entries that the
+-- file begins with, and the one behind them. It asks for no write.
+pub record OpeningUses (bytes : List ℕ) (old new : DiskState) : Type 0 where
+  pub bodies : List (List ℕ)
+  pub rest : List ℕ
+  pub opens : Opens bodies bytes rest
+  pub calls : new.calls ≤ old.calls + 4 * (length bodies + 1) + 4
+  pub reach : new.reach ≤ old.reach
+
+-- the disk in an answer that gives it back either way
+abbrev pub disk_of : {D : Type 0} → Result (Gate D) (D × GateFault) → D
+disk_of (Ok gate) = gate.disk
+disk_of (Err fault) = fault.0
+
+abbrev pub disk_opened : {D : Type 0} → Result (Gate D × List (List ℕ)) (D × GateFault) → D
+disk_opened (Ok found) = found.0.disk
+disk_opened (Err fault) = fault.0

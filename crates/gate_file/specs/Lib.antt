@@ -1,0 +1,4 @@
+pub mod Chain
+pub mod First
+pub mod Gate
+pub mod Run

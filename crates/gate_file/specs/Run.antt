@@ -1,0 +1,7 @@
+-- Many appends, one after another.
+use Rattle.std.specs.Prelude.{ℕ, zero, suc, List, [], ◌∷◌, ◌++◌}
+
+-- the bodies that a file has at first, and the first k of those that are appended
+abbrev pub after : List (List ℕ) → (ℕ → List ℕ) → ℕ → List (List ℕ)
+after first body zero = first
+after first body (suc k) = after first body k ++ body k ∷ []

@@ -1,0 +1,21 @@
+//! A file of bodies behind gates, which a crash at any moment leaves whole.
+//!
+//! A body counts where its gate is open and its end, with the gate behind it, is on the disk. [`GateFile::append`] writes the body
+//! and a new shut gate behind the shut one, syncs, opens the gate by a write of one byte, and syncs again; so a crash leaves the
+//! bodies from before the call, or those and the new one. The layer above leans on that, and on what [`GateFile::open_file`] gives:
+//! exactly the bodies that the file spells.
+#![tactic(auto)]
+
+mod body_list;
+mod create;
+mod fault;
+mod gate;
+mod laws;
+mod open;
+#[cfg(test)]
+mod tests;
+
+pub use body_list::BodyList;
+pub use fault::{DiskFault, GateFault};
+pub use gate::{GateFile, LONGEST_BODY};
+pub use laws::{a_file_stands_for_one_thing, appends_leave_prefixes};
