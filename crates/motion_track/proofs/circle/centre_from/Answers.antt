@@ -1,0 +1,7 @@
+use Rattle.std.proofs.Common.{arith}
+use Rattle.std.proofs.lemmas.Int.{ints}
+use Rattle.motion_track.proofs.Places.{same_place}
+use Rattle.motion_track.proofs.circle.centre_from.Goals as goal
+
+pub returns-clause-place : goal.returns-clause-place
+returns-clause-place c = same_place _ _ (omega (arith, ints)) (omega (arith, ints))

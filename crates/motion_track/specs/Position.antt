@@ -1,0 +1,14 @@
+use Rattle.std.specs.Prelude.{ℕ, ◌≤◌, Bool, ◌&&◌, nat_le, unsigned_abs}
+use Rattle.nc_number.specs.declared.point.Point.{Point}
+
+-- no part of the point is farther from 0 than that
+abbrev pub IsWithin : ℕ → Point → Type 0
+IsWithin far p = (unsigned_abs p.x ≤ far) × (unsigned_abs p.z ≤ far)
+
+-- the point may be a position of the machine: within 99,999.999 mm
+abbrev pub IsPosition : Point → Type 0
+IsPosition p = IsWithin 99999999 p
+
+-- the test of that
+abbrev pub is_position : Point → Bool
+is_position p = nat_le (unsigned_abs p.x) 99999999 && nat_le (unsigned_abs p.z) 99999999

@@ -1,0 +1,121 @@
+ghost use Rattle.std.specs.Prelude.{◌≡◌, ◌≤◌, unsigned_abs};
+ghost use Rattle.motion_track.specs.Position.{is_position, IsWithin};
+ghost use Rattle.motion_track.specs.Target.{IsAxisWithin, part_of, reached, target_of};
+
+use crate::fault::{MotionFault, POSITION_RANGE};
+use nc_number::Point;
+
+/// How far from 0 a position may be, in 0.001 mm.
+const FARTHEST: u64 = 99_999_999;
+
+/// The longest length that a call takes, in 0.001 mm.
+pub const LONGEST: u64 = 100_000_000_000_000;
+
+/// What a block says of an axis, in 0.001 mm.
+#[derive(Clone, Copy, Debug, PartialEq, Eq)]
+pub enum Axis {
+    /// Nothing: the axis stays.
+    Keep,
+    /// An absolute word, in programmed coordinates.
+    To(i64),
+    /// An incremental word.
+    By(i64),
+}
+
+/// Where a block leads from `at`, in machine coordinates: an absolute word counts from the shift, an
+/// incremental one from the present position, and an axis without a word stays. Alarm 41 exactly
+/// where a part is past 99,999.999 mm.
+pub fn target(at: Point, shift: Point, x: Axis, z: Axis) -> Result<Point, MotionFault>
+    requires at { IsWithin LONGEST at }
+    requires shift { IsWithin LONGEST shift }
+    requires x { IsAxisWithin LONGEST x }
+    requires z { IsAxisWithin LONGEST z }
+    ensures { result ≡ target_of at shift x z }
+{
+    let to = reached(&at, &shift, x, z);
+    if is_position(&to) {
+        Ok(to)
+    } else {
+        Err(MotionFault {
+            number: POSITION_RANGE,
+        })
+    }
+}
+
+// Whether no part of the point is farther from 0 than 99,999.999 mm.
+fn is_position(to: &Point) -> bool
+    ensures { result ≡ is_position to.now }
+{
+    to.x.unsigned_abs() <= FARTHEST && to.z.unsigned_abs() <= FARTHEST
+}
+
+// Where the words lead, in range or not.
+fn reached(at: &Point, shift: &Point, x: Axis, z: Axis) -> Point
+    requires at { IsWithin LONGEST at.now }
+    requires shift { IsWithin LONGEST shift.now }
+    requires x { IsAxisWithin LONGEST x }
+    requires z { IsAxisWithin LONGEST z }
+    ensures { result ≡ reached at.now shift.now x z }
+{
+    Point {
+        x: part(at.x, shift.x, x),
+        z: part(at.z, shift.z, z),
+    }
+}
+
+fn part(at: i64, shift: i64, axis: Axis) -> i64
+    requires at { unsigned_abs at ≤ LONGEST }
+    requires shift { unsigned_abs shift ≤ LONGEST }
+    requires axis { IsAxisWithin LONGEST axis }
+    ensures part { result ≡ part_of at shift axis }
+    ensures range { unsigned_abs result ≤ 200000000000000 }
+{
+    match axis {
+        Axis::Keep => at,
+        Axis::To(programmed) => programmed + shift,
+        Axis::By(way) => at + way,
+    }
+}
+
+#[cfg(test)]
+mod tests {
+    use super::*;
+
+    #[test]
+    fn a_word_leads_from_the_shift_or_from_where_the_tool_stands(rt: HostRuntime) {
+        let at = Point {
+            x: 30_000,
+            z: 95_000,
+        };
+        let shift = Point {
+            x: -10_000,
+            z: 105_000,
+        };
+        let to = target(at, shift, Axis::To(46_000), Axis::To(-13_000));
+        assert_eq!(rt;
+            to,
+            Ok(Point {
+                x: 36_000,
+                z: 92_000
+            })
+        );
+        let to = target(at, shift, Axis::Keep, Axis::By(-5_000));
+        assert_eq!(rt;
+            to,
+            Ok(Point {
+                x: 30_000,
+                z: 90_000
+            })
+        );
+        let to = target(at, shift, Axis::To(100_009_999), Axis::Keep);
+        assert_eq!(rt;
+            to,
+            Ok(Point {
+                x: 99_999_999,
+                z: 95_000
+            })
+        );
+        let to = target(at, shift, Axis::To(100_010_000), Axis::Keep);
+        assert_eq!(rt; to, Err(MotionFault { number: 41 }));
+    }
+}

@@ -1,0 +1,249 @@
+ghost use Rattle.std.specs.Prelude.{◌≡◌, ◌≤◌, true, false, ℤ, ◌*◌, unsigned_abs};
+ghost use Rattle.nc_number.specs.declared.point.Point.{Point};
+ghost use Rattle.nc_outside.specs.declared.motion.Centre.TheVariants.{Offset};
+ghost use Rattle.motion_track.specs.Position.{IsWithin};
+ghost use Rattle.motion_track.specs.Tolerance.{EndsOnCircle};
+ghost use Rattle.motion_track.specs.Circle.{IsNear, place_of, centre_from, square_between, is_past_tolerance, IsCentreWithin, IsGivenWithin, misses, arc_of};
+
+use crate::axis::LONGEST;
+use crate::cut::is_feed_zero;
+use crate::fault::{ARC_RADIUS, FEED_ZERO, MotionFault, NO_CENTRE};
+use nc_number::{Point, Value};
+use nc_outside::{Centre, Move};
+
+/// How far an arc's end may lie from its circle, in 0.0005 mm.
+const TOLERANCE: u128 = 20;
+
+/// A place of the plane in 0.0005 mm, in which the number of a diameter is that of its radius.
+#[derive(Drop)]
+struct Place {
+    across: i64,
+    along: i64,
+}
+
+/// An arc from `at`. Alarm 43 exactly where there is neither a centre nor a radius; else 42 exactly
+/// where the end lies farther than 0.010 mm from the circle through the start round the centre, or
+/// farther from the start than twice the radius; else 44 exactly where the feed is 0.
+pub fn arc(
+    at: Point,
+    to: Point,
+    clockwise: bool,
+    centre: Option<Centre>,
+    feed: Value,
+    per_rev: bool,
+) -> Result<Move, MotionFault>
+    requires at { IsWithin LONGEST at }
+    requires to { IsWithin LONGEST to }
+    requires centre { IsGivenWithin LONGEST centre }
+    ensures { result ≡ arc_of at to clockwise centre feed per_rev }
+{
+    let Some(centre) = centre else {
+        return Err(MotionFault { number: NO_CENTRE });
+    };
+    if misses(&at, &to, &centre) {
+        return Err(MotionFault { number: ARC_RADIUS });
+    }
+    if is_feed_zero(&feed) {
+        return Err(MotionFault { number: FEED_ZERO });
+    }
+    Ok(Move::Arc {
+        clockwise,
+        to,
+        centre,
+        feed,
+        per_rev,
+    })
+}
+
+// Whether no arc round this centre, or of this radius, leads from `at` to `to`.
+fn misses(at: &Point, to: &Point, centre: &Centre) -> bool
+    requires at { IsWithin LONGEST at.now }
+    requires to { IsWithin LONGEST to.now }
+    requires centre { IsCentreWithin LONGEST centre.now }
+    ensures { result ≡ misses at.now to.now centre.now }
+{
+    let start = place_of(at);
+    let end = place_of(to);
+    match *centre {
+        Centre::Offset { i, k } => {
+            let middle = centre_from(&start, i, k);
+            let from_start = square_between(&middle, &start);
+            let from_end = square_between(&middle, &end);
+            is_past_tolerance(from_start.max(from_end), from_start.min(from_end))
+        }
+        Centre::Radius { r } => {
+            let diameter = 4 * u128::from(r.unsigned_abs());
+            diameter * diameter < square_between(&start, &end)
+        }
+    }
+}
+
+// Whether places at these squared distances from a centre, the larger first, lie on no circle round
+// it within the tolerance.
+fn is_past_tolerance(far: u128, near: u128) -> bool
+    requires { near ≤ 1280000000000000000000000000000 }
+    ensures { result ≡ is_past_tolerance far near }
+{
+    let Some(excess) = far.checked_sub(near + TOLERANCE * TOLERANCE) else {
+        return false;
+    };
+    match excess.checked_mul(excess) {
+        Some(square) => square > 4 * TOLERANCE * TOLERANCE * near,
+        // A square of more than 128 bits is larger than any that it is compared with.
+        None => true,
+    }
+}
+
+fn place_of(point: &Point) -> Place
+    requires { IsWithin LONGEST point.now }
+    ensures place { result ≡ place_of point.now }
+    ensures near { IsNear 200000000000000 result }
+{
+    Place {
+        across: point.x,
+        along: 2 * point.z,
+    }
+}
+
+fn centre_from(start: &Place, i: i64, k: i64) -> Place
+    requires start { IsNear 200000000000000 start.now }
+    requires i { unsigned_abs i ≤ LONGEST }
+    requires k { unsigned_abs k ≤ LONGEST }
+    ensures place { result ≡ centre_from start.now i k }
+    ensures near { IsNear 400000000000000 result }
+{
+    Place {
+        across: start.across + 2 * i,
+        along: start.along + 2 * k,
+    }
+}
+
+fn square_between(a: &Place, b: &Place) -> u128
+    requires a { IsNear 400000000000000 a.now }
+    requires b { IsNear 400000000000000 b.now }
+    ensures square { result ≡ square_between a.now b.now }
+    ensures bound { result ≤ 1280000000000000000000000000000 }
+{
+    squared(a.across.abs_diff(b.across)) + squared(a.along.abs_diff(b.along))
+}
+
+#[tactic(auto, using(crate::proofs::Places::square_bound))]
+fn squared(distance: u64) -> u128
+    requires { distance ≤ 800000000000000 }
+    ensures square { result ≡ distance * distance }
+    ensures bound { result ≤ 640000000000000000000000000000 }
+{
+    u128::from(distance) * u128::from(distance)
+}
+
+/// What the test of an arc by its centre means, as a law: the arc is taken exactly where its end lies
+/// within the tolerance of the circle through its start round its centre.
+#[tactic(auto, using(crate::proofs::Tolerance::within, crate::proofs::Tolerance::beyond))]
+pub fn arcs_end_on_their_circle()
+    ensures taken { (at to : Point) (i k : ℤ) → misses at to (Offset i k) ≡ false
+        → EndsOnCircle at to i k }
+    ensures refused { (at to : Point) (i k : ℤ) → misses at to (Offset i k) ≡ true
+        → ¬ EndsOnCircle at to i k }
+{}
+
+#[cfg(test)]
+mod tests {
+    use super::*;
+    use std::test::Fail;
+
+    // The alarm of an arc at a feed of 0.1 mm, or 0 where it is taken.
+    fn alarm(at: (i64, i64), to: (i64, i64), centre: Option<Centre>, micro: i64) -> u8
+        requires at { IsWithin LONGEST (record { x = at.0; z = at.1 }) }
+        requires to { IsWithin LONGEST (record { x = to.0; z = to.1 }) }
+        requires centre { IsGivenWithin LONGEST centre }
+    {
+        let Some(feed) = Value::of(micro) else {
+            return 255;
+        };
+        let (at, to) = (Point { x: at.0, z: at.1 }, Point { x: to.0, z: to.1 });
+        match arc(at, to, true, centre, feed, true) {
+            Ok(_) => 0,
+            Err(fault) => fault.number,
+        }
+    }
+
+    #[test]
+    fn an_arc_is_refused_just_past_the_tolerance(rt: HostRuntime) {
+        let start = (20_000, 0);
+        let middle = Some(Centre::Offset { i: -10_000, k: 0 });
+        assert_eq!(rt; alarm(start, (0, -10_010), middle, 100_000), 0);
+        assert_eq!(rt; alarm(start, (0, -10_011), middle, 100_000), 42);
+        assert_eq!(rt; alarm(start, (0, -9_990), middle, 100_000), 0);
+        assert_eq!(rt; alarm(start, (0, -9_989), middle, 100_000), 42);
+        assert_eq!(rt; alarm(start, start, middle, 100_000), 0);
+    }
+
+    #[test]
+    fn an_arc_is_refused_just_past_twice_its_radius(rt: HostRuntime) {
+        let (start, end) = ((0, 0), (0, -20_000));
+        assert_eq!(rt;
+            alarm(start, end, Some(Centre::Radius { r: 10_000 }), 100_000),
+            0
+        );
+        assert_eq!(rt;
+            alarm(start, end, Some(Centre::Radius { r: 9_999 }), 100_000),
+            42
+        );
+        assert_eq!(rt;
+            alarm(start, end, Some(Centre::Radius { r: -10_000 }), 100_000),
+            0
+        );
+    }
+
+    #[test]
+    fn the_centre_is_asked_for_before_the_circle_and_that_before_the_feed(rt: HostRuntime) {
+        let (start, end) = ((0, 0), (0, -20_000));
+        assert_eq!(rt; alarm(start, end, None, 0), 43);
+        assert_eq!(rt; alarm(start, end, Some(Centre::Radius { r: 9_999 }), 0), 42);
+        assert_eq!(rt;
+            alarm(start, end, Some(Centre::Radius { r: 10_000 }), 0),
+            44
+        );
+    }
+
+    #[test]
+    fn the_longest_lengths_do_not_overflow(rt: HostRuntime) {
+        let far = 100_000_000_000_000;
+        let middle = Some(Centre::Offset { i: far, k: -far });
+        assert_eq!(rt; alarm((far, far), (-far, -far), middle, 100_000), 42);
+        let middle = Some(Centre::Offset { i: -far, k: 0 });
+        assert_eq!(rt; alarm((far, far), (-far, 10), middle, 100_000), 0);
+        assert_eq!(rt; alarm((far, far), (-far, 11), middle, 100_000), 42);
+        let middle = Some(Centre::Offset {
+            i: -far / 2,
+            k: -far,
+        });
+        assert_eq!(rt; alarm((far, far), (-far, -far), middle, 100_000), 0);
+    }
+
+    #[test]
+    fn an_arc_keeps_what_it_was_given(rt: HostRuntime) -> Result<(), Fail> {
+        let feed = Value::of(100_000).ok_or("a feed")?;
+        let (at, to) = (
+            Point {
+                x: 30_000,
+                z: 95_000,
+            },
+            Point {
+                x: 36_000,
+                z: 92_000,
+            },
+        );
+        let centre = Centre::Radius { r: 3_000 };
+        let what = arc(at, to, false, Some(centre), feed, true)?;
+        let want = Move::Arc {
+            clockwise: false,
+            to,
+            centre,
+            feed,
+            per_rev: true,
+        };
+        assert_eq!(rt; what, want);
+        Ok(())
+    }
+}
