@@ -1,0 +1,10 @@
+pub mod Going
+pub mod Turns
+pub mod Runs
+pub mod Records
+pub mod Ends
+pub mod Moves
+pub mod Causes
+pub mod Statuses
+pub mod Completeness
+pub mod NeverStuck

@@ -1,0 +1,9 @@
+pub mod Machine
+pub mod History
+pub mod Tape
+pub mod MoveText
+pub mod Report
+pub mod Answer
+pub mod Steps
+pub mod Causes
+pub mod Stuck

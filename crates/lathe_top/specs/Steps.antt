@@ -1,0 +1,45 @@
+-- Why a step on the way to the report fails.
+use Rattle.std.specs.Prelude.{◌≡◌, ℕ, Option, Err, List}
+use Rattle.nc_number.specs.declared.path.Path.{Path}
+use Rattle.nc_outside.specs.Faults.{Rose}
+use Rattle.nc_outside.specs.Files.{Files, HoldsMore, Lacks}
+use Rattle.nc_text.specs.declared.straight_tape.StraightBlock.{StraightBlock}
+use Rattle.nc_text.specs.StraightTape.{straight}
+use Rattle.lathe_top.specs.declared.refusal.Refusal.{Refusal}
+use Rattle.lathe_top.specs.declared.refusal.Refusal.TheVariants.{Usage, ShelfFault, NoFile, TooLong, NotBuilt, WaitMismatch, NoMemory}
+use Rattle.lathe_top.specs.Tape.{IsFirstDifference, labels_of}
+use Rattle.lathe_top.specs.Answer.{TapeNames, IsReportOf, WithBoth, longest_tape}
+
+-- the report of the two files of these names
+abbrev pub NamesReport : Option Files → TapeNames → List ℕ → Type 0
+NamesReport told names text = WithBoth told names (λ left right. IsReportOf left right text)
+
+-- why a path's file is not had
+abbrev pub FetchCause : Option Files → ℕ → ℕ → List ℕ → Path → Refusal → Type 0
+FetchCause told before now name path ShelfFault = Rose before now
+FetchCause told before now name path (NoFile whose) = (whose ≡ path) × Lacks told name
+FetchCause told before now name path (TooLong whose) = (whose ≡ path) × HoldsMore told name longest_tape
+FetchCause told before now name path NoMemory = Unit {0}
+FetchCause told before now name path Usage = ⊥
+FetchCause told before now name path (NotBuilt whose line) = ⊥
+FetchCause told before now name path (WaitMismatch difference) = ⊥
+
+-- why a path's text is not read
+abbrev pub ReadCause : List ℕ → Path → Refusal → Type 0
+ReadCause text path (NotBuilt whose line) = (whose ≡ path) × (straight text ≡ Err line)
+ReadCause text path NoMemory = Unit {0}
+ReadCause text path Usage = ⊥
+ReadCause text path ShelfFault = ⊥
+ReadCause text path (NoFile whose) = ⊥
+ReadCause text path (TooLong whose) = ⊥
+ReadCause text path (WaitMismatch difference) = ⊥
+
+-- why two tapes are not agreed
+abbrev pub AgreementCause : List StraightBlock → List StraightBlock → Refusal → Type 0
+AgreementCause left right (WaitMismatch difference) = IsFirstDifference (labels_of left) (labels_of right) difference
+AgreementCause left right NoMemory = Unit {0}
+AgreementCause left right Usage = ⊥
+AgreementCause left right ShelfFault = ⊥
+AgreementCause left right (NoFile whose) = ⊥
+AgreementCause left right (TooLong whose) = ⊥
+AgreementCause left right (NotBuilt whose line) = ⊥
