@@ -9,7 +9,8 @@ use Rattle.cell_settings.specs.declared.preset.PresetKind.TheVariants.{Work, Geo
 use Rattle.cell_settings.specs.declared.entry.Entry.{Entry}
 use Rattle.cell_settings.specs.declared.entry.Entry.TheVariants as says
 use Rattle.cell_settings.specs.Field.{◌>>=◌, number_in, fields_of}
-use Rattle.cell_settings.specs.Length.{point_of, IsInTravel}
+use Rattle.cell_settings.specs.Length.{point_of}
+use Rattle.nc_number.specs.Position.{IsPosition}
 use Rattle.cell_settings.specs.Preset.{IsPreset}
 
 -- 1 or 2
@@ -142,7 +143,7 @@ IsAllowed (says.Shared100 n) = n ≤ 100
 IsAllowed (says.Shared500 n) = n ≤ 500
 IsAllowed (says.Paths bits) = Unit {0}
 IsAllowed (says.Skip path switch) = (1 ≤ switch) × (switch ≤ 9)
-IsAllowed (says.Place path to) = IsInTravel to
-IsAllowed (says.Home path to) = IsInTravel to
+IsAllowed (says.Place path to) = IsPosition to
+IsAllowed (says.Home path to) = IsPosition to
 IsAllowed (says.Offset preset) = IsPreset preset
 IsAllowed (says.Records n) = (1 ≤ n) × (n ≤ 4000000)

@@ -4,15 +4,8 @@ use Rattle.nc_number.specs.declared.point.Point.{Point}
 use Rattle.nc_number.specs.declared.literal.Literal.{Literal}
 use Rattle.nc_number.specs.declared.fault.NumberFault.{NumberFault}
 use Rattle.nc_number.specs.Literals.{is_literal, word_literal}
+use Rattle.nc_number.specs.Position.{travel}
 use Rattle.cell_settings.specs.Field.{◌>>=◌}
-
--- 99,999.999 mm
-abbrev pub travel : ℕ
-travel = 99999999
-
-pub record IsInTravel (to : Point) : Type 0 where
-  pub x : unsigned_abs to.x ≤ travel
-  pub z : unsigned_abs to.z ≤ travel
 
 -- a size on the side of 0 where z is
 abbrev pub on_side_of : ℤ → ℕ → ℤ

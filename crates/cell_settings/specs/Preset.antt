@@ -5,7 +5,7 @@ use Rattle.nc_number.specs.declared.path.Path.TheVariants.{One, Two}
 use Rattle.cell_settings.specs.declared.preset.Preset.{Preset}
 use Rattle.cell_settings.specs.declared.preset.PresetKind.{PresetKind}
 use Rattle.cell_settings.specs.declared.preset.PresetKind.TheVariants.{Work, Geometry, Wear}
-use Rattle.cell_settings.specs.Length.{IsInTravel}
+use Rattle.nc_number.specs.Position.{IsPosition}
 
 abbrev pub is_path : Path → Path → Bool
 is_path One One = true
@@ -45,4 +45,4 @@ greatest_number Wear = 64
 pub record IsPreset (preset : Preset) : Type 0 where
   pub least : least_number preset.kind ≤ preset.number
   pub greatest : preset.number ≤ greatest_number preset.kind
-  pub travel : IsInTravel preset.to
+  pub travel : IsPosition preset.to

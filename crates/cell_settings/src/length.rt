@@ -1,11 +1,9 @@
 ghost use Rattle.std.specs.Prelude.{◌≡◌, ◌≤◌, IfSome, unsigned_abs};
 ghost use Rattle.nc_number.specs.Range.{InRange};
-ghost use Rattle.cell_settings.specs.Length.{on_side_of, length_in, within_travel, length_of, axis_of, point_of, travel, IsInTravel};
+ghost use Rattle.cell_settings.specs.Length.{on_side_of, length_in, within_travel, length_of, axis_of, point_of};
+ghost use Rattle.nc_number.specs.Position.{travel, IsPosition};
 
-use nc_number::{Literal, Point, is_literal, parse_word};
-
-/// 99,999.999 mm.
-const TRAVEL: u64 = 99_999_999;
+use nc_number::{Literal, Point, TRAVEL, is_literal, parse_word};
 
 /// A size on the side of 0 where `count` is.
 fn on_side_of(count: i64, size: u64) -> i64
@@ -80,7 +78,7 @@ fn axis(letter: u8, field: &[u8]) -> Option<i64>
 #[tactic(auto, unfolding(crate::specs::Length::point_of))]
 pub(crate) fn read_point(across: &[u8], along: &[u8]) -> Option<Point>
     ensures value { result ≡ point_of across.now along.now }
-    ensures travel { IfSome result IsInTravel }
+    ensures travel { IfSome result IsPosition }
 {
     let x = axis(b'X', across)?;
     let z = axis(b'Z', along)?;

@@ -1,6 +1,6 @@
 ghost use Rattle.std.specs.Prelude.{◌≡◌, ◌^◌, ◌<◌, ◌≤◌, bit_or, All, OnOk};
 ghost use Rattle.cell_settings.specs.Settings.{IsWaitRange, IsSwitches};
-ghost use Rattle.cell_settings.specs.Length.{IsInTravel};
+ghost use Rattle.nc_number.specs.Position.{IsPosition};
 ghost use Rattle.cell_settings.specs.Preset.{IsPreset};
 ghost use Rattle.cell_settings.specs.Cell.{index_of};
 
@@ -36,8 +36,8 @@ pub struct Settings {
     ghost shared100_range: { shared100 ≤ 100 },
     ghost shared500_range: { shared500 ≤ 500 },
     ghost switches: { All IsSwitches skips },
-    ghost places: { All IsInTravel place },
-    ghost homes: { All IsInTravel home },
+    ghost places: { All IsPosition place },
+    ghost homes: { All IsPosition home },
     ghost fewest_records: { 1 ≤ records },
     ghost most_records: { records ≤ 4000000 },
     ghost offsets: { All IsPreset presets },

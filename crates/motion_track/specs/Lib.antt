@@ -1,4 +1,3 @@
-pub mod Position
 pub mod Faults
 pub mod Target
 pub mod Home

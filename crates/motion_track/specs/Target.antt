@@ -1,6 +1,6 @@
 use Rattle.std.specs.Prelude.{ℕ, ◌≤◌, if◌then◌else◌, ℤ, ◌+ℤ◌, unsigned_abs, Result, Ok, Err}
 use Rattle.nc_number.specs.declared.point.Point.{Point}
-use Rattle.motion_track.specs.Position.{is_position}
+use Rattle.nc_number.specs.Position.{is_position}
 use Rattle.motion_track.specs.declared.axis.Axis.{Axis}
 use Rattle.motion_track.specs.declared.axis.Axis.TheVariants.{Keep, To, By}
 use Rattle.motion_track.specs.declared.fault.MotionFault.{MotionFault}

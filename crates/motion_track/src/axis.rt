@@ -1,12 +1,9 @@
 ghost use Rattle.std.specs.Prelude.{◌≡◌, ◌≤◌, unsigned_abs};
-ghost use Rattle.motion_track.specs.Position.{is_position, IsWithin};
+ghost use Rattle.nc_number.specs.Position.{IsWithin};
 ghost use Rattle.motion_track.specs.Target.{IsAxisWithin, part_of, reached, target_of};
 
 use crate::fault::{MotionFault, POSITION_RANGE};
 use nc_number::Point;
-
-/// How far from 0 a position may be, in 0.001 mm.
-const FARTHEST: u64 = 99_999_999;
 
 /// The longest length that a call takes, in 0.001 mm.
 pub const LONGEST: u64 = 100_000_000_000_000;
@@ -33,20 +30,13 @@ pub fn target(at: Point, shift: Point, x: Axis, z: Axis) -> Result<Point, Motion
     ensures { result ≡ target_of at shift x z }
 {
     let to = reached(&at, &shift, x, z);
-    if is_position(&to) {
+    if to.is_position() {
         Ok(to)
     } else {
         Err(MotionFault {
             number: POSITION_RANGE,
         })
     }
-}
-
-// Whether no part of the point is farther from 0 than 99,999.999 mm.
-fn is_position(to: &Point) -> bool
-    ensures { result ≡ is_position to.now }
-{
-    to.x.unsigned_abs() <= FARTHEST && to.z.unsigned_abs() <= FARTHEST
 }
 
 // Where the words lead, in range or not.

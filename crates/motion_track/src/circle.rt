@@ -1,7 +1,7 @@
 ghost use Rattle.std.specs.Prelude.{◌≡◌, ◌≤◌, true, false, ℤ, ◌*◌, unsigned_abs};
 ghost use Rattle.nc_number.specs.declared.point.Point.{Point};
 ghost use Rattle.nc_outside.specs.declared.motion.Centre.TheVariants.{Offset};
-ghost use Rattle.motion_track.specs.Position.{IsWithin};
+ghost use Rattle.nc_number.specs.Position.{IsWithin};
 ghost use Rattle.motion_track.specs.Tolerance.{EndsOnCircle};
 ghost use Rattle.motion_track.specs.Circle.{IsNear, place_of, centre_from, square_between, is_past_tolerance, IsCentreWithin, IsGivenWithin, misses, arc_of};
 

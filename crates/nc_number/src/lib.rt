@@ -28,7 +28,7 @@ pub use laws::{
 };
 pub use literal::{Literal, is_literal, parse_word};
 pub use path::Path;
-pub use point::Point;
+pub use point::{Point, TRAVEL};
 pub use printing::{length_text, text};
 pub use rounding::{fix, fup, round, to_increment};
 pub use value::{Value, Var};

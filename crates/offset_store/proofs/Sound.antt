@@ -2,7 +2,7 @@ use Rattle.std.proofs.Common.{◌≡◌, ℕ, zero, suc, ◌≤◌, Bool, true, 
 use Rattle.std.proofs.lemmas.Grind.{common_steps}
 use Rattle.std.proofs.lemmas.Bool.Decides.{nat_tests}
 use Rattle.nc_number.specs.declared.point.Point.{Point}
-use Rattle.offset_store.specs.Position.{IsPosition}
+use Rattle.nc_number.specs.Position.{IsPosition}
 use Rattle.offset_store.specs.Table.{OffsetTable, IsSound, ArePositions, offset_at, origin}
 use Rattle.offset_store.specs.Offsets.{position_fault, no_offsets}
 

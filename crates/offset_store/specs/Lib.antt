@@ -1,3 +1,2 @@
-pub mod Position
 pub mod Table
 pub mod Offsets

@@ -1,7 +1,7 @@
 use Rattle.std.specs.Prelude.{ℕ, ◌-◌, Bool, not, ◌&&◌, ◌||◌, ◌==◌, nat_le, if◌then◌else◌, replicate, slice_set, Option, Some, None, ℤ, ◌+ℤ◌, unsigned_abs}
 use Rattle.std.specs.Int.{is_negative}
 use Rattle.nc_number.specs.declared.point.Point.{Point}
-use Rattle.offset_store.specs.Position.{is_position}
+use Rattle.nc_number.specs.Position.{is_position}
 use Rattle.offset_store.specs.declared.fault.OffsetFault.{OffsetFault}
 use Rattle.offset_store.specs.declared.fault.TheConstants.{OFFSET_NUMBER, POSITION_RANGE}
 pub use Rattle.offset_store.specs.Table.{OffsetTable, origin, offset_at}

@@ -1,6 +1,6 @@
 use Rattle.std.specs.Prelude.{◌≡◌, ℕ, List, pos, length, slice_index_or}
 use Rattle.nc_number.specs.declared.point.Point.{Point}
-use Rattle.offset_store.specs.Position.{IsPosition}
+use Rattle.nc_number.specs.Position.{IsPosition}
 
 -- the point at 0, which an offset is that was never set
 abbrev pub origin : Point

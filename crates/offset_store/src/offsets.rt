@@ -1,16 +1,13 @@
 ghost use Rattle.std.specs.Prelude.{◌≡◌, ◌≤◌, ◌↔◌, ◌+ℤ◌, unsigned_abs, IsTrue, OnOk, OnErr};
 ghost use Rattle.std.specs.Result.{result_err};
-ghost use Rattle.offset_store.specs.Position.{is_position, IsPosition, IsWithin};
+ghost use Rattle.nc_number.specs.Position.{is_position, IsPosition, IsWithin};
 ghost use Rattle.offset_store.specs.Offsets.{no_offsets, origin, offset_at, work_in_force, position_fault, shift_of, work_fault, tool_fault, with_work, with_tool};
 
 use crate::fault::{OFFSET_NUMBER, OffsetFault, POSITION_RANGE};
-use nc_number::Point;
+use nc_number::{Point, TRAVEL};
 use std::marker::Model;
 
 const ORIGIN: Point = Point { x: 0, z: 0 };
-
-/// How far from 0 an offset may be, in 0.001 mm.
-const FARTHEST: u64 = 99_999_999;
 
 /// What is added to the number of a geometry offset where a tape sets it.
 const GEOMETRY: i64 = 10_000;
@@ -146,7 +143,7 @@ impl Offsets {
 fn check_position(to: &Point) -> Result<(), OffsetFault>
     ensures { result_err result ≡ position_fault to.now }
 {
-    if is_position(to) {
+    if to.is_position() {
         Ok(())
     } else {
         Err(OffsetFault {
@@ -155,19 +152,11 @@ fn check_position(to: &Point) -> Result<(), OffsetFault>
     }
 }
 
-// Whether no part of the point is farther from 0 than 99,999.999 mm.
-fn is_position(to: &Point) -> bool
-    ensures test { result ≡ is_position to.now }
-    ensures within { IsTrue result ↔ IsPosition to.now }
-{
-    to.x.unsigned_abs() <= FARTHEST && to.z.unsigned_abs() <= FARTHEST
-}
-
 fn sum_of(external: i64, workpiece: i64, geometry: i64, wear: i64) -> i64
-    requires external { unsigned_abs external ≤ 99999999 }
-    requires workpiece { unsigned_abs workpiece ≤ 99999999 }
-    requires geometry { unsigned_abs geometry ≤ 99999999 }
-    requires wear { unsigned_abs wear ≤ 99999999 }
+    requires external { unsigned_abs external ≤ TRAVEL }
+    requires workpiece { unsigned_abs workpiece ≤ TRAVEL }
+    requires geometry { unsigned_abs geometry ≤ TRAVEL }
+    requires wear { unsigned_abs wear ≤ TRAVEL }
     ensures sum { result ≡ external +ℤ workpiece +ℤ (geometry +ℤ wear) }
     ensures range { unsigned_abs result ≤ 399999996 }
 {

@@ -1,14 +1,18 @@
 use Rattle.std.specs.Prelude.{ℕ, ◌≤◌, Bool, ◌&&◌, nat_le, unsigned_abs}
 use Rattle.nc_number.specs.declared.point.Point.{Point}
 
+-- how far from 0 a position or an offset may be: 99,999.999 mm
+abbrev pub travel : ℕ
+travel = 99999999
+
 -- no part of the point is farther from 0 than that
 abbrev pub IsWithin : ℕ → Point → Type 0
 IsWithin far p = (unsigned_abs p.x ≤ far) × (unsigned_abs p.z ≤ far)
 
--- the point may be an offset: within 99,999.999 mm
+-- the point may be a position of the machine, or an offset
 abbrev pub IsPosition : Point → Type 0
-IsPosition p = IsWithin 99999999 p
+IsPosition p = IsWithin travel p
 
 -- the test of that
 abbrev pub is_position : Point → Bool
-is_position p = nat_le (unsigned_abs p.x) 99999999 && nat_le (unsigned_abs p.z) 99999999
+is_position p = nat_le (unsigned_abs p.x) travel && nat_le (unsigned_abs p.z) travel
