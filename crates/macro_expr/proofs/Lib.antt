@@ -8,3 +8,4 @@ pub mod Sound
 pub mod Trees
 pub mod StatementsComplete
 pub mod StatementsSound
+pub mod Shallow

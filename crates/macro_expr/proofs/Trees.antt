@@ -1,13 +1,15 @@
 -- What is answered, and the trees of the grammar.
-use Rattle.std.proofs.Common.{◌≡◌, ℕ, Bool, true, false, List, Option, None, Some, Result, Ok, Err, IfOk, ◌∙◌, ap, subst}
+use Rattle.std.proofs.Common.{◌≡◌, ◌≤◌, ℕ, Bool, true, false, List, Option, None, Some, Result, Ok, Err, IfOk, ◌∙◌, ap, subst}
+use Rattle.std.specs.List.{All}
 use Rattle.nc_number.specs.declared.fault.Failing.{Failing}
 use Rattle.macro_expr.specs.declared.tree.ExprFault.{ExprFault}
-use Rattle.macro_expr.specs.Tree.{Tree, Sentence}
+use Rattle.macro_expr.specs.Tree.{Tree, Sentence, right_depth, trees_of}
 use Rattle.macro_expr.specs.Reading.{Gives}
 use Rattle.macro_expr.specs.Statements.{expression_at, statement_at, whole}
 use Rattle.macro_expr.specs.Limits.{limit_of, has_many_variables, answered, answer}
 use Rattle.macro_expr.specs.Grammar.{IsExpression, IsStatement}
 use Rattle.macro_expr.specs.Answers.{IsWithinLimits}
+use Rattle.macro_expr.proofs.Shallow.{expression_within, statement_within}
 use Rattle.macro_expr.proofs.StatementsComplete.{whole_expression_read, whole_statement_read}
 use Rattle.macro_expr.proofs.StatementsSound.{whole-expression-sound, whole-statement-sound}
 
@@ -37,6 +39,16 @@ pub statement_found : {X : Type 0} (view : X → Sentence) (text : List ℕ) (r 
 statement_found view text (Ok x) gives =
     whole-statement-sound text (view x) (answered-ok (limit_of text) (has_many_variables text) (whole (statement_at text)) (view x) gives)
 statement_found view text (Err e) gives = tt
+
+pub expression_shallow : {X : Type 0} (view : X → Tree) (text : List ℕ) (r : Result X (Failing ExprFault))
+    → Gives view r (answer text (whole (expression_at text))) → IfOk r (λ x. right_depth (view x) ≤ 12)
+expression_shallow view text (Ok x) gives = expression_within text (view x) (expression_found view text (Ok x) gives)
+expression_shallow view text (Err e) gives = tt
+
+pub statement_shallow : {X : Type 0} (view : X → Sentence) (text : List ℕ) (r : Result X (Failing ExprFault))
+    → Gives view r (answer text (whole (statement_at text))) → IfOk r (λ x. All (λ e. right_depth e ≤ 12) (trees_of (view x)))
+statement_shallow view text (Ok x) gives = statement_within text (view x) (statement_found view text (Ok x) gives)
+statement_shallow view text (Err e) gives = tt
 
 pub expression_only : {X : Type 0} (view : X → Tree) (text : List ℕ) (r : Result X (Failing ExprFault))
     → Gives view r (answer text (whole (expression_at text)))

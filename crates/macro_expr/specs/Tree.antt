@@ -1,5 +1,5 @@
 -- Trees of expressions and statements, without where they lie in memory.
-use Rattle.std.specs.Prelude.{ℕ, ℤ, Bool}
+use Rattle.std.specs.Prelude.{ℕ, suc, max, ℤ, Bool, List, [], ◌∷◌, ◌++◌}
 use Rattle.macro_expr.specs.declared.tree.Fun.{Fun}
 use Rattle.macro_expr.specs.declared.tree.Op.{Op}
 use Rattle.macro_expr.specs.declared.tree.Rel.{Rel}
@@ -22,6 +22,15 @@ pub data Tree : Type 0 where
   Signed : Bool → Tree → Tree
   Applied : Fun → Tree → Tree
   Joined : Op → Tree → Tree → Tree
+
+-- how many right operands stand inside one another at most
+abbrev pub right_depth : Tree → ℕ
+right_depth (Number z) = 0
+right_depth (Variable n) = 0
+right_depth (VariableOf e) = right_depth e
+right_depth (Signed minus e) = right_depth e
+right_depth (Applied f e) = right_depth e
+right_depth (Joined op a b) = max (right_depth a) (suc (right_depth b))
 
 abbrev mutual
   pub tree_of : Expr → Tree
@@ -71,3 +80,20 @@ sentence_of (statement.IfThen c v e) = IfThen (test_of c) (variable_of v) (tree_
 sentence_of (statement.WhileDo c m) = WhileDo (test_of c) m
 sentence_of (statement.DoOnly m) = DoOnly m
 sentence_of (statement.EndLoop m) = EndLoop m
+
+-- the expressions and variables of a statement
+abbrev pub trees_of_test : Test → List Tree
+trees_of_test test = test.left ∷ test.right ∷ []
+
+abbrev pub trees_of_aim : Aim → List Tree
+trees_of_aim (ToNumber n) = []
+trees_of_aim (ToNumberOf e) = e ∷ []
+
+abbrev pub trees_of : Sentence → List Tree
+trees_of (Assign v e) = v ∷ e ∷ []
+trees_of (Goto aim) = trees_of_aim aim
+trees_of (IfGoto test aim) = trees_of_test test ++ trees_of_aim aim
+trees_of (IfThen test v e) = trees_of_test test ++ v ∷ e ∷ []
+trees_of (WhileDo test m) = trees_of_test test
+trees_of (DoOnly m) = []
+trees_of (EndLoop m) = []

@@ -2,7 +2,8 @@
 //!
 //! [`parse_expr`] and [`parse_statement`] read a text and give its tree. The grammar stands in the
 //! specs as a relation between texts and trees; a tree is given exactly where there is one, and
-//! else the number of the refusal.
+//! else the number of the refusal. Left operands stand in a tree as deep as its text is long, and
+//! are walked in a loop; right operands stand at most twelve deep.
 
 #![tactic(auto)]
 

@@ -1,5 +1,6 @@
-ghost use Rattle.std.specs.Prelude.{◌≡◌, ℕ, List, false, IfOk, Ok};
-ghost use Rattle.macro_expr.specs.Tree.{Tree, Sentence, tree_of, sentence_of};
+ghost use Rattle.std.specs.Prelude.{◌≡◌, ◌≤◌, ℕ, List, false, IfOk, Ok};
+ghost use Rattle.std.specs.List.{All};
+ghost use Rattle.macro_expr.specs.Tree.{Tree, Sentence, tree_of, sentence_of, right_depth, trees_of};
 ghost use Rattle.macro_expr.specs.Grammar.{IsExpression, IsStatement};
 ghost use Rattle.macro_expr.specs.Reading.{Gives};
 ghost use Rattle.macro_expr.specs.Statements.{expression_at, statement_at, whole};
@@ -108,6 +109,10 @@ pub fn parse_expr(alloc: Global, text: &[u8]) -> Result<Expr, Failing<ExprFault>
 
     // Which refusal it is.
     ensures exact { Gives (λ tree. tree_of tree) result (expression_of text.now) }
+
+    // Right operands stand in one another twelve deep at most: two in the whole, and two in each of
+    // five brackets.
+    ensures shallow { IfOk result (λ tree. right_depth (tree_of tree) ≤ 12) }
 {
     answer_expression(alloc, text)
 }
@@ -125,6 +130,9 @@ pub fn parse_statement(alloc: Global, text: &[u8]) -> Result<Statement, Failing<
 
     // Which refusal it is.
     ensures exact { Gives (λ tree. sentence_of tree) result (statement_of text.now) }
+
+    // So they do in each expression and variable of it.
+    ensures shallow { IfOk result (λ tree. All (λ e. right_depth e ≤ 12) (trees_of (sentence_of tree))) }
 {
     answer_statement(alloc, text)
 }

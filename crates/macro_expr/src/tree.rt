@@ -2,7 +2,10 @@ use nc_number::Value;
 use thiserror::Error;
 
 /// An expression. Brackets leave no node.
-#[derive(Debug, Drop)]
+///
+/// The operators of a text lean to the left, and a text may have any number of them: what walks a
+/// tree goes down the left operands in a loop, and calls itself on right operands alone. A debug
+/// text would call itself on both, so there is none.
 #[cycle(tree)]
 pub enum Expr {
     /// A number that is written out.
@@ -17,8 +20,25 @@ pub enum Expr {
     Two(Op, Box<Expr>, Box<Expr>),
 }
 
+/// A loop down the left operands, so that a long sum does not run out of stack.
+impl Drop for Expr {
+    fn drop(mut self) {
+        loop {
+            match self {
+                Expr::Lit(_) | Expr::Look(VarRef::Fixed(_)) => return,
+                Expr::Look(VarRef::Computed(inner)) | Expr::Sign(_, inner) | Expr::Call(_, inner) =>
+                    self = Box::into_inner(inner),
+                Expr::Two(_, left, right) => {
+                    drop(right);
+                    self = Box::into_inner(left);
+                }
+            }
+        }
+    }
+}
+
 /// Which variable is meant.
-#[derive(Debug, Drop)]
+#[derive(Drop)]
 #[cycle(tree)]
 pub enum VarRef {
     /// The one of this number.
@@ -62,7 +82,7 @@ pub enum Rel {
 }
 
 /// A condition.
-#[derive(Debug, Drop)]
+#[derive(Drop)]
 pub struct Cond {
     pub left: Expr,
     pub rel: Rel,
@@ -70,7 +90,7 @@ pub struct Cond {
 }
 
 /// Where a jump leads.
-#[derive(Debug, Drop)]
+#[derive(Drop)]
 pub enum Target {
     /// To this sequence number.
     Fixed(u32),
@@ -79,7 +99,7 @@ pub enum Target {
 }
 
 /// A statement: what stands in a block in place of words.
-#[derive(Debug, Drop)]
+#[derive(Drop)]
 pub enum Statement {
     Assign(VarRef, Expr),
     Goto(Target),

@@ -1,0 +1,7 @@
+-- what is left to drop is no larger than the whole
+use Rattle.std.proofs.Common.{◌≤◌}
+use Rattle.macro_expr.proofs.tree.Expr.TheLaws.{the_size}
+use Rattle.macro_expr.proofs.tree.Expr.+drop.Given as goal
+
+abbrev pub invariant-loop-self : goal.invariant-loop-self
+invariant-loop-self l = the_size l.self ≤ the_size l.initial.self
