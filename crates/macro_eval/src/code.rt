@@ -1,6 +1,6 @@
-ghost use Rattle.std.specs.Prelude.{◌≡◌, [], ◌∷◌, ◌++◌, true, IfOk, OnOk};
-ghost use Rattle.macro_expr.specs.Tree.{tree_of, variable_of};
-ghost use Rattle.macro_eval.specs.Postfix.{postfix, takes, fits};
+ghost use Rattle.std.specs.Prelude.{◌≡◌, ◌<◌, nat_le, [], ◌∷◌, ◌++◌, reverse, true, IfOk, OnOk};
+ghost use Rattle.macro_expr.specs.Tree.{Tree, tree_of, right_depth};
+ghost use Rattle.macro_eval.specs.Postfix.{postfix, fits};
 
 use macro_expr::{Expr, Fun, Op, VarRef};
 use nc_number::{NoMemory, Value};
@@ -58,52 +58,77 @@ impl Code {
 
 /// The postfix code of an expression.
 ///
-/// An expression that needs more than 16 operands at once is refused as if memory ran out; none
-/// that the tape can write does.
+/// An expression whose right operands stand 16 deep or deeper inside one another is refused as if
+/// memory ran out; none that the tape can write is.
 pub fn compile(alloc: Global, tree: &Expr) -> Result<Code, NoMemory>
     ensures { IfOk result (λ code. code ≡ postfix (tree_of tree.now)) }
 {
-    let mut instrs = Vec::new(alloc);
-    emit(&mut instrs, tree)?;
-    if !fits(&instrs) {
+    a_shallow_tree_fits();
+    if !is_shallow(tree, OPERANDS - 1) {
         return Err(NoMemory);
     }
+    let mut instrs = Vec::new(alloc);
+    emit_backwards(&mut instrs, tree)?;
+    instrs.reverse();
     Ok(Code { instrs })
 }
 
-/// Puts the code of the tree behind the instructions.
-#[cycle(emit)]
-fn emit(instrs: &mut Vec<Instr>, tree: &Expr) -> Result<(), NoMemory>
-    ensures { OnOk result (instrs.new.items ≡ instrs.old.items ++ postfix (tree_of tree.now)) }
+/// An expression needs at most one operand at once more than its right operands are deep.
+pub fn a_shallow_tree_fits()
+    ensures { (tree : Tree) → right_depth tree < OPERANDS → fits OPERANDS (postfix tree) 0 ≡ true }
+{}
+
+/// Whether at most `room` right operands of the tree stand inside one another.
+///
+/// It calls itself on right operands alone, `room` deep at most.
+fn is_shallow(tree: &Expr, room: usize) -> bool
+    ensures { result ≡ nat_le (right_depth (tree_of tree.now)) room }
 {
-    match tree {
-        Expr::Lit(value) => put(instrs, Instr::Number(*value)),
-        Expr::Look(variable) => emit_variable(instrs, variable),
-        Expr::Sign(minus, e) => {
-            emit(instrs, e)?;
-            put(instrs, Instr::Sign(*minus))
-        }
-        Expr::Call(function, e) => {
-            emit(instrs, e)?;
-            put(instrs, Instr::Call(*function))
-        }
-        Expr::Two(op, left, right) => {
-            emit(instrs, left)?;
-            emit(instrs, right)?;
-            put(instrs, Instr::Join(*op))
+    let mut part = tree;
+    loop {
+        match part {
+            Expr::Lit(_) | Expr::Look(VarRef::Fixed(_)) => return true,
+            Expr::Look(VarRef::Computed(inner)) | Expr::Sign(_, inner) | Expr::Call(_, inner) =>
+                part = inner,
+            Expr::Two(_, left, right) => {
+                if room == 0 || !is_shallow(right, room - 1) {
+                    return false;
+                }
+                part = left;
+            }
         }
     }
 }
 
-#[cycle(emit)]
-fn emit_variable(instrs: &mut Vec<Instr>, variable: &VarRef) -> Result<(), NoMemory>
-    ensures { OnOk result (instrs.new.items ≡ instrs.old.items ++ postfix (variable_of variable.now)) }
+/// Puts the code of the tree behind the instructions, the last instruction first.
+///
+/// It calls itself on right operands alone, as deep as they stand inside one another.
+fn emit_backwards(instrs: &mut Vec<Instr>, tree: &Expr) -> Result<(), NoMemory>
+    requires { right_depth (tree_of tree.now) < OPERANDS }
+    ensures { OnOk result (instrs.new.items ≡ instrs.old.items ++ reverse (postfix (tree_of tree.now))) }
 {
-    match variable {
-        VarRef::Fixed(n) => put(instrs, Instr::Variable(*n)),
-        VarRef::Computed(e) => {
-            emit(instrs, e)?;
-            put(instrs, Instr::LookUp)
+    let mut part = tree;
+    loop {
+        match part {
+            Expr::Lit(value) => return put(instrs, Instr::Number(*value)),
+            Expr::Look(VarRef::Fixed(n)) => return put(instrs, Instr::Variable(*n)),
+            Expr::Look(VarRef::Computed(inner)) => {
+                put(instrs, Instr::LookUp)?;
+                part = inner;
+            }
+            Expr::Sign(minus, inner) => {
+                put(instrs, Instr::Sign(*minus))?;
+                part = inner;
+            }
+            Expr::Call(function, inner) => {
+                put(instrs, Instr::Call(*function))?;
+                part = inner;
+            }
+            Expr::Two(op, left, right) => {
+                put(instrs, Instr::Join(*op))?;
+                emit_backwards(instrs, right)?;
+                part = left;
+            }
         }
     }
 }
@@ -113,30 +138,4 @@ fn put(instrs: &mut Vec<Instr>, instr: Instr) -> Result<(), NoMemory>
 {
     instrs.push(instr)?;
     Ok(())
-}
-
-/// How many operands the instruction takes.
-fn taken(instr: &Instr) -> usize
-    ensures { result ≡ takes instr.now }
-{
-    match instr {
-        Instr::Number(_) | Instr::Variable(_) => 0,
-        Instr::LookUp | Instr::Sign(_) | Instr::Call(_) => 1,
-        Instr::Join(_) => 2,
-    }
-}
-
-/// Whether each instruction finds its operands, the stack can hold them, and one is left.
-fn fits(instrs: &[Instr]) -> bool
-    ensures { result ≡ fits OPERANDS instrs.now 0 }
-{
-    let mut height = 0;
-    for instr in instrs {
-        let taken = taken(instr);
-        if taken > height || height - taken + 1 > OPERANDS {
-            return false;
-        }
-        height = height - taken + 1;
-    }
-    height == 1
 }

@@ -6,7 +6,7 @@ use crate::compare::{holds, micro};
 use crate::scope::{Eval, Look, Scope, VarFault};
 use macro_expr::{Rel, parse_expr};
 use nc_number::{Value, Var};
-use std::alloc::Global;
+use std::alloc::{AllocError, Global};
 use std::test::Fail;
 
 /// `#0` and `#1` are vacant, `#2` is 2.5, `#3` is 3, `#500` is shared, and there is no other.
@@ -144,4 +144,50 @@ fn a_vacant_variable_is_not_zero(rt: HostRuntime) {
     assert!(rt; !holds(Rel::Gt, Var::Vacant, number(0)));
     assert!(rt; holds(Rel::Lt, number(-1), Var::Vacant));
     assert!(rt; holds(Rel::Le, number(1), number(1)));
+}
+
+/// The text, and the two operators behind it so many times.
+fn chained(alloc: Global, first: &str, operators: &str, times: u32) -> Result<String, AllocError> {
+    let mut text = String::new(alloc);
+    text.push_str(first)?;
+    for _ in 0..times {
+        text.push_str(operators)?;
+    }
+    Ok(text)
+}
+
+/// A million operators of each rank, and what they come to.
+static LONG: [(&str, &str, i64); 4] = [
+    ("1", "+1-1", 1_000_000),
+    ("-1", "-1-1", -1_000_001_000_000),
+    ("1", "*2/2", 1_000_000),
+    ("7", " AND 7 MOD 8", 7_000_000),
+];
+
+#[test]
+fn a_million_operators_take_no_stack(rt: HostRuntime) -> Result<(), Fail> {
+    for (first, operators, value) in &LONG {
+        let mut text = chained(rt.alloc(), first, operators, 500_000)?;
+        assert_eq!(rt; answer(rt.alloc(), text.as_str(), &[]), (1, *value, 0));
+        text.push_str("*")?;
+        assert_eq!(rt; answer(rt.alloc(), text.as_str(), &[]), (9, 0, 0));
+    }
+    Ok(())
+}
+
+/// The expression in brackets, as the last operand of a product that ends a long sum.
+fn enclosed(alloc: Global, inner: &str) -> Result<String, AllocError> {
+    let sum = chained(alloc, "2", "+1-1", 100_000)?;
+    let product = chained(alloc, "+2", "*2/2", 100_000)?;
+    format!(in alloc; "{sum}{product}*[{inner}]")
+}
+
+#[test]
+fn long_sums_stand_in_five_brackets(rt: HostRuntime) -> Result<(), Fail> {
+    let mut text = chained(rt.alloc(), "1", "+1*1-1*1", 100_000)?;
+    for _ in 0..5 {
+        text = enclosed(rt.alloc(), text.as_str())?;
+    }
+    assert_eq!(rt; answer(rt.alloc(), text.as_str(), &[]), (1, 94_000_000, 0));
+    Ok(())
 }

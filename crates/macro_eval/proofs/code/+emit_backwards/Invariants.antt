@@ -1,0 +1,13 @@
+use Rattle.std.proofs.Common.{◌≡◌, ◌≤◌, ◌++◌, reverse}
+use Rattle.macro_expr.specs.Tree.{tree_of, right_depth}
+use Rattle.macro_eval.specs.Postfix.{postfix}
+use Rattle.macro_eval.proofs.code.+emit_backwards.Given as goal
+
+-- It calls itself on right operands, in which fewer stand inside one another.
+abbrev pub decreases-emit_backwards : goal.decreases-emit_backwards
+decreases-emit_backwards l = right_depth (tree_of l.tree.now)
+
+abbrev pub invariant-loop-part : goal.invariant-loop-part
+invariant-loop-part l =
+    (right_depth (tree_of l.part) ≤ right_depth (tree_of l.tree))
+    × (l.instrs.items ++ reverse (postfix (tree_of l.part)) ≡ l.initial.instrs.items ++ reverse (postfix (tree_of l.tree)))
