@@ -1,5 +1,5 @@
 -- Blanks and comments.
-use Rattle.std.proofs.Common.{◌≡◌, ◌==◌, ℕ, suc, ◌+◌, Bool, true, false, cond, not, ◌&&◌, List, [], ◌∷◌, ◌++◌, drop, Ok, refl, ap, ◌∙◌, arith}
+use Rattle.std.proofs.Common.{◌≡◌, ◌==◌, ℕ, suc, ◌+◌, Bool, true, false, cond, not, ◌&&◌, List, [], ◌∷◌, drop, Ok, refl, ap, ◌∙◌, arith}
 use Rattle.std.specs.Char.{to_ascii_uppercase}
 use Rattle.std.specs.List.{list_all, prefix_len}
 use Rattle.std.proofs.lemmas.Bool.{and_parts, eqb-true}
@@ -12,11 +12,11 @@ use Rattle.nc_text.specs.Front.{behind_comments, switch_of}
 use Rattle.nc_text.specs.Said.{judged, is_skipped, read_head, no_block, line_says}
 
 -- one sign more in both
-added : (test : Bool) (p q b : ℕ) (x y : Scan) → IsSameText x y → IsSameText (add_sign test p b x) (add_sign test q b y)
+pub added : (test : Bool) (p q b : ℕ) (x y : Scan) → IsSameText x y → IsSameText (add_sign test p b x) (add_sign test q b y)
 added true p q b x y same = record { bytes = ap (λ (bytes : List ℕ). to_ascii_uppercase b ∷ bytes) same.bytes; unclosed = same.unclosed }
 added false p q b x y same = same
 
-same_chain : (x y z : Scan) → IsSameText x y → IsSameText y z → IsSameText x z
+pub same_chain : (x y z : Scan) → IsSameText x y → IsSameText y z → IsSameText x z
 same_chain x y z p q = record { bytes = p.bytes ∙ q.bytes; unclosed = p.unclosed ∙ q.unclosed }
 
 -- the places of what is scanned don't matter
@@ -28,17 +28,13 @@ is_no_bracket : (b : ℕ) → is_blank b ≡ true → ((b == 40) ≡ false) × (
 is_no_bracket b blank = grind (arith, nat_tests)
 
 -- a blank counts for nothing
-blank_here : (b : ℕ) (back : List ℕ) (inside : Bool) (place : ℕ) → is_blank b ≡ true → IsSameText (scan_of (b ∷ back) inside place) (scan_of back inside place)
+pub blank_here : (b : ℕ) (back : List ℕ) (inside : Bool) (place : ℕ) → is_blank b ≡ true → IsSameText (scan_of (b ∷ back) inside place) (scan_of back inside place)
 blank_here b back true place blank =
     let behind : inside_behind true b ≡ true = ap not (is_no_bracket b blank).1 in
     rw behind (moved back true (place + 1) place)
 blank_here b back false place blank =
     let behind : inside_behind false b ≡ false = (is_no_bracket b blank).0 in
     rw (blank, behind) (moved back false (place + 1) place)
-
-pub blank_anywhere : (b : ℕ) (front back : List ℕ) (inside : Bool) (place : ℕ) → is_blank b ≡ true → IsSameText (scan_of (front ++ b ∷ back) inside place) (scan_of (front ++ back) inside place)
-blank_anywhere b [] back inside place blank = blank_here b back inside place blank
-blank_anywhere b (c ∷ front) back inside place blank = added (not inside && not (is_blank c)) place place c _ _ (blank_anywhere b front back (inside_behind inside c) (place + 1) blank)
 
 -- a comment may stand anywhere
 allowed_comment : (b : ℕ) → b ≡ 40 → is_allowed b ≡ true

@@ -1,12 +1,12 @@
 -- What changes nothing: a block that is skipped, and a carriage return before a line feed.
-use Rattle.std.proofs.Common.{◌≡◌, ◌==◌, ℕ, ◌-◌, Bool, true, false, cond, not, ◌&&◌, List, [], ◌∷◌, ◌++◌, length, take, get_or, Result, Ok, Err, refl, sym, ap, ◌∙◌, arith}
-use Rattle.std.proofs.lemmas.List.{length_push, get_or_push, take_at}
+use Rattle.std.proofs.Common.{◌≡◌, ℕ, Bool, true, false, cond, not, ◌&&◌, List, [], ◌∷◌, ◌++◌, Result, Ok, Err, sym, ap, ◌∙◌}
 use Rattle.nc_text.specs.declared.refusal.Refusal.{Refusal}
 use Rattle.nc_text.specs.declared.refusal.Refusal.TheVariants.{TooManyDigits, BadCharacter, NoNumber, OpenComment}
 use Rattle.nc_text.specs.declared.said.Said.{Said}
 use Rattle.nc_text.specs.declared.said.Said.TheVariants as said
 use Rattle.nc_text.specs.Front.{behind_comments}
 use Rattle.nc_text.specs.Signs.{are_allowed, scan_of, signs_of, without_last, without_blanks}
+use Rattle.nc_text.proofs.Packed.{last_pushed}
 use Rattle.nc_text.specs.Said.{judged, judged_signs, is_skipped, line_switch, read_head, line_says}
 
 abbrev fails : Refusal → Result Said Refusal
@@ -36,10 +36,4 @@ skipped skips line ended says set e =
 
 pub return_ignored : (skips : ℕ) (line : List ℕ) → line_says skips (line ++ 13 ∷ []) true ≡ line_says skips line false
 unfolding line_says signs_of
-return_ignored skips line =
-    let before : length (line ++ 13 ∷ []) - 1 ≡ length line = omega (arith, length_push line 13) in
-    let last : get_or (line ++ 13 ∷ []) (length line) 0 ≡ 13 = get_or_push line 13 0 (length line) refl in
-    let stripped : without_last 13 (line ++ 13 ∷ []) ≡ line =
-    ap (λ (n : ℕ). cond (get_or (line ++ 13 ∷ []) n 0 == 13) (take n (line ++ 13 ∷ [])) (line ++ 13 ∷ [])) before
-    ∙ ap (λ (b : ℕ). cond (b == 13) (take (length line) (line ++ 13 ∷ [])) (line ++ 13 ∷ [])) last ∙ take_at line (13 ∷ []) (length line) refl in
-    ap (λ (l : List ℕ). judged_signs skips (scan_of (without_last 59 (without_blanks l)) false 0)) stripped
+return_ignored skips line = ap (λ (l : List ℕ). judged_signs skips (scan_of (without_last 59 (without_blanks l)) false 0)) (last_pushed 13 line 13)

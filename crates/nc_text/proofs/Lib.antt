@@ -15,6 +15,15 @@ pub mod Cutting
 pub mod Placing
 pub mod LineEnds
 pub mod Standing
+pub mod Growing
 pub mod UpperCase
 pub mod Ignored
 pub mod Blanks
+pub mod LineByLine
+pub mod WholeLines
+pub mod OneLine
+pub mod Packed
+pub mod Removed
+pub mod Returns
+pub mod Placeless
+pub mod Blanked

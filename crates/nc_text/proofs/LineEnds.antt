@@ -1,13 +1,9 @@
 -- Where lines end, and what the next byte makes of the present line.
-use Rattle.std.proofs.Common.{◌≡◌, ◌==◌, ℕ, Bool, true, false, cond, not, ◌&&◌, List, [], ◌∷◌, ◌++◌, take, refl, sym, ap, ◌∙◌}
-use Rattle.std.specs.Prelude.{All}
+use Rattle.std.proofs.Common.{◌≡◌, ◌==◌, ℕ, Bool, true, false, cond, not, ◌&&◌, List, [], ◌∷◌, ◌++◌, refl, ap}
 use Rattle.std.proofs.lemmas.List.Elements.{All-head, All-tail}
-use Rattle.nc_text.specs.Lines.{Line, lines_of, onto_line, is_percent}
+use Rattle.nc_text.specs.Lines.{Line, IsOneLine, lines_of, onto_line}
 use Rattle.nc_text.specs.declared.stage.Stage.{Stage}
-use Rattle.nc_text.specs.Reading.{is_body, kept_next, kept_of}
-
-abbrev pub IsOneLine : List ℕ → Type 0
-IsOneLine line = All (λ b. (b == 10) ≡ false) line
+use Rattle.nc_text.specs.Reading.{is_body, kept_of, more_kept}
 
 in_line : (b : ℕ) (test : Bool) (bs : List ℕ) (rest : List Line) → test ≡ false → lines_of bs ≡ rest → cond test (record { bytes = []; ended = true } ∷ lines_of bs) (onto_line b (lines_of bs)) ≡ onto_line b rest
 in_line b true bs rest e later = absurd cc
@@ -25,14 +21,6 @@ text_ends b [] one = in_line b (b == 10) [] [] (All-head (λ (x : ℕ). (x == 10
 text_ends b (c ∷ line) one =
     in_line b (b == 10) (c ∷ line) _ (All-head (λ (x : ℕ). (x == 10) ≡ false) b (c ∷ line) one) (text_ends c line (All-tail (λ (x : ℕ). (x == 10) ≡ false) b (c ∷ line) one))
 
--- what is kept of a line with one byte more
-pub kept_first : (stage : Stage) (b : ℕ) → kept_of stage (b ∷ []) ≡ b ∷ []
-kept_first stage b = both (is_body stage && not (is_percent (b ∷ [])))
-  where
-    both : (test : Bool) → cond test (b ∷ []) (take 1 (b ∷ [])) ≡ b ∷ []
-    both true = refl
-    both false = refl
-
 abbrev nothing : List ℕ
 nothing = []
 
@@ -44,10 +32,12 @@ nothing_either_way false = refl
 pub kept_none : (stage : Stage) → kept_of stage [] ≡ []
 kept_none stage = nothing_either_way (is_body stage && true)
 
-pub kept_more : (stage : Stage) (line : List ℕ) (b : ℕ) → kept_next stage (kept_of stage line) b ≡ kept_of stage (line ++ b ∷ [])
-kept_more stage [] b = ap (λ (kept : List ℕ). kept_next stage kept b) (kept_none stage) ∙ sym (kept_first stage b)
-kept_more stage (c ∷ line) b = go (is_body stage && not (c == 37)) refl
+-- what is kept of a line with these bytes more
+pub kept_more : (stage : Stage) (line bytes : List ℕ) → kept_of stage line ++ more_kept stage (kept_of stage line) bytes ≡ kept_of stage (line ++ bytes)
+kept_more stage [] bytes = ap (λ (kept : List ℕ). kept ++ more_kept stage kept bytes) (kept_none stage)
+kept_more stage (c ∷ line) bytes = go (is_body stage && not (c == 37)) refl
   where
-    go : (test : Bool) → (is_body stage && not (c == 37)) ≡ test → kept_next stage (cond test (c ∷ line) (c ∷ [])) b ≡ cond test (c ∷ (line ++ b ∷ [])) (c ∷ [])
+    go : (test : Bool) → (is_body stage && not (c == 37)) ≡ test
+        → cond test (c ∷ line) (c ∷ []) ++ more_kept stage (cond test (c ∷ line) (c ∷ [])) bytes ≡ cond test (c ∷ (line ++ bytes)) (c ∷ [])
     go true e = rw e refl
     go false e = rw e refl

@@ -1,120 +1,131 @@
 -- A reader stands for the bytes that it was given.
-use Rattle.std.proofs.Common.{◌≡◌, ◌==◌, ℕ, ◌+◌, true, false, List, [], ◌∷◌, ◌++◌, length, Err, refl, sym, ap, subst, ◌∙◌, append_assoc}
+use Rattle.std.proofs.Common.{◌≡◌, ◌==◌, ℕ, ◌+◌, true, false, List, [], ◌∷◌, ◌++◌, length, take, refl, sym, ap, subst, ◌∙◌, append_assoc}
+use Rattle.std.proofs.Math.Seq.{take-append_seam}
 use Rattle.std.proofs.lemmas.List.{length-append, append-nil, nil_from_length}
-use Rattle.std.proofs.lemmas.List.Elements.{All-push, All-nil}
-use Rattle.std.specs.Prelude.{Result, OnOk}
+use Rattle.std.proofs.lemmas.List.Elements.{All-append, All-nil}
+use Rattle.std.specs.Prelude.{Some, Result, Ok, Err, OnOk}
 use Rattle.nc_number.specs.declared.fault.Failing.{Failing}
-use Rattle.nc_number.specs.declared.fault.Failing.TheVariants.{NoMemory}
 use Rattle.nc_text.specs.declared.fault.TextFault.{TextFault}
 use Rattle.nc_text.specs.declared.tape.Program.{Program}
 use Rattle.nc_text.specs.declared.stage.Stage.{Stage}
 use Rattle.nc_text.specs.declared.stage.Stage.TheVariants as stages
-use Rattle.nc_text.specs.Lines.{Line, lines_of}
+use Rattle.nc_text.specs.Lines.{Line, IsOneLine, lines_of}
 use Rattle.nc_text.specs.Tape.{Before, tape_of}
-use Rattle.nc_text.specs.Reading.{State, kept_next, kept_of, continued, UnlessLost, IsAt, Stands, HasRead, answer_of, IfRefused, IsRefused, Gives}
-use Rattle.nc_text.proofs.LineEnds.{IsOneLine, line_ends, text_ends, kept_none, kept_more}
+use Rattle.nc_text.specs.Reading.{State, refusal_of, kept_of, more_kept, continued, LeadsTo, IsLine, IsAt, HasRead, IsRefused, Gives}
+use Rattle.nc_text.proofs.LineEnds.{line_ends, text_ends, kept_none, kept_more}
 
 abbrev pub state : ℕ → Stage → List ℕ → ℕ → Before → State
 state skips stage kept len before = record { skips = skips; stage = stage; kept = kept; len = len; before = before }
 
--- a fact that follows, unless memory ran out
-unless_map : (stage : Stage) (P Q : Type 0) → (P → Q) → UnlessLost stage P → UnlessLost stage Q
-unless_map stages.Leader P Q f p = f p
-unless_map stages.Body P Q f p = f p
-unless_map stages.Rest P Q f p = f p
-unless_map (stages.Refused fault) P Q f p = f p
-unless_map stages.Lost P Q f p = tt
+-- all stands as before
+pub as_before : (s : ℕ) (stage new-stage : Stage) (kept new-kept : List ℕ) (len new-len : ℕ) (before new-before : Before) → new-stage ≡ stage → new-kept ≡ kept → new-len ≡ len → new-before ≡ before
+    → state s new-stage new-kept new-len new-before ≡ state s stage kept len before
+as_before s stage new-stage kept new-kept len new-len before new-before stage-is kept-is len-is before-is = λ i. state s (stage-is i) (kept-is i) (len-is i) (before-is i)
 
--- memory did not run out
-pub not_lost : (stage : Stage) (P : Type 0) → (stage ≡ stages.Lost → ⊥) → UnlessLost stage P → P
-not_lost stages.Leader P apart p = p
-not_lost stages.Body P apart p = p
-not_lost stages.Rest P apart p = p
-not_lost (stages.Refused fault) P apart p = p
-not_lost stages.Lost P apart p = absurd (apart refl)
+-- what was kept of a line is there again when it is cut back
+pub kept_back : (stage : Stage) (kept piece longer shorter : List ℕ) (n : ℕ) → n ≡ length kept → longer ≡ kept ++ more_kept stage kept piece → shorter ≡ take n longer → shorter ≡ kept
+kept_back stage kept piece longer shorter n n-is longer-is shorter-is =
+    shorter-is ∙ ap (λ (k : ℕ). take k longer) n-is ∙ ap (take (length kept)) longer-is ∙ take-append_seam kept (more_kept stage kept piece)
 
--- a byte of the present line
-pub byte_kept : (s : ℕ) (stage : Stage) (kept more-kept : List ℕ) (len : ℕ) (before : Before) (b : ℕ) → (b == 10) ≡ false → more-kept ≡ kept_next stage kept b
-    → (skips : ℕ) (bytes : List ℕ) → Stands (state s stage kept len before) skips bytes → Stands (state s stage more-kept (len + 1) before) skips (bytes ++ b ∷ [])
-byte_kept s stage kept more-kept len before b inside kept-is skips bytes read =
-    unless_map stage _ _ (λ h.
-    let line = h.1.0 in
-    let at : IsAt (state s stage kept len before) bytes line = h.1.1 in (
-      h.0,
+-- the line that begins with no bytes
+pub no_bytes : (stage : Stage) (kept : List ℕ) (len : ℕ) → kept ≡ [] → len ≡ 0 → IsLine stage kept len []
+no_bytes stage kept len kept-is len-is = record { one_line = All-nil (λ (x : ℕ). (x == 10) ≡ false); kept_is = kept-is ∙ sym (kept_none stage); len_is = len-is }
+
+-- the present line with a piece more
+pub line_extended : (stage new-stage : Stage) (kept new-kept : List ℕ) (len new-len : ℕ) (piece line : List ℕ) → IsOneLine piece → new-stage ≡ stage → new-kept ≡ kept ++ more_kept stage kept piece → new-len ≡ len + length piece
+    → IsLine stage kept len line → IsLine new-stage new-kept new-len (line ++ piece)
+line_extended stage new-stage kept new-kept len new-len piece line one stage-is kept-is len-is is =
+    let kept-all : new-kept ≡ kept_of stage (line ++ piece) = kept-is ∙ ap (λ (k : List ℕ). k ++ more_kept stage k piece) is.kept_is ∙ kept_more stage line piece in record {
+      one_line = All-append (λ (x : ℕ). (x == 10) ≡ false) line piece is.one_line one;
+      kept_is = kept-all ∙ ap (λ (s : Stage). kept_of s (line ++ piece)) (sym stage-is);
+      len_is = len-is ∙ ap (λ (n : ℕ). n + length piece) is.len_is ∙ sym (length-append line piece);
+    }
+
+-- a piece of the present line
+pub line_goes_on : (s : ℕ) (stage new-stage : Stage) (kept new-kept : List ℕ) (len new-len : ℕ) (before : Before) (piece : List ℕ) → IsOneLine piece → new-stage ≡ stage → new-kept ≡ kept ++ more_kept stage kept piece → new-len ≡ len + length piece
+    → (skips : ℕ) (bytes : List ℕ) → HasRead (state s stage kept len before) skips bytes → HasRead (state s new-stage new-kept new-len before) skips (bytes ++ piece)
+line_goes_on s stage new-stage kept new-kept len new-len before piece one stage-is kept-is len-is skips bytes read =
+    let line = read.1.0 in
+    let at : IsAt (state s stage kept len before) bytes line = read.1.1 in (
+      read.0,
       (
-        line ++ b ∷ [],
+        line ++ piece,
         record {
-          one_line = All-push (λ (x : ℕ). (x == 10) ≡ false) line b at.one_line inside;
-          kept = kept-is ∙ ap (λ (k : List ℕ). kept_next stage k b) at.kept ∙ kept_more stage line b;
-          len = ap (λ (n : ℕ). n + 1) at.len ∙ sym (length-append line (b ∷ []));
-          whole = λ more. rw (append_assoc bytes (b ∷ []) more, append_assoc line (b ∷ []) more) (at.whole (b ∷ more));
-        },
-      ),
-    ))
-    read
-
--- the line feed that ends the present line
-pub line_ended : (s t : ℕ) (stage new-stage : Stage) (kept new-kept : List ℕ) (len new-len : ℕ) (before new-before : Before) → (stage ≡ stages.Lost → ⊥) → t ≡ s → new-kept ≡ [] → new-len ≡ 0
-    → UnlessLost new-stage ((lines : List Line) (line : List ℕ) → kept ≡ kept_of stage line → length line ≡ len → continued s stage (record { bytes = line; ended = true } ∷ lines) before ≡ continued t new-stage lines new-before)
-    → (skips : ℕ) (bytes : List ℕ) → Stands (state s stage kept len before) skips bytes → Stands (state t new-stage new-kept new-len new-before) skips (bytes ++ 10 ∷ [])
-line_ended s t stage new-stage kept new-kept len new-len before new-before apart t-is kept-is len-is step skips bytes read =
-    let h = not_lost stage _ apart read in
-    let line = h.1.0 in
-    let at : IsAt (state s stage kept len before) bytes line = h.1.1 in
-    unless_map new-stage _ _ (λ goes. (
-      t-is ∙ h.0,
-      (
-        [],
-        record {
-          one_line = All-nil (λ (x : ℕ). (x == 10) ≡ false);
-          kept = kept-is ∙ sym (kept_none new-stage);
-          len = len-is;
+          is_line = line_extended stage new-stage kept new-kept len new-len piece line one stage-is kept-is len-is at.is_line;
           whole = λ more.
-              ap (λ (k : ℕ). tape_of k ((bytes ++ 10 ∷ []) ++ more)) t-is ∙ ap (tape_of s) (append_assoc bytes (10 ∷ []) more) ∙ at.whole (10 ∷ more)
-              ∙ ap (λ (lines : List Line). continued s stage lines before) (line_ends line more at.one_line) ∙ goes (lines_of more) line at.kept (sym at.len);
+              ap (tape_of s) (append_assoc bytes piece more) ∙ at.whole (piece ++ more) ∙ ap (λ (text : List ℕ). continued s stage (lines_of text) before) (sym (append_assoc line piece more))
+              ∙ ap (λ (st : Stage). continued s st (lines_of ((line ++ piece) ++ more)) before) (sym stage-is);
         },
       ),
-    ))
-    step
+    )
+
+-- the same, where a call says so
+pub piece_taken : {E : Type 0} (r : Result (Unit {0}) E) (s : ℕ) (stage new-stage : Stage) (kept new-kept : List ℕ) (len new-len : ℕ) (before : Before) (piece : List ℕ) → IsOneLine piece → new-stage ≡ stage → OnOk r (new-kept ≡ kept ++ more_kept stage kept piece) → OnOk r (new-len ≡ len + length piece)
+    → OnOk r ((skips : ℕ) (bytes : List ℕ) → HasRead (state s stage kept len before) skips bytes → HasRead (state s new-stage new-kept new-len before) skips (bytes ++ piece))
+piece_taken (Ok x) s stage new-stage kept new-kept len new-len before piece one stage-is kept-is len-is = line_goes_on s stage new-stage kept new-kept len new-len before piece one stage-is kept-is len-is
+piece_taken (Err e) s stage new-stage kept new-kept len new-len before piece one stage-is kept-is len-is = tt
+
+-- a line that ends in a text
+pub line_read : (s : ℕ) (stage new-stage : Stage) (before new-before : Before) (text line behind rest : List ℕ) → text ≡ line ++ 10 ∷ behind → IsOneLine line
+    → ((lines : List Line) → continued s stage (record { bytes = line; ended = true } ∷ lines) before ≡ continued s new-stage lines new-before) → LeadsTo s new-stage new-before behind new-stage new-before rest
+    → LeadsTo s stage before text new-stage new-before rest
+line_read s stage new-stage before new-before text line behind rest cut one step left = λ more.
+    ap (λ (t : List ℕ). continued s stage (lines_of (t ++ more)) before) cut ∙ ap (λ (t : List ℕ). continued s stage (lines_of t) before) (append_assoc line (10 ∷ behind) more)
+    ∙ ap (λ (lines : List Line). continued s stage lines before) (line_ends line (behind ++ more) one) ∙ step (lines_of (behind ++ more)) ∙ left more
+
+pub leads_on : (s : ℕ) (a b c : Stage) (x y z : Before) (first second third : List ℕ) → LeadsTo s a x first b y second → LeadsTo s b y second c z third → LeadsTo s a x first c z third
+leads_on s a b c x y z first second third p q = λ more. p more ∙ q more
+
+-- the line that was ended, and the line that is begun behind it
+pub next_line : (s : ℕ) (stage mid-stage new-stage last-stage : Stage) (kept last-kept : List ℕ) (len last-len : ℕ) (before mid-before new-before : Before) (behind rest : List ℕ)
+    → ((lines : List Line) (line : List ℕ) → kept ≡ kept_of stage line → length line ≡ len → continued s stage (record { bytes = line; ended = true } ∷ lines) before ≡ continued s mid-stage lines mid-before)
+    → LeadsTo s mid-stage mid-before behind new-stage new-before rest → last-stage ≡ new-stage → IsLine last-stage last-kept last-len rest → (line : List ℕ) → IsLine stage kept len line
+    → (bytes : List ℕ) × IsLine last-stage last-kept last-len bytes × LeadsTo s stage before (line ++ 10 ∷ behind) last-stage new-before bytes
+next_line s stage mid-stage new-stage last-stage kept last-kept len last-len before mid-before new-before behind rest step reads last is-last line is = (
+  rest,
+  is-last,
+  subst (λ (st : Stage). LeadsTo s stage before (line ++ 10 ∷ behind) st new-before rest) (sym last)
+      (leads_on s stage mid-stage new-stage before mid-before new-before (line ++ 10 ∷ behind) behind rest
+      (line_read s stage mid-stage before mid-before (line ++ 10 ∷ behind) line behind behind refl is.one_line (λ lines. step lines line is.kept_is (sym is.len_is)) (λ more. refl)) reads),
+)
+
+-- a piece that ends the present line
+pub lines_taken : (s : ℕ) (stage mid-stage new-stage : Stage) (kept mid-kept new-kept : List ℕ) (len mid-len new-len : ℕ) (before new-before : Before) (front behind : List ℕ) → IsOneLine front → mid-stage ≡ stage → mid-kept ≡ kept ++ more_kept stage kept front → mid-len ≡ len + length front
+    → ((line : List ℕ) → IsLine mid-stage mid-kept mid-len line → (rest : List ℕ) × IsLine new-stage new-kept new-len rest × LeadsTo s mid-stage before (line ++ 10 ∷ behind) new-stage new-before rest)
+    → (skips : ℕ) (bytes : List ℕ) → HasRead (state s stage kept len before) skips bytes → HasRead (state s new-stage new-kept new-len new-before) skips (bytes ++ (front ++ 10 ∷ behind))
+lines_taken s stage mid-stage new-stage kept mid-kept new-kept len mid-len new-len before new-before front behind one stage-is kept-is len-is goes skips bytes read =
+    let line = read.1.0 in
+    let at : IsAt (state s stage kept len before) bytes line = read.1.1 in
+    let next = goes (line ++ front) (line_extended stage mid-stage kept mid-kept len mid-len front line one stage-is kept-is len-is at.is_line) in (
+      read.0,
+      (
+        next.0,
+        record {
+          is_line = next.1;
+          whole = λ more.
+              ap (tape_of s) (append_assoc bytes (front ++ 10 ∷ behind) more) ∙ at.whole ((front ++ 10 ∷ behind) ++ more)
+              ∙ ap (λ (text : List ℕ). continued s stage (lines_of text) before) (sym (append_assoc line (front ++ 10 ∷ behind) more) ∙ ap (λ (text : List ℕ). text ++ more) (sym (append_assoc line front (10 ∷ behind))))
+              ∙ ap (λ (st : Stage). continued s st (lines_of (((line ++ front) ++ 10 ∷ behind) ++ more)) before) (sym stage-is) ∙ next.2 more;
+        },
+      ),
+    )
 
 -- a reader that was given nothing
-pub nothing_given : (s : ℕ) (kept : List ℕ) (before : Before) → kept ≡ [] → ((more : List ℕ) → tape_of s more ≡ continued s stages.Leader (lines_of more) before) → HasRead (state s stages.Leader kept 0 before) s []
-nothing_given s kept before kept-is whole = record {
-  going = λ e. absurd cc;
-  given = (refl, ([], record { one_line = All-nil (λ (x : ℕ). (x == 10) ≡ false); kept = kept-is; len = refl; whole = whole }));
-}
+pub nothing_given : (s : ℕ) (stage : Stage) (kept : List ℕ) (len : ℕ) (before : Before) → stage ≡ stages.Leader → kept ≡ [] → len ≡ 0 → ((more : List ℕ) → tape_of s more ≡ continued s stages.Leader (lines_of more) before) → HasRead (state s stage kept len before) s []
+nothing_given s stage kept len before stage-is kept-is len-is whole =
+    (refl, ([], record { is_line = no_bytes stage kept len kept-is len-is; whole = λ more. whole more ∙ ap (λ (st : Stage). continued s st (lines_of more) before) (sym stage-is) }))
 
-unless_from : (stage : Stage) (P : Type 0) → P → UnlessLost stage P
-unless_from stages.Leader P p = p
-unless_from stages.Body P p = p
-unless_from stages.Rest P p = p
-unless_from (stages.Refused fault) P p = p
-unless_from stages.Lost P p = tt
+pub refused_at : (stage : Stage) (fault : TextFault) → refusal_of stage ≡ Some fault → stage ≡ stages.Refused fault
+refused_at stages.Leader fault e = absurd cc
+refused_at stages.Body fault e = absurd cc
+refused_at stages.Rest fault e = absurd cc
+refused_at (stages.Refused other) fault e = let same : other ≡ fault = cc in ap stages.Refused same
 
-unless_either : (stage : Stage) (P Q : Type 0) → (P → Q) → (stage ≡ stages.Lost → Q) → UnlessLost stage P → Q
-unless_either stages.Leader P Q f g p = f p
-unless_either stages.Body P Q f g p = f p
-unless_either stages.Rest P Q f g p = f p
-unless_either (stages.Refused fault) P Q f g p = f p
-unless_either stages.Lost P Q f g p = g refl
-
-pub stands_from : (s : State) (skips : ℕ) (bytes : List ℕ) → HasRead s skips bytes → Stands s skips bytes
-stands_from s skips bytes read = unless_from s.stage _ read.given
-
--- what the answer says where the reader stands
-pub read_after : (s : ℕ) (stage : Stage) (kept : List ℕ) (len : ℕ) (before : Before) (r : Result (Unit {0}) (Failing TextFault)) (skips : ℕ) (bytes : List ℕ) → r ≡ answer_of stage → Stands (state s stage kept len before) skips bytes → OnOk r (HasRead (state s stage kept len before) skips bytes)
-read_after s stages.Leader kept len before r skips bytes e stands = rw e (record { going = λ x. absurd cc; given = stands })
-read_after s stages.Body kept len before r skips bytes e stands = rw e (record { going = λ x. absurd cc; given = stands })
-read_after s stages.Rest kept len before r skips bytes e stands = rw e (record { going = λ x. absurd cc; given = stands })
-read_after s (stages.Refused fault) kept len before r skips bytes e stands = rw e tt
-read_after s stages.Lost kept len before r skips bytes e stands = rw e tt
-
-pub refused_after : (s : ℕ) (stage : Stage) (kept : List ℕ) (len : ℕ) (before : Before) (r : Result (Unit {0}) (Failing TextFault)) (skips : ℕ) (bytes : List ℕ) → r ≡ answer_of stage → Stands (state s stage kept len before) skips bytes → IfRefused r (λ fault. IsRefused skips bytes fault)
-refused_after s stages.Leader kept len before r skips bytes e stands = rw e tt
-refused_after s stages.Body kept len before r skips bytes e stands = rw e tt
-refused_after s stages.Rest kept len before r skips bytes e stands = rw e tt
-refused_after s (stages.Refused fault) kept len before r skips bytes e stands = rw e (λ more. ap (λ (k : ℕ). tape_of k (bytes ++ more)) (sym stands.0) ∙ stands.1.1.whole more)
-refused_after s stages.Lost kept len before r skips bytes e stands = rw e tt
+-- a refusal stands whatever follows
+pub refused_by : (s : ℕ) (stage : Stage) (kept : List ℕ) (len : ℕ) (before : Before) (fault : TextFault) → stage ≡ stages.Refused fault
+    → (skips : ℕ) (bytes : List ℕ) → HasRead (state s stage kept len before) skips bytes → IsRefused skips bytes fault
+refused_by s stage kept len before fault stage-is skips bytes read = λ more.
+    ap (λ (k : ℕ). tape_of k (bytes ++ more)) (sym read.0) ∙ read.1.1.whole more ∙ ap (λ (st : Stage). continued s st (lines_of (read.1.0 ++ more)) before) stage-is
 
 -- the answer of the text that was given
 whole_is : (s : ℕ) (stage : Stage) (kept : List ℕ) (len : ℕ) (before : Before) (skips : ℕ) (bytes line : List ℕ) → s ≡ skips → IsAt (state s stage kept len before) bytes line → tape_of skips bytes ≡ continued s stage (lines_of line) before
@@ -125,11 +136,10 @@ whole_is s stage kept len before skips bytes line same at =
 pub no_line : (s : ℕ) (stage : Stage) (kept : List ℕ) (len : ℕ) (before : Before) (r : Result (List Program) (Failing TextFault)) → len ≡ 0 → ((k : ℕ) → Gives r (continued k stage [] before))
     → (skips : ℕ) (bytes : List ℕ) → HasRead (state s stage kept len before) skips bytes → Gives r (tape_of skips bytes)
 no_line s stage kept len before r none concluded skips bytes read =
-    let h = read.given in
-    let line = h.1.0 in
-    let at : IsAt (state s stage kept len before) bytes line = h.1.1 in
-    let line-is : line ≡ [] = nil_from_length line (sym at.len ∙ none) in
-    subst (Gives r) (sym (whole_is s stage kept len before skips bytes line h.0 at ∙ ap (λ (l : List ℕ). continued s stage (lines_of l) before) line-is)) (concluded s)
+    let line = read.1.0 in
+    let at : IsAt (state s stage kept len before) bytes line = read.1.1 in
+    let line-is : line ≡ [] = nil_from_length line (sym at.is_line.len_is ∙ none) in
+    subst (Gives r) (sym (whole_is s stage kept len before skips bytes line read.0 at ∙ ap (λ (l : List ℕ). continued s stage (lines_of l) before) line-is)) (concluded s)
 
 -- a line that is left
 text_left : (line : List ℕ) → IsOneLine line → (length line ≡ 0 → ⊥) → lines_of line ≡ record { bytes = line; ended = false } ∷ []
@@ -137,16 +147,12 @@ text_left [] one long = absurd (long refl)
 text_left (b ∷ line) one long = text_ends b line one
 
 -- the last line ends with the text
-pub last_line : (s t : ℕ) (stage new-stage : Stage) (kept : List ℕ) (len : ℕ) (before new-before : Before) (r : Result (List Program) (Failing TextFault)) → (len ≡ 0 → ⊥) → t ≡ s
-    → UnlessLost new-stage ((lines : List Line) (line : List ℕ) → kept ≡ kept_of stage line → length line ≡ len → continued s stage (record { bytes = line; ended = false } ∷ lines) before ≡ continued t new-stage lines new-before)
-    → ((k : ℕ) → Gives r (continued k new-stage [] new-before)) → (new-stage ≡ stages.Lost → r ≡ Err NoMemory)
+pub last_line : (s : ℕ) (stage new-stage : Stage) (kept : List ℕ) (len : ℕ) (before new-before : Before) (r : Result (List Program) (Failing TextFault)) → (len ≡ 0 → ⊥)
+    → ((lines : List Line) (line : List ℕ) → kept ≡ kept_of stage line → length line ≡ len → continued s stage (record { bytes = line; ended = false } ∷ lines) before ≡ continued s new-stage lines new-before)
+    → ((k : ℕ) → Gives r (continued k new-stage [] new-before))
     → (skips : ℕ) (bytes : List ℕ) → HasRead (state s stage kept len before) skips bytes → Gives r (tape_of skips bytes)
-last_line s t stage new-stage kept len before new-before r long same step concluded lost skips bytes read =
-    let h = read.given in
-    let line = h.1.0 in
-    let at : IsAt (state s stage kept len before) bytes line = h.1.1 in
-    let left = text_left line at.one_line (λ e. long (at.len ∙ e)) in
-    unless_either new-stage _ _
-    (λ goes. subst (Gives r) (sym (whole_is s stage kept len before skips bytes line h.0 at ∙ ap (λ (ls : List Line). continued s stage ls before) left ∙ goes [] line at.kept (sym at.len))) (concluded t))
-    (λ e. subst (λ (x : Result (List Program) (Failing TextFault)). Gives x (tape_of skips bytes)) (sym (lost e)) tt)
-    step
+last_line s stage new-stage kept len before new-before r long step concluded skips bytes read =
+    let line = read.1.0 in
+    let at : IsAt (state s stage kept len before) bytes line = read.1.1 in
+    let left = text_left line at.is_line.one_line (λ e. long (at.is_line.len_is ∙ e)) in
+    subst (Gives r) (sym (whole_is s stage kept len before skips bytes line read.0 at ∙ ap (λ (ls : List Line). continued s stage ls before) left ∙ step [] line at.is_line.kept_is (sym at.is_line.len_is))) (concluded s)

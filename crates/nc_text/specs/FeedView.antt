@@ -4,4 +4,4 @@ use Rattle.nc_text.specs.View.{before_of}
 use Rattle.nc_text.specs.Reading.{State}
 
 abbrev pub state_of : Feed → State
-state_of feed = record { skips = feed.skips; stage = feed.stage; kept = feed.kept.items; len = feed.len; before = before_of feed.progress }
+state_of feed = record { skips = feed.skips; stage = feed.line.stage; kept = feed.line.kept.items; len = feed.line.len; before = before_of feed.progress }

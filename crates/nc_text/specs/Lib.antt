@@ -15,5 +15,9 @@ pub mod Said
 pub mod Lines
 pub mod Tape
 pub mod View
+pub mod Mark
 pub mod Reading
 pub mod FeedView
+pub mod Changed
+pub mod Alike
+pub mod Edited

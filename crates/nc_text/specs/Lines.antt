@@ -1,5 +1,5 @@
 -- A text as lines.
-use Rattle.std.specs.Prelude.{ℕ, ◌+◌, Bool, true, false, ◌==◌, List, [], ◌∷◌, if◌then◌else◌}
+use Rattle.std.specs.Prelude.{◌≡◌, All, ℕ, ◌+◌, Bool, true, false, ◌==◌, List, [], ◌∷◌, if◌then◌else◌}
 
 -- the bytes before a line feed, or before the end of the text
 pub record Line : Type 0 where
@@ -14,6 +14,10 @@ onto_line b (line ∷ lines) = record { bytes = b ∷ line.bytes; ended = line.e
 abbrev pub lines_of : List ℕ → List Line
 lines_of [] = []
 lines_of (b ∷ bs) = if b == 10 then record { bytes = []; ended = true } ∷ lines_of bs else onto_line b (lines_of bs)
+
+-- bytes without a line feed
+abbrev pub IsOneLine : List ℕ → Type 0
+IsOneLine bytes = All (λ b. (b == 10) ≡ false) bytes
 
 -- a line that begins with `%` begins or ends the tape
 abbrev pub is_percent : List ℕ → Bool

@@ -16,7 +16,12 @@ before_of progress = record {
   current = progress.current;
 }
 
--- a line was taken as the definition says, unless memory ran out
+-- a line was taken as the definition says
+abbrev pub Passes : {A : Type 0} → Result A Refusal → Before → Result Before Refusal → Type 0
+Passes (Ok x) new read = read ≡ Ok new
+Passes (Err refusal) new read = read ≡ Err refusal
+
+-- the same, unless memory ran out
 abbrev pub AdvancesTo : Failing Refusal → Result Before Refusal → Type 0
 AdvancesTo (Fault refusal) read = read ≡ Err refusal
 AdvancesTo NoMemory read = Unit {0}

@@ -1,35 +1,29 @@
-ghost use Rattle.std.specs.Prelude.{◌≡◌, ◌==◌, ◌∷◌, [], ◌++◌, ◌+◌, ◌<◌, ◌≤◌, IsTrue, List, ℕ, false, length};
-ghost use Rattle.nc_text.specs.Lines.{Line, size_of};
+ghost use Rattle.std.specs.Prelude.{◌≡◌, ◌∷◌, [], ◌++◌, List, ℕ, IfOk, OnOk, OnErr};
+ghost use Rattle.nc_text.specs.Lines.{IsOneLine};
 ghost use Rattle.nc_text.specs.declared.fault.TextFault.{TextFault};
-ghost use Rattle.nc_text.specs.Tape.{tape_of};
+ghost use Rattle.nc_text.specs.Tape.{Before, tape_of};
 ghost use Rattle.nc_text.specs.View.{before_of};
-ghost use Rattle.nc_text.specs.Reading.{continued, is_body, keeps, kept_next, kept_of, UnlessLost, Stands, HasRead, HasRefused, answer_of, Gives};
+ghost use Rattle.nc_text.specs.Mark.{Grows};
+ghost use Rattle.nc_text.specs.Reading.{continued, refusal_of, LeadsTo, IsLine, HasRead, HasRefused, Gives};
 
 use crate::fault::TextFault;
+use crate::line_feed::cut_at_line_feed;
+use crate::open_line::OpenLine;
 use crate::progress::Progress;
 use crate::refusal::Refusal;
-use crate::stage::Stage;
-use crate::step::behind_line;
+use crate::stage::{Stage, refusal_of};
+use crate::step::{behind_line, behind_lines};
 use crate::tape::Tape;
-use nc_number::Failing;
+use nc_number::{Failing, NoMemory};
 use std::alloc::Global;
-
-/// No line has more bytes than this: a longer one is answered as want of memory.
-const LONGEST: u32 = 4_294_967_294;
 
 /// What a reader keeps.
 #[derive(Debug, Drop)]
 pub(crate) struct Feed {
     pub alloc: Global,
     pub skips: u16,
-    pub stage: Stage,
-    /// Of the present line only what is needed: all of a line of the programs, the first byte of any other.
-    pub kept: Vec<u8>,
-    /// How many bytes the present line has.
-    pub len: u32,
+    pub line: OpenLine,
     pub progress: Progress,
-    ghost kept_short: { length kept.items ≤ len },
-    ghost len_short: { len ≤ 4294967294 },
 }
 
 impl Feed {
@@ -41,112 +35,56 @@ impl Feed {
         Feed {
             alloc,
             skips,
-            stage: Stage::Leader,
-            kept: Vec::new(alloc),
-            len: 0,
+            line: OpenLine::empty(alloc, Stage::Leader),
             progress: Progress::new(alloc),
         }
     }
 
-    /// Ends the present line.
-    pub(crate) fn end_line(&mut self, ended: bool)
-        requires { 0 < size_of self.old.len ended }
-        ensures step { UnlessLost self.new.stage ((lines : List Line) (bytes : List ℕ) → self.old.kept.items ≡ kept_of self.old.stage bytes → length bytes ≡ self.old.len →
-            continued self.old.skips self.old.stage (record { bytes = bytes; ended = ended } ∷ lines) (before_of self.old.progress) ≡ continued self.new.skips self.new.stage lines (before_of self.new.progress)) }
-        ensures kept { self.new.kept.items ≡ [] }
-        ensures len { self.new.len ≡ 0 }
-        ensures skips { self.new.skips ≡ self.old.skips }
-        ensures same { (fault : TextFault) → HasRefused (state_of self.old) fault → HasRefused (state_of self.new) fault }
+    /// Takes a piece of the text.
+    pub(crate) fn take(&mut self, piece: &[u8]) -> Result<(), NoMemory>
+        ensures reads { OnOk result ((skips : ℕ) (bytes : List ℕ) → HasRead (state_of self.old) skips bytes → HasRead (state_of self.new) skips (bytes ++ piece.now)) }
+        ensures as_before { OnErr result (state_of self.new ≡ state_of self.old) }
     {
-        self.stage = behind_line(
-            self.stage,
-            &mut self.progress,
+        match cut_at_line_feed(piece) {
+            None => self.line.extend(piece),
+            Some((front, behind)) => self.take_lines(front, behind),
+        }
+    }
+
+    /// Takes the rest of the present line, its line feed and what stands behind that.
+    fn take_lines(&mut self, front: &[u8], behind: &[u8]) -> Result<(), NoMemory>
+        requires { IsOneLine front.now }
+        ensures reads { OnOk result ((skips : ℕ) (bytes : List ℕ) → HasRead (state_of self.old) skips bytes → HasRead (state_of self.new) skips (bytes ++ (front.now ++ 10 ∷ behind.now))) }
+        ensures as_before { OnErr result (state_of self.new ≡ state_of self.old) }
+    {
+        let mark = self.progress.mark();
+        let kept = self.line.kept.len();
+        let len = self.line.len;
+        self.line.extend(front)?;
+        match line_behind(
             self.alloc,
             self.skips,
-            self.kept.as_slice(),
-            self.len,
-            ended,
-        );
-        self.kept.clear();
-        self.len = 0;
-    }
-
-    /// Keeps a byte of the present line.
-    fn keep(&mut self, byte: u8)
-        requires { (byte == 10) ≡ false }
-        ensures { (skips : ℕ) (bytes : List ℕ) → Stands (state_of self.old) skips bytes → Stands (state_of self.new) skips (bytes ++ byte ∷ []) }
-    {
-        if self.len >= LONGEST {
-            self.stage = Stage::Lost;
-            return;
-        }
-        if !keep_byte(self.stage, &mut self.kept, byte) {
-            self.stage = Stage::Lost;
-            return;
-        }
-        self.len += 1;
-    }
-
-    /// Takes a byte of the text.
-    pub(crate) fn take(&mut self, byte: u8)
-        ensures { (skips : ℕ) (bytes : List ℕ) → Stands (state_of self.old) skips bytes → Stands (state_of self.new) skips (bytes ++ byte ∷ []) }
-    {
-        match self.stage {
-            Stage::Refused(_) => {}
-            Stage::Lost => {}
-            _ => {
-                if byte == b'\n' {
-                    self.end_line(true);
-                } else {
-                    self.keep(byte);
-                }
+            &self.line,
+            &mut self.progress,
+            behind,
+        ) {
+            Ok(line) => {
+                self.line = line;
+                Ok(())
+            }
+            Err(NoMemory) => {
+                self.line.cut_back(kept, len);
+                self.progress.cut_back(&mark);
+                Err(NoMemory)
             }
         }
     }
 
-    /// Takes a piece of the text.
-    pub(crate) fn take_all(&mut self, piece: &[u8])
-        ensures { (skips : ℕ) (bytes : List ℕ) → Stands (state_of self.old) skips bytes → Stands (state_of self.new) skips (bytes ++ piece.now) }
+    /// The refusal of the text, if it is refused.
+    pub(crate) fn refusal(&self) -> Option<TextFault>
+        ensures { result ≡ refusal_of self.now.line.stage }
     {
-        for byte in piece {
-            self.take(*byte);
-        }
-    }
-
-    /// What a call answers where the reader stands.
-    pub(crate) fn answer(&self) -> Result<(), Failing<TextFault>>
-        ensures { result ≡ answer_of self.now.stage }
-    {
-        match self.stage {
-            Stage::Leader => Ok(()),
-            Stage::Body => Ok(()),
-            Stage::Rest => Ok(()),
-            Stage::Refused(fault) => Err(Failing::Fault(fault)),
-            Stage::Lost => Err(Failing::NoMemory),
-        }
-    }
-
-    /// What the text is where no line is left.
-    fn conclude(self) -> Result<Tape, Failing<TextFault>>
-        ensures exact { (skips : ℕ) → Gives result (continued skips self.stage [] (before_of self.progress)) }
-        ensures same { (fault : TextFault) → HasRefused (state_of self) fault → result ≡ Err (Failing.Fault fault) }
-        ensures lost { self.stage ≡ Stage.Lost → result ≡ Err Failing.NoMemory }
-    {
-        let Feed {
-            alloc: _,
-            skips: _,
-            stage,
-            kept: _,
-            len: _,
-            progress,
-        } = self;
-        match stage {
-            Stage::Leader => Err(Failing::Fault(not_begun())),
-            Stage::Body => Err(Failing::Fault(progress.unfinished())),
-            Stage::Rest => progress.finish(),
-            Stage::Refused(fault) => Err(Failing::Fault(fault)),
-            Stage::Lost => Err(Failing::NoMemory),
-        }
+        refusal_of(self.line.stage)
     }
 
     /// Ends the text, and with it the present line.
@@ -154,12 +92,66 @@ impl Feed {
         ensures exact { (skips : ℕ) (bytes : List ℕ) → HasRead (state_of self) skips bytes → Gives result (tape_of skips bytes) }
         ensures same { (fault : TextFault) → HasRefused (state_of self) fault → result ≡ Err (Failing.Fault fault) }
     {
-        let mut feed = self;
-        if feed.len == 0 {
-            return feed.conclude();
+        let Feed {
+            alloc,
+            skips,
+            line,
+            progress,
+        } = self;
+        if line.len == 0 {
+            return conclude(line.stage, progress);
         }
-        feed.end_line(false);
-        feed.conclude()
+        let mut progress = progress;
+        let stage = behind_line(
+            line.stage,
+            &mut progress,
+            alloc,
+            skips,
+            line.kept.as_slice(),
+            line.len,
+            false,
+        )?;
+        conclude(stage, progress)
+    }
+}
+
+/// Ends a line, reads the lines behind it, and begins the one behind those.
+fn line_behind(
+    alloc: Global,
+    skips: u16,
+    line: &OpenLine,
+    progress: &mut Progress,
+    behind: &[u8],
+) -> Result<OpenLine, NoMemory>
+    ensures reads { IfOk result (λ next. (bytes : List ℕ) → IsLine line.now.stage line.now.kept.items line.now.len bytes →
+        (rest : List ℕ) × IsLine next.stage next.kept.items next.len rest
+        × LeadsTo skips line.now.stage (before_of progress.old) (bytes ++ 10 ∷ behind.now) next.stage (before_of progress.new) rest) }
+    ensures grows { Grows (before_of progress.old) (before_of progress.new) }
+{
+    let stage = behind_line(
+        line.stage,
+        progress,
+        alloc,
+        skips,
+        line.kept.as_slice(),
+        line.len,
+        true,
+    )?;
+    let (stage, rest) = behind_lines(stage, progress, alloc, skips, behind)?;
+    let next = OpenLine::begin(alloc, stage, rest)?;
+    Ok(next)
+}
+
+/// What the text is where no line is left.
+fn conclude(stage: Stage, progress: Progress) -> Result<Tape, Failing<TextFault>>
+    ensures exact { (skips : ℕ) → Gives result (continued skips stage [] (before_of progress)) }
+    ensures same { (fault : TextFault) → stage ≡ Stage.Refused fault → result ≡ Err (Failing.Fault fault) }
+{
+    match stage {
+        Stage::Leader => Err(Failing::Fault(not_begun())),
+        Stage::Body => Err(Failing::Fault(progress.unfinished())),
+        Stage::Rest => progress.finish(),
+        Stage::Refused(fault) => Err(Failing::Fault(fault)),
     }
 }
 
@@ -170,39 +162,5 @@ fn not_begun() -> TextFault
     TextFault {
         number: Refusal::NoProgramNumber.number(),
         line: 1,
-    }
-}
-
-/// Whether the next byte of a line is kept, where this is kept of it.
-fn keeps(stage: Stage, kept: &[u8]) -> bool
-    ensures { result ≡ keeps stage kept.now }
-{
-    match kept {
-        [] => true,
-        [first, ..] => is_body(stage) && *first != b'%',
-    }
-}
-
-/// Keeps the next byte of a line if it is needed; false where there is no memory for it.
-fn keep_byte(stage: Stage, kept: &mut Vec<u8>, byte: u8) -> bool
-    ensures kept { IsTrue result → kept.new.items ≡ kept_next stage kept.old.items byte }
-    ensures short { length kept.new.items ≤ length kept.old.items + 1 }
-    ensures failed { result ≡ false → kept.new.items ≡ kept.old.items }
-{
-    if !keeps(stage, kept.as_slice()) {
-        return true;
-    }
-    kept.push(byte).is_ok()
-}
-
-fn is_body(stage: Stage) -> bool
-    ensures { result ≡ is_body stage }
-{
-    match stage {
-        Stage::Leader => false,
-        Stage::Body => true,
-        Stage::Rest => false,
-        Stage::Refused(_) => false,
-        Stage::Lost => false,
     }
 }

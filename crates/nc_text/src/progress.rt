@@ -1,7 +1,8 @@
-ghost use Rattle.std.specs.Prelude.{◌≡◌, ◌<◌, ◌≤◌, false, IsTrue, Ok, Err, OnOk};
+ghost use Rattle.std.specs.Prelude.{◌≡◌, ◌<◌, ◌≤◌, false, IsTrue, Ok, Err, OnOk, OnErr};
 ghost use Rattle.nc_text.specs.Lines.{size_of};
 ghost use Rattle.nc_text.specs.Tape.{nothing_read, is_past_end, next, percent_refusal, outer_refusal, said_refusal, is_block, is_said_in_range, with_said, with_program, begun, after_outer, after_percent, after_said, unfinished, finished};
 ghost use Rattle.nc_text.specs.Reading.{Gives};
+ghost use Rattle.nc_text.specs.Mark.{Grows};
 ghost use Rattle.nc_text.specs.declared.said.Said.TheVariants as said;
 
 use crate::fault::TextFault;
@@ -35,7 +36,7 @@ pub(crate) struct Progress {
 }
 
 impl Progress {
-    ghost use Rattle.nc_text.specs.View.{before_of, Advances};
+    ghost use Rattle.nc_text.specs.View.{before_of, Passes, Advances};
 
     pub(crate) fn new(alloc: Global) -> Self
         ensures { before_of result ≡ nothing_read }
@@ -119,11 +120,15 @@ impl Progress {
     }
 
     fn begin_program(&mut self, alloc: Global, number: u32) -> Result<(), AllocError>
-        ensures { OnOk result (before_of self.new ≡ with_program (before_of self.old) number) }
+        ensures ok { OnOk result (before_of self.new ≡ with_program (before_of self.old) number) }
+        ensures as_before { OnErr result (before_of self.new ≡ before_of self.old) }
     {
         let line = self.lines + 1;
         if let Some(program) = self.current.take() {
-            self.done.push(program)?;
+            if let Err(failed) = self.done.push(program) {
+                self.current = Some(failed.value);
+                return Err(AllocError);
+            }
         }
         self.current = Some(Program {
             number,
@@ -135,7 +140,8 @@ impl Progress {
 
     fn add_block(&mut self, block: SaidBlock) -> Result<(), AllocError>
         requires { self.old.blocks < 20000 }
-        ensures { OnOk result (before_of self.new ≡ with_said (before_of self.old) (said.Block block)) }
+        ensures ok { OnOk result (before_of self.new ≡ with_said (before_of self.old) (said.Block block)) }
+        ensures as_before { OnErr result (before_of self.new ≡ before_of self.old) }
     {
         let line = self.lines + 1;
         let SaidBlock {
@@ -143,14 +149,12 @@ impl Progress {
             in_range: _,
             body,
         } = block;
-        if let Some(program) = self.current.take() {
-            let mut program = program;
+        if let Some(program) = &mut self.current {
             program.blocks.push(Block {
                 line,
                 sequence,
                 body,
             })?;
-            self.current = Some(program);
         }
         self.blocks += 1;
         Ok(())
@@ -159,7 +163,8 @@ impl Progress {
     /// Takes what a line says.
     fn take(&mut self, alloc: Global, said: Said) -> Result<(), AllocError>
         requires { IsTrue (is_block said) → self.old.blocks < 20000 }
-        ensures { OnOk result (before_of self.new ≡ with_said (before_of self.old) said) }
+        ensures ok { OnOk result (before_of self.new ≡ with_said (before_of self.old) said) }
+        ensures as_before { OnErr result (before_of self.new ≡ before_of self.old) }
     {
         match said {
             Said::Nothing => Ok(()),
@@ -170,24 +175,26 @@ impl Progress {
     }
 
     /// Takes a line before the first `%` line, or one behind the second.
-    pub(crate) fn pass_outer(&mut self, len: u32, ended: bool) -> Result<(), Failing<Refusal>>
+    pub(crate) fn pass_outer(&mut self, len: u32, ended: bool) -> Result<(), Refusal>
         requires { 0 < size_of len ended }
-        ensures { Advances result (before_of self.new) (after_outer (before_of self.old) len ended) }
+        ensures step { Passes result (before_of self.new) (after_outer (before_of self.old) len ended) }
+        ensures grows { Grows (before_of self.old) (before_of self.new) }
     {
         if let Some(refusal) = self.outer_refusal(len, ended) {
-            return Err(Failing::Fault(refusal));
+            return Err(refusal);
         }
         self.pass(len, ended);
         Ok(())
     }
 
     /// Takes a line that begins with `%`.
-    pub(crate) fn pass_percent(&mut self, len: u32, ended: bool) -> Result<(), Failing<Refusal>>
+    pub(crate) fn pass_percent(&mut self, len: u32, ended: bool) -> Result<(), Refusal>
         requires { 0 < size_of len ended }
-        ensures { Advances result (before_of self.new) (after_percent (before_of self.old) len ended) }
+        ensures step { Passes result (before_of self.new) (after_percent (before_of self.old) len ended) }
+        ensures grows { Grows (before_of self.old) (before_of self.new) }
     {
         if let Some(refusal) = self.percent_refusal(len, ended) {
-            return Err(Failing::Fault(refusal));
+            return Err(refusal);
         }
         self.pass(len, ended);
         Ok(())
@@ -202,7 +209,8 @@ impl Progress {
         said: Said,
     ) -> Result<(), Failing<Refusal>>
         requires { 0 < size_of len ended }
-        ensures { Advances result (before_of self.new) (after_said (before_of self.old) len ended (Ok said)) }
+        ensures step { Advances result (before_of self.new) (after_said (before_of self.old) len ended (Ok said)) }
+        ensures grows { Grows (before_of self.old) (before_of self.new) }
     {
         if let Some(refusal) = self.said_refusal(len, ended, &said) {
             return Err(Failing::Fault(refusal));

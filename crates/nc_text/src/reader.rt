@@ -43,19 +43,23 @@ impl Reader {
     }
 
     /// Takes the next piece of the tape. It refuses where a line that has ended decides the answer, whatever
-    /// follows; from then on every call gives the same refusal. Where memory ran out, part of the tape is lost, and
-    /// every later call says so again.
+    /// follows; from then on every call gives the same refusal. Where memory ran out the piece was not taken, and can be
+    /// given again.
     pub fn feed(&mut self, piece: &[u8]) -> Result<(), Failing<TextFault>>
         ensures reads { (skips : ℕ) (bytes : List ℕ) → HasRead self.old skips bytes → OnOk result (HasRead self.new skips (bytes ++ piece.now)) }
         ensures refuses { (skips : ℕ) (bytes : List ℕ) → HasRead self.old skips bytes → IfRefused result (λ fault. IsRefused skips (bytes ++ piece.now) fault) }
         ensures refused { IfRefused result (λ fault. HasRefused self.new fault) }
         ensures same { (fault : TextFault) → HasRefused self.old fault → (result ≡ Err (Failing.Fault fault)) × (self.new ≡ self.old) }
+        ensures as_before { result ≡ Err Failing.NoMemory → self.new ≡ self.old }
     {
-        if let Err(error) = self.feed.answer() {
-            return Err(error);
+        if let Some(fault) = self.feed.refusal() {
+            return Err(Failing::Fault(fault));
         }
-        self.feed.take_all(piece);
-        self.feed.answer()
+        self.feed.take(piece)?;
+        if let Some(fault) = self.feed.refusal() {
+            return Err(Failing::Fault(fault));
+        }
+        Ok(())
     }
 
     /// Ends the tape, and answers its programs or its refusal: the least line at which one holds, and there the

@@ -1,3 +1,6 @@
+ghost use Rattle.std.specs.Prelude.{◌≡◌};
+ghost use Rattle.nc_text.specs.Reading.{is_body, refusal_of};
+
 use crate::fault::TextFault;
 
 /// Where in a tape a reader stands.
@@ -11,6 +14,26 @@ pub(crate) enum Stage {
     Rest,
     /// The text is refused.
     Refused(TextFault),
-    /// Memory ran out, and part of the text is lost.
-    Lost,
+}
+
+pub(crate) fn is_body(stage: Stage) -> bool
+    ensures { result ≡ is_body stage }
+{
+    match stage {
+        Stage::Leader => false,
+        Stage::Body => true,
+        Stage::Rest => false,
+        Stage::Refused(_) => false,
+    }
+}
+
+pub(crate) fn refusal_of(stage: Stage) -> Option<TextFault>
+    ensures { result ≡ refusal_of stage }
+{
+    match stage {
+        Stage::Leader => None,
+        Stage::Body => None,
+        Stage::Rest => None,
+        Stage::Refused(fault) => Some(fault),
+    }
 }

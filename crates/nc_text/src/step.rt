@@ -1,18 +1,21 @@
-ghost use Rattle.std.specs.Prelude.{◌≡◌, ◌∷◌, ◌<◌, ◌-◌, ◌^◌, List, ℕ, length};
-ghost use Rattle.nc_text.specs.Lines.{Line, is_percent, size_of};
+ghost use Rattle.std.specs.Prelude.{◌≡◌, ◌∷◌, ◌<◌, ◌-◌, ◌^◌, List, ℕ, true, length, ◌≤◌, IfOk, Ok};
+ghost use Rattle.nc_text.specs.Lines.{Line, IsOneLine, is_percent, size_of};
 ghost use Rattle.nc_text.specs.declared.fault.TextFault.{TextFault};
 ghost use Rattle.nc_text.specs.Refusals.{refusal_number};
 ghost use Rattle.nc_text.specs.Said.{line_says};
-ghost use Rattle.nc_text.specs.Tape.{in_leader, in_body, in_rest, after_said};
+ghost use Rattle.nc_text.specs.Tape.{Before, in_leader, in_body, in_rest, after_said};
 ghost use Rattle.nc_text.specs.View.{before_of, Advances};
-ghost use Rattle.nc_text.specs.Reading.{continued, kept_of, UnlessLost};
+ghost use Rattle.nc_text.specs.Mark.{Grows};
+ghost use Rattle.nc_text.specs.Reading.{continued, kept_of, LeadsTo};
 
 use crate::fault::TextFault;
 use crate::line::read_line;
+use crate::line_feed::cut_at_line_feed;
+use crate::open_line::{kept_of, longer};
 use crate::progress::Progress;
 use crate::refusal::Refusal;
 use crate::stage::Stage;
-use nc_number::Failing;
+use nc_number::{Failing, NoMemory};
 use std::alloc::Global;
 
 /// A line that begins with `%` begins or ends the tape.
@@ -35,8 +38,9 @@ fn fault_at(line: u32, refusal: Refusal) -> TextFault
 /// A line before the first `%` line, or that line.
 fn leader_line(progress: &mut Progress, percent: bool, len: u32, ended: bool) -> Stage
     requires { 0 < size_of len ended }
-    ensures { UnlessLost result ((skips : ℕ) (lines : List Line) (bytes : List ℕ) → is_percent bytes ≡ percent → length bytes ≡ len →
-        in_leader skips (record { bytes = bytes; ended = ended } ∷ lines) (before_of progress.old) ≡ continued skips result lines (before_of progress.new)) }
+    ensures step { (skips : ℕ) (lines : List Line) (bytes : List ℕ) → is_percent bytes ≡ percent → length bytes ≡ len →
+        in_leader skips (record { bytes = bytes; ended = ended } ∷ lines) (before_of progress.old) ≡ continued skips result lines (before_of progress.new) }
+    ensures grows { Grows (before_of progress.old) (before_of progress.new) }
 {
     let line = progress.lines + 1;
     if percent {
@@ -45,14 +49,12 @@ fn leader_line(progress: &mut Progress, percent: bool, len: u32, ended: bool) ->
                 progress.begin();
                 Stage::Body
             }
-            Err(Failing::Fault(refusal)) => Stage::Refused(fault_at(line, refusal)),
-            Err(Failing::NoMemory) => Stage::Lost,
+            Err(refusal) => Stage::Refused(fault_at(line, refusal)),
         }
     } else {
         match progress.pass_outer(len, ended) {
             Ok(()) => Stage::Leader,
-            Err(Failing::Fault(refusal)) => Stage::Refused(fault_at(line, refusal)),
-            Err(Failing::NoMemory) => Stage::Lost,
+            Err(refusal) => Stage::Refused(fault_at(line, refusal)),
         }
     }
 }
@@ -60,14 +62,28 @@ fn leader_line(progress: &mut Progress, percent: bool, len: u32, ended: bool) ->
 /// A line behind the second `%` line.
 fn rest_line(progress: &mut Progress, len: u32, ended: bool) -> Stage
     requires { 0 < size_of len ended }
-    ensures { UnlessLost result ((skips : ℕ) (lines : List Line) (bytes : List ℕ) → length bytes ≡ len →
-        in_rest (record { bytes = bytes; ended = ended } ∷ lines) (before_of progress.old) ≡ continued skips result lines (before_of progress.new)) }
+    ensures step { (skips : ℕ) (lines : List Line) (bytes : List ℕ) → length bytes ≡ len →
+        in_rest (record { bytes = bytes; ended = ended } ∷ lines) (before_of progress.old) ≡ continued skips result lines (before_of progress.new) }
+    ensures grows { Grows (before_of progress.old) (before_of progress.new) }
 {
     let line = progress.lines + 1;
     match progress.pass_outer(len, ended) {
         Ok(()) => Stage::Rest,
-        Err(Failing::Fault(refusal)) => Stage::Refused(fault_at(line, refusal)),
-        Err(Failing::NoMemory) => Stage::Lost,
+        Err(refusal) => Stage::Refused(fault_at(line, refusal)),
+    }
+}
+
+/// The second `%` line.
+fn last_percent(progress: &mut Progress, len: u32, ended: bool) -> Stage
+    requires { 0 < size_of len ended }
+    ensures step { (skips : ℕ) (lines : List Line) (bytes : List ℕ) → is_percent bytes ≡ true → length bytes ≡ len →
+        in_body skips (record { bytes = bytes; ended = ended } ∷ lines) (before_of progress.old) ≡ continued skips result lines (before_of progress.new) }
+    ensures grows { Grows (before_of progress.old) (before_of progress.new) }
+{
+    let line = progress.lines + 1;
+    match progress.pass_percent(len, ended) {
+        Ok(()) => Stage::Rest,
+        Err(refusal) => Stage::Refused(fault_at(line, refusal)),
     }
 }
 
@@ -82,7 +98,8 @@ fn program_line(
 ) -> Result<(), Failing<Refusal>>
     requires some { 0 < size_of len ended }
     requires short { length bytes.now < 2 ^ 32 - 1 }
-    ensures { Advances result (before_of progress.new) (after_said (before_of progress.old) len ended (line_says skips bytes.now ended)) }
+    ensures step { Advances result (before_of progress.new) (after_said (before_of progress.old) len ended (line_says skips bytes.now ended)) }
+    ensures grows { Grows (before_of progress.old) (before_of progress.new) }
 {
     match read_line(alloc, skips, bytes, ended) {
         Ok(said) => progress.pass_said(alloc, len, ended, said),
@@ -98,25 +115,21 @@ fn body_line(
     kept: &[u8],
     len: u32,
     ended: bool,
-) -> Stage
+) -> Result<Stage, NoMemory>
     requires some { 0 < size_of len ended }
     requires short { length kept.now < 2 ^ 32 - 1 }
-    ensures { UnlessLost result ((lines : List Line) (bytes : List ℕ) → kept.now ≡ kept_of Stage.Body bytes → length bytes ≡ len →
-        in_body skips (record { bytes = bytes; ended = ended } ∷ lines) (before_of progress.old) ≡ continued skips result lines (before_of progress.new)) }
+    ensures step { IfOk result (λ stage. (lines : List Line) (bytes : List ℕ) → kept.now ≡ kept_of Stage.Body bytes → length bytes ≡ len →
+        in_body skips (record { bytes = bytes; ended = ended } ∷ lines) (before_of progress.old) ≡ continued skips stage lines (before_of progress.new)) }
+    ensures grows { Grows (before_of progress.old) (before_of progress.new) }
 {
-    let line = progress.lines + 1;
     if is_percent(kept) {
-        match progress.pass_percent(len, ended) {
-            Ok(()) => Stage::Rest,
-            Err(Failing::Fault(refusal)) => Stage::Refused(fault_at(line, refusal)),
-            Err(Failing::NoMemory) => Stage::Lost,
-        }
-    } else {
-        match program_line(progress, alloc, skips, kept, len, ended) {
-            Ok(()) => Stage::Body,
-            Err(Failing::Fault(refusal)) => Stage::Refused(fault_at(line, refusal)),
-            Err(Failing::NoMemory) => Stage::Lost,
-        }
+        return Ok(last_percent(progress, len, ended));
+    }
+    let line = progress.lines + 1;
+    match program_line(progress, alloc, skips, kept, len, ended) {
+        Ok(()) => Ok(Stage::Body),
+        Err(Failing::Fault(refusal)) => Ok(Stage::Refused(fault_at(line, refusal))),
+        Err(Failing::NoMemory) => Err(NoMemory),
     }
 }
 
@@ -129,18 +142,74 @@ pub(crate) fn behind_line(
     kept: &[u8],
     len: u32,
     ended: bool,
-) -> Stage
+) -> Result<Stage, NoMemory>
     requires some { 0 < size_of len ended }
     requires short { length kept.now < 2 ^ 32 - 1 }
-    ensures step { UnlessLost result ((lines : List Line) (bytes : List ℕ) → kept.now ≡ kept_of stage bytes → length bytes ≡ len →
-        continued skips stage (record { bytes = bytes; ended = ended } ∷ lines) (before_of progress.old) ≡ continued skips result lines (before_of progress.new)) }
-    ensures same { (fault : TextFault) → stage ≡ Stage.Refused fault → result ≡ Stage.Refused fault }
+    ensures step { IfOk result (λ behind. (lines : List Line) (bytes : List ℕ) → kept.now ≡ kept_of stage bytes → length bytes ≡ len →
+        continued skips stage (record { bytes = bytes; ended = ended } ∷ lines) (before_of progress.old) ≡ continued skips behind lines (before_of progress.new)) }
+    ensures grows { Grows (before_of progress.old) (before_of progress.new) }
+    ensures same { (fault : TextFault) → stage ≡ Stage.Refused fault → result ≡ Ok (Stage.Refused fault) }
 {
     match stage {
-        Stage::Leader => leader_line(progress, is_percent(kept), len, ended),
+        Stage::Leader => Ok(leader_line(progress, is_percent(kept), len, ended)),
         Stage::Body => body_line(progress, alloc, skips, kept, len, ended),
-        Stage::Rest => rest_line(progress, len, ended),
-        Stage::Refused(fault) => Stage::Refused(fault),
-        Stage::Lost => Stage::Lost,
+        Stage::Rest => Ok(rest_line(progress, len, ended)),
+        Stage::Refused(fault) => Ok(Stage::Refused(fault)),
     }
+}
+
+/// Where the reader stands behind a line that lies whole in a text.
+fn behind_whole_line(
+    stage: Stage,
+    progress: &mut Progress,
+    alloc: Global,
+    skips: u16,
+    bytes: &[u8],
+) -> Result<Stage, NoMemory>
+    ensures step { IfOk result (λ behind. (lines : List Line) →
+        continued skips stage (record { bytes = bytes.now; ended = true } ∷ lines) (before_of progress.old) ≡ continued skips behind lines (before_of progress.new)) }
+    ensures grows { Grows (before_of progress.old) (before_of progress.new) }
+{
+    let len = longer(0, bytes)?;
+    behind_line(
+        stage,
+        progress,
+        alloc,
+        skips,
+        kept_of(stage, bytes),
+        len,
+        true,
+    )
+}
+
+/// What is left to read of a text: nothing where it is refused.
+fn left_to_read(stage: Stage, text: &[u8]) -> &[u8]
+    ensures same { (skips : ℕ) (before : Before) → LeadsTo skips stage before text.now stage before result.now }
+    ensures short { length result.now ≤ length text.now }
+{
+    match stage {
+        Stage::Refused(_) => text.split_at(0).0,
+        _ => text,
+    }
+}
+
+/// Where the reader stands behind the lines that end in a text, and what stands behind the last of them.
+pub(crate) fn behind_lines<'a>(
+    stage: Stage,
+    progress: &mut Progress,
+    alloc: Global,
+    skips: u16,
+    text: &'a [u8],
+) -> Result<(Stage, &'a [u8]), NoMemory>
+    ensures reads { IfOk result (λ behind. LeadsTo skips stage (before_of progress.old) text.now behind.0 (before_of progress.new) behind.1.now) }
+    ensures one_line { IfOk result (λ behind. IsOneLine behind.1.now) }
+    ensures grows { Grows (before_of progress.old) (before_of progress.new) }
+{
+    let mut stage = stage;
+    let mut rest = left_to_read(stage, text);
+    while let Some((line, behind)) = cut_at_line_feed(rest) {
+        stage = behind_whole_line(stage, progress, alloc, skips, line)?;
+        rest = left_to_read(stage, behind);
+    }
+    Ok((stage, rest))
 }

@@ -1,4 +1,4 @@
-ghost use Rattle.std.specs.Prelude.{◌≡◌, [], ◌∷◌, ◌++◌, OnOk, OnErr};
+ghost use Rattle.std.specs.Prelude.{◌≡◌, [], ◌∷◌, ◌++◌, take, OnOk, OnErr};
 
 use std::alloc::{AllocFailed, Global};
 use std::marker::Model;
@@ -127,6 +127,12 @@ impl BlockList {
         ensures err { OnErr result (self.new ≡ self.old) }
     {
         self.blocks.push(block)
+    }
+
+    pub(crate) fn truncate(&mut self, count: usize)
+        ensures { self.new ≡ take count self.old }
+    {
+        self.blocks.truncate(count);
     }
 }
 

@@ -1,5 +1,10 @@
-use Rattle.nc_text.proofs.Blanks.{only_comments}
+use Rattle.std.proofs.Common.{true, false}
+use Rattle.nc_text.proofs.Removed.{emptied, taken_out, last_out, comments_say}
 use Rattle.nc_text.proofs.laws.a_line_of_comments_is_no_block.Goals as goal
 
 pub returns : goal.returns
-returns c = only_comments
+returns c = record {
+  emptied = λ skips front line back is h. emptied skips front line back is (comments_say skips line true h);
+  taken_out = λ skips front line back is some h. taken_out skips front line back is some (comments_say skips line true h);
+  last = λ skips front line is some h. last_out skips front line is some (comments_say skips line false h);
+}

@@ -1,14 +1,15 @@
+use Rattle.std.proofs.Common.{◌∙◌}
 use Rattle.nc_text.specs.View.{before_of}
 use Rattle.nc_text.proofs.Standing.{no_line, last_line}
 use Rattle.nc_text.proofs.feed.Feed.finish.Goals as goal
 
-pub returns-then-feed-eq0-clause-exact : goal.returns-then-feed-eq0-clause-exact
-returns-then-feed-eq0-clause-exact c =
+pub returns-then-line-eq0-clause-exact : goal.returns-then-line-eq0-clause-exact
+returns-then-line-eq0-clause-exact c =
     let feed = c.args.self in
-    no_line feed.skips feed.stage feed.kept.items feed.len (before_of feed.progress) c.conclude.result c.if-feed-eq0.true c.conclude.ensures.exact
+    no_line feed.skips feed.line.stage feed.line.kept.items feed.line.len (before_of feed.progress) c.conclude.result c.if-line-eq0.true c.conclude.ensures.exact
 
 pub returns-clause-exact : goal.returns-clause-exact
 returns-clause-exact c =
-    let old = c.args.self in
-    let new = c.end_line.new.self in
-    last_line old.skips new.skips old.stage new.stage old.kept.items old.len (before_of old.progress) (before_of new.progress) c.conclude-2.result c.if-feed-eq0.false c.end_line.ensures.skips c.end_line.ensures.step c.conclude-2.ensures.exact c.conclude-2.ensures.lost
+    let feed = c.args.self in
+    last_line feed.skips feed.line.stage c.in_ok-stage.stage feed.line.kept.items feed.line.len (before_of feed.progress) (before_of c.behind_line.new.progress) c.conclude-2.result c.if-line-eq0.false
+    (λ lines line kept. c.in_ok-stage.ensures.step lines line (c.as_slice.ensures.value ∙ kept)) c.conclude-2.ensures.exact

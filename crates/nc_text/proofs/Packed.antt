@@ -1,0 +1,78 @@
+-- A line without its blanks has the same signs, but for their places.
+use Rattle.std.proofs.Common.{◌≡◌, ◌==◌, ℕ, ◌+◌, ◌-◌, Bool, true, false, cond, not, ◌&&◌, List, [], ◌∷◌, ◌++◌, length, take, get_or, refl, sym, ap, subst, ◌∙◌, append-nil, append_assoc, arith}
+use Rattle.std.specs.Prelude.{filter}
+use Rattle.std.specs.List.{prefix_len, suffix_len}
+use Rattle.std.proofs.lemmas.List.{length_push, get_or_push, take_all, take_at, reverse-append, take-append-le}
+use Rattle.std.proofs.lemmas.List.Elements.{filter-append}
+use Rattle.nc_text.specs.Signs.{is_blank, inside_behind, scan_of, without_last, without_return, without_blanks, content_of, signs_of}
+use Rattle.nc_text.specs.Pieces.{IsSameText}
+use Rattle.nc_text.proofs.Blanks.{added, same_chain, blank_here}
+
+-- the bytes that are no blanks
+abbrev pub packed : List ℕ → List ℕ
+packed line = filter (λ b. not (is_blank b)) line
+
+packed_here : (test : Bool) (b : ℕ) (bs : List ℕ) (inside : Bool) (place : ℕ) → is_blank b ≡ test → ((i : Bool) (p : ℕ) → IsSameText (scan_of bs i p) (scan_of (packed bs) i p))
+    → IsSameText (scan_of (b ∷ bs) inside place) (scan_of (cond (not test) (b ∷ packed bs) (packed bs)) inside place)
+packed_here true b bs inside place blank later = same_chain _ _ _ (blank_here b bs inside place blank) (later inside place)
+packed_here false b bs inside place blank later = added (not inside && not (is_blank b)) place place b _ _ (later (inside_behind inside b) (place + 1))
+
+scan_packed : (line : List ℕ) (inside : Bool) (place : ℕ) → IsSameText (scan_of line inside place) (scan_of (packed line) inside place)
+scan_packed [] inside place = record { bytes = refl; unclosed = refl }
+scan_packed (b ∷ bs) inside place = packed_here (is_blank b) b bs inside place refl (scan_packed bs)
+
+-- a line is empty or has a last byte
+by_last : (P : List ℕ → Type 0) → ((xs : List ℕ) (x : ℕ) → P xs → P (xs ++ x ∷ [])) → (ys xs : List ℕ) → P xs → P (xs ++ ys)
+by_last P push [] xs p = subst P (sym (append-nil xs)) p
+by_last P push (y ∷ ys) xs p = subst P (append_assoc xs (y ∷ []) ys) (by_last P push ys (xs ++ y ∷ []) (push xs y p))
+
+pub last_pushed : (k : ℕ) (xs : List ℕ) (x : ℕ) → without_last k (xs ++ x ∷ []) ≡ cond (x == k) xs (xs ++ x ∷ [])
+last_pushed k xs x =
+    let before : length (xs ++ x ∷ []) - 1 ≡ length xs = omega (arith, length_push xs x) in
+    ap (λ (n : ℕ). cond (get_or (xs ++ x ∷ []) n 0 == k) (take n (xs ++ x ∷ [])) (xs ++ x ∷ [])) before
+    ∙ ap (λ (b : ℕ). cond (b == k) (take (length xs) (xs ++ x ∷ [])) (xs ++ x ∷ [])) (get_or_push xs x 0 (length xs) refl)
+    ∙ ap (λ (l : List ℕ). cond (x == k) l (xs ++ x ∷ [])) (take_at xs (x ∷ []) (length xs) refl)
+
+suffix_pushed : (xs : List ℕ) (x : ℕ) → suffix_len is_blank (xs ++ x ∷ []) ≡ cond (is_blank x) (1 + suffix_len is_blank xs) 0
+suffix_pushed xs x = ap (prefix_len is_blank) (reverse-append xs (x ∷ []))
+
+trimmed_blank : (xs : List ℕ) (x : ℕ) → is_blank x ≡ true → without_blanks (xs ++ x ∷ []) ≡ without_blanks xs
+trimmed_blank xs x blank =
+    let count : suffix_len is_blank (xs ++ x ∷ []) ≡ 1 + suffix_len is_blank xs = suffix_pushed xs x ∙ ap (λ (t : Bool). cond t (1 + suffix_len is_blank xs) 0) blank in
+    let long : length (xs ++ x ∷ []) - suffix_len is_blank (xs ++ x ∷ []) ≡ length xs - suffix_len is_blank xs = omega (arith, length_push xs x) in
+    ap (λ (n : ℕ). take n (xs ++ x ∷ [])) long ∙ take-append-le (length xs - suffix_len is_blank xs) xs (x ∷ []) (omega arith)
+
+trimmed_other : (xs : List ℕ) (x : ℕ) → is_blank x ≡ false → without_blanks (xs ++ x ∷ []) ≡ xs ++ x ∷ []
+trimmed_other xs x other =
+    let count : suffix_len is_blank (xs ++ x ∷ []) ≡ 0 = suffix_pushed xs x ∙ ap (λ (t : Bool). cond t (1 + suffix_len is_blank xs) 0) other in
+    let long : length (xs ++ x ∷ []) - suffix_len is_blank (xs ++ x ∷ []) ≡ length (xs ++ x ∷ []) = omega arith in
+    ap (λ (n : ℕ). take n (xs ++ x ∷ [])) long ∙ take_all (length (xs ++ x ∷ [])) (xs ++ x ∷ []) (omega arith)
+
+packed_pushed : (test : Bool) (xs : List ℕ) (x : ℕ) → is_blank x ≡ test → packed (xs ++ x ∷ []) ≡ packed xs ++ cond (not test) (x ∷ []) []
+packed_pushed test xs x e = filter-append (λ b. not (is_blank b)) xs (x ∷ []) ∙ ap (λ (t : Bool). packed xs ++ cond (not t) (x ∷ []) []) e
+
+pub either_packed : (test : Bool) (a b : List ℕ) → packed (cond test a b) ≡ cond test (packed a) (packed b)
+either_packed true a b = refl
+either_packed false a b = refl
+
+-- blanks at the end and one `;` before them
+abbrev Ends : List ℕ → Type 0
+Ends line = packed (without_last 59 (without_blanks line)) ≡ without_last 59 (packed line)
+
+ends_pushed : (xs : List ℕ) (x : ℕ) → Ends xs → Ends (xs ++ x ∷ [])
+ends_pushed xs x before = go (is_blank x) refl
+  where
+    go : (test : Bool) → is_blank x ≡ test → Ends (xs ++ x ∷ [])
+    go true blank =
+        ap (λ (l : List ℕ). packed (without_last 59 l)) (trimmed_blank xs x blank) ∙ before ∙ ap (without_last 59) (sym (packed_pushed true xs x blank ∙ append-nil (packed xs)))
+    go false other =
+        ap (λ (l : List ℕ). packed (without_last 59 l)) (trimmed_other xs x other) ∙ ap packed (last_pushed 59 xs x) ∙ either_packed (x == 59) xs (xs ++ x ∷ [])
+        ∙ ap (λ (l : List ℕ). cond (x == 59) (packed xs) l) (packed_pushed false xs x other) ∙ sym (last_pushed 59 (packed xs) x) ∙ ap (without_last 59) (sym (packed_pushed false xs x other))
+
+content_packed : (line : List ℕ) (ended : Bool) → packed (content_of line ended) ≡ without_last 59 (packed (without_return line ended))
+content_packed line ended = by_last Ends ends_pushed (without_return line ended) [] refl
+
+-- what counts of a line is what counts without its blanks
+pub signs_packed : (line : List ℕ) (ended : Bool) → IsSameText (signs_of line ended) (scan_of (without_last 59 (packed (without_return line ended))) false 0)
+unfolding signs_of
+signs_packed line ended = subst (λ (l : List ℕ). IsSameText (scan_of (content_of line ended) false 0) (scan_of l false 0)) (content_packed line ended) (scan_packed (content_of line ended) false 0)

@@ -1,0 +1,38 @@
+-- An answer with other line numbers or other words.
+use Rattle.std.specs.Prelude.{ℕ, ◌-◌, nat_lt, map, Ok, Err, if◌then◌else◌}
+use Rattle.nc_text.specs.declared.tape.Word.{Word}
+use Rattle.nc_text.specs.declared.tape.Body.{Body}
+use Rattle.nc_text.specs.declared.tape.Body.TheVariants.{Words, Statement}
+use Rattle.nc_text.specs.declared.tape.Block.{Block}
+use Rattle.nc_text.specs.declared.tape.Program.{Program}
+use Rattle.nc_text.specs.Tape.{Answer}
+
+abbrev pub changed_body : (Word → Word) → Body → Body
+changed_body word (Words words) = Words (map word words)
+changed_body word (Statement text) = Statement text
+
+abbrev pub changed_block : (ℕ → ℕ) → (Word → Word) → Block → Block
+changed_block line word block = record block { line = line block.line; body = changed_body word block.body }
+
+abbrev pub changed_program : (ℕ → ℕ) → (Word → Word) → Program → Program
+changed_program line word program = record program { line = line program.line; blocks = map (changed_block line word) program.blocks }
+
+-- an answer with each line number and each word changed
+abbrev pub changed : (ℕ → ℕ) → (Word → Word) → Answer → Answer
+changed line word (Ok programs) = Ok (map (changed_program line word) programs)
+changed line word (Err fault) = Err (record fault { line = line fault.line })
+
+-- the number of a line, where a line behind so many is taken out
+abbrev pub lower : ℕ → ℕ → ℕ
+lower before line = if nat_lt before line then line - 1 else line
+
+-- an answer with each line number above this one lowered by one
+abbrev pub lowered : ℕ → Answer → Answer
+lowered before answer = changed (lower before) (λ word. word) answer
+
+abbrev pub without_place : Word → Word
+without_place word = record word { start = 0; end = 0 }
+
+-- an answer without the places of its words
+abbrev pub forget_places : Answer → Answer
+forget_places answer = changed (λ line. line) without_place answer

@@ -1,0 +1,50 @@
+-- What was read up to a mark, and what was read since.
+use Rattle.std.specs.Prelude.{◌≡◌, ℕ, List, [], ◌∷◌, ◌++◌, length, take, Option, Some, None}
+use Rattle.std.specs.Option.{option_to_list}
+use Rattle.nc_text.specs.declared.tape.Block.{Block}
+use Rattle.nc_text.specs.declared.tape.Program.{Program}
+use Rattle.nc_text.specs.declared.mark.Mark.{Mark}
+use Rattle.nc_text.specs.Tape.{Before}
+
+abbrev pub block_count : Option Program → Option ℕ
+block_count None = None
+block_count (Some program) = Some (length program.blocks)
+
+-- the mark tells all that is needed to go back to what was read up to there
+pub record IsMarkOf (mark : Mark) (start : Before) : Type 0 where
+  pub lines_are : mark.lines ≡ start.lines
+  pub bytes_are : mark.bytes ≡ start.bytes
+  pub percent_is : mark.percent ≡ start.percent
+  pub blocks_are : mark.blocks ≡ start.blocks
+  pub done_are : mark.done ≡ length start.done
+  pub current_is : mark.current ≡ block_count start.current
+
+abbrev pub first_blocks : ℕ → Option Program → Option Program
+first_blocks count None = None
+first_blocks count (Some program) = Some (record program { blocks = take count program.blocks })
+
+-- the first blocks of a program, or no program
+abbrev pub cut_program : Option ℕ → Option Program → Option Program
+cut_program None program = None
+cut_program (Some count) program = first_blocks count program
+
+abbrev pub first_of : List Program → Option Program
+first_of [] = None
+first_of (program ∷ programs) = Some program
+
+-- the same program with blocks behind those that it had
+abbrev pub with_blocks : Program → List Block → Program
+with_blocks program more = record program { blocks = program.blocks ++ more }
+
+-- the program that was being read, if one was, is the first of these, with blocks behind those that it had
+abbrev pub GoesOn : Option Program → List Program → Type 0
+GoesOn None programs = Unit {0}
+GoesOn (Some program) programs = (more : List Block) × (others : List Program) × (programs ≡ with_blocks program more ∷ others)
+
+-- what is read now begins with what was read at the start: its programs stand, and the one that was being read goes on
+abbrev pub Follows : Before → Before → Type 0
+Follows start now = (programs : List Program) × (now.done ≡ start.done ++ programs) × GoesOn start.current (programs ++ option_to_list now.current)
+
+-- what was read at any time before still stands
+abbrev pub Grows : Before → Before → Type 0
+Grows old new = (start : Before) → Follows start old → Follows start new

@@ -1,0 +1,72 @@
+ghost use Rattle.std.specs.Prelude.{◌≡◌, ◌++◌, List, length};
+ghost use Rattle.std.specs.Option.{option_to_list};
+ghost use Rattle.nc_text.specs.declared.tape.Program.{Program};
+ghost use Rattle.nc_text.specs.Tape.{Before};
+ghost use Rattle.nc_text.specs.View.{before_of};
+ghost use Rattle.nc_text.specs.Mark.{IsMarkOf, Follows, block_count, first_of, cut_program};
+
+use crate::mark::Mark;
+use crate::progress::Progress;
+use crate::tape::Program;
+
+impl Progress {
+    /// Where to go back to what was read so far.
+    pub(crate) fn mark(&self) -> Mark
+        ensures { IsMarkOf result (before_of self.now) }
+    {
+        Mark {
+            lines: self.lines,
+            bytes: self.bytes,
+            percent: self.percent,
+            blocks: self.blocks,
+            done: self.done.len(),
+            current: block_count(&self.current),
+        }
+    }
+
+    /// Goes back to what was read at the mark. It takes no memory.
+    pub(crate) fn cut_back(&mut self, mark: &Mark)
+        ensures { (start : Before) → IsMarkOf mark.now start → Follows start (before_of self.old) → before_of self.new ≡ start }
+    {
+        reopen(&mut self.done, &mut self.current, mark.done);
+        cut_program(&mut self.current, mark.current);
+        self.lines = mark.lines;
+        self.bytes = mark.bytes;
+        self.percent = mark.percent;
+        self.blocks = mark.blocks;
+    }
+}
+
+fn block_count(program: &Option<Program>) -> Option<usize>
+    ensures { result ≡ block_count program.now }
+{
+    match program {
+        None => None,
+        Some(program) => Some(program.blocks.as_slice().len()),
+    }
+}
+
+/// Makes the program behind so many the current one.
+fn reopen(done: &mut Vec<Program>, current: &mut Option<Program>, count: usize)
+    ensures { (stood : List Program) (since : List Program) → length stood ≡ count → done.old.items ≡ stood ++ since →
+        (done.new.items ≡ stood) × (current.new ≡ first_of (since ++ option_to_list current.old)) }
+{
+    if done.len() > count {
+        done.truncate(count + 1);
+        *current = done.pop();
+    }
+}
+
+/// Leaves the first blocks of a program, or no program.
+fn cut_program(program: &mut Option<Program>, blocks: Option<usize>)
+    ensures { program.new ≡ cut_program blocks program.old }
+{
+    match blocks {
+        None => *program = None,
+        Some(count) => {
+            if let Some(program) = program {
+                program.blocks.truncate(count);
+            }
+        }
+    }
+}
