@@ -1,7 +1,7 @@
 ghost use Rattle.std.specs.Prelude.{◌<◌, ◌^◌, length};
 
 use crate::{PresetKind, read_settings};
-use nc_number::{Failing, Path, Point};
+use nc_number::{Failing, Point};
 use std::alloc::Global;
 
 /// The line that is refused, or 0 where none is.
@@ -112,57 +112,4 @@ fn a_later_line_replaces_and_switches_add_up(rt: HostRuntime) {
     assert_eq!(&rt; presets.len(), 2);
     assert_eq!(&rt; presets[0].kind, PresetKind::Wear);
     assert_eq!(&rt; presets[1].to, Point { x: 3000, z: 4000 });
-}
-
-#[test]
-fn the_settings_of_a_realistic_pair(rt: HostRuntime) {
-    let settings = read_settings(
-        rt.alloc(),
-        b"place 1 X200. Z150.\nplace 2 X200. Z150.\nhome 1 X300. Z200.\nhome 2 X300. Z200.\nwork 1 54 X0 Z100.\nwork 2 54 X0 Z100.\ntool 1 1 X-20. Z-10.\ntool 2 2 X-10. Z5.\n",
-    )
-    .expect(&rt, "settings");
-    let at = Point {
-        x: 200_000,
-        z: 150_000,
-    };
-    let home = Point {
-        x: 300_000,
-        z: 200_000,
-    };
-    assert_eq!(&rt; settings.place, [at, at]);
-    assert_eq!(&rt; settings.home, [home, home]);
-    let presets = settings.presets.as_slice();
-    assert_eq!(&rt; presets.len(), 4);
-    assert_eq!(&rt;
-        (presets[1].path, presets[1].kind),
-        (Path::Two, PresetKind::Work)
-    );
-    assert_eq!(&rt;
-        (presets[1].number, presets[1].to),
-        (1, Point { x: 0, z: 100_000 })
-    );
-    assert_eq!(&rt;
-        (presets[2].path, presets[2].kind),
-        (Path::One, PresetKind::Geometry)
-    );
-    assert_eq!(&rt;
-        (presets[2].number, presets[2].to),
-        (
-            1,
-            Point {
-                x: -20_000,
-                z: -10_000
-            }
-        )
-    );
-    assert_eq!(&rt;
-        (presets[3].number, presets[3].to),
-        (
-            2,
-            Point {
-                x: -10_000,
-                z: 5_000
-            }
-        )
-    );
 }

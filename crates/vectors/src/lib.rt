@@ -1,0 +1,22 @@
+//! Tables of tests that cross crates: what the reader of tapes, the settings and the maker of pairs say of the realistic
+//! pair, of made pairs, of the program's own examples and of hostile texts.
+//!
+//! The answers that are expected stem from the rules of tapes and settings, and never from what the program answered.
+#![tactic(auto)]
+
+#[cfg(test)]
+mod hostile;
+#[cfg(test)]
+mod listing;
+#[cfg(test)]
+mod made_pair;
+#[cfg(test)]
+mod reading;
+#[cfg(test)]
+mod realistic;
+#[cfg(test)]
+mod refusals;
+#[cfg(test)]
+mod settings;
+#[cfg(test)]
+mod straight_pair;
