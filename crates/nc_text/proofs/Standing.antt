@@ -11,7 +11,7 @@ use Rattle.nc_text.specs.declared.stage.Stage.{Stage}
 use Rattle.nc_text.specs.declared.stage.Stage.TheVariants as stages
 use Rattle.nc_text.specs.Lines.{Line, IsOneLine, lines_of}
 use Rattle.nc_text.specs.Tape.{Before, tape_of}
-use Rattle.nc_text.specs.Reading.{State, refusal_of, kept_of, more_kept, continued, LeadsTo, IsLine, IsAt, HasRead, IsRefused, Gives}
+use Rattle.nc_text.specs.Reading.{State, refusal_of, kept_of, more_kept, continued, LeadsTo, IsOpenLine, IsAt, HasRead, IsRefused, Gives}
 use Rattle.nc_text.proofs.LineEnds.{line_ends, text_ends, kept_none, kept_more}
 
 abbrev pub state : ℕ → Stage → List ℕ → ℕ → Before → State
@@ -28,12 +28,12 @@ kept_back stage kept piece longer shorter n n-is longer-is shorter-is =
     shorter-is ∙ ap (λ (k : ℕ). take k longer) n-is ∙ ap (take (length kept)) longer-is ∙ take-append_seam kept (more_kept stage kept piece)
 
 -- the line that begins with no bytes
-pub no_bytes : (stage : Stage) (kept : List ℕ) (len : ℕ) → kept ≡ [] → len ≡ 0 → IsLine stage kept len []
+pub no_bytes : (stage : Stage) (kept : List ℕ) (len : ℕ) → kept ≡ [] → len ≡ 0 → IsOpenLine stage kept len []
 no_bytes stage kept len kept-is len-is = record { one_line = All-nil (λ (x : ℕ). (x == 10) ≡ false); kept_is = kept-is ∙ sym (kept_none stage); len_is = len-is }
 
 -- the present line with a piece more
 pub line_extended : (stage new-stage : Stage) (kept new-kept : List ℕ) (len new-len : ℕ) (piece line : List ℕ) → IsOneLine piece → new-stage ≡ stage → new-kept ≡ kept ++ more_kept stage kept piece → new-len ≡ len + length piece
-    → IsLine stage kept len line → IsLine new-stage new-kept new-len (line ++ piece)
+    → IsOpenLine stage kept len line → IsOpenLine new-stage new-kept new-len (line ++ piece)
 line_extended stage new-stage kept new-kept len new-len piece line one stage-is kept-is len-is is =
     let kept-all : new-kept ≡ kept_of stage (line ++ piece) = kept-is ∙ ap (λ (k : List ℕ). k ++ more_kept stage k piece) is.kept_is ∙ kept_more stage line piece in record {
       one_line = All-append (λ (x : ℕ). (x == 10) ≡ false) line piece is.one_line one;
@@ -79,8 +79,8 @@ leads_on s a b c x y z first second third p q = λ more. p more ∙ q more
 -- the line that was ended, and the line that is begun behind it
 pub next_line : (s : ℕ) (stage mid-stage new-stage last-stage : Stage) (kept last-kept : List ℕ) (len last-len : ℕ) (before mid-before new-before : Before) (behind rest : List ℕ)
     → ((lines : List Line) (line : List ℕ) → kept ≡ kept_of stage line → length line ≡ len → continued s stage (record { bytes = line; ended = true } ∷ lines) before ≡ continued s mid-stage lines mid-before)
-    → LeadsTo s mid-stage mid-before behind new-stage new-before rest → last-stage ≡ new-stage → IsLine last-stage last-kept last-len rest → (line : List ℕ) → IsLine stage kept len line
-    → (bytes : List ℕ) × IsLine last-stage last-kept last-len bytes × LeadsTo s stage before (line ++ 10 ∷ behind) last-stage new-before bytes
+    → LeadsTo s mid-stage mid-before behind new-stage new-before rest → last-stage ≡ new-stage → IsOpenLine last-stage last-kept last-len rest → (line : List ℕ) → IsOpenLine stage kept len line
+    → (bytes : List ℕ) × IsOpenLine last-stage last-kept last-len bytes × LeadsTo s stage before (line ++ 10 ∷ behind) last-stage new-before bytes
 next_line s stage mid-stage new-stage last-stage kept last-kept len last-len before mid-before new-before behind rest step reads last is-last line is = (
   rest,
   is-last,
@@ -91,7 +91,7 @@ next_line s stage mid-stage new-stage last-stage kept last-kept len last-len bef
 
 -- a piece that ends the present line
 pub lines_taken : (s : ℕ) (stage mid-stage new-stage : Stage) (kept mid-kept new-kept : List ℕ) (len mid-len new-len : ℕ) (before new-before : Before) (front behind : List ℕ) → IsOneLine front → mid-stage ≡ stage → mid-kept ≡ kept ++ more_kept stage kept front → mid-len ≡ len + length front
-    → ((line : List ℕ) → IsLine mid-stage mid-kept mid-len line → (rest : List ℕ) × IsLine new-stage new-kept new-len rest × LeadsTo s mid-stage before (line ++ 10 ∷ behind) new-stage new-before rest)
+    → ((line : List ℕ) → IsOpenLine mid-stage mid-kept mid-len line → (rest : List ℕ) × IsOpenLine new-stage new-kept new-len rest × LeadsTo s mid-stage before (line ++ 10 ∷ behind) new-stage new-before rest)
     → (skips : ℕ) (bytes : List ℕ) → HasRead (state s stage kept len before) skips bytes → HasRead (state s new-stage new-kept new-len new-before) skips (bytes ++ (front ++ 10 ∷ behind))
 lines_taken s stage mid-stage new-stage kept mid-kept new-kept len mid-len new-len before new-before front behind one stage-is kept-is len-is goes skips bytes read =
     let line = read.1.0 in

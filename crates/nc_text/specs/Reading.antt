@@ -42,7 +42,7 @@ more_kept stage [] bytes = kept_of stage bytes
 more_kept stage (b ∷ kept) bytes = if is_body stage && not (b == 37) then bytes else []
 
 -- the line that is being read has these bytes
-pub record IsLine (stage : Stage) (kept : List ℕ) (len : ℕ) (bytes : List ℕ) : Type 0 where
+pub record IsOpenLine (stage : Stage) (kept : List ℕ) (len : ℕ) (bytes : List ℕ) : Type 0 where
   pub one_line : IsOneLine bytes
   pub kept_is : kept ≡ kept_of stage bytes
   pub len_is : len ≡ length bytes
@@ -62,7 +62,7 @@ LeadsTo skips stage before text later-stage later rest =
 -- The present line has these bytes, and whatever follows, the answer of the whole text is what is made of that
 -- line and of what follows.
 pub record IsAt (state : State) (bytes : List ℕ) (line : List ℕ) : Type 0 where
-  pub is_line : IsLine state.stage state.kept state.len line
+  pub is_line : IsOpenLine state.stage state.kept state.len line
   pub whole : (more : List ℕ) → tape_of state.skips (bytes ++ more) ≡ continued state.skips state.stage (lines_of (line ++ more)) state.before
 
 -- A reader with these switches was given these bytes. A refusal stays, whatever follows.

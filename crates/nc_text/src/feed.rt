@@ -4,7 +4,7 @@ ghost use Rattle.nc_text.specs.declared.fault.TextFault.{TextFault};
 ghost use Rattle.nc_text.specs.Tape.{Before, tape_of};
 ghost use Rattle.nc_text.specs.View.{before_of};
 ghost use Rattle.nc_text.specs.Mark.{Grows};
-ghost use Rattle.nc_text.specs.Reading.{continued, refusal_of, LeadsTo, IsLine, HasRead, HasRefused, Gives};
+ghost use Rattle.nc_text.specs.Reading.{continued, refusal_of, LeadsTo, IsOpenLine, HasRead, HasRefused, Gives};
 
 use crate::fault::TextFault;
 use crate::line_feed::cut_at_line_feed;
@@ -123,8 +123,8 @@ fn line_behind(
     progress: &mut Progress,
     behind: &[u8],
 ) -> Result<OpenLine, NoMemory>
-    ensures reads { IfOk result (λ next. (bytes : List ℕ) → IsLine line.now.stage line.now.kept.items line.now.len bytes →
-        (rest : List ℕ) × IsLine next.stage next.kept.items next.len rest
+    ensures reads { IfOk result (λ next. (bytes : List ℕ) → IsOpenLine line.now.stage line.now.kept.items line.now.len bytes →
+        (rest : List ℕ) × IsOpenLine next.stage next.kept.items next.len rest
         × LeadsTo skips line.now.stage (before_of progress.old) (bytes ++ 10 ∷ behind.now) next.stage (before_of progress.new) rest) }
     ensures grows { Grows (before_of progress.old) (before_of progress.new) }
 {

@@ -1,6 +1,6 @@
 ghost use Rattle.std.specs.Prelude.{◌≡◌, ◌≤◌, ◌<◌, ◌+◌, ◌++◌, [], List, ℕ, length, take, IfOk, OnOk, OnErr};
 ghost use Rattle.nc_text.specs.Lines.{IsOneLine};
-ghost use Rattle.nc_text.specs.Reading.{kept_of, more_kept, IsLine};
+ghost use Rattle.nc_text.specs.Reading.{kept_of, more_kept, IsOpenLine};
 
 use crate::stage::{Stage, is_body};
 use nc_number::NoMemory;
@@ -37,7 +37,7 @@ impl OpenLine {
     /// A line that begins with these bytes.
     pub(crate) fn begin(alloc: Global, stage: Stage, bytes: &[u8]) -> Result<Self, NoMemory>
         requires { IsOneLine bytes.now }
-        ensures { IfOk result (λ line. (line.stage ≡ stage) × IsLine line.stage line.kept.items line.len bytes.now) }
+        ensures { IfOk result (λ line. (line.stage ≡ stage) × IsOpenLine line.stage line.kept.items line.len bytes.now) }
     {
         let mut line = OpenLine::empty(alloc, stage);
         line.extend(bytes)?;

@@ -49,6 +49,8 @@ impl Reader {
         ensures reads { (skips : ℕ) (bytes : List ℕ) → HasRead self.old skips bytes → OnOk result (HasRead self.new skips (bytes ++ piece.now)) }
         ensures refuses { (skips : ℕ) (bytes : List ℕ) → HasRead self.old skips bytes → IfRefused result (λ fault. IsRefused skips (bytes ++ piece.now) fault) }
         ensures refused { IfRefused result (λ fault. HasRefused self.new fault) }
+        // A reader that comes to a refusal says so in the same call.
+        ensures at_once { (fault : TextFault) → HasRefused self.new fault → result ≡ Err (Failing.Fault fault) }
         ensures same { (fault : TextFault) → HasRefused self.old fault → (result ≡ Err (Failing.Fault fault)) × (self.new ≡ self.old) }
         ensures as_before { result ≡ Err Failing.NoMemory → self.new ≡ self.old }
     {

@@ -6,7 +6,7 @@ use std::alloc::{AllocError, Global};
 use std::process::Abort;
 use std::test::Fail;
 
-/// 64 bytes, of which 65,536 times as many are the most bytes of a tape.
+/// 64 bytes. A tape has at most 65,536 times as many.
 const SIXTY_FOUR: &str = "xxxxxxxxxxxxxxxxxxxxxxxxxxxxxxxxxxxxxxxxxxxxxxxxxxxxxxxxxxxxxxxx";
 
 /// A head, a text again and again, and an end.
