@@ -1,6 +1,8 @@
+pub mod CauseTable
 pub mod DecimalDigits
-pub mod Halves
 pub mod LastDigits
+pub mod LiteralsThatRead
+pub mod NearestQuotient
 pub mod PrintedRoom
 pub mod ReadsBack
 pub mod Remainders

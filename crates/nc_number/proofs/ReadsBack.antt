@@ -15,7 +15,7 @@ use Rattle.nc_number.proofs.WordLiterals.{few_digits}
 use Rattle.nc_number.proofs.LastDigits.{length-last, all_digits-last, value-last, length-trim-le, all_digits-trim, value-trim}
 use Rattle.nc_number.proofs.Spellings.{parts_of_written}
 use Rattle.std.proofs.Math.IntN.{pos-*ℤ-pos, negsuc-*ℤ-pos}
-use Rattle.nc_number.proofs.Halves.{signed_size, negative_pos}
+use Rattle.nc_number.proofs.NearestQuotient.{signed_size, negative_pos}
 
 abbrev pub printed_sign : Bool → Sign
 printed_sign minus = cond minus Minus Bare
@@ -31,7 +31,7 @@ printed_minus false = refl
 -- a literal with these parts, where the digits are few enough
 pub word_of_parts : (text : List ℕ) (sign : Sign) (whole : List ℕ) (fraction : Option (List ℕ)) → HasParts text sign whole fraction
     → length whole ≤ 8 → length (digits_behind fraction) ≤ 6
-    → word_literal text ≡ Ok (record { micro = with_sign (is_minus sign) (size_of_parts whole (digits_behind fraction)); point = is_some fraction })
+    → word_literal text ≡ Ok (record { value = with_sign (is_minus sign) (size_of_parts whole (digits_behind fraction)); point = is_some fraction })
 word_of_parts text sign whole fraction parts short_whole short_fraction =
     let whole_short : length (significant (whole_part text)) ≤ 8 = rw parts.whole_is (omega (arith, length-significant-le whole)) in
     let fraction_short : length (fraction_part text) ≤ 6 = rw parts.fraction_is short_fraction in
@@ -91,7 +91,7 @@ value_is_literal a range = (parts_of_written _ _ _ _ (value_is_written a range))
 pub value_minus : (a : ℤ) → InRange a → has_minus (value_text a) ≡ is_negative a
 value_minus a range = (parts_of_written _ _ _ _ (value_is_written a range)).minus_is ∙ printed_minus (is_negative a)
 
-pub value_reads_back : (a : ℤ) → InRange a → word_literal (value_text a) ≡ Ok (record { micro = a; point = has_point (value_text a) })
+pub value_reads_back : (a : ℤ) → InRange a → word_literal (value_text a) ≡ Ok (record { value = a; point = has_point (value_text a) })
 value_reads_back a range =
     let parts = parts_of_written _ _ _ _ (value_is_written a range) in
     let small : unsigned_abs a / 1000000 < 2 ^ 64 = omega arith in
@@ -123,7 +123,7 @@ pub thousandfold : (a : ℤ) → with_sign (is_negative a) (unsigned_abs a * 100
 thousandfold (pos n) = rw (negative_pos n) (sym (pos-*ℤ-pos n 1000))
 thousandfold (negsuc n) = sym (negsuc-*ℤ-pos n 1000)
 
-pub length_reads_back : (a : ℤ) → unsigned_abs a ≤ 99999999999 → word_literal (length_text a) ≡ Ok (record { micro = a *ℤ pos 1000; point = true })
+pub length_reads_back : (a : ℤ) → unsigned_abs a ≤ 99999999999 → word_literal (length_text a) ≡ Ok (record { value = a *ℤ pos 1000; point = true })
 length_reads_back a range =
     let small : unsigned_abs a / 1000 < 2 ^ 64 = omega arith in
     let short : length (decimal (unsigned_abs a / 1000)) ≤ 8 = length-decimal-le 8 (unsigned_abs a / 1000) (omega arith) (omega arith) small in

@@ -5,7 +5,7 @@ use Rattle.std.specs.Int.{is_negative}
 use Rattle.std.proofs.lemmas.Int.{rem_below, quot-rem}
 use Rattle.nc_number.specs.declared.fault.NumberFault.TheVariants.{ZeroDivide}
 use Rattle.nc_number.specs.Arithmetic.{is_zero, remainder_of}
-use Rattle.nc_number.proofs.Halves.{negative_pos, negative_neg}
+use Rattle.nc_number.proofs.NearestQuotient.{negative_pos, negative_neg}
 use Rattle.nc_number.proofs.Wide.{rest_is, below_divisor}
 
 pub rest_sign : (a b : ℤ) → int_rem a b ≢ pos 0 → is_negative (int_rem a b) ≡ is_negative a

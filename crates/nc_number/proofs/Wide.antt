@@ -4,7 +4,7 @@ use Rattle.std.specs.Prelude.{unsigned_abs, FitsSigned, int_rem, int_div}
 use Rattle.std.specs.Int.{w128, cast_signed, cast_unsigned, is_negative}
 use Rattle.std.proofs.lemmas.Int.{to_z-of_z, fits_signed_from_abs, fits_signed_mul, rem_below, quot-rem, ints}
 use Rattle.std.proofs.lemmas.Bool.{ne_eqb, eqb-false, le-leb}
-use Rattle.nc_number.specs.Arithmetic.{is_zero, half, checked, product_of, quotient_of, remainder_of, root_of}
+use Rattle.nc_number.specs.Arithmetic.{is_zero, nearest_quotient, checked, product_of, quotient_of, remainder_of, root_of}
 use Rattle.nc_number.proofs.Roots.{square_root_is, root_below}
 use Rattle.nc_number.specs.Range.{InRange, is_in_range}
 
@@ -43,10 +43,10 @@ remainder_is a b nonzero range =
 pub wide_rest_is : (a b : ℤ) → is_zero b ≡ false → InRange b → cast_signed w128 (cast_unsigned w128 (int_rem a b)) ≡ int_rem a b
 wide_rest_is a b nonzero range = wide_is (int_rem a b) (rest_in_range a b nonzero range)
 
-pub product_is : (a b : ℤ) → checked (half (a *ℤ b) (pos 1000000)) ≡ product_of a b
+pub product_is : (a b : ℤ) → checked (nearest_quotient (a *ℤ b) (pos 1000000)) ≡ product_of a b
 product_is a b = refl
 
-pub quotient_is : (a b : ℤ) → is_zero b ≡ false → checked (half (a *ℤ pos 1000000) b) ≡ quotient_of a b
+pub quotient_is : (a b : ℤ) → is_zero b ≡ false → checked (nearest_quotient (a *ℤ pos 1000000) b) ≡ quotient_of a b
 quotient_is a b nonzero = rw nonzero refl
 
 pub root_is : (a : ℤ) (s : ℕ) → InRange a → is_negative a ≡ false → s * s ≤ unsigned_abs a * 1000000 → unsigned_abs a * 1000000 < (s + 1) * (s + 1)

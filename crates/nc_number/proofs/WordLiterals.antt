@@ -14,6 +14,6 @@ pub few_digits : (text : List ℕ) → length (significant (whole_part text)) �
 few_digits text whole fraction = or_from _ _ (le-ltb _ _ whole) (le-ltb _ _ fraction)
 
 pub word_literal-few : (text : List ℕ) → length (significant (whole_part text)) ≤ 8 → length (fraction_part text) ≤ 6
-    → Ok (record { micro = with_sign (has_minus text) (size_of_parts (significant (whole_part text)) (fraction_part text)); point = has_point text }) ≡ word_literal text
+    → Ok (record { value = with_sign (has_minus text) (size_of_parts (significant (whole_part text)) (fraction_part text)); point = has_point text }) ≡ word_literal text
 word_literal-few text whole fraction =
     rw (few_digits text whole fraction, value-significant (whole_part text)) refl

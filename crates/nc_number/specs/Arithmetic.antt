@@ -1,5 +1,5 @@
 -- The arithmetic of values, as mathematics on whole counts of millionths.
-use Rattle.std.specs.Prelude.{ℕ, zero, suc, ◌+◌, ◌*◌, ◌/◌, ◌%◌, Bool, not, ◌==◌, ◌&&◌, nat_le, if◌then◌else◌, ℤ, pos, ◌+ℤ◌, ◌-ℤ◌, ◌*ℤ◌, unsigned_abs, int_div, bit_and, bit_or, bit_xor, Result, Ok, Err}
+use Rattle.std.specs.Prelude.{ℕ, zero, suc, ◌+◌, ◌*◌, ◌/◌, ◌%◌, Bool, not, ◌==◌, ◌&&◌, nat_le, if◌then◌else◌, ℤ, pos, ◌+ℤ◌, ◌-ℤ◌, ◌*ℤ◌, unsigned_abs, int_div, int_rem, bit_and, bit_or, bit_xor, Option, Some, None, Result, Ok, Err}
 use Rattle.std.specs.Int.{is_negative, div_ceil}
 use Rattle.nc_number.specs.declared.fault.NumberFault.{NumberFault}
 use Rattle.nc_number.specs.declared.fault.NumberFault.TheVariants.{Overflow, ZeroDivide, NegativeRoot, NotWhole}
@@ -18,8 +18,8 @@ abbrev pub nearest : ℕ → ℕ → ℕ
 nearest n d = if nat_le d (2 * (n % d)) then n / d + 1 else n / d
 
 -- the whole number nearest to a / b, halves away from zero
-abbrev pub half : ℤ → ℤ → ℤ
-half a b = with_sign (differ (is_negative a) (is_negative b)) (nearest (unsigned_abs a) (unsigned_abs b))
+abbrev pub nearest_quotient : ℤ → ℤ → ℤ
+nearest_quotient a b = with_sign (differ (is_negative a) (is_negative b)) (nearest (unsigned_abs a) (unsigned_abs b))
 
 abbrev pub sum_of : ℤ → ℤ → Result ℤ NumberFault
 sum_of a b = checked (a +ℤ b)
@@ -28,10 +28,10 @@ abbrev pub difference_of : ℤ → ℤ → Result ℤ NumberFault
 difference_of a b = checked (a -ℤ b)
 
 abbrev pub product_of : ℤ → ℤ → Result ℤ NumberFault
-product_of a b = checked (half (a *ℤ b) (pos 1000000))
+product_of a b = checked (nearest_quotient (a *ℤ b) (pos 1000000))
 
 abbrev pub quotient_of : ℤ → ℤ → Result ℤ NumberFault
-quotient_of a b = if is_zero b then Err ZeroDivide else checked (half (a *ℤ pos 1000000) b)
+quotient_of a b = if is_zero b then Err ZeroDivide else checked (nearest_quotient (a *ℤ pos 1000000) b)
 
 -- what is left of a when b is taken away as often as the quotient, its fraction dropped, says
 abbrev pub remainder_of : ℤ → ℤ → Result ℤ NumberFault
@@ -72,11 +72,11 @@ abbrev pub root_of : ℤ → Result ℤ NumberFault
 root_of a = if is_negative a then Err NegativeRoot else Ok (pos (square_root (unsigned_abs a * 1000000)))
 
 abbrev pub rounded : ℤ → Result ℤ NumberFault
-rounded a = checked (half a (pos 1000000) *ℤ pos 1000000)
+rounded a = checked (nearest_quotient a (pos 1000000) *ℤ pos 1000000)
 
 -- the fraction dropped
-abbrev pub dropped : ℤ → Result ℤ NumberFault
-dropped a = checked (with_sign (is_negative a) (units a * 1000000))
+abbrev pub dropped : ℤ → ℤ
+dropped a = with_sign (is_negative a) (units a * 1000000)
 
 -- the magnitude raised to a whole number
 abbrev pub raised : ℤ → Result ℤ NumberFault
@@ -84,4 +84,19 @@ raised a = checked (with_sign (is_negative a) (div_ceil (unsigned_abs a) 1000000
 
 -- the increments of 0.001 nearest to a value, halves away from zero
 abbrev pub increments_of : ℤ → ℤ
-increments_of a = half a (pos 1000)
+increments_of a = nearest_quotient a (pos 1000)
+
+-- z where it is a value
+abbrev pub value_of : ℤ → Option ℤ
+value_of z = if is_in_range z then Some z else None
+
+-- the value of so many whole units, and of so many increments of 0.001
+abbrev pub value_of_units : ℤ → Option ℤ
+value_of_units n = value_of (n *ℤ pos 1000000)
+
+abbrev pub value_of_increments : ℤ → Option ℤ
+value_of_increments n = value_of (n *ℤ pos 1000)
+
+-- the whole number that a value is, where its fraction is 0
+abbrev pub whole_of : ℤ → Option ℤ
+whole_of a = if is_zero (int_rem a (pos 1000000)) then Some (int_div a (pos 1000000)) else None

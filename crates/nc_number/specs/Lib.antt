@@ -1,8 +1,15 @@
+pub mod Answers
 pub mod Arithmetic
+pub mod Axes
+pub mod Causes
+pub mod Conversions
 pub mod Literals
+pub mod Options
 pub mod Path
 pub mod Position
 pub mod Printed
 pub mod Range
+pub mod Results
 pub mod Signs
 pub mod Spelling
+pub mod Variables

@@ -65,4 +65,4 @@ literal_micro text = with_sign (has_minus text) (size_of_parts (whole_part text)
 abbrev pub word_literal : List ℕ → Result Literal NumberFault
 word_literal text =
     if has_too_many_digits text then Err TooManyDigits
-    else Ok (record { micro = literal_micro text; point = has_point text })
+    else Ok (record { value = literal_micro text; point = has_point text })

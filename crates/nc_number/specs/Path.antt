@@ -1,4 +1,4 @@
-use Rattle.std.specs.Prelude.{ℕ}
+use Rattle.std.specs.Prelude.{ℕ, ◌==◌, Option, Some, None, if◌then◌else◌}
 use Rattle.nc_number.specs.declared.path.Path.{Path}
 use Rattle.nc_number.specs.declared.path.Path.TheVariants.{One, Two}
 
@@ -6,6 +6,15 @@ use Rattle.nc_number.specs.declared.path.Path.TheVariants.{One, Two}
 abbrev pub number_of : Path → ℕ
 number_of One = 1
 number_of Two = 2
+
+-- the path of that number
+abbrev pub path_of : ℕ → Option Path
+path_of n = if n == 1 then Some One else (if n == 2 then Some Two else None)
+
+-- a path's place among the two, counted from 0
+abbrev pub index_of : Path → ℕ
+index_of One = 0
+index_of Two = 1
 
 -- the path beside this one
 abbrev pub other_of : Path → Path

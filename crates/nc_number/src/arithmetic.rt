@@ -2,7 +2,7 @@ ghost use Rattle.std.specs.Prelude.{◌≡◌, pos, neg_ℤ, unsigned_abs};
 ghost use Rattle.nc_number.specs.Arithmetic.{sum_of, difference_of, product_of, quotient_of, remainder_of, root_of};
 
 use crate::fault::NumberFault;
-use crate::rounding::{MICRO_IN_UNIT, half};
+use crate::rounding::{MICRO_IN_UNIT, nearest_quotient};
 use crate::value::Value;
 
 /// The sum; Overflow exactly where it is past the range.
@@ -25,7 +25,7 @@ pub fn mul(a: Value, b: Value) -> Result<Value, NumberFault>
     ensures { result ≡ product_of a b }
 {
     let product = a.wide() * b.wide();
-    Value::checked(half(product, MICRO_IN_UNIT))
+    Value::checked(nearest_quotient(product, MICRO_IN_UNIT))
 }
 
 /// The quotient, rounded to the nearest millionth, halves away from zero; ZeroDivide exactly where
@@ -37,7 +37,7 @@ pub fn div(a: Value, b: Value) -> Result<Value, NumberFault>
     if divisor == 0 {
         return Err(NumberFault::ZeroDivide);
     }
-    Value::checked(half(a.wide() * MICRO_IN_UNIT, divisor))
+    Value::checked(nearest_quotient(a.wide() * MICRO_IN_UNIT, divisor))
 }
 
 /// The remainder of the unrounded values, with the dividend's sign; ZeroDivide exactly where `b`

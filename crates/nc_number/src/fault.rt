@@ -1,3 +1,7 @@
+ghost use Rattle.std.specs.Prelude.{◌≡◌};
+ghost use Rattle.nc_number.specs.Causes.{cause_number, cause_of_number_fault};
+
+use crate::cause::Cause;
 use std::alloc::{AllocError, AllocFailed};
 use std::error::Error as Fault;
 use thiserror::Error;
@@ -20,6 +24,28 @@ pub enum NumberFault {
     /// A literal of more than 8 whole digits or more than 6 fraction digits.
     #[error("too many digits")]
     TooManyDigits,
+}
+
+impl NumberFault {
+    /// The alarm or refusal that it is.
+    pub fn cause(self) -> Cause
+        ensures { result ≡ cause_of_number_fault self }
+    {
+        match self {
+            NumberFault::Overflow => Cause::Overflow,
+            NumberFault::ZeroDivide => Cause::ZeroDivide,
+            NumberFault::NegativeRoot => Cause::NegativeRoot,
+            NumberFault::NotWhole => Cause::NotWhole,
+            NumberFault::TooManyDigits => Cause::TooManyDigits,
+        }
+    }
+
+    /// The number of that alarm or refusal, from 1 to 5.
+    pub fn number(self) -> u8
+        ensures { result ≡ cause_number (cause_of_number_fault self) }
+    {
+        self.cause().number()
+    }
 }
 
 /// Memory ran out; nothing was changed.

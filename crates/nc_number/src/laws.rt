@@ -1,23 +1,29 @@
 //! What the words of the contracts mean, in laws of their own. None of these calls does anything:
 //! the contract of each is a fact that its caller may use.
 
-ghost use Rattle.std.specs.Prelude.{◌≡◌, ◌≢◌, ℕ, ℤ, pos, ◌+◌, ◌*◌, ◌%◌, ◌<◌, ◌≤◌, ◌^◌, ◌+ℤ◌, ◌-ℤ◌, ◌*ℤ◌, List, Option, Ok, true, is_some, unsigned_abs};
+ghost use Rattle.std.specs.Prelude.{◌≡◌, ◌≢◌, ◌↔◌, ℕ, ℤ, pos, ◌+◌, ◌*◌, ◌%◌, ◌<◌, ◌≤◌, ◌^◌, ◌+ℤ◌, ◌-ℤ◌, ◌*ℤ◌, List, Option, Some, Ok, true, false, Contains, is_some, unsigned_abs};
 ghost use Rattle.std.specs.Int.{is_negative};
-ghost use Rattle.nc_number.specs.Arithmetic.{half, square_root, remainder_of, dropped, raised};
+ghost use Rattle.nc_number.specs.Arithmetic.{nearest_quotient, square_root, remainder_of, dropped, raised, whole_of};
+ghost use Rattle.nc_number.specs.Causes.{cause_number, every_cause};
+ghost use Rattle.nc_number.specs.Conversions.{thousandths_of};
+ghost use Rattle.nc_number.specs.declared.cause.Cause.{Cause};
+ghost use Rattle.nc_number.specs.declared.literal.Literal.{Literal};
 ghost use Rattle.nc_number.specs.Literals.{IsLiteral, has_minus, has_point, word_literal};
 ghost use Rattle.nc_number.specs.Printed.{value_text, length_text};
 ghost use Rattle.nc_number.specs.Range.{InRange};
 ghost use Rattle.nc_number.specs.Spelling.{Sign, IsWritten, HasParts};
 
-/// `half a b` is the whole number nearest to `a / b`: no multiple of `b` is nearer to `a`.
-pub fn half_is_the_nearest()
-    ensures { (a b k : ℤ) → b ≢ pos 0 → unsigned_abs (a -ℤ half a b *ℤ b) ≤ unsigned_abs (a -ℤ k *ℤ b) }
+/// `nearest_quotient a b` is the whole number nearest to `a / b`: no multiple of `b` is nearer to `a`.
+pub fn a_nearest_quotient_is_nearest()
+    ensures { (a b k : ℤ) → b ≢ pos 0
+        → unsigned_abs (a -ℤ nearest_quotient a b *ℤ b) ≤ unsigned_abs (a -ℤ k *ℤ b) }
 {}
 
-/// Where another whole number is as near, `half` is the one farther from zero.
+/// Where another whole number is as near, `nearest_quotient` is the one farther from zero.
 pub fn halves_go_away_from_zero()
     ensures { (a b k : ℤ) → b ≢ pos 0
-        → unsigned_abs (a -ℤ k *ℤ b) ≡ unsigned_abs (a -ℤ half a b *ℤ b) → unsigned_abs k ≤ unsigned_abs (half a b) }
+        → unsigned_abs (a -ℤ k *ℤ b) ≡ unsigned_abs (a -ℤ nearest_quotient a b *ℤ b)
+        → unsigned_abs k ≤ unsigned_abs (nearest_quotient a b) }
 {}
 
 /// The square of a root is at most the number, and the next number's square is more.
@@ -36,10 +42,10 @@ pub fn a_remainder_keeps_the_sign()
 
 /// A fraction is dropped: what is left is the greatest whole number not above the magnitude.
 pub fn a_fraction_is_dropped()
-    ensures whole { (a w : ℤ) → dropped a ≡ Ok w → unsigned_abs w % 1000000 ≡ 0 }
-    ensures next { (a w : ℤ) → dropped a ≡ Ok w
-        → (unsigned_abs w ≤ unsigned_abs a) × (unsigned_abs a < unsigned_abs w + 1000000) }
-    ensures sign { (a w : ℤ) → dropped a ≡ Ok w → w ≢ pos 0 → is_negative w ≡ is_negative a }
+    ensures whole { (a : ℤ) → unsigned_abs (dropped a) % 1000000 ≡ 0 }
+    ensures next { (a : ℤ) → (unsigned_abs (dropped a) ≤ unsigned_abs a)
+        × (unsigned_abs a < unsigned_abs (dropped a) + 1000000) }
+    ensures sign { (a : ℤ) → dropped a ≢ pos 0 → is_negative (dropped a) ≡ is_negative a }
 {}
 
 /// A magnitude is raised: the answer is the least whole number not below it.
@@ -59,11 +65,35 @@ pub fn a_literal_is_a_sign_digits_and_a_fraction()
         → IsWritten text sign whole fraction → HasParts text sign whole fraction }
 {}
 
+/// What a literal writes is in the range of a value.
+pub fn what_reads_is_a_value()
+    ensures { (text : List ℕ) (literal : Literal) → IsLiteral text → word_literal text ≡ Ok literal
+        → InRange literal.value }
+{}
+
+/// A literal without a point counts thousandths, none of which is cut: it writes a whole number, and
+/// that is its count.
+pub fn a_literal_without_a_point_counts_thousandths()
+    ensures { (text : List ℕ) (literal : Literal) → IsLiteral text → word_literal text ≡ Ok literal
+        → literal.point ≡ false → literal.value ≡ thousandths_of literal *ℤ pos 1000000 }
+{}
+
+/// A value is a whole number exactly where it is so many units.
+pub fn a_whole_number_is_its_units()
+    ensures { (a n : ℤ) → (whole_of a ≡ Some n) ↔ (a ≡ n *ℤ pos 1000000) }
+{}
+
+/// No number stands for two alarms or refusals, and none is missing in the table.
+pub fn a_number_has_one_cause()
+    ensures one { (a b : Cause) → cause_number a ≡ cause_number b → a ≡ b }
+    ensures listed { (cause : Cause) → Contains every_cause cause }
+{}
+
 /// What is printed of a value is a literal that reads back as that value.
 pub fn a_printed_value_reads_back()
     ensures literal { (a : ℤ) → InRange a → IsLiteral (value_text a) }
     ensures value { (a : ℤ) → InRange a
-        → word_literal (value_text a) ≡ Ok (record { micro = a; point = has_point (value_text a) }) }
+        → word_literal (value_text a) ≡ Ok (record { value = a; point = has_point (value_text a) }) }
     ensures minus { (a : ℤ) → InRange a → has_minus (value_text a) ≡ is_negative a }
 {}
 
@@ -71,6 +101,6 @@ pub fn a_printed_value_reads_back()
 /// stands only before a length below 0.
 pub fn a_printed_length_reads_back()
     ensures value { (a : ℤ) → unsigned_abs a ≤ 99999999999
-        → word_literal (length_text a) ≡ Ok (record { micro = a *ℤ pos 1000; point = true }) }
+        → word_literal (length_text a) ≡ Ok (record { value = a *ℤ pos 1000; point = true }) }
     ensures minus { (a : ℤ) → unsigned_abs a ≤ 2 ^ 63 → has_minus (length_text a) ≡ is_negative a }
 {}

@@ -1,12 +1,15 @@
-//! Numbers of the control: exact decimal values, points and paths, the literals of a tape, and the
-//! errors that every layer shares.
+//! Numbers of the control: exact decimal values, points, axes and paths, the literals of a tape, and
+//! what every layer shares: the table of alarms and refusals, errors, and the words of contracts.
 //!
 //! A layer above sees a [`Value`] as its whole count of millionths, and each call as an equation on
 //! such counts: rounded to the nearest, halves away from zero, and Overflow exactly past the range.
 #![tactic(auto)]
 
 mod arithmetic;
+mod axis;
 mod bits;
+mod byte_list;
+mod cause;
 mod fault;
 mod laws;
 mod literal;
@@ -19,16 +22,21 @@ mod tests;
 mod value;
 
 pub use arithmetic::{abs, add, div, modulo, mul, neg, sqrt, sub};
+pub use axis::Axis;
 pub use bits::{bit_and, bit_or, bit_xor};
+pub use byte_list::ByteList;
+pub use cause::Cause;
 pub use fault::{Failing, NoMemory, NumberFault};
 pub use laws::{
-    a_fraction_is_dropped, a_literal_is_a_sign_digits_and_a_fraction, a_magnitude_is_raised,
-    a_printed_length_reads_back, a_printed_value_reads_back, a_remainder_keeps_the_sign,
-    a_root_is_the_greatest, half_is_the_nearest, halves_go_away_from_zero,
+    a_fraction_is_dropped, a_literal_is_a_sign_digits_and_a_fraction,
+    a_literal_without_a_point_counts_thousandths, a_magnitude_is_raised,
+    a_nearest_quotient_is_nearest, a_number_has_one_cause, a_printed_length_reads_back,
+    a_printed_value_reads_back, a_remainder_keeps_the_sign, a_root_is_the_greatest,
+    a_whole_number_is_its_units, halves_go_away_from_zero, what_reads_is_a_value,
 };
 pub use literal::{Literal, is_literal, parse_word};
 pub use path::Path;
-pub use point::{Point, TRAVEL};
+pub use point::{Point, TOOL_OFFSETS, TRAVEL};
 pub use printing::{length_text, text};
 pub use rounding::{fix, fup, round, to_increment};
 pub use value::{Value, Var};

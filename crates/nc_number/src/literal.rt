@@ -1,20 +1,65 @@
-ghost use Rattle.std.specs.Prelude.{◌≡◌, ◌==◌, ◌^◌, ◌<◌, ◌≤◌, not, length, position, IsTrue, IfOk};
+ghost use Rattle.std.specs.Prelude.{◌≡◌, ◌==◌, ◌^◌, ◌<◌, ◌≤◌, not, length, position, IsTrue, IfSome, unsigned_abs};
 ghost use Rattle.std.specs.List.{before_first, after_first};
 ghost use Rattle.std.specs.Str.Parse.{digits_value};
-ghost use Rattle.nc_number.specs.Literals.{IsLiteral, is_literal, is_point, all_digits, behind_sign, has_minus, has_point, significant, size_of_parts, with_sign, word_literal};
-ghost use Rattle.nc_number.specs.Range.{InRange};
+ghost use Rattle.nc_number.specs.Literals.{IsLiteral, is_literal, is_point, all_digits, behind_sign, has_minus, has_point, significant, size_of_parts, word_literal};
 
 use crate::fault::NumberFault;
+use crate::rounding::{MICRO_IN_INCREMENT, MICRO_IN_UNIT, nearest_quotient};
+use crate::value::Value;
 
 /// The number that a literal of the tape writes, in whole units, and whether it has a point.
 ///
-/// What a number without a point counts depends on its address.
+/// What a number without a point counts depends on its address; the calls below say it.
 #[derive(Clone, Copy, Debug, PartialEq, Eq)]
 pub struct Literal {
-    /// Millionths of the unit.
-    pub micro: i64,
-    /// The literal has a decimal point.
+    /// The number in whole units.
+    pub value: Value,
+    /// It has a decimal point, as a computed number counts as having one.
     pub point: bool,
+}
+
+impl Literal {
+    ghost use Rattle.nc_number.specs.Arithmetic.{whole_of};
+    ghost use Rattle.nc_number.specs.Conversions.{thousandths_of};
+
+    /// The number in whole units, with a point or without: a feed, or a number of an expression.
+    pub fn value(&self) -> Value
+        ensures { result ≡ self.now.value }
+    {
+        self.value
+    }
+
+    /// The whole number that it is, where its fraction is 0; it may have a point.
+    pub fn whole(&self) -> Option<i64>
+        ensures value { result ≡ whole_of self.now.value }
+        ensures range { IfSome result (λ n. unsigned_abs n ≤ 99999999) }
+    {
+        self.value.whole()
+    }
+
+    /// A length in 0.001 mm: a literal with a point is in mm, and one without counts 0.001 mm;
+    /// rounded to the nearest, halves away from zero.
+    pub fn increments(&self) -> i64
+        ensures count { result ≡ thousandths_of self.now }
+        ensures range { unsigned_abs result ≤ 100000000000 }
+    {
+        self.thousandths()
+    }
+
+    /// A time in 0.001 s: a literal with a point is in seconds, and one without counts 0.001 s;
+    /// rounded to the nearest, halves away from zero.
+    pub fn thousandths(&self) -> i64
+        ensures count { result ≡ thousandths_of self.now }
+        ensures range { unsigned_abs result ≤ 100000000000 }
+    {
+        let micro = self.value.wide();
+        let thousandth = if self.point {
+            MICRO_IN_INCREMENT
+        } else {
+            MICRO_IN_UNIT
+        };
+        nearest_quotient(micro, thousandth) as i64
+    }
 }
 
 const WHOLE_DIGITS: usize = 8;
@@ -125,22 +170,13 @@ fn millionths(whole: &[u8], fraction: &[u8]) -> u64
     number(whole) * MILLION + number(fraction) * scale
 }
 
-fn signed(size: u64, minus: bool) -> i64
-    requires { size ≤ 99999999999999 }
-    ensures value { result ≡ with_sign minus size }
-    ensures range { InRange result }
-{
-    if minus { -(size as i64) } else { size as i64 }
-}
-
 /// The number that a literal of the tape writes.
 ///
 /// It fails exactly where the literal has more than 8 whole digits, the zeros in front not
 /// counted, or more than 6 digits behind the point.
 pub fn parse_word(text: &[u8]) -> Result<Literal, NumberFault>
     requires { IsLiteral text.now }
-    ensures reading { result ≡ word_literal text.now }
-    ensures range { IfOk result (λ l. InRange l.micro) }
+    ensures { result ≡ word_literal text.now }
 {
     let (whole, fraction) = parts(unsigned(text));
     let whole = without_leading_zeros(whole);
@@ -149,7 +185,7 @@ pub fn parse_word(text: &[u8]) -> Result<Literal, NumberFault>
     }
     let size = millionths(whole, fraction);
     Ok(Literal {
-        micro: signed(size, is_negative(text)),
+        value: Value::signed(size, is_negative(text)),
         point: text.contains(&b'.'),
     })
 }

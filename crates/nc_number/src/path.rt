@@ -1,5 +1,5 @@
-ghost use Rattle.std.specs.Prelude.{◌≡◌};
-ghost use Rattle.nc_number.specs.Path.{number_of, other_of};
+ghost use Rattle.std.specs.Prelude.{◌≡◌, ◌<◌};
+ghost use Rattle.nc_number.specs.Path.{number_of, path_of, index_of, other_of};
 
 /// A path of the machine: one turret with its own tape.
 #[derive(Clone, Copy, Debug, PartialEq, Eq)]
@@ -16,6 +16,28 @@ impl Path {
         match self {
             Path::One => 1,
             Path::Two => 2,
+        }
+    }
+
+    /// The path of that number.
+    pub fn of_number(number: u8) -> Option<Path>
+        ensures { result ≡ path_of number }
+    {
+        match number {
+            1 => Some(Path::One),
+            2 => Some(Path::Two),
+            _ => None,
+        }
+    }
+
+    /// Its place among the two paths, counted from 0.
+    pub fn index(self) -> usize
+        ensures place { result ≡ index_of self }
+        ensures pair { result < 2 }
+    {
+        match self {
+            Path::One => 0,
+            Path::Two => 1,
         }
     }
 

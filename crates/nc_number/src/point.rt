@@ -3,6 +3,9 @@ ghost use Rattle.std.specs.Prelude.{◌≡◌, ◌↔◌, IsTrue};
 /// How far from 0 a position or an offset may be, in 0.001 mm.
 pub const TRAVEL: u64 = 99_999_999;
 
+/// How many tool offsets a path has, numbered from 1.
+pub const TOOL_OFFSETS: u8 = 64;
+
 /// A point of the X and Z plane, in 0.001 mm.
 #[derive(Clone, Copy, Debug, PartialEq, Eq)]
 pub struct Point {

@@ -1,12 +1,12 @@
-ghost use Rattle.std.specs.Prelude.{◌≡◌, ◌≢◌, ◌^◌, ◌<◌, unsigned_abs, IsOk};
-ghost use Rattle.nc_number.specs.Arithmetic.{nearest, half, rounded, dropped, raised, increments_of};
+ghost use Rattle.std.specs.Prelude.{◌≡◌, ◌≢◌, ◌^◌, ◌<◌, ◌≤◌, unsigned_abs};
+ghost use Rattle.nc_number.specs.Arithmetic.{nearest, nearest_quotient, rounded, dropped, raised, increments_of};
 
 use crate::fault::NumberFault;
 use crate::value::Value;
 
 pub(crate) const MICRO_IN_UNIT: i128 = 1_000_000;
 
-const MICRO_IN_INCREMENT: i128 = 1_000;
+pub(crate) const MICRO_IN_INCREMENT: i128 = 1_000;
 
 /// The whole number nearest to a quotient, halves upwards.
 fn nearest(size: u128, by: u128) -> u128
@@ -23,11 +23,11 @@ fn nearest(size: u128, by: u128) -> u128
 }
 
 /// The whole number nearest to `a / b`, halves away from zero.
-pub(crate) fn half(a: i128, b: i128) -> i128
+pub(crate) fn nearest_quotient(a: i128, b: i128) -> i128
     requires divisor { 0 < unsigned_abs b }
     requires room { unsigned_abs a < 2 ^ 120 }
     requires divisor_room { unsigned_abs b < 2 ^ 120 }
-    ensures { result ≡ half a b }
+    ensures { result ≡ nearest_quotient a b }
 {
     let size = nearest(a.unsigned_abs(), b.unsigned_abs()) as i128;
     if (a < 0) == (b < 0) { size } else { -size }
@@ -37,16 +37,18 @@ pub(crate) fn half(a: i128, b: i128) -> i128
 pub fn round(a: Value) -> Result<Value, NumberFault>
     ensures { result ≡ rounded a }
 {
-    Value::checked(half(a.wide(), MICRO_IN_UNIT) * MICRO_IN_UNIT)
+    Value::checked(nearest_quotient(a.wide(), MICRO_IN_UNIT) * MICRO_IN_UNIT)
 }
 
 /// The number with its fraction dropped.
-pub fn fix(a: Value) -> Result<Value, NumberFault>
-    ensures whole { result ≡ dropped a }
-    ensures fits { IsOk result }
+pub fn fix(a: Value) -> Value
+    ensures { result ≡ dropped a }
 {
-    let micro = a.wide();
-    Value::checked(micro / MICRO_IN_UNIT * MICRO_IN_UNIT)
+    let micro = a.micro();
+    Value::signed(
+        micro.unsigned_abs() / MICRO_IN_UNIT as u64 * MICRO_IN_UNIT as u64,
+        micro < 0,
+    )
 }
 
 /// The number with its magnitude raised to a whole number.
@@ -60,7 +62,8 @@ pub fn fup(a: Value) -> Result<Value, NumberFault>
 
 /// The increments of 0.001 nearest to a value, halves away from zero.
 pub fn to_increment(a: Value) -> i64
-    ensures { result ≡ increments_of a }
+    ensures count { result ≡ increments_of a }
+    ensures range { unsigned_abs result ≤ 100000000000 }
 {
-    half(a.wide(), MICRO_IN_INCREMENT) as i64
+    nearest_quotient(a.wide(), MICRO_IN_INCREMENT) as i64
 }

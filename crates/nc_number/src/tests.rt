@@ -3,6 +3,7 @@
 use super::*;
 use NumberFault::{NegativeRoot, NotWhole, Overflow, TooManyDigits, ZeroDivide};
 use std::process::Abort;
+use std::test::Fail;
 
 const UNIT: i64 = 1_000_000;
 
@@ -196,33 +197,33 @@ fn roots_round_down(rt: HostRuntime) {
 #[test]
 fn whole_numbers_are_nearest_below_and_above(rt: HostRuntime) {
     for (a, rounded, fixed, raised) in [
-        (0, Ok(0), Ok(0), Ok(0)),
-        (1, Ok(0), Ok(0), Ok(UNIT)),
-        (-1, Ok(0), Ok(0), Ok(-UNIT)),
-        (499_999, Ok(0), Ok(0), Ok(UNIT)),
-        (500_000, Ok(UNIT), Ok(0), Ok(UNIT)),
-        (-500_000, Ok(-UNIT), Ok(0), Ok(-UNIT)),
-        (2 * UNIT, Ok(2 * UNIT), Ok(2 * UNIT), Ok(2 * UNIT)),
-        (2_499_999, Ok(2 * UNIT), Ok(2 * UNIT), Ok(3 * UNIT)),
-        (2_500_000, Ok(3 * UNIT), Ok(2 * UNIT), Ok(3 * UNIT)),
-        (-2_500_000, Ok(-3 * UNIT), Ok(-2 * UNIT), Ok(-3 * UNIT)),
+        (0, Ok(0), 0, Ok(0)),
+        (1, Ok(0), 0, Ok(UNIT)),
+        (-1, Ok(0), 0, Ok(-UNIT)),
+        (499_999, Ok(0), 0, Ok(UNIT)),
+        (500_000, Ok(UNIT), 0, Ok(UNIT)),
+        (-500_000, Ok(-UNIT), 0, Ok(-UNIT)),
+        (2 * UNIT, Ok(2 * UNIT), 2 * UNIT, Ok(2 * UNIT)),
+        (2_499_999, Ok(2 * UNIT), 2 * UNIT, Ok(3 * UNIT)),
+        (2_500_000, Ok(3 * UNIT), 2 * UNIT, Ok(3 * UNIT)),
+        (-2_500_000, Ok(-3 * UNIT), -2 * UNIT, Ok(-3 * UNIT)),
         (
             99_999_999_499_999,
             Ok(99_999_999 * UNIT),
-            Ok(99_999_999 * UNIT),
+            99_999_999 * UNIT,
             Err(Overflow),
         ),
         (
             99_999_999_500_000,
             Err(Overflow),
-            Ok(99_999_999 * UNIT),
+            99_999_999 * UNIT,
             Err(Overflow),
         ),
-        (MOST, Err(Overflow), Ok(99_999_999 * UNIT), Err(Overflow)),
-        (-MOST, Err(Overflow), Ok(-99_999_999 * UNIT), Err(Overflow)),
+        (MOST, Err(Overflow), 99_999_999 * UNIT, Err(Overflow)),
+        (-MOST, Err(Overflow), -99_999_999 * UNIT, Err(Overflow)),
     ] {
         assert_eq!(rt; micro(round(value(&rt, a))), rounded, "ROUND {a}");
-        assert_eq!(rt; micro(fix(value(&rt, a))), fixed, "FIX {a}");
+        assert_eq!(rt; fix(value(&rt, a)).micro(), fixed, "FIX {a}");
         assert_eq!(rt; micro(fup(value(&rt, a))), raised, "FUP {a}");
     }
 }
@@ -275,7 +276,7 @@ fn literals_are_read_exactly(rt: HostRuntime) {
     ] {
         assert!(rt; is_literal(text), "{text:?}");
         let got = match parse_word(text) {
-            Ok(literal) => Ok((literal.micro, literal.point)),
+            Ok(literal) => Ok((literal.value().micro(), literal.point)),
             Err(fault) => Err(fault),
         };
         assert_eq!(rt; got, answer, "{text:?}");
@@ -334,9 +335,162 @@ fn lengths_are_printed_with_three_decimals(rt: HostRuntime) {
 }
 
 #[test]
+fn lengths_and_times_of_literals(rt: HostRuntime) {
+    for (text, thousandths, whole) in [
+        (b"50.".as_slice(), 50_000, Some(50)),
+        (b"50".as_slice(), 50, Some(50)),
+        (b"-20.25".as_slice(), -20_250, None),
+        (b"-0".as_slice(), 0, Some(0)),
+        (b".0004".as_slice(), 0, None),
+        (b".000499".as_slice(), 0, None),
+        (b".0005".as_slice(), 1, None),
+        (b"-.000499".as_slice(), 0, None),
+        (b"-.0005".as_slice(), -1, None),
+        (b"1.000499".as_slice(), 1_000, None),
+        (b"1.0005".as_slice(), 1_001, None),
+        (b"-1.0005".as_slice(), -1_001, None),
+        (b"2.000000".as_slice(), 2_000, Some(2)),
+        (b"-2.000001".as_slice(), -2_000, None),
+        (b"99999.9994".as_slice(), 99_999_999, None),
+        (b"99999.9995".as_slice(), 100_000_000, None),
+        (b"99999999".as_slice(), 99_999_999, Some(99_999_999)),
+        (b"-99999999".as_slice(), -99_999_999, Some(-99_999_999)),
+        (b"99999999.".as_slice(), 99_999_999_000, Some(99_999_999)),
+        (b"99999999.999499".as_slice(), 99_999_999_999, None),
+        (b"99999999.999999".as_slice(), 100_000_000_000, None),
+        (b"-99999999.999999".as_slice(), -100_000_000_000, None),
+    ] {
+        assert!(rt; is_literal(text), "{text:?}");
+        let literal = parse_word(text).ok().expect(&rt, "a row's literal reads");
+        assert_eq!(rt; literal.increments(), thousandths, "{text:?} mm");
+        assert_eq!(rt; literal.thousandths(), thousandths, "{text:?} s");
+        assert_eq!(rt; literal.whole(), whole, "{text:?}");
+    }
+    for (point, thousandths) in [(true, 1_500), (false, 2)] {
+        let value = value(&rt, 1_500_000);
+        let literal = Literal { value, point };
+        assert_eq!(rt; literal.increments(), thousandths, "{literal:?}");
+        assert_eq!(rt; literal.value(), value, "{literal:?}");
+    }
+}
+
+#[test]
+fn values_of_units_and_of_increments(rt: HostRuntime) {
+    for (count, units, increments) in [
+        (0, Some(0), Some(0)),
+        (-1, Some(-UNIT), Some(-1_000)),
+        (99_999_999, Some(99_999_999 * UNIT), Some(99_999_999_000)),
+        (-99_999_999, Some(-99_999_999 * UNIT), Some(-99_999_999_000)),
+        (100_000_000, None, Some(100_000_000_000)),
+        (-100_000_000, None, Some(-100_000_000_000)),
+        (99_999_999_999, None, Some(99_999_999_999_000)),
+        (-99_999_999_999, None, Some(-99_999_999_999_000)),
+        (100_000_000_000, None, None),
+        (-100_000_000_000, None, None),
+        (i64::MAX, None, None),
+        (i64::MIN, None, None),
+    ] {
+        let of_units = Value::of_units(count).map(|value| value.micro());
+        let of_increments = Value::of_increments(count).map(|value| value.micro());
+        assert_eq!(rt; of_units, units, "{count} units");
+        assert_eq!(rt; of_increments, increments, "{count} increments");
+    }
+    for (a, whole) in [
+        (0, Some(0)),
+        (-UNIT, Some(-1)),
+        (UNIT - 1, None),
+        (UNIT + 1, None),
+        (99_999_999 * UNIT, Some(99_999_999)),
+        (-99_999_999 * UNIT, Some(-99_999_999)),
+        (MOST, None),
+    ] {
+        assert_eq!(rt; value(&rt, a).whole(), whole, "{a}");
+    }
+    assert_eq!(rt; Var::default(), Var::Vacant);
+    assert_eq!(rt; Var::default().or_zero(), Value::zero());
+    assert_eq!(rt; Var::Is(value(&rt, MOST)).or_zero().micro(), MOST);
+}
+
+#[test]
+fn axes_are_told_by_their_words(rt: HostRuntime) {
+    for (absolute, relative, told, named) in [
+        (None, None, Axis::Keep, false),
+        (Some(50_000), None, Axis::To(50_000), true),
+        (None, Some(-4_000), Axis::By(-4_000), true),
+        (None, Some(0), Axis::By(0), true),
+        (Some(50_000), Some(-4_000), Axis::To(50_000), true),
+    ] {
+        let axis = Axis::of(absolute, relative);
+        assert_eq!(rt; axis, told);
+        assert_eq!(rt; axis.is_named(), named, "{axis:?}");
+    }
+}
+
+#[test]
+fn causes_have_numbers_and_names(rt: HostRuntime) {
+    for (number, name) in [
+        (1, Some("Overflow")),
+        (5, Some("TooManyDigits")),
+        (6, None),
+        (9, None),
+        (10, Some("BadCharacter")),
+        (17, Some("TapeTooLong")),
+        (18, None),
+        (20, Some("BadExpression")),
+        (25, Some("TooManyVariables")),
+        (26, None),
+        (30, Some("VariableRange")),
+        (33, Some("MacroAlarm")),
+        (40, Some("OffsetNumber")),
+        (41, Some("PositionRange")),
+        (44, Some("FeedZero")),
+        (45, None),
+        (50, Some("NoSequence")),
+        (54, Some("NotFixed")),
+        (55, None),
+        (56, Some("UnknownCode")),
+        (66, Some("WaitTooDeep")),
+        (67, None),
+        (70, Some("TooManyLabels")),
+        (71, None),
+        (72, Some("WaitMismatch")),
+        (74, Some("WaitDiffers")),
+        (80, Some("BadRecord")),
+        (85, Some("JournalFull")),
+        (86, None),
+        (90, Some("BadSetting")),
+        (0, None),
+        (255, None),
+    ] {
+        match Cause::of_number(number) {
+            Some(cause) => {
+                assert_eq!(rt; Some(cause.name()), name, "{number}");
+                assert_eq!(rt; cause.number(), number, "{cause:?}");
+            }
+            None => assert_eq!(rt; name, None, "{number}"),
+        }
+    }
+    assert_eq!(rt; NotWhole.number(), 4);
+    assert_eq!(rt; TooManyDigits.cause(), Cause::TooManyDigits);
+}
+
+#[test]
+fn bytes_come_back_as_they_were_given(rt: HostRuntime) -> Result<(), Fail> {
+    let list = ByteList::of(b"G01X5.".to_vec(rt.alloc())?);
+    assert_eq!(rt; list.as_slice(), b"G01X5.".as_slice());
+    assert_eq!(rt; list.into_bytes().as_slice(), b"G01X5.".as_slice());
+    Ok(())
+}
+
+#[test]
 fn paths_have_numbers(rt: HostRuntime) {
-    assert_eq!(rt; Path::One.number(), 1);
-    assert_eq!(rt; Path::Two.number(), 2);
+    for (path, number, index) in [(Path::One, 1, 0), (Path::Two, 2, 1)] {
+        assert_eq!(rt; path.number(), number);
+        assert_eq!(rt; path.index(), index);
+        assert_eq!(rt; Path::of_number(number), Some(path));
+        assert_eq!(rt; path.other().other(), path);
+    }
     assert_eq!(rt; Path::One.other(), Path::Two);
-    assert_eq!(rt; Path::Two.other(), Path::One);
+    assert_eq!(rt; Path::of_number(0), None);
+    assert_eq!(rt; Path::of_number(3), None);
 }

@@ -1,8 +1,10 @@
-ghost use Rattle.std.specs.Prelude.{◌≡◌, ◌↔◌, neg_ℤ, IsSome, IfSome};
-ghost use Rattle.nc_number.specs.Arithmetic.{checked};
+ghost use Rattle.std.specs.Prelude.{◌≡◌, ◌↔◌, ◌≤◌, ◌*ℤ◌, pos, neg_ℤ, unsigned_abs, IsSome, IfSome, Some};
+ghost use Rattle.nc_number.specs.Arithmetic.{checked, value_of_units, value_of_increments, whole_of};
 ghost use Rattle.nc_number.specs.Range.{InRange};
+ghost use Rattle.nc_number.specs.Signs.{with_sign};
 
 use crate::fault::NumberFault;
+use crate::rounding::{MICRO_IN_INCREMENT, MICRO_IN_UNIT};
 use std::marker::Model;
 
 /// A number of the control: a whole count of millionths, of magnitude at most 99,999,999.999999.
@@ -46,6 +48,40 @@ impl Value {
         }
     }
 
+    /// 0.
+    pub fn zero() -> Self
+        ensures { result ≡ pos 0 }
+    {
+        Value { micro: 0 }
+    }
+
+    /// The value of that many whole units, where it is in the range.
+    pub fn of_units(units: i64) -> Option<Self>
+        ensures { result ≡ value_of_units units }
+    {
+        Value::checked(i128::from(units) * MICRO_IN_UNIT).ok()
+    }
+
+    /// The value of that many increments of 0.001, where it is in the range.
+    pub fn of_increments(increments: i64) -> Option<Self>
+        ensures { result ≡ value_of_increments increments }
+    {
+        Value::checked(i128::from(increments) * MICRO_IN_INCREMENT).ok()
+    }
+
+    /// The whole number that it is, where its fraction is 0.
+    pub fn whole(&self) -> Option<i64>
+        ensures value { result ≡ whole_of self.now }
+        ensures range { IfSome result (λ n. unsigned_abs n ≤ 99999999) }
+    {
+        let unit = MICRO_IN_UNIT as i64;
+        if self.micro % unit == 0 {
+            Some(self.micro / unit)
+        } else {
+            None
+        }
+    }
+
     /// Its count of millionths.
     pub fn micro(&self) -> i64
         ensures count { result ≡ self.now }
@@ -75,9 +111,46 @@ impl Value {
         i128::from(self.micro)
     }
 
+    /// The value of that magnitude and sign.
+    pub(crate) fn signed(size: u64, minus: bool) -> Self
+        requires { size ≤ 99999999999999 }
+        ensures { result ≡ with_sign minus size }
+    {
+        let micro = size as i64;
+        Value {
+            micro: if minus { -micro } else { micro },
+        }
+    }
+
     pub(crate) fn negated(self) -> Self
         ensures { result ≡ neg_ℤ self }
     {
         Value { micro: -self.micro }
+    }
+}
+
+impl Default for Var {
+    ghost use Rattle.std.specs.Prelude.{◌≡◌};
+    ghost use Rattle.nc_number.specs.declared.value.Var.TheVariants.{Vacant};
+
+    ghost is_default = { λ var. var ≡ Vacant };
+
+    /// A variable that was never set is vacant.
+    fn default() -> Self {
+        Var::Vacant
+    }
+}
+
+impl Var {
+    ghost use Rattle.nc_number.specs.Variables.{or_zero};
+
+    /// Its value, where a vacant variable counts as 0.
+    pub fn or_zero(&self) -> Value
+        ensures { result ≡ or_zero self.now }
+    {
+        match self {
+            Var::Vacant => Value::zero(),
+            Var::Is(value) => *value,
+        }
     }
 }

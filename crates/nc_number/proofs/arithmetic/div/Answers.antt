@@ -13,11 +13,11 @@ returns c =
     let right = c.wide-divisor.ensures in
     let nonzero : is_zero c.wide-divisor.result ≡ false = divides c.wide-divisor.result c.if-divisor-eq0.false in
     let million : InRange (pos 1000000) = omega arith in
-    let fits : FitsSigned w128 c.half.result = search rules in
+    let fits : FitsSigned w128 c.nearest_quotient.result = search rules in
     rw (
       c.checked.ensures,
-      to_z-of_z w128 c.half.result fits,
-      c.half.ensures,
+      to_z-of_z w128 c.nearest_quotient.result fits,
+      c.nearest_quotient.ensures,
       wide_is c.wide.result left.range,
       wide_is c.wide-divisor.result right.range,
       wide_product_is c.wide.result (pos 1000000) left.range million,

@@ -9,11 +9,11 @@ pub returns : goal.returns
 returns c =
     let left = c.wide.ensures in
     let right = c.wide-2.ensures in
-    let fits : FitsSigned w128 c.half.result = search rules in
+    let fits : FitsSigned w128 c.nearest_quotient.result = search rules in
     rw (
       c.checked.ensures,
-      to_z-of_z w128 c.half.result fits,
-      c.half.ensures,
+      to_z-of_z w128 c.nearest_quotient.result fits,
+      c.nearest_quotient.ensures,
       wide_is c.wide.result left.range,
       wide_is c.wide-2.result right.range,
       wide_product_is c.wide.result c.wide-2.result left.range right.range,

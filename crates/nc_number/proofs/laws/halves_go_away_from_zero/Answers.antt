@@ -1,5 +1,5 @@
-use Rattle.nc_number.proofs.Halves.{half_is_far_from_zero}
+use Rattle.nc_number.proofs.NearestQuotient.{quotient_is_far_from_zero}
 use Rattle.nc_number.proofs.laws.halves_go_away_from_zero.Goals as goal
 
 pub returns : goal.returns
-returns c = half_is_far_from_zero
+returns c = quotient_is_far_from_zero

@@ -1,6 +1,4 @@
-use Rattle.std.proofs.Common.{◌≡◌, ◌≤◌, length, ap, subst, ◌∙◌, rules, w64}
-use Rattle.std.specs.Prelude.{FitsSigned}
-use Rattle.std.proofs.lemmas.Int.{to_z-of_z}
+use Rattle.std.proofs.Common.{◌≡◌, ◌≤◌, length, ap, subst, ◌∙◌}
 use Rattle.std.specs.List.{before_first, after_first}
 use Rattle.nc_number.specs.Literals.{is_point, significant, whole_part, fraction_part}
 use Rattle.nc_number.proofs.DecimalDigits.{all_digits-significant}
@@ -13,8 +11,8 @@ millionths-size-requires-clause-whole_digits c =
     rw (c.without_leading_zeros-whole.ensures, c.parts.ensures.whole, c.unsigned.ensures)
     (all_digits-significant (whole_part c.args.text.now) (whole_digits c.args.text.now c.requires))
 
-pub returns-clause-reading : goal.returns-clause-reading
-returns-clause-reading c =
+pub returns : goal.returns
+returns c =
     let text = c.args.text.now in
     let whole_is : c.without_leading_zeros-whole.result.now ≡ significant (whole_part text) =
     c.without_leading_zeros-whole.ensures
@@ -25,10 +23,8 @@ returns-clause-reading c =
     subst (λ ds. length ds ≤ 8) whole_is c.if-whole-gt-WHOLE_DIGITS.false in
     let fraction_short : length (fraction_part text) ≤ 6 =
     subst (λ ds. length ds ≤ 6) fraction_is c.if-fraction-gt-FRACTION_DIGITS.false in
-    let fits : FitsSigned w64 c.signed.result = search rules in
     rw (
-      to_z-of_z w64 c.signed.result fits,
-      c.signed.ensures.value,
+      c.signed.ensures,
       c.is_negative.ensures,
       c.millionths-size.ensures.value,
       c.contains.ensures.value,

@@ -1,4 +1,4 @@
--- `half` is the nearest whole number, and goes away from zero where two are equally near.
+-- `nearest_quotient` is the nearest whole number, and goes away from zero where two are equally near.
 use Rattle.std.proofs.Common.{◌≡◌, ◌≢◌, ◌<◌, ◌≤◌, ◌*◌, ◌+◌, ◌/◌, ◌%◌, ℕ, zero, suc, ℤ, pos, negsuc, neg_ℤ, ◌*ℤ◌, ◌-ℤ◌, Bool, true, false, cond, refl, ap, sym, subst, ◌∙◌, arith, inl, inr}
 use Rattle.std.specs.Prelude.{nat_le, unsigned_abs}
 use Rattle.std.specs.Int.{is_negative, abs_diff}
@@ -8,7 +8,7 @@ use Rattle.std.proofs.lemmas.Nat.{mod_below, div-add-mod'}
 use Rattle.std.proofs.lemmas.Int.{ints, unsigned_abs-mul}
 use Rattle.std.proofs.Math.Nat.{mul-le-mul_right}
 use Rattle.nc_number.specs.Signs.{with_sign, differ}
-use Rattle.nc_number.specs.Arithmetic.{nearest, half}
+use Rattle.nc_number.specs.Arithmetic.{nearest, nearest_quotient}
 
 -- no multiple of d is nearer to n
 pub nearest_is_near : (n d m : ℕ) → 0 < d → abs_diff n (nearest n d * d) ≤ abs_diff n (m * d)
@@ -82,8 +82,8 @@ positive_size b nonzero = elim (cases_lt 0 (unsigned_abs b)) [
   | inr none ↦ (let zero_is : b ≡ pos 0 = omega (arith, ints) in absurd (nonzero zero_is))
 ]
 
-pub half_distance : (a b : ℤ) → unsigned_abs (a -ℤ half a b *ℤ b) ≡ abs_diff (unsigned_abs a) (nearest (unsigned_abs a) (unsigned_abs b) * unsigned_abs b)
-half_distance a b =
+pub quotient_distance : (a b : ℤ) → unsigned_abs (a -ℤ nearest_quotient a b *ℤ b) ≡ abs_diff (unsigned_abs a) (nearest (unsigned_abs a) (unsigned_abs b) * unsigned_abs b)
+quotient_distance a b =
     let near = nearest (unsigned_abs a) (unsigned_abs b) in
     ap (λ z. unsigned_abs (a -ℤ z)) (signed_times (is_negative a) near b)
     ∙ ap (λ z. unsigned_abs (z -ℤ with_sign (is_negative a) (near * unsigned_abs b))) (sym (signed_size a))
@@ -93,17 +93,17 @@ pub multiple_distance : (a b k : ℤ) → abs_diff (unsigned_abs a) (unsigned_ab
 multiple_distance a b k =
     subst (λ n. abs_diff (unsigned_abs a) n ≤ unsigned_abs (a -ℤ k *ℤ b)) (unsigned_abs-mul k b) (distance_of_sizes a (k *ℤ b))
 
-pub half_is_near : (a b k : ℤ) → b ≢ pos 0 → unsigned_abs (a -ℤ half a b *ℤ b) ≤ unsigned_abs (a -ℤ k *ℤ b)
-half_is_near a b k nonzero =
+pub quotient_is_near : (a b k : ℤ) → b ≢ pos 0 → unsigned_abs (a -ℤ nearest_quotient a b *ℤ b) ≤ unsigned_abs (a -ℤ k *ℤ b)
+quotient_is_near a b k nonzero =
     let near = nearest_is_near (unsigned_abs a) (unsigned_abs b) (unsigned_abs k) (positive_size b nonzero) in
     let multiple = multiple_distance a b k in
-    let is = half_distance a b in
+    let is = quotient_distance a b in
     rw is (omega arith)
 
-pub half_is_far_from_zero : (a b k : ℤ) → b ≢ pos 0 → unsigned_abs (a -ℤ k *ℤ b) ≡ unsigned_abs (a -ℤ half a b *ℤ b) → unsigned_abs k ≤ unsigned_abs (half a b)
-half_is_far_from_zero a b k nonzero tie =
+pub quotient_is_far_from_zero : (a b k : ℤ) → b ≢ pos 0 → unsigned_abs (a -ℤ k *ℤ b) ≡ unsigned_abs (a -ℤ nearest_quotient a b *ℤ b) → unsigned_abs k ≤ unsigned_abs (nearest_quotient a b)
+quotient_is_far_from_zero a b k nonzero tie =
     let multiple = multiple_distance a b k in
     let near : abs_diff (unsigned_abs a) (unsigned_abs k * unsigned_abs b) ≤ abs_diff (unsigned_abs a) (nearest (unsigned_abs a) (unsigned_abs b) * unsigned_abs b) =
-    subst (λ n. abs_diff (unsigned_abs a) (unsigned_abs k * unsigned_abs b) ≤ n) (tie ∙ half_distance a b) multiple in
-    let size : unsigned_abs (half a b) ≡ nearest (unsigned_abs a) (unsigned_abs b) = size_with_sign (differ (is_negative a) (is_negative b)) _ in
+    subst (λ n. abs_diff (unsigned_abs a) (unsigned_abs k * unsigned_abs b) ≤ n) (tie ∙ quotient_distance a b) multiple in
+    let size : unsigned_abs (nearest_quotient a b) ≡ nearest (unsigned_abs a) (unsigned_abs b) = size_with_sign (differ (is_negative a) (is_negative b)) _ in
     subst (λ n. unsigned_abs k ≤ n) (sym size) (nearest_is_greatest (unsigned_abs a) (unsigned_abs b) (unsigned_abs k) (positive_size b nonzero) near)

@@ -1,0 +1,5 @@
+use Rattle.nc_number.proofs.NearestQuotient.{quotient_is_near}
+use Rattle.nc_number.proofs.laws.a_nearest_quotient_is_nearest.Goals as goal
+
+pub returns : goal.returns
+returns c = quotient_is_near

@@ -1,0 +1,8 @@
+use Rattle.nc_number.proofs.CauseTable.{number_has_one_cause, cause_is_listed}
+use Rattle.nc_number.proofs.laws.a_number_has_one_cause.Goals as goal
+
+pub returns-clause-one : goal.returns-clause-one
+returns-clause-one c = number_has_one_cause
+
+pub returns-clause-listed : goal.returns-clause-listed
+returns-clause-listed c = cause_is_listed
