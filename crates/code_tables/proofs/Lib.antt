@@ -1,1 +1,2 @@
+pub mod LastOfGroup
 pub mod Lookup

@@ -14,3 +14,8 @@ pub const NOSE_GROUP: u8 = 7;
 pub const WORK_GROUP: u8 = 14;
 /// Codes that are accepted and change nothing. The number is this control's own.
 pub const IDLE_GROUP: u8 = 90;
+
+/// The code of work offset 1, and of its group the least.
+pub const FIRST_WORK_CODE: u16 = 54;
+/// The code of work offset 6, and of its group the greatest.
+pub const LAST_WORK_CODE: u16 = 59;

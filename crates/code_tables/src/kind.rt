@@ -1,3 +1,6 @@
+ghost use Rattle.std.specs.Prelude.{◌≡◌};
+ghost use Rattle.code_tables.specs.Kinds.{is_refused, is_arc, is_cycle};
+
 /// What a G code does, whatever its number is in a system.
 #[derive(Clone, Copy, Debug, PartialEq, Eq)]
 pub enum CodeKind {
@@ -49,4 +52,31 @@ pub enum CodeKind {
     MacroCall,
     /// Accepted, and without effect.
     Idle,
+}
+
+impl CodeKind {
+    /// Whether the control knows the code and refuses it: inch input, and compensation of the nose
+    /// radius.
+    pub fn is_refused(self) -> bool
+        ensures { result ≡ is_refused self }
+    {
+        matches!(self, CodeKind::Inch | CodeKind::NoseOn)
+    }
+
+    /// Whether it cuts an arc, beside which I, K and R are read.
+    pub fn is_arc(self) -> bool
+        ensures { result ≡ is_arc self }
+    {
+        matches!(self, CodeKind::ArcCw | CodeKind::ArcCcw)
+    }
+
+    /// Whether it is a canned cycle, whose end point stays in force while the code does.
+    pub fn is_cycle(self) -> bool
+        ensures { result ≡ is_cycle self }
+    {
+        matches!(
+            self,
+            CodeKind::CycleTurn | CodeKind::CycleThread | CodeKind::CycleFace
+        )
+    }
 }

@@ -13,10 +13,10 @@ mod system;
 mod table;
 
 pub use group::{
-    FEED_GROUP, IDLE_GROUP, MOTION_GROUP, NOSE_GROUP, ONE_SHOT_GROUP, SPINDLE_GROUP, UNIT_GROUP,
-    WORK_GROUP,
+    FEED_GROUP, FIRST_WORK_CODE, IDLE_GROUP, LAST_WORK_CODE, MOTION_GROUP, NOSE_GROUP,
+    ONE_SHOT_GROUP, SPINDLE_GROUP, UNIT_GROUP, WORK_GROUP,
 };
 pub use kind::CodeKind;
-pub use row::Row;
+pub use row::{Row, last_of_group};
 pub use system::system_a;
 pub use table::CodeTable;

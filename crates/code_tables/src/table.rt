@@ -1,5 +1,5 @@
-ghost use Rattle.std.specs.Prelude.{◌≡◌, ◌≢◌, ◌↔◌, List, IsTrue, IsNone, IfSome, Some, None, All, Contains, false};
-ghost use Rattle.code_tables.specs.Codes.{codes_stand_once, row_of, is_of_group, last_of_group};
+ghost use Rattle.std.specs.Prelude.{◌≡◌, ◌≢◌, ◌↔◌, List, IsTrue, IsNone, IfSome, Some, All, Contains, filter, false};
+ghost use Rattle.code_tables.specs.Codes.{codes_stand_once, row_of, is_of_group, last_of, last_code_of_group};
 
 use crate::row::Row;
 use std::marker::Model;
@@ -42,23 +42,19 @@ impl<const N: usize> CodeTable<N> {
         self.rows.iter().find(|row| row.code == code).copied()
     }
 
-    /// Of the codes of a block, in their order, the one of this group that counts: the last.
+    /// Of the codes of a block, in their order, the one of this group that counts: the last. A code
+    /// that the table lacks is of no group.
     pub fn group_last(&self, codes: &[u16], group: u8) -> Option<u16>
-        ensures last { result ≡ last_of_group self.now codes.now group }
+        ensures last { result ≡ last_code_of_group self.now codes.now group }
+        ensures code { result ≡ last_of (filter (is_of_group self.now group) codes.now) }
         ensures none { IsNone result ↔ All (λ code. is_of_group self.now group code ≡ false) codes.now }
     {
         let mut last = None;
         for code in codes {
-            if self.is_of_group(*code, group) {
-                last = Some(*code);
+            if let Some(row) = self.find(*code) {
+                last = row.or_before(last, group);
             }
         }
-        last
-    }
-
-    fn is_of_group(&self, code: u16, group: u8) -> bool
-        ensures { result ≡ is_of_group self.now group code }
-    {
-        self.find(code).is_some_and(|row| row.group == group)
+        last.map(|row| row.code)
     }
 }
