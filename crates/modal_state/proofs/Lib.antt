@@ -1,1 +1,1 @@
-pub mod LastCode
+pub mod NamedWork

@@ -1,21 +1,24 @@
-use Rattle.std.specs.Prelude.{ℕ, List, Option, None, unwrap_or, filter, ◌==◌, if◌then◌else◌}
+use Rattle.std.specs.Prelude.{ℕ, ◌+◌, ◌-◌, List, Option, Some, None, unwrap_or, ◌==◌, if◌then◌else◌}
 use Rattle.std.specs.Option.{option_map}
 use Rattle.nc_number.specs.declared.value.Var.TheVariants.{Vacant}
+use Rattle.nc_number.specs.declared.point.Point.{Point}
 use Rattle.code_tables.specs.declared.row.Row.{Row}
-use Rattle.code_tables.specs.declared.group.TheConstants.{MOTION_GROUP, SPINDLE_GROUP, FEED_GROUP, UNIT_GROUP, NOSE_GROUP, WORK_GROUP}
-use Rattle.code_tables.specs.Codes.{last_of}
-use Rattle.modal_state.specs.declared.modal.Modal.{Modal}
-
--- the last code of the group among a block's G codes
-abbrev pub last_code : List Row → ℕ → Option ℕ
-last_code rows group = option_map (λ row. row.code) (last_of (filter (λ row. row.group == group) rows))
+use Rattle.code_tables.specs.declared.group.TheConstants.{MOTION_GROUP, SPINDLE_GROUP, FEED_GROUP, UNIT_GROUP, NOSE_GROUP, WORK_GROUP, FIRST_WORK_CODE}
+use Rattle.code_tables.specs.Codes.{last_of_group, is_work_code}
+pub use Rattle.modal_state.specs.View.{ModalView}
 
 -- the code of the group behind the block: its last one there, else the one in force before
 abbrev pub in_force_after : List Row → ℕ → ℕ → ℕ
-in_force_after rows group before = unwrap_or (last_code rows group) before
+in_force_after rows group before = unwrap_or (option_map (λ row. row.code) (last_of_group rows group)) before
+
+-- the code of the work offset behind the block; a row that names none of G54 to G59 sets none
+abbrev pub work_after : List Row → ℕ → ℕ
+work_after rows before =
+    let code = in_force_after rows WORK_GROUP before in
+    if is_work_code code then code else before
 
 -- the modal state as a tape begins
-abbrev pub opening_modal : Modal
+abbrev pub opening_modal : ModalView
 opening_modal = record {
   g01 = 0;
   g02 = 97;
@@ -33,7 +36,7 @@ opening_modal = record {
 
 -- the modal state with a block's G codes taken: each group has its last code,
 -- and the end of a cycle stays only where the motion group kept its code
-abbrev pub with_codes : Modal → List Row → Modal
+abbrev pub with_codes : ModalView → List Row → ModalView
 with_codes before rows =
     let motion = in_force_after rows MOTION_GROUP before.g01 in
     record before {
@@ -42,6 +45,25 @@ with_codes before rows =
       g05 = in_force_after rows FEED_GROUP before.g05;
       g06 = in_force_after rows UNIT_GROUP before.g06;
       g07 = in_force_after rows NOSE_GROUP before.g07;
-      g14 = in_force_after rows WORK_GROUP before.g14;
+      g14 = work_after rows before.g14;
       cycle = if motion == before.g01 then before.cycle else None;
     }
+
+-- the code in force of a group: groups 01, 02, 05, 06, 07 and 14 have one
+abbrev pub code_of : ModalView → ℕ → Option ℕ
+code_of modal group =
+    if group == MOTION_GROUP then Some modal.g01
+    else if group == SPINDLE_GROUP then Some modal.g02
+    else if group == FEED_GROUP then Some modal.g05
+    else if group == UNIT_GROUP then Some modal.g06
+    else if group == NOSE_GROUP then Some modal.g07
+    else if group == WORK_GROUP then Some modal.g14
+    else None
+
+-- the work offset in force: 1 at G54, and 6 at G59
+abbrev pub work_of : ModalView → ℕ
+work_of modal = modal.g14 + 1 - FIRST_WORK_CODE
+
+-- the modal state with the end of a cycle kept
+abbrev pub with_cycle : ModalView → Point → ModalView
+with_cycle before end = record before { cycle = Some end }

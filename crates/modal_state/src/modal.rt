@@ -1,36 +1,67 @@
-ghost use Rattle.std.specs.Prelude.{◌≡◌};
-ghost use Rattle.modal_state.specs.Modal.{opening_modal, in_force_after, with_codes};
+ghost use Rattle.std.specs.Prelude.{◌≡◌, ◌≤◌, IsTrue, IfSome, OnOk, OnErr};
+ghost use Rattle.std.specs.Result.{result_err};
+ghost use Rattle.nc_number.specs.Position.{IsPosition};
+ghost use Rattle.code_tables.specs.declared.group.TheConstants.{WORK_GROUP};
+ghost use Rattle.code_tables.specs.Codes.{is_work_code, names_work_offsets};
+ghost use Rattle.modal_state.specs.Modal.{opening_modal, in_force_after, work_after, with_codes, code_of, work_of, with_cycle};
+ghost use Rattle.nc_number.specs.declared.point.TheConstants.{TOOL_OFFSETS};
+ghost use Rattle.modal_state.specs.Words.{with_words, tool_fault};
 
+use crate::fault::ModalFault;
+use crate::words::{ModalWords, offset_of, said_or};
 use code_tables::{
-    FEED_GROUP, MOTION_GROUP, NOSE_GROUP, Row, SPINDLE_GROUP, UNIT_GROUP, WORK_GROUP,
+    FEED_GROUP, FIRST_WORK_CODE, LAST_WORK_CODE, MOTION_GROUP, NOSE_GROUP, Row, SPINDLE_GROUP,
+    UNIT_GROUP, WORK_GROUP, last_of_group,
 };
 use nc_number::{Point, Var};
+use std::marker::Model;
 
 /// What is in force for a path: the code of each modal group, and what its words set last.
+///
+/// One of G54 to G59 is in force, the tool offset is one that exists, or 0 for none, and the cycle in
+/// force ends at a position.
 #[derive(Clone, Copy, Debug, PartialEq, Eq)]
 pub struct Modal {
-    /// The code of the motion group.
-    pub g01: u16,
-    /// The code of constant surface speed, or of a fixed speed of the spindle.
-    pub g02: u16,
-    /// The code of feed by the minute or by the revolution.
-    pub g05: u16,
-    /// The code of inch or metric input.
-    pub g06: u16,
-    /// The code of nose radius compensation.
-    pub g07: u16,
-    /// The code of the work offset.
-    pub g14: u16,
-    pub feed: Var,
-    pub speed: Var,
-    /// The T word's whole number, of which the last two digits are the offset.
-    pub tool: u16,
-    /// The tool offset, from 1, or 0 for none.
-    pub offset: u8,
-    /// The highest speed of the spindle.
-    pub limit: Var,
-    /// Where the cycle in force ends, in machine coordinates, from its first block on.
-    pub cycle: Option<Point>,
+    g01: u16,
+    g02: u16,
+    g05: u16,
+    g06: u16,
+    g07: u16,
+    g14: u16,
+    feed: Var,
+    speed: Var,
+    tool: u16,
+    offset: u8,
+    limit: Var,
+    cycle: Option<Point>,
+}
+
+// Clauses see all that is in force.
+impl Model for Modal {
+    ghost use Rattle.modal_state.specs.View.{ModalView, IsSound};
+
+    ghost Value = { ModalView };
+
+    ghost use Rattle.modal_state.specs.Fields.{view_of};
+
+    ghost view = { view_of };
+
+    ghost invariant = { λ m. IsSound (view_of m) };
+
+    ghost inverse = { λ v. record {
+      g01 = v.g01;
+      g02 = v.g02;
+      g05 = v.g05;
+      g06 = v.g06;
+      g07 = v.g07;
+      g14 = v.g14;
+      feed = v.feed;
+      speed = v.speed;
+      tool = v.tool;
+      offset = v.offset;
+      limit = v.limit;
+      cycle = v.cycle;
+    } };
 }
 
 impl Modal {
@@ -54,12 +85,82 @@ impl Modal {
         }
     }
 
+    /// The code in force of a group. Groups 01, 02, 05, 06, 07 and 14 have one, and no other.
+    pub fn code(&self, group: u8) -> Option<u16>
+        ensures { result ≡ code_of self.now group }
+    {
+        match group {
+            MOTION_GROUP => Some(self.g01),
+            SPINDLE_GROUP => Some(self.g02),
+            FEED_GROUP => Some(self.g05),
+            UNIT_GROUP => Some(self.g06),
+            NOSE_GROUP => Some(self.g07),
+            WORK_GROUP => Some(self.g14),
+            _ => None,
+        }
+    }
+
+    /// The work offset in force, from 1 at G54 to 6 at G59.
+    pub fn work(&self) -> u8
+        ensures work { result ≡ work_of self.now }
+        ensures range { (1 ≤ result) × (result ≤ 6) }
+    {
+        (self.g14 - FIRST_WORK_CODE) as u8 + 1
+    }
+
+    /// What F set last, in whole units.
+    pub fn feed(&self) -> Var
+        ensures { result ≡ self.now.feed }
+    {
+        self.feed
+    }
+
+    /// What S set last in a block without G50.
+    pub fn speed(&self) -> Var
+        ensures { result ≡ self.now.speed }
+    {
+        self.speed
+    }
+
+    /// What S set last in a block with G50: the highest speed of the spindle.
+    pub fn limit(&self) -> Var
+        ensures { result ≡ self.now.limit }
+    {
+        self.limit
+    }
+
+    /// The whole number of the last T word, of which the last two digits are the tool offset.
+    pub fn tool(&self) -> u16
+        ensures { result ≡ self.now.tool }
+    {
+        self.tool
+    }
+
+    /// The tool offset in force, from 1 to 64, or 0 for none.
+    pub fn offset(&self) -> u8
+        ensures offset { result ≡ self.now.offset }
+        ensures range { result ≤ TOOL_OFFSETS }
+    {
+        self.offset
+    }
+
+    /// Where the cycle in force ends, in machine coordinates, from its first block on.
+    pub fn cycle(&self) -> Option<Point>
+        ensures cycle { result ≡ self.now.cycle }
+        ensures position { IfSome result IsPosition }
+    {
+        self.cycle
+    }
+
     /// Takes the G codes of a block, given by their rows in the block's order.
     ///
     /// The end of a cycle is dropped where the code of the motion group changed. Codes that count in
-    /// their own block alone, and those without effect, change nothing.
+    /// their own block alone, and those without effect, change nothing. In the rows of a code table each
+    /// code of the work group names a work offset; a row that names none would set none.
     pub fn take(&mut self, rows: &[Row])
-        ensures { self.new ≡ with_codes self.old rows.now }
+        ensures codes { self.new ≡ with_codes self.old rows.now }
+        ensures work { IsTrue (names_work_offsets rows.now) →
+            self.new.g14 ≡ in_force_after rows.now WORK_GROUP self.old.g14 }
     {
         let motion = in_force_after(rows, MOTION_GROUP, self.g01);
         if motion != self.g01 {
@@ -70,7 +171,33 @@ impl Modal {
         self.g05 = in_force_after(rows, FEED_GROUP, self.g05);
         self.g06 = in_force_after(rows, UNIT_GROUP, self.g06);
         self.g07 = in_force_after(rows, NOSE_GROUP, self.g07);
-        self.g14 = in_force_after(rows, WORK_GROUP, self.g14);
+        self.g14 = work_after(rows, self.g14);
+    }
+
+    /// Takes F, S and T of a block: alarm 40 exactly where the tool offset of T is none of 0 to 64. Then
+    /// nothing changes.
+    pub fn take_values(&mut self, words: &ModalWords) -> Result<(), ModalFault>
+        ensures fault { result_err result ≡ tool_fault words.now.tool }
+        ensures taken { OnOk result (self.new ≡ with_words self.old words.now) }
+        ensures err { OnErr result (self.new ≡ self.old) }
+    {
+        words.check()?;
+        self.feed = said_or(&words.feed, &self.feed);
+        self.speed = words.speed.speed_or(&self.speed);
+        self.limit = words.speed.limit_or(&self.limit);
+        if let Some(tool) = words.tool {
+            self.tool = tool;
+            self.offset = offset_of(tool);
+        }
+        Ok(())
+    }
+
+    /// Keeps the end of the cycle in force, in machine coordinates.
+    pub fn keep_cycle(&mut self, end: Point)
+        requires { IsPosition end }
+        ensures { self.new ≡ with_cycle self.old end }
+    {
+        self.cycle = Some(end);
     }
 }
 
@@ -78,28 +205,66 @@ impl Modal {
 fn in_force_after(rows: &[Row], group: u8, before: u16) -> u16
     ensures { result ≡ in_force_after rows.now group before }
 {
-    let mut code = before;
-    for row in rows {
-        if row.group == group {
-            code = row.code;
-        }
+    last_of_group(rows, group).map_or(before, |row| row.code)
+}
+
+// The code of the work offset behind these rows, where this one was in force before them.
+fn work_after(rows: &[Row], before: u16) -> u16
+    requires { IsTrue (is_work_code before) }
+    ensures code { result ≡ work_after rows.now before }
+    ensures work { IsTrue (is_work_code result) }
+    ensures named { IsTrue (names_work_offsets rows.now) →
+        result ≡ in_force_after rows.now WORK_GROUP before }
+{
+    let code = in_force_after(rows, WORK_GROUP, before);
+    if code >= FIRST_WORK_CODE && code <= LAST_WORK_CODE {
+        code
+    } else {
+        before
     }
-    code
 }
 
 #[cfg(test)]
 mod tests {
     use super::*;
+    use crate::words::SpeedWord;
     use code_tables::{CodeKind, system_a};
+    use nc_number::Value;
     use std::process::Abort;
 
     fn row(rt: &impl Abort, code: u16) -> Row {
         system_a().find(code).expect(rt, "a code of system A")
     }
 
+    // A word of so many whole units.
+    fn units(rt: &impl Abort, count: i64) -> Var {
+        Var::Is(Value::of_units(count).expect(rt, "a value in range"))
+    }
+
+    // A block without F and S, with this T word.
+    fn tool_word(tool: u16) -> ModalWords {
+        ModalWords {
+            feed: Var::Vacant,
+            speed: SpeedWord::Speed(Var::Vacant),
+            tool: Some(tool),
+        }
+    }
+
     #[test]
     fn each_group_keeps_the_last_code_given(rt: HostRuntime) {
         let mut modal = Modal::new();
+        let codes = [1, 2, 5, 6, 7, 14, 0, 90].map(|group| modal.code(group));
+        let opening = [
+            Some(0),
+            Some(97),
+            Some(99),
+            Some(21),
+            Some(40),
+            Some(54),
+            None,
+            None,
+        ];
+        assert_eq!(rt; codes, opening);
         modal.take(&[
             row(&rt, 0),
             row(&rt, 96),
@@ -107,8 +272,36 @@ mod tests {
             row(&rt, 55),
             row(&rt, 90),
         ]);
-        assert_eq!(rt; (modal.g01, modal.g02, modal.g05), (90, 96, 98));
-        assert_eq!(rt; (modal.g06, modal.g07, modal.g14), (21, 40, 55));
+        let codes = [1, 2, 5, 6, 7, 14, 0, 90].map(|group| modal.code(group));
+        let behind = [
+            Some(90),
+            Some(96),
+            Some(98),
+            Some(21),
+            Some(40),
+            Some(55),
+            None,
+            None,
+        ];
+        assert_eq!(rt; codes, behind);
+    }
+
+    #[test]
+    fn the_work_offset_in_force_is_one_of_six(rt: HostRuntime) {
+        let mut modal = Modal::new();
+        assert_eq!(rt; modal.work(), 1);
+        for (code, work) in [(54, 1), (55, 2), (58, 5), (59, 6), (0, 6)] {
+            modal.take(&[row(&rt, code)]);
+            assert_eq!(rt; modal.work(), work);
+        }
+        for code in [53, 60] {
+            modal.take(&[Row {
+                code,
+                group: WORK_GROUP,
+                kind: CodeKind::Work,
+            }]);
+            assert_eq!(rt; modal.work(), 6);
+        }
     }
 
     #[test]
@@ -119,14 +312,59 @@ mod tests {
         };
         let mut modal = Modal::new();
         modal.take(&[row(&rt, 90)]);
-        modal.cycle = Some(end);
+        modal.keep_cycle(end);
         modal.take(&[row(&rt, 99), row(&rt, 0), row(&rt, 90), row(&rt, 4)]);
-        assert_eq!(rt; modal.cycle, Some(end));
-        modal.take(&[Row {
-            code: 94,
-            group: MOTION_GROUP,
-            kind: CodeKind::CycleFace,
-        }]);
-        assert_eq!(rt; modal.cycle, None);
+        assert_eq!(rt; modal.cycle(), Some(end));
+        modal.take(&[row(&rt, 94)]);
+        assert_eq!(rt; modal.cycle(), None);
+    }
+
+    #[test]
+    fn the_last_two_digits_of_a_tool_are_its_offset(rt: HostRuntime) {
+        let mut modal = Modal::new();
+        for (tool, offset) in [(101, 1), (64, 64), (9_964, 64), (300, 0), (0, 0)] {
+            assert_eq!(rt; modal.take_values(&tool_word(tool)), Ok(()));
+            assert_eq!(rt; (modal.tool(), modal.offset()), (tool, offset));
+        }
+        for tool in [65, 165, 9_999] {
+            let refused = modal.take_values(&tool_word(tool));
+            assert_eq!(rt; refused, Err(ModalFault { number: 40 }));
+            assert_eq!(rt; (modal.tool(), modal.offset()), (0, 0));
+        }
+    }
+
+    #[test]
+    fn a_speed_beside_g50_is_only_the_limit(rt: HostRuntime) {
+        let mut modal = Modal::new();
+        let cut = ModalWords {
+            feed: units(&rt, 2),
+            speed: SpeedWord::Speed(units(&rt, 150)),
+            tool: None,
+        };
+        let limit = ModalWords {
+            feed: Var::Vacant,
+            speed: SpeedWord::Limit(units(&rt, 2_000)),
+            tool: None,
+        };
+        assert_eq!(rt; modal.take_values(&cut), Ok(()));
+        assert_eq!(rt;
+            (modal.speed(), modal.limit()),
+            (units(&rt, 150), Var::Vacant)
+        );
+        assert_eq!(rt; modal.take_values(&limit), Ok(()));
+        assert_eq!(rt;
+            (modal.speed(), modal.limit()),
+            (units(&rt, 150), units(&rt, 2_000))
+        );
+        assert_eq!(rt; modal.take_values(&tool_word(101)), Ok(()));
+        let before = modal;
+        let refused = ModalWords {
+            feed: units(&rt, 3),
+            speed: SpeedWord::Speed(units(&rt, 99)),
+            tool: Some(65),
+        };
+        assert_eq!(rt; modal.take_values(&refused), Err(ModalFault { number: 40 }));
+        assert_eq!(rt; modal, before);
+        assert_eq!(rt; (modal.feed(), modal.tool()), (units(&rt, 2), 101));
     }
 }

@@ -1,0 +1,29 @@
+use Rattle.std.specs.Prelude.{◌≡◌, ℕ, ◌≤◌, IsTrue, Option, IfSome}
+use Rattle.nc_number.specs.declared.value.Var.{Var}
+use Rattle.nc_number.specs.declared.point.Point.{Point}
+use Rattle.nc_number.specs.declared.point.TheConstants.{TOOL_OFFSETS}
+use Rattle.nc_number.specs.Position.{IsPosition}
+use Rattle.code_tables.specs.Codes.{is_work_code}
+use Rattle.modal_state.specs.Said.{tool_offset}
+
+-- what clauses see of the modal state: the code of each group, and what the words set last
+pub record ModalView : Type 0 where
+  pub g01 : ℕ
+  pub g02 : ℕ
+  pub g05 : ℕ
+  pub g06 : ℕ
+  pub g07 : ℕ
+  pub g14 : ℕ
+  pub feed : Var
+  pub speed : Var
+  pub tool : ℕ
+  pub offset : ℕ
+  pub limit : Var
+  pub cycle : Option Point
+
+-- one of G54 to G59 is in force, the tool offset is the tool's and exists, and a cycle ends at a position
+pub record IsSound (m : ModalView) : Type 0 where
+  pub work : IsTrue (is_work_code m.g14)
+  pub offset : m.offset ≡ tool_offset m.tool
+  pub exists : m.offset ≤ TOOL_OFFSETS
+  pub cycle : IfSome m.cycle IsPosition
