@@ -1,2 +1,7 @@
-pub mod Table
 pub mod Offsets
+pub mod Slots
+pub mod Changes
+pub mod Table
+pub mod Numbers
+pub mod Lists
+pub mod Faults

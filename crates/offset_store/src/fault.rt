@@ -1,14 +1,24 @@
+ghost use Rattle.std.specs.Prelude.{◌≡◌};
+
+use nc_number::Cause;
 use thiserror::Error;
 
-/// The alarm of an offset that does not exist.
-pub const OFFSET_NUMBER: u8 = 40;
-
-/// The alarm of a part farther from 0 than 99,999.999 mm.
-pub const POSITION_RANGE: u8 = 41;
-
-/// Why an offset was not set, as the number of the alarm.
+/// Why an offset was not set, as the number of the alarm: 40 where it does not exist, 41 where it would
+/// be past the range.
 #[derive(Clone, Copy, Debug, PartialEq, Eq, Error)]
 #[error("offset alarm {number}")]
 pub struct OffsetFault {
     pub number: u8,
+}
+
+impl OffsetFault {
+    ghost use Rattle.offset_store.specs.Faults.{fault};
+
+    pub(crate) fn of(cause: Cause) -> Self
+        ensures { result ≡ fault cause }
+    {
+        OffsetFault {
+            number: cause.number(),
+        }
+    }
 }

@@ -1,24 +1,27 @@
-ghost use Rattle.std.specs.Prelude.{◌≡◌, ◌≤◌, ◌↔◌, ◌+ℤ◌, unsigned_abs, IsTrue, OnOk, OnErr};
+ghost use Rattle.std.specs.Prelude.{◌≡◌, ◌≤◌, ◌+ℤ◌, unsigned_abs, IfOk, OnOk, OnErr};
 ghost use Rattle.std.specs.Result.{result_err};
-ghost use Rattle.nc_number.specs.Position.{is_position, IsPosition, IsWithin};
-ghost use Rattle.offset_store.specs.Offsets.{no_offsets, origin, offset_at, work_in_force, position_fault, shift_of, work_fault, tool_fault, with_work, with_tool};
+ghost use Rattle.nc_number.specs.Position.{IsPosition, IsWithin};
+ghost use Rattle.nc_number.specs.declared.point.TheConstants.{TOOL_OFFSETS};
+ghost use Rattle.offset_store.specs.declared.number.TheConstants.{LAST_WORK};
+ghost use Rattle.offset_store.specs.Lists.{origin, offset_at};
+ghost use Rattle.offset_store.specs.declared.slot.OffsetForm.TheVariants.{WorkOffset, ToolOffset};
+ghost use Rattle.offset_store.specs.Changes.{point_at, with_point, changed_point, in_range};
+ghost use Rattle.offset_store.specs.Offsets.{no_offsets, work_in_force, shift_of, shift_travel, set_fault, with_set};
 
-use crate::fault::{OFFSET_NUMBER, OffsetFault, POSITION_RANGE};
-use nc_number::{Point, TRAVEL};
+use crate::change::changed_point;
+use crate::fault::OffsetFault;
+use crate::list::{ORIGIN, OffsetList};
+use crate::slot::{OffsetForm, Slot};
+use nc_number::{Axis, Point, TRAVEL};
 use std::marker::Model;
-
-const ORIGIN: Point = Point { x: 0, z: 0 };
-
-/// What is added to the number of a geometry offset where a tape sets it.
-const GEOMETRY: i64 = 10_000;
 
 /// The offsets of a path, in 0.001 mm. Work offset 0 is the external one; place 0 of the tool
 /// offsets is no offset, and stays 0.
 #[derive(Debug, Drop)]
 pub struct Offsets {
-    work: [Point; 7],
-    geometry: [Point; 65],
-    wear: [Point; 65],
+    work: OffsetList<7>,
+    geometry: OffsetList<65>,
+    wear: OffsetList<65>,
 }
 
 // Clauses see the three lists, each offset at the place of its number.
@@ -38,48 +41,48 @@ impl Offsets {
         ensures { result ≡ no_offsets }
     {
         Offsets {
-            work: [ORIGIN; 7],
-            geometry: [ORIGIN; 65],
-            wear: [ORIGIN; 65],
+            work: OffsetList::new(),
+            geometry: OffsetList::new(),
+            wear: OffsetList::new(),
         }
     }
 
     /// Work offset `n`: 0 is the external one, 1 to 6 are those of G54 to G59.
     pub fn work(&self, n: u8) -> Point
-        requires { n ≤ 6 }
+        requires { n ≤ LAST_WORK }
         ensures offset { result ≡ offset_at self.now.work n }
         ensures position { IsPosition result }
     {
-        self.work[n as usize]
+        self.work.at(n)
     }
 
     /// Geometry offset `n`, from 1; 0 is no offset, and gives 0.
     pub fn geometry(&self, n: u8) -> Point
-        requires { n ≤ 64 }
+        requires { n ≤ TOOL_OFFSETS }
         ensures offset { result ≡ offset_at self.now.geometry n }
         ensures position { IsPosition result }
         ensures none { n ≡ 0 → result ≡ origin }
     {
-        self.geometry[n as usize]
+        self.geometry.at(n)
     }
 
     /// Wear offset `n`, from 1; 0 is no offset, and gives 0.
     pub fn wear(&self, n: u8) -> Point
-        requires { n ≤ 64 }
+        requires { n ≤ TOOL_OFFSETS }
         ensures offset { result ≡ offset_at self.now.wear n }
         ensures position { IsPosition result }
         ensures none { n ≡ 0 → result ≡ origin }
     {
-        self.wear[n as usize]
+        self.wear.at(n)
     }
 
     /// How far programmed coordinates lie behind machine coordinates where this work offset (1 to 6,
     /// or 0 for the external one alone) and this tool offset (1 to 64, or 0 for none) are in force.
     pub fn shift(&self, work: u8, offset: u8) -> Point
-        requires work { work ≤ 6 }
-        requires offset { offset ≤ 64 }
+        requires work { work ≤ LAST_WORK }
+        requires offset { offset ≤ TOOL_OFFSETS }
         ensures sum { result ≡ shift_of self.now work offset }
-        ensures range { IsWithin 399999996 result }
+        ensures range { IsWithin shift_travel result }
     {
         let external = self.work(0);
         let workpiece = self.work_in_force(work);
@@ -93,62 +96,77 @@ impl Offsets {
 
     // The work offset beside the external one.
     fn work_in_force(&self, work: u8) -> Point
-        requires { work ≤ 6 }
+        requires { work ≤ LAST_WORK }
         ensures offset { result ≡ work_in_force self.now work }
         ensures position { IsPosition result }
     {
         if work == 0 { ORIGIN } else { self.work(work) }
     }
 
+    /// The offset of a slot.
+    pub fn at(&self, slot: &Slot) -> Point
+        ensures offset { result ≡ point_at self.now slot.now }
+        ensures position { IsPosition result }
+    {
+        match slot {
+            Slot::Work(n) => self.work.at(n.get()),
+            Slot::Geometry(n) => self.geometry.at(n.get()),
+            Slot::Wear(n) => self.wear.at(n.get()),
+        }
+    }
+
+    /// What the words of G10 make of an offset: X and Z set, U and W add, and an axis without a word
+    /// stays. Alarm 41 exactly where a part is then past 99,999.999 mm. It looks only.
+    pub fn changed(&self, slot: &Slot, x: Axis, z: Axis) -> Result<Point, OffsetFault>
+        ensures point { result ≡ in_range (changed_point (point_at self.now slot.now) x z) }
+        ensures position { IfOk result IsPosition }
+    {
+        changed_point(&self.at(slot), x, z)
+    }
+
+    /// Sets an offset to a point that may be a position.
+    pub fn put(&mut self, slot: &Slot, to: Point)
+        requires { IsPosition to }
+        ensures table { self.new ≡ with_point self.old slot.now to }
+        ensures there { point_at self.new slot.now ≡ to }
+    {
+        match slot {
+            Slot::Work(n) => self.work.put(n.get(), to),
+            Slot::Geometry(n) => self.geometry.put(n.get(), to),
+            Slot::Wear(n) => self.wear.put(n.get(), to),
+        }
+    }
+
     /// Sets work offset `n`: alarm 40 where it is none of 0 to 6, else 41 where a part of the point is
     /// past the range.
     pub fn set_work(&mut self, n: i64, to: Point) -> Result<(), OffsetFault>
-        ensures fault { result_err result ≡ work_fault n to }
-        ensures set { OnOk result (self.new ≡ with_work self.old n to) }
+        ensures fault { result_err result ≡ set_fault WorkOffset n to }
+        ensures set { OnOk result (self.new ≡ with_set self.old WorkOffset n to) }
         ensures err { OnErr result (self.new ≡ self.old) }
     {
-        if n < 0 || n > 6 {
-            return Err(OffsetFault {
-                number: OFFSET_NUMBER,
-            });
-        }
-        check_position(&to)?;
-        self.work[n as usize] = to;
-        Ok(())
+        self.set(OffsetForm::WorkOffset, n, to)
     }
 
     /// Sets wear offset `p`, from 1 to 64, or geometry offset `p` - 10,000, from 1 to 64: alarm 40 where
     /// `p` is neither, else 41 where a part of the point is past the range.
     pub fn set_tool(&mut self, p: i64, to: Point) -> Result<(), OffsetFault>
-        ensures fault { result_err result ≡ tool_fault p to }
-        ensures set { OnOk result (self.new ≡ with_tool self.old p to) }
+        ensures fault { result_err result ≡ set_fault ToolOffset p to }
+        ensures set { OnOk result (self.new ≡ with_set self.old ToolOffset p to) }
         ensures err { OnErr result (self.new ≡ self.old) }
     {
-        if p >= 1 && p <= 64 {
-            check_position(&to)?;
-            self.wear[p as usize] = to;
-            return Ok(());
-        }
-        if p > GEOMETRY && p <= GEOMETRY + 64 {
-            check_position(&to)?;
-            self.geometry[(p - GEOMETRY) as usize] = to;
-            return Ok(());
-        }
-        Err(OffsetFault {
-            number: OFFSET_NUMBER,
-        })
+        self.set(OffsetForm::ToolOffset, p, to)
     }
-}
 
-fn check_position(to: &Point) -> Result<(), OffsetFault>
-    ensures { result_err result ≡ position_fault to.now }
-{
-    if to.is_position() {
+    // Sets the offset that G10 names by this number.
+    fn set(&mut self, form: OffsetForm, n: i64, to: Point) -> Result<(), OffsetFault>
+        ensures fault { result_err result ≡ set_fault form n to }
+        ensures set { OnOk result (self.new ≡ with_set self.old form n to) }
+        ensures err { OnErr result (self.new ≡ self.old) }
+    {
+        let slot = Slot::named(form, Some(n))?;
+        let to = self.changed(&slot, Axis::To(to.x), Axis::To(to.z))?;
+        self.put(&slot, to);
         Ok(())
-    } else {
-        Err(OffsetFault {
-            number: POSITION_RANGE,
-        })
     }
 }
 
@@ -158,7 +176,7 @@ fn sum_of(external: i64, workpiece: i64, geometry: i64, wear: i64) -> i64
     requires geometry { unsigned_abs geometry ≤ TRAVEL }
     requires wear { unsigned_abs wear ≤ TRAVEL }
     ensures sum { result ≡ external +ℤ workpiece +ℤ (geometry +ℤ wear) }
-    ensures range { unsigned_abs result ≤ 399999996 }
+    ensures range { unsigned_abs result ≤ shift_travel }
 {
     external + workpiece + (geometry + wear)
 }
@@ -166,67 +184,85 @@ fn sum_of(external: i64, workpiece: i64, geometry: i64, wear: i64) -> i64
 #[cfg(test)]
 mod tests {
     use super::*;
+    use crate::number::ToolNumber;
     use std::test::Fail;
+
+    const FAR: Point = Point {
+        x: 100_000_000,
+        z: 0,
+    };
+
+    fn point(x: i64, z: i64) -> Point {
+        Point { x, z }
+    }
 
     #[test]
     fn the_shift_is_the_sum_of_the_offsets_in_force(rt: HostRuntime) -> Result<(), Fail> {
         let mut offsets = Offsets::new();
-        offsets.set_work(1, Point { x: 0, z: 100_000 })?;
-        offsets.set_tool(
-            10_001,
-            Point {
-                x: -20_000,
-                z: -10_000,
-            },
-        )?;
-        assert_eq!(rt;
-            offsets.shift(1, 1),
-            Point {
-                x: -20_000,
-                z: 90_000
-            }
-        );
-        offsets.set_work(0, Point { x: 1, z: 10 })?;
-        offsets.set_tool(1, Point { x: 100, z: 1_000 })?;
-        assert_eq!(rt;
-            offsets.shift(1, 1),
-            Point {
-                x: -19_899,
-                z: 91_010
-            }
-        );
-        assert_eq!(rt; offsets.shift(2, 0), Point { x: 1, z: 10 });
-        assert_eq!(rt; offsets.wear(1), Point { x: 100, z: 1_000 });
+        offsets.set_work(1, point(0, 100_000))?;
+        offsets.set_tool(10_001, point(-20_000, -10_000))?;
+        assert_eq!(rt; offsets.shift(1, 1), point(-20_000, 90_000));
+        offsets.set_work(0, point(1, 10))?;
+        offsets.set_tool(1, point(100, 1_000))?;
+        assert_eq!(rt; offsets.shift(1, 1), point(-19_899, 91_010));
+        assert_eq!(rt; offsets.shift(2, 0), point(1, 10));
+        assert_eq!(rt; offsets.wear(1), point(100, 1_000));
         Ok(())
     }
 
     #[test]
     fn a_number_that_does_not_exist_goes_before_a_point_past_the_range(rt: HostRuntime) {
-        let origin = Point { x: 0, z: 0 };
-        let far = Point {
-            x: 100_000_000,
-            z: 0,
-        };
         let mut offsets = Offsets::new();
+        let no_offset = Err(OffsetFault { number: 40 });
+        let past_the_range = Err(OffsetFault { number: 41 });
+        assert_eq!(rt; offsets.set_work(7, point(0, 0)), no_offset);
+        assert_eq!(rt; offsets.set_work(-1, FAR), no_offset);
+        assert_eq!(rt; offsets.set_tool(10_065, point(0, 0)), no_offset);
+        assert_eq!(rt; offsets.set_work(6, point(1, 2)), Ok(()));
+        assert_eq!(rt; offsets.set_work(6, FAR), past_the_range);
+        assert_eq!(rt; offsets.work(6), point(1, 2));
+        assert_eq!(rt; offsets.set_tool(1, FAR), past_the_range);
         assert_eq!(rt;
-            offsets.set_work(7, origin),
-            Err(OffsetFault { number: 40 })
-        );
-        assert_eq!(rt; offsets.set_work(-1, far), Err(OffsetFault { number: 40 }));
-        assert_eq!(rt;
-            offsets.set_tool(10_065, origin),
-            Err(OffsetFault { number: 40 })
-        );
-        assert_eq!(rt; offsets.set_tool(1, far), Err(OffsetFault { number: 41 }));
-        assert_eq!(rt;
-            offsets.set_tool(
-                64,
-                Point {
-                    x: 99_999_999,
-                    z: -99_999_999
-                }
-            ),
+            offsets.set_tool(64, point(99_999_999, -99_999_999)),
             Ok(())
+        );
+        assert_eq!(rt; offsets.wear(64), point(99_999_999, -99_999_999));
+    }
+
+    #[test]
+    fn x_and_z_set_an_offset_and_u_and_w_add_to_it(rt: HostRuntime) {
+        let mut offsets = Offsets::new();
+        let slot = Slot::Wear(ToolNumber::new(64));
+        let opening = Point {
+            x: 99_999_990,
+            z: -1_000,
+        };
+        offsets.put(&slot, opening);
+        let past_the_range = Err(OffsetFault { number: 41 });
+        for (x, z, told) in [
+            (Axis::Keep, Axis::Keep, Ok(point(99_999_990, -1_000))),
+            (Axis::To(-5), Axis::By(-500), Ok(point(-5, -1_500))),
+            (Axis::By(9), Axis::Keep, Ok(point(99_999_999, -1_000))),
+            (Axis::By(10), Axis::Keep, past_the_range),
+            (
+                Axis::Keep,
+                Axis::To(-99_999_999),
+                Ok(point(99_999_990, -99_999_999)),
+            ),
+            (Axis::Keep, Axis::To(-100_000_000), past_the_range),
+            (
+                Axis::Keep,
+                Axis::By(100_000_999),
+                Ok(point(99_999_990, 99_999_999)),
+            ),
+            (Axis::Keep, Axis::By(i64::MIN), past_the_range),
+        ] {
+            assert_eq!(rt; offsets.changed(&slot, x, z), told);
+        }
+        assert_eq!(rt; offsets.at(&slot), point(99_999_990, -1_000));
+        assert_eq!(rt;
+            offsets.at(&Slot::Geometry(ToolNumber::new(64))),
+            point(0, 0)
         );
     }
 }

@@ -1,0 +1,55 @@
+ghost use Rattle.std.specs.Prelude.{◌≡◌, ◌<◌, replicate, slice_set};
+ghost use Rattle.nc_number.specs.Position.{IsPosition};
+ghost use Rattle.offset_store.specs.Lists.{origin, offset_at};
+
+use nc_number::Point;
+use std::marker::Model;
+
+pub(crate) const ORIGIN: Point = Point { x: 0, z: 0 };
+
+/// Offsets, each at the place of its number, from 0 on. Each may be a position.
+#[derive(Debug, Drop)]
+pub(crate) struct OffsetList<const N: usize> {
+    points: [Point; N],
+}
+
+// Clauses see the list.
+impl<const N: usize> Model for OffsetList<N> {
+    ghost use Rattle.std.specs.Prelude.{List};
+    ghost use Rattle.nc_number.specs.declared.point.Point.{Point};
+    ghost use Rattle.offset_store.specs.Lists.{ArePositions};
+
+    ghost Value = { List Point };
+
+    ghost view = { λ l. l.points };
+
+    ghost invariant = { λ l. ArePositions l.points };
+}
+
+impl<const N: usize> OffsetList<N> {
+    // Every offset 0.
+    pub(crate) fn new() -> Self
+        ensures { result ≡ replicate N origin }
+    {
+        OffsetList {
+            points: [ORIGIN; N],
+        }
+    }
+
+    pub(crate) fn at(&self, n: u8) -> Point
+        requires { n < N }
+        ensures offset { result ≡ offset_at self.now n }
+        ensures position { IsPosition result }
+    {
+        self.points[n as usize]
+    }
+
+    pub(crate) fn put(&mut self, n: u8, to: Point)
+        requires number { n < N }
+        requires position { IsPosition to }
+        ensures list { self.new ≡ slice_set self.old n to }
+        ensures there { offset_at self.new n ≡ to }
+    {
+        self.points[n as usize] = to;
+    }
+}

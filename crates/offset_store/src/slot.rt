@@ -1,0 +1,113 @@
+ghost use Rattle.std.specs.Prelude.{◌≡◌};
+ghost use Rattle.offset_store.specs.Slots.{work_slot, tool_slot};
+
+use crate::fault::OffsetFault;
+use crate::number::{ToolNumber, WorkNumber};
+use nc_number::Cause;
+
+/// What is added to the number of a geometry offset where a tape sets it.
+const GEOMETRY: i64 = 10_000;
+
+/// One of the offsets of a path.
+#[derive(Clone, Copy, Debug, PartialEq, Eq)]
+pub enum Slot {
+    Work(WorkNumber),
+    Geometry(ToolNumber),
+    Wear(ToolNumber),
+}
+
+/// The two forms of G10.
+#[derive(Clone, Copy, Debug, PartialEq, Eq)]
+pub enum OffsetForm {
+    /// `G10 L2 P n` sets a work offset.
+    WorkOffset,
+    /// `G10 P n` sets a wear or a geometry offset.
+    ToolOffset,
+}
+
+impl Slot {
+    ghost use Rattle.offset_store.specs.Slots.{slot_named};
+
+    /// The offset that G10 names by its P: with L2 work offset P, from 0 to 6; without it wear offset P,
+    /// from 1 to 64, or geometry offset P - 10,000, where P is from 10,001 to 10,064. Alarm 40 exactly
+    /// where there is none of these, a P that is absent or vacant among them.
+    pub fn named(form: OffsetForm, p: Option<i64>) -> Result<Self, OffsetFault>
+        ensures { result ≡ slot_named form p }
+    {
+        let slot = match (form, p) {
+            (OffsetForm::WorkOffset, Some(n)) => work_slot(n),
+            (OffsetForm::ToolOffset, Some(n)) => tool_slot(n),
+            (_, None) => None,
+        };
+        slot.ok_or(OffsetFault::of(Cause::OffsetNumber))
+    }
+}
+
+fn work_slot(n: i64) -> Option<Slot>
+    ensures { result ≡ work_slot n }
+{
+    WorkNumber::of(n).map(|number| Slot::Work(number))
+}
+
+fn tool_slot(n: i64) -> Option<Slot>
+    ensures { result ≡ tool_slot n }
+{
+    if n > GEOMETRY {
+        ToolNumber::of(n - GEOMETRY).map(|number| Slot::Geometry(number))
+    } else {
+        ToolNumber::of(n).map(|number| Slot::Wear(number))
+    }
+}
+
+#[cfg(test)]
+mod tests {
+    use super::*;
+
+    #[test]
+    fn g10_names_an_offset(rt: HostRuntime) {
+        assert_eq!(rt;
+            Slot::named(OffsetForm::WorkOffset, Some(0)),
+            Ok(Slot::Work(WorkNumber::new(0)))
+        );
+        assert_eq!(rt;
+            Slot::named(OffsetForm::WorkOffset, Some(6)),
+            Ok(Slot::Work(WorkNumber::new(6)))
+        );
+        assert_eq!(rt;
+            Slot::named(OffsetForm::ToolOffset, Some(1)),
+            Ok(Slot::Wear(ToolNumber::new(1)))
+        );
+        assert_eq!(rt;
+            Slot::named(OffsetForm::ToolOffset, Some(64)),
+            Ok(Slot::Wear(ToolNumber::new(64)))
+        );
+        assert_eq!(rt;
+            Slot::named(OffsetForm::ToolOffset, Some(10_001)),
+            Ok(Slot::Geometry(ToolNumber::new(1)))
+        );
+        assert_eq!(rt;
+            Slot::named(OffsetForm::ToolOffset, Some(10_064)),
+            Ok(Slot::Geometry(ToolNumber::new(64)))
+        );
+    }
+
+    #[test]
+    fn g10_without_the_number_of_an_offset_is_alarm_40(rt: HostRuntime) {
+        for (form, p) in [
+            (OffsetForm::WorkOffset, None),
+            (OffsetForm::WorkOffset, Some(-1)),
+            (OffsetForm::WorkOffset, Some(7)),
+            (OffsetForm::ToolOffset, None),
+            (OffsetForm::ToolOffset, Some(-1)),
+            (OffsetForm::ToolOffset, Some(0)),
+            (OffsetForm::ToolOffset, Some(65)),
+            (OffsetForm::ToolOffset, Some(10_000)),
+            (OffsetForm::ToolOffset, Some(10_065)),
+        ] {
+            assert_eq!(rt;
+                Slot::named(form, p).err(),
+                Some(OffsetFault { number: 40 })
+            );
+        }
+    }
+}
