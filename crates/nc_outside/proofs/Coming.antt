@@ -2,7 +2,7 @@
 use Rattle.std.proofs.Common.{◌≡◌, ℕ, ◌+◌, ◌<◌, ◌≤◌, cond, List, get_or, remove, Contains, arith}
 use Rattle.std.proofs.lemmas.Bool.Decides.{nat_tests}
 use Rattle.std.proofs.lemmas.List.Sums.{sum_by-le-sum_by, sum_by-remove}
-use Rattle.nc_outside.specs.Plan.{has_come, fault_count}
+use Rattle.nc_outside.specs.Plan.{PlanView, has_come, fault_count}
 
 -- one planned fault, counted
 abbrev come : ℕ → ℕ → ℕ
@@ -12,11 +12,13 @@ come_stays : (m n x : ℕ) → m ≤ n → come m x ≤ come n x
 come_stays m n x h = grind (arith, nat_tests)
 
 -- the count never falls
-pub fault_count-≤ : (m n : ℕ) (failing : List ℕ) → m ≤ n → fault_count m failing ≤ fault_count n failing
+pub fault_count-≤ : (m n : ℕ) (failing : List ℕ) → m ≤ n
+    → fault_count (record { failing = failing; calls = m }) ≤ fault_count (record { failing = failing; calls = n })
 fault_count-≤ m n failing h = sum_by-le-sum_by (come m) (come n) failing (λ x. come_stays m n x h)
 
 -- it rises where the call that is made is one that was to fail
-pub fault_count-< : (n : ℕ) (failing : List ℕ) → Contains failing (n + 1) → fault_count n failing < fault_count (n + 1) failing
+pub fault_count-< : (n : ℕ) (failing : List ℕ) → Contains failing (n + 1)
+    → fault_count (record { failing = failing; calls = n }) < fault_count (record { failing = failing; calls = n + 1 })
 fault_count-< n failing found =
     let at_place : get_or failing found.0 (n + 1) ≡ n + 1 = found.2 in
     let rest = sum_by-le-sum_by (come n) (come (n + 1)) (remove failing found.0) (λ x. come_stays n (n + 1) x (omega arith)) in

@@ -1,6 +1,15 @@
 -- The count of faults that each object of the outside keeps.
 use Rattle.std.specs.Prelude.{ℕ, ◌+◌, ◌-◌, ◌^◌, ◌≤◌, min}
 
--- the count rose, or stands at the last value of a u64
+-- one more, where the count is kept in 64 bits and stays at its last value
+abbrev pub next : ℕ → ℕ
+next count = min (count + 1) (2 ^ 64 - 1)
+
+-- the count rose, or stands at its last value
 abbrev pub Rose : ℕ → ℕ → Type 0
-Rose before now = min (before + 1) (2 ^ 64 - 1) ≤ now
+Rose before now = next before ≤ now
+
+-- A call counts its fault: the count never falls, and it rose where the call failed.
+pub record CountsFault (before now : ℕ) (failed : Type 0) : Type 0 where
+  pub later : before ≤ now
+  pub rose : failed → Rose before now

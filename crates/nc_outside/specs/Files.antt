@@ -8,6 +8,11 @@ use Rattle.std.specs.Map.{lookup}
 abbrev pub Files : Type 0
 Files = List (List ℕ × List ℕ)
 
+-- All that contracts see of a shelf at one moment.
+pub record ShelfState : Type 0 where
+  pub files : Option Files  -- what it holds, where it tells that; of two files of one name the first counts
+  pub faults : ℕ  -- how often it has failed
+
 -- the bytes of the first file of that name
 abbrev pub file_named : List ℕ → Files → Option (List ℕ)
 file_named name files = lookup (bytes_eq name) files
@@ -26,3 +31,7 @@ Lacks (Some files) name = file_named name files ≡ None
 abbrev pub HoldsMore : Option Files → List ℕ → ℕ → Type 0
 HoldsMore None name max = ⊤
 HoldsMore (Some files) name max = IsSomeAnd (file_named name files) (λ bytes. max < length bytes)
+
+-- the shelf holds what it held before
+abbrev pub HoldsOn : ShelfState → ShelfState → Type 0
+HoldsOn old new = new.files ≡ old.files

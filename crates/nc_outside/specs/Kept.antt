@@ -1,19 +1,77 @@
--- What contracts see of a memory form.
-use Rattle.std.specs.Prelude.{ℕ, List, map, String, Vec, string_bytes}
-use Rattle.nc_outside.specs.Files.{Files}
+-- What contracts see of the forms in memory.
+use Rattle.std.specs.Prelude.{ℕ, ◌+◌, ◌-◌, ◌^◌, min, nat_le, Bool, ◌||◌, if◌then◌else◌, List, [], ◌∷◌, ◌++◌, length, map, drop, Some, String, Vec, string_bytes}
+use Rattle.std.specs.Prelude.{slice_index_or}
+use Rattle.nc_outside.specs.declared.halt.Next.{Next}
+use Rattle.nc_outside.specs.declared.halt.Next.TheVariants.{Finished}
+use Rattle.nc_outside.specs.declared.stepper.Call.{Call}
+use Rattle.nc_outside.specs.declared.motion.Got.{Got}
+use Rattle.nc_outside.specs.Faults.{next}
+use Rattle.nc_outside.specs.Files.{Files, ShelfState}
+use Rattle.nc_outside.specs.Written.{SinkState}
+use Rattle.nc_outside.specs.Received.{TurretState}
+use Rattle.nc_outside.specs.Plan.{PlanView, after_call, fails_next, fault_count}
 
 -- the names and bytes of files that are kept as texts and vectors
 abbrev pub files_of : {A B : Type 0} → List (String A × Vec ℕ B) → Files
 files_of held = map (λ file. (string_bytes file.0, file.1.items)) held
 
--- a shelf in memory: its files, the numbers of the calls that are to fail, and how many have been made
+-- a shelf in memory: its files, and which of its calls are to fail
 pub record KeptFiles : Type 0 where
   pub files : Files
-  pub failing : List ℕ
-  pub calls : ℕ
+  pub plan : PlanView
 
--- a sink in memory: what it got, the numbers of the calls that are to fail, and how many have been made
+abbrev pub shelf_of : KeptFiles → ShelfState
+shelf_of kept = record { files = Some kept.files; faults = fault_count kept.plan }
+
+-- a sink in memory: what was written, and which of its calls are to fail
 pub record KeptBytes : Type 0 where
   pub bytes : List ℕ
-  pub failing : List ℕ
-  pub calls : ℕ
+  pub plan : PlanView
+
+abbrev pub sink_of : KeptBytes → SinkState
+sink_of kept = record { written = Some kept.bytes; faults = fault_count kept.plan }
+
+-- a turret in memory: what it got, how much of that it has room for, which of its calls are to fail, and how many
+-- others found no room
+pub record KeptMoves : Type 0 where
+  pub got : List Got
+  pub room : ℕ
+  pub plan : PlanView
+  pub past : ℕ
+
+abbrev pub turret_of : KeptMoves → TurretState
+turret_of kept = record {
+  received = Some (record { got = kept.got; calls = kept.plan.calls });
+  faults = min (fault_count kept.plan + kept.past) (2 ^ 64 - 1);
+}
+
+-- there is no room for one thing more
+abbrev pub is_full : KeptMoves → Bool
+is_full kept = nat_le kept.room (length kept.got)
+
+-- the next call fails: its number is planned, or it finds no room
+abbrev pub refuses_next : KeptMoves → Bool
+refuses_next kept = fails_next kept.plan || is_full kept
+
+-- the turret when its next call has been counted
+abbrev pub when_counted : KeptMoves → KeptMoves
+when_counted kept = record {
+  got = kept.got;
+  room = kept.room;
+  plan = after_call kept.plan;
+  past = if fails_next kept.plan then kept.past else if is_full kept then next kept.past else kept.past;
+}
+
+-- the turret after the next call, which hands it this
+abbrev pub after_handing : Got → KeptMoves → KeptMoves
+after_handing what kept =
+    record (when_counted kept) { got = if refuses_next kept then kept.got else kept.got ++ what ∷ [] }
+
+-- a stepper over a stated list: the answers that are still to come, and the calls that it had
+pub record KeptCalls : Type 0 where
+  pub coming : List Next
+  pub calls : List Call
+
+-- what its next step answers: behind the list, that the path has finished
+abbrev pub next_answer : KeptCalls → Next
+next_answer kept = slice_index_or kept.coming 0 Finished

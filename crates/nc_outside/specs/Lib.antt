@@ -1,5 +1,9 @@
+-- What callers read.
+pub mod Calls
 pub mod Faults
 pub mod Files
-pub mod Plan
-pub mod Told
 pub mod Kept
+pub mod Motion
+pub mod Plan
+pub mod Received
+pub mod Written

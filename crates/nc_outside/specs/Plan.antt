@@ -1,14 +1,34 @@
--- The calls of a memory form, numbered from 1, and those that are planned to fail.
-use Rattle.std.specs.Prelude.{ℕ, ◌+◌, ◌^◌, ◌<◌, Bool, ◌&&◌, nat_lt, nat_le, List, count_by, Contains}
+-- The plan of a form in memory: which of its calls, numbered from 1, are to fail.
+use Rattle.std.specs.Prelude.{◌≡◌, ℕ, ◌+◌, ◌^◌, ◌↔◌, Bool, true, ◌==◌, ◌&&◌, nat_lt, nat_le, List, count_by}
+use Rattle.std.specs.List.{list_any}
+use Rattle.nc_outside.specs.Faults.{next, CountsFault}
+
+-- the numbers of the calls that are to fail, and how many calls have been made
+pub record PlanView : Type 0 where
+  pub failing : List ℕ
+  pub calls : ℕ
+
+-- a plan of which no call has been made
+abbrev pub fresh_plan : List ℕ → PlanView
+fresh_plan failing = record { failing = failing; calls = 0 }
+
+-- the plan when one call more has been made
+abbrev pub after_call : PlanView → PlanView
+after_call plan = record { failing = plan.failing; calls = next plan.calls }
+
+-- the next call is planned to fail; calls past the last number of a u64 have no number, and are not
+abbrev pub fails_next : PlanView → Bool
+fails_next plan = nat_lt (plan.calls + 1) (2 ^ 64) && list_any (λ number. number == plan.calls + 1) plan.failing
 
 -- the call of that number has been made
 abbrev pub has_come : ℕ → ℕ → Bool
 has_come calls number = nat_lt 0 number && nat_le number calls
 
 -- how many of the planned faults have come
-abbrev pub fault_count : ℕ → List ℕ → ℕ
-fault_count calls failing = count_by (has_come calls) failing
+abbrev pub fault_count : PlanView → ℕ
+fault_count plan = count_by (has_come plan.calls) plan.failing
 
--- the next call has a number, and is planned to fail
-abbrev pub FailsNext : ℕ → List ℕ → Type 0
-FailsNext calls failing = (calls + 1 < 2 ^ 64) × Contains failing (calls + 1)
+-- A call that goes by a plan fails exactly where the plan says so, and counts that fault.
+pub record FailsAsPlanned (old new : PlanView) (failed : Type 0) : Type 0 where
+  pub planned : failed ↔ (fails_next old ≡ true)
+  pub fault : CountsFault (fault_count old) (fault_count new) failed

@@ -1,4 +1,6 @@
 //! Why a run ends, and what a step of a path answers.
+ghost use Rattle.std.specs.Prelude.{◌≡◌};
+
 use crate::Moves;
 use nc_number::{Path, Value};
 
@@ -36,8 +38,25 @@ pub enum Next {
     Silent,
     /// The moves of a block, for the turret.
     Moves(Moves),
+    /// The path comes to a wait, and goes on once the turret has what was answered before.
+    Drain,
     /// The path has ended.
     Finished,
     /// The run has stopped.
     Halted(Halt),
+}
+
+impl Next {
+    /// The same answer once more.
+    pub fn copy(&self) -> Next
+        ensures { result ≡ self.now }
+    {
+        match self {
+            Next::Silent => Next::Silent,
+            Next::Moves(moves) => Next::Moves(moves.copy()),
+            Next::Drain => Next::Drain,
+            Next::Finished => Next::Finished,
+            Next::Halted(why) => Next::Halted(*why),
+        }
+    }
 }

@@ -1,9 +1,8 @@
 //! A shelf in memory.
-ghost use Rattle.std.specs.Prelude.{◌≡◌, ◌≢◌, ℕ, ◌+◌, ◌-◌, ◌^◌, ◌<◌, ◌≤◌, ◌↔◌, List, min, ◌++◌, length, Some, None, Err, OnOk, OnErr, IfOk, IsSomeAnd, IsErrOf, MatchOption};
-ghost use Rattle.nc_outside.specs.Faults.{Rose};
+ghost use Rattle.std.specs.Prelude.{◌≡◌, ◌≢◌, ℕ, ◌<◌, ◌≤◌, List, ◌++◌, length, Some, None, Err, OnOk, OnErr, IfOk, IsSomeAnd, IsErrOf, MatchOption};
 ghost use Rattle.nc_outside.specs.Files.{file_named};
-ghost use Rattle.nc_outside.specs.Kept.{files_of};
-ghost use Rattle.nc_outside.specs.Plan.{fault_count, FailsNext};
+ghost use Rattle.nc_outside.specs.Kept.{files_of, shelf_of};
+ghost use Rattle.nc_outside.specs.Plan.{FailsAsPlanned, after_call, fresh_plan};
 
 use crate::plan::Plan;
 use crate::{FetchFault, Shelf};
@@ -23,7 +22,7 @@ impl Model for MemoryShelf {
 
     ghost Value = { KeptFiles };
 
-    ghost view = { λ s. record { files = files_of s.files.items; failing = s.plan.failing.items; calls = s.plan.calls } };
+    ghost view = { λ s. record { files = files_of s.files.items; plan = s.plan } };
 }
 
 impl MemoryShelf {
@@ -33,8 +32,10 @@ impl MemoryShelf {
         files: Vec<(String, Vec<u8>)>,
         failing: &[u64],
     ) -> Result<Self, NoMemory>
-        ensures files { IfOk result (λ shelf. shelf.files ≡ files_of files.items) }
-        ensures plan { IfOk result (λ shelf. (shelf.failing ≡ failing.now) × (shelf.calls ≡ 0)) }
+        ensures { IfOk result (λ shelf. shelf ≡ record {
+          files = files_of files.items;
+          plan = fresh_plan failing.now;
+        }) }
     {
         let plan = Plan::new(alloc, failing)?;
         Ok(MemoryShelf { files, plan })
@@ -80,29 +81,21 @@ fn read(
 }
 
 impl Shelf for MemoryShelf {
-    ghost files = { λ shelf. Some shelf.files };
-
-    ghost faults = { λ shelf. fault_count shelf.calls shelf.failing };
+    ghost state = { shelf_of };
 
     fn faults(&self) -> u64 {
         self.plan.faults()
     }
 
     fn fetch(&mut self, name: &str, into: &mut Vec<u8>, max: usize) -> Result<(), FetchFault>
-        // It fails exactly by its number.
-        ensures planned { IsErrOf result FetchFault.Failed ↔ FailsNext self.old.calls self.old.failing }
-        ensures calls { self.new.calls ≡ min (self.old.calls + 1) (2 ^ 64 - 1) }
-        ensures kept { (self.new.files ≡ self.old.files) × (self.new.failing ≡ self.old.failing) }
-
+        ensures plan { FailsAsPlanned self.old.plan self.new.plan (IsErrOf result FetchFault.Failed) }
+        ensures new { self.new ≡ record self.old { plan = after_call self.old.plan } }
         ensures ok { OnOk result ((bytes : List ℕ) × (file_named name.now self.old.files ≡ Some bytes)
             × (length bytes ≤ max) × (into.new.items ≡ into.old.items ++ bytes)) }
         ensures absent { IsErrOf result FetchFault.Absent → file_named name.now self.old.files ≡ None }
         ensures too_long { IsErrOf result FetchFault.TooLong
             → IsSomeAnd (file_named name.now self.old.files) (λ bytes. max < length bytes) }
-        ensures failed { IsErrOf result FetchFault.Failed
-            → Rose (fault_count self.old.calls self.old.failing) (fault_count self.new.calls self.new.failing) }
         ensures err { OnErr result (into.new.items ≡ into.old.items) }
-        ensures later { fault_count self.old.calls self.old.failing ≤ fault_count self.new.calls self.new.failing }
     {
         if self.plan.call() {
             return Err(FetchFault::Failed);

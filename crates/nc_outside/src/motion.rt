@@ -1,5 +1,6 @@
 //! What a block asks a turret to do, and the moves of one block.
-ghost use Rattle.std.specs.Prelude.{◌≡◌, ◌<◌, ◌≤◌, [], ◌∷◌, ◌++◌, length};
+ghost use Rattle.std.specs.Prelude.{◌≡◌, ◌+◌, ◌<◌, ◌≤◌, [], ◌∷◌, ◌++◌, length};
+ghost use Rattle.nc_outside.specs.Motion.{end_of};
 
 use arrayvec::ArrayVec;
 use nc_number::{Point, Value};
@@ -66,6 +67,35 @@ pub enum Move {
     },
 }
 
+/// One thing that a turret got.
+#[derive(Clone, Copy, Debug, PartialEq, Eq)]
+pub enum Got {
+    /// It was placed at a point, before its first move.
+    Placed(Point),
+    /// It got a move.
+    Moved(Move),
+}
+
+impl Move {
+    /// Where the turret stands after the move, in machine coordinates. Nothing where the move goes nowhere: a rest, a
+    /// speed, a limit, a tool, an auxiliary code.
+    pub fn end(&self) -> Option<Point>
+        ensures { result ≡ end_of self.now }
+    {
+        match *self {
+            Move::Rapid { to } => Some(to),
+            Move::Feed { to, .. } => Some(to),
+            Move::Thread { to, .. } => Some(to),
+            Move::Arc { to, .. } => Some(to),
+            Move::Dwell { .. } => None,
+            Move::Speed { .. } => None,
+            Move::Limit { .. } => None,
+            Move::Tool { .. } => None,
+            Move::Aux { .. } => None,
+        }
+    }
+}
+
 /// What lies in the unused places of a `MoveList`: a rest of no time.
 impl Default for Move {
     ghost use Rattle.std.specs.Prelude.{◌≡◌};
@@ -118,6 +148,23 @@ impl MoveList {
     {
         self.moves.push(what);
     }
+
+    /// Adds moves behind the others, in their order. The list must have room for all of them.
+    pub fn append(&mut self, more: &[Move])
+        requires { length self.old + length more.now ≤ 8 }
+        ensures { self.new ≡ self.old ++ more.now }
+    {
+        self.moves.try_extend_from_slice(more).unwrap();
+    }
+
+    /// The same moves once more.
+    pub fn copy(&self) -> Self
+        ensures { result ≡ self.now }
+    {
+        let mut same = MoveList::empty();
+        same.append(self.as_slice());
+        same
+    }
 }
 
 /// The moves of the block at a line of the tape.
@@ -125,6 +172,18 @@ impl MoveList {
 pub struct Moves {
     pub line: u32,
     pub list: MoveList,
+}
+
+impl Moves {
+    /// The same moves of the same line once more.
+    pub fn copy(&self) -> Self
+        ensures { result ≡ self.now }
+    {
+        Moves {
+            line: self.line,
+            list: self.list.copy(),
+        }
+    }
 }
 
 #[cfg(test)]
@@ -137,11 +196,60 @@ mod tests {
         let mut list = MoveList::empty();
         assert_eq!(rt; list.as_slice().len(), 0);
         list.push(Move::Tool { t: 101 });
-        list.push(Move::Aux { m: 3 });
-        assert_eq!(rt;
-            list.as_slice(),
-            [Move::Tool { t: 101 }, Move::Aux { m: 3 }].as_slice()
-        );
+        list.append(&[]);
+        list.append(&[Move::Aux { m: 3 }, Move::Limit { s: 1800 }]);
+        let all = [
+            Move::Tool { t: 101 },
+            Move::Aux { m: 3 },
+            Move::Limit { s: 1800 },
+        ];
+        assert_eq!(rt; list.as_slice(), all.as_slice());
+        Ok(())
+    }
+
+    #[test]
+    fn rapids_and_cuts_end_at_a_point_and_nothing_else_does(rt: HostRuntime) -> Result<(), Fail> {
+        let to = Point {
+            x: 50_000,
+            z: -2_000,
+        };
+        let feed = Value::of(200_000).unwrap();
+        let centre = Centre::Radius { r: 8_000 };
+        for (what, end) in [
+            (Move::Rapid { to }, Some(to)),
+            (
+                Move::Feed {
+                    to,
+                    feed,
+                    per_rev: true,
+                },
+                Some(to),
+            ),
+            (Move::Thread { to, lead: feed }, Some(to)),
+            (
+                Move::Arc {
+                    clockwise: true,
+                    to,
+                    centre,
+                    feed,
+                    per_rev: false,
+                },
+                Some(to),
+            ),
+            (Move::Dwell { ms: 250 }, None),
+            (
+                Move::Speed {
+                    surface: true,
+                    s: 200,
+                },
+                None,
+            ),
+            (Move::Limit { s: 1800 }, None),
+            (Move::Tool { t: 101 }, None),
+            (Move::Aux { m: 30 }, None),
+        ] {
+            assert_eq!(rt; what.end(), end);
+        }
         Ok(())
     }
 
@@ -152,6 +260,8 @@ mod tests {
             assert!(rt; list.as_slice().len() < MOVES_PER_BLOCK);
             list.push(Move::Aux { m });
         }
+        assert!(rt; list.as_slice().len() <= MOVES_PER_BLOCK);
+        list.append(&[]);
         let moves = Moves { line: 4, list };
         assert_eq!(rt; moves.list.as_slice().len(), MOVES_PER_BLOCK);
         assert_eq!(rt;

@@ -1,22 +1,32 @@
-//! The plan of a memory form: which of its calls are to fail.
-ghost use Rattle.std.specs.Prelude.{◌≡◌, ◌+◌, ◌-◌, ◌^◌, ◌<◌, ◌≤◌, ◌↔◌, min, IfOk, IsTrue, Contains};
-ghost use Rattle.nc_outside.specs.Plan.{fault_count, FailsNext};
+//! The plan of a form in memory: which of its calls are to fail.
+ghost use Rattle.std.specs.Prelude.{◌≡◌, ◌==◌, ◌<◌, ◌≤◌, ◌↔◌, IfOk, IsTrue, Contains};
+ghost use Rattle.std.specs.List.{list_any};
+ghost use Rattle.nc_outside.specs.Plan.{after_call, fails_next, fault_count, fresh_plan};
 
 use nc_number::NoMemory;
 use std::alloc::Global;
+use std::marker::Model;
 
-/// Calls are numbered from 1.
+/// The numbers of the calls that are to fail, counted from 1, and how many calls have been made. A number that is
+/// listed twice counts as two faults.
 #[derive(Debug, Drop)]
 pub struct Plan {
-    pub failing: Vec<u64>,
-    pub calls: u64,
+    failing: Vec<u64>,
+    calls: u64,
+}
+
+impl Model for Plan {
+    ghost use Rattle.nc_outside.specs.Plan.{PlanView};
+
+    ghost Value = { PlanView };
+
+    ghost view = { λ p. record { failing = p.failing.items; calls = p.calls } };
 }
 
 impl Plan {
     /// No call has been made.
     pub fn new(alloc: Global, failing: &[u64]) -> Result<Self, NoMemory>
-        ensures failing { IfOk result (λ plan. plan.failing.items ≡ failing.now) }
-        ensures calls { IfOk result (λ plan. plan.calls ≡ 0) }
+        ensures { IfOk result (λ plan. plan ≡ fresh_plan failing.now) }
     {
         let failing = failing.to_vec(alloc)?;
         Ok(Plan { failing, calls: 0 })
@@ -24,7 +34,7 @@ impl Plan {
 
     /// How many of the planned faults have come.
     pub fn faults(&self) -> u64
-        ensures { result ≡ fault_count self.now.calls self.now.failing.items }
+        ensures { result ≡ fault_count self.now }
     {
         let calls = self.calls;
         self.failing
@@ -33,15 +43,12 @@ impl Plan {
             .count() as u64
     }
 
-    /// Counts a call, and says whether it is to fail. Calls past the last number of a `u64` don't.
+    /// Counts a call, and says whether it is to fail.
     pub fn call(&mut self) -> bool
-        ensures failing { self.new.failing.items ≡ self.old.failing.items }
-        ensures calls { self.new.calls ≡ min (self.old.calls + 1) (2 ^ 64 - 1) }
-        ensures fails { IsTrue result ↔ FailsNext self.old.calls self.old.failing.items }
-        ensures rose { IsTrue result → fault_count self.old.calls self.old.failing.items
-            < fault_count self.new.calls self.new.failing.items }
-        ensures later { fault_count self.old.calls self.old.failing.items
-            ≤ fault_count self.new.calls self.new.failing.items }
+        ensures fails { result ≡ fails_next self.old }
+        ensures new { self.new ≡ after_call self.old }
+        ensures rose { IsTrue result → fault_count self.old < fault_count self.new }
+        ensures later { fault_count self.old ≤ fault_count self.new }
     {
         match self.calls.checked_add(1) {
             None => false,
@@ -54,7 +61,8 @@ impl Plan {
 }
 
 fn is_planned(failing: &[u64], number: u64) -> bool
-    ensures { IsTrue result ↔ Contains failing.now number }
+    ensures any { result ≡ list_any (λ planned. planned == number) failing.now }
+    ensures contains { IsTrue result ↔ Contains failing.now number }
 {
     failing.contains(&number)
 }

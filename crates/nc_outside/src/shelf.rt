@@ -1,8 +1,8 @@
 //! Where tapes and other texts come from.
-ghost use Rattle.std.specs.Prelude.{◌≡◌, ℕ, ◌≤◌, List, ◌++◌, length, Option, OnOk, OnErr, IsErrOf};
+ghost use Rattle.std.specs.Prelude.{◌≡◌, ℕ, ◌≤◌, List, ◌++◌, length, OnOk, OnErr, IsErrOf};
 ghost use Rattle.nc_outside.specs.declared.shelf.FetchFault.TheVariants.{NoMemory};
-ghost use Rattle.nc_outside.specs.Faults.{Rose};
-ghost use Rattle.nc_outside.specs.Files.{Files, Holds, HoldsMore, Lacks};
+ghost use Rattle.nc_outside.specs.Faults.{CountsFault};
+ghost use Rattle.nc_outside.specs.Files.{ShelfState, Holds, HoldsMore, HoldsOn, Lacks};
 
 use std::alloc::AllocError;
 use thiserror::Error;
@@ -34,25 +34,22 @@ impl From<AllocError> for FetchFault {
 
 /// Named files, to be read whole.
 pub trait Shelf {
-    /// The files, each a name and its bytes, where the shelf tells them. Of two of one name the first counts.
-    ghost files: { Self → Option Files };
-
-    /// How often the shelf has failed.
-    ghost faults: { Self → ℕ };
+    /// What it holds, where it tells that, and how often it has failed.
+    ghost state: { Self → ShelfState };
 
     /// How often the shelf has failed.
     fn faults(&self) -> u64
-        ensures { result ≡ faults self.now };
+        ensures { result ≡ (state self.now).faults };
 
-    /// Appends the bytes of the file of that name, at most `max` of them. A longer file is refused.
+    /// Appends the bytes of the file of that name, at most `max` of them. A longer file is refused. After an error
+    /// nothing is appended.
     fn fetch(&mut self, name: &str, into: &mut Vec<u8>, max: usize) -> Result<(), FetchFault>
-        ensures ok { OnOk result ((bytes : List ℕ) × Holds (files self.old) name.now bytes
+        ensures ok { OnOk result ((bytes : List ℕ) × Holds (state self.old).files name.now bytes
             × (length bytes ≤ max) × (into.new.items ≡ into.old.items ++ bytes)) }
-        ensures absent { IsErrOf result FetchFault.Absent → Lacks (files self.old) name.now }
-        ensures too_long { IsErrOf result FetchFault.TooLong → HoldsMore (files self.old) name.now max }
-        ensures failed { IsErrOf result FetchFault.Failed → Rose (faults self.old) (faults self.new) }
+        ensures absent { IsErrOf result FetchFault.Absent → Lacks (state self.old).files name.now }
+        ensures too_long { IsErrOf result FetchFault.TooLong → HoldsMore (state self.old).files name.now max }
         ensures err { OnErr result (into.new.items ≡ into.old.items) }
-
-        ensures files { files self.new ≡ files self.old }
-        ensures later { faults self.old ≤ faults self.new };
+        ensures files { HoldsOn (state self.old) (state self.new) }
+        ensures fault { CountsFault (state self.old).faults (state self.new).faults
+            (IsErrOf result FetchFault.Failed) };
 }

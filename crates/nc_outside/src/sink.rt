@@ -1,8 +1,8 @@
 //! Where reports go.
-ghost use Rattle.std.specs.Prelude.{◌≡◌, ℕ, ◌≤◌, List, take, Option, is_some, OnOk, OnErr, IsErrOf};
-ghost use Rattle.std.specs.Io.KnownBytes.{Appends};
+ghost use Rattle.std.specs.Prelude.{◌≡◌, ℕ, take, OnOk, OnErr, IsErrOf};
 ghost use Rattle.nc_outside.specs.declared.sink.PutFault.TheVariants.{NoMemory};
-ghost use Rattle.nc_outside.specs.Faults.{Rose};
+ghost use Rattle.nc_outside.specs.Faults.{CountsFault};
+ghost use Rattle.nc_outside.specs.Written.{SinkState, TellsOn, Writes};
 
 use std::alloc::AllocError;
 use thiserror::Error;
@@ -28,22 +28,17 @@ impl From<AllocError> for PutFault {
 
 /// Takes bytes, in order.
 pub trait Sink {
-    /// What was written, where the sink tells it.
-    ghost written: { Self → Option (List ℕ) };
-
-    /// How often the sink has failed.
-    ghost faults: { Self → ℕ };
+    /// What was written, where it tells that, and how often it has failed.
+    ghost state: { Self → SinkState };
 
     /// How often the sink has failed.
     fn faults(&self) -> u64
-        ensures { result ≡ faults self.now };
+        ensures { result ≡ (state self.now).faults };
 
     /// Writes a piece behind what is there. After an error a part of the piece, from its start, may be there.
     fn put(&mut self, piece: &[u8]) -> Result<(), PutFault>
-        ensures ok { OnOk result (Appends (written self.old) (written self.new) piece.now) }
-        ensures err { OnErr result ((n : ℕ) × Appends (written self.old) (written self.new) (take n piece.now)) }
-        ensures failed { IsErrOf result PutFault.Failed → Rose (faults self.old) (faults self.new) }
-
-        ensures tells { is_some (written self.new) ≡ is_some (written self.old) }
-        ensures later { faults self.old ≤ faults self.new };
+        ensures ok { OnOk result (Writes (state self.old) (state self.new) piece.now) }
+        ensures err { OnErr result ((n : ℕ) × Writes (state self.old) (state self.new) (take n piece.now)) }
+        ensures tells { TellsOn (state self.old) (state self.new) }
+        ensures fault { CountsFault (state self.old).faults (state self.new).faults (IsErrOf result PutFault.Failed) };
 }

@@ -1,23 +1,48 @@
 //! What stands between the worker of a path and the table that both paths share.
-ghost use Rattle.std.specs.Prelude.{◌≡◌, List, Option};
+ghost use Rattle.std.specs.Prelude.{◌≡◌, [], ◌∷◌, List, Option};
 
-use crate::{Halt, Next};
+use crate::{Drained, Halt, Next};
 use nc_number::Path;
 
-/// Gives a path its steps. It means the list of the moves that it has answered, in order, where it tells that.
-pub trait Stepper {
-    ghost use Rattle.nc_outside.specs.Told.{Answers, IsOfTurret, moves_of};
-    ghost use Rattle.nc_outside.specs.declared.motion.Move.{Move};
+/// A call of a stepper.
+#[derive(Debug, Drop)]
+pub enum Call {
+    /// A step of the path, and what it answered.
+    Step { path: Path, answer: Next },
+    /// The line of the path was drained behind so many moves.
+    Drained { path: Path, count: u64 },
+    /// The run was halted.
+    Halt(Halt),
+}
 
-    /// The moves that it has answered, where it tells that.
-    ghost answered: { Self → Option (List Move) };
+/// Gives a path its steps. It means the list of its calls, in order, where it tells that.
+pub trait Stepper {
+    ghost use Rattle.nc_outside.specs.Calls.{IsCalled, IsOfTurret};
+    ghost use Rattle.nc_outside.specs.declared.stepper.Call.{Call};
+    ghost use Rattle.nc_outside.specs.declared.stepper.Call.TheVariants as Call;
+
+    /// What tells one stepper from another, as the table and the path that it belongs to.
+    type Origin;
+
+    /// The calls that it had, each step with what it answered, where it tells that.
+    ghost calls: { Self → Option (List Call) };
+
+    /// Where it comes from, which no call changes.
+    ghost origin: { Self → Self.Origin };
 
     /// Makes the path's next step.
     fn step(&mut self, path: Path) -> Next
-        ensures { Answers (answered self.old) (answered self.new) (moves_of result) };
+        ensures calls { IsCalled (calls self.old) (calls self.new) (Call.Step path result ∷ []) }
+        ensures origin { origin self.new ≡ origin self.old };
 
-    /// Halts the run since a turret failed. It answers no moves.
+    /// The line of the path was drained behind the last moves that were answered to it.
+    fn drained(&mut self, path: Path, proof: Drained)
+        ensures calls { IsCalled (calls self.old) (calls self.new) (Call.Drained path proof.count ∷ []) }
+        ensures origin { origin self.new ≡ origin self.old };
+
+    /// Halts the run since a turret failed.
     fn halt(&mut self, why: Halt)
         requires { IsOfTurret why }
-        ensures { answered self.new ≡ answered self.old };
+        ensures calls { IsCalled (calls self.old) (calls self.new) (Call.Halt why ∷ []) }
+        ensures origin { origin self.new ≡ origin self.old };
 }

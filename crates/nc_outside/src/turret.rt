@@ -1,50 +1,38 @@
 //! What carries out the moves of a path.
-ghost use Rattle.std.specs.Prelude.{◌≡◌, ℕ, ◌≤◌, [], ◌∷◌, Option, OnOk, OnErr};
-ghost use Rattle.nc_outside.specs.Faults.{Rose};
+ghost use Rattle.std.specs.Prelude.{◌≡◌, [], ◌∷◌, IsErr, OnOk, OnErr};
+ghost use Rattle.nc_outside.specs.Faults.{CountsFault};
 
-use crate::Move;
+use crate::{Got, Move};
 use nc_number::Point;
 use thiserror::Error;
-
-/// One thing that a turret got.
-#[derive(Clone, Copy, Debug, PartialEq, Eq)]
-pub enum Got {
-    /// It was placed at a point, before its first move.
-    Placed(Point),
-    /// It got a move.
-    Moved(Move),
-}
 
 /// The device failed, and its count of faults rose.
 #[derive(Clone, Copy, Debug, PartialEq, Eq, Error)]
 #[error("the device failed")]
 pub struct Failed;
 
-/// A turret of the lathe, which means the list of what it got, in order. A call that failed adds nothing.
-pub trait Turret {
-    ghost use Rattle.nc_outside.specs.Told.{Received, Receives};
+/// A turret of the lathe, which means the list of what it got, in order. A call that failed adds nothing to it.
+///
+/// It can be dropped, so that a thread can own it.
+pub trait Turret: Drop {
+    ghost use Rattle.nc_outside.specs.Received.{TurretState, Receives};
 
-    /// What it got and how many calls it has had, where it tells that.
-    ghost received: { Self → Option Received };
-
-    /// How often the turret has failed.
-    ghost faults: { Self → ℕ };
+    /// What it got and how many calls it has had, where it tells that, and how often it has failed.
+    ghost state: { Self → TurretState };
 
     /// How often the turret has failed.
     fn faults(&self) -> u64
-        ensures { result ≡ faults self.now };
+        ensures { result ≡ (state self.now).faults };
 
     /// Places the tool at a point in machine coordinates.
     fn place(&mut self, at: Point) -> Result<(), Failed>
-        ensures ok { OnOk result (Receives (received self.old) (received self.new) (Got.Placed at ∷ [])) }
-        ensures err { OnErr result (Receives (received self.old) (received self.new) []) }
-        ensures failed { OnErr result (Rose (faults self.old) (faults self.new)) }
-        ensures later { faults self.old ≤ faults self.new };
+        ensures ok { OnOk result (Receives (state self.old) (state self.new) (Got.Placed at ∷ []) 1) }
+        ensures err { OnErr result (Receives (state self.old) (state self.new) [] 1) }
+        ensures fault { CountsFault (state self.old).faults (state self.new).faults (IsErr result) };
 
     /// Hands over one move.
     fn hand(&mut self, what: &Move) -> Result<(), Failed>
-        ensures ok { OnOk result (Receives (received self.old) (received self.new) (Got.Moved what.now ∷ [])) }
-        ensures err { OnErr result (Receives (received self.old) (received self.new) []) }
-        ensures failed { OnErr result (Rose (faults self.old) (faults self.new)) }
-        ensures later { faults self.old ≤ faults self.new };
+        ensures ok { OnOk result (Receives (state self.old) (state self.new) (Got.Moved what.now ∷ []) 1) }
+        ensures err { OnErr result (Receives (state self.old) (state self.new) [] 1) }
+        ensures fault { CountsFault (state self.old).faults (state self.new).faults (IsErr result) };
 }

@@ -1,7 +1,7 @@
 //! A sink in memory.
-ghost use Rattle.std.specs.Prelude.{◌≡◌, ℕ, ◌+◌, ◌-◌, ◌^◌, ◌≤◌, ◌↔◌, [], ◌++◌, take, min, Some, is_some, IfOk, OnOk, OnErr, IsErrOf};
-ghost use Rattle.nc_outside.specs.Faults.{Rose};
-ghost use Rattle.nc_outside.specs.Plan.{fault_count, FailsNext};
+ghost use Rattle.std.specs.Prelude.{◌≡◌, [], ◌++◌, is_ok, if◌then◌else◌, IfOk, IsErrOf};
+ghost use Rattle.nc_outside.specs.Kept.{sink_of};
+ghost use Rattle.nc_outside.specs.Plan.{FailsAsPlanned, after_call, fresh_plan};
 
 use crate::plan::Plan;
 use crate::{PutFault, Sink};
@@ -21,14 +21,13 @@ impl Model for VecSink {
 
     ghost Value = { KeptBytes };
 
-    ghost view = { λ s. record { bytes = s.bytes.items; failing = s.plan.failing.items; calls = s.plan.calls } };
+    ghost view = { λ s. record { bytes = s.bytes.items; plan = s.plan } };
 }
 
 impl VecSink {
     /// A sink without bytes, of which the `failing` calls of `put` are to fail, counted from 1.
     pub fn new(alloc: Global, failing: &[u64]) -> Result<Self, NoMemory>
-        ensures bytes { IfOk result (λ sink. sink.bytes ≡ []) }
-        ensures plan { IfOk result (λ sink. (sink.failing ≡ failing.now) × (sink.calls ≡ 0)) }
+        ensures { IfOk result (λ sink. sink ≡ record { bytes = []; plan = fresh_plan failing.now }) }
     {
         let plan = Plan::new(alloc, failing)?;
         Ok(VecSink {
@@ -47,25 +46,18 @@ impl VecSink {
 
 /// A call that fails by its number writes nothing.
 impl Sink for VecSink {
-    ghost written = { λ sink. Some sink.bytes };
-
-    ghost faults = { λ sink. fault_count sink.calls sink.failing };
+    ghost state = { sink_of };
 
     fn faults(&self) -> u64 {
         self.plan.faults()
     }
 
     fn put(&mut self, piece: &[u8]) -> Result<(), PutFault>
-        // It fails exactly by its number.
-        ensures planned { IsErrOf result PutFault.Failed ↔ FailsNext self.old.calls self.old.failing }
-        ensures calls { self.new.calls ≡ min (self.old.calls + 1) (2 ^ 64 - 1) }
-        ensures kept { self.new.failing ≡ self.old.failing }
-
-        ensures ok { OnOk result (self.new.bytes ≡ self.old.bytes ++ piece.now) }
-        ensures err { OnErr result (self.new.bytes ≡ self.old.bytes) }
-        ensures failed { IsErrOf result PutFault.Failed
-            → Rose (fault_count self.old.calls self.old.failing) (fault_count self.new.calls self.new.failing) }
-        ensures later { fault_count self.old.calls self.old.failing ≤ fault_count self.new.calls self.new.failing }
+        ensures plan { FailsAsPlanned self.old.plan self.new.plan (IsErrOf result PutFault.Failed) }
+        ensures new { self.new ≡ record {
+          bytes = if is_ok result then self.old.bytes ++ piece.now else self.old.bytes;
+          plan = after_call self.old.plan;
+        } }
     {
         if self.plan.call() {
             return Err(PutFault::Failed);

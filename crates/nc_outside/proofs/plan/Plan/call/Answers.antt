@@ -1,12 +1,15 @@
-use Rattle.std.proofs.Common.{arith}
+use Rattle.std.proofs.Common.{◌≤◌, ◌<◌, arith, subst}
+use Rattle.nc_outside.specs.Plan.{PlanView, fault_count}
 use Rattle.nc_outside.proofs.Coming.{fault_count-≤, fault_count-<}
 use Rattle.nc_outside.proofs.plan.Plan.call.Goals as goal
 
 pub returns-in-Some-clause-rose : goal.returns-in-Some-clause-rose
 returns-in-Some-clause-rose c =
-    λ failed. rw (c.in-Some.ensures.1, ← c.deref.ensures.value)
-    (fault_count-< c.args.self.now.calls c.deref.result.now (rw c.in-Some.ensures.1 at (c.is_planned.ensures.0 failed)))
+    let P : PlanView → Type 0 = λ old. fault_count old < fault_count (record { failing = c.self.inside.failing.items; calls = c.in-Some.number }) in
+    λ failed. subst P c.self.view_is (rw (c.in-Some.ensures.1, ← c.deref.ensures.value)
+    (fault_count-< c.self.inside.calls c.deref.result.now (rw c.in-Some.ensures.1 at (c.is_planned.ensures.contains.0 failed))))
 
 pub returns-in-Some-clause-later : goal.returns-in-Some-clause-later
 returns-in-Some-clause-later c =
-    fault_count-≤ c.args.self.now.calls c.in-Some.number c.args.self.now.failing.items (omega (arith, c.in-Some.ensures))
+    let P : PlanView → Type 0 = λ old. fault_count old ≤ fault_count (record { failing = c.self.inside.failing.items; calls = c.in-Some.number }) in
+    subst P c.self.view_is (fault_count-≤ c.self.inside.calls c.in-Some.number c.self.inside.failing.items (omega (arith, c.in-Some.ensures)))

@@ -1,0 +1,43 @@
+-- The calls of a stepper, in order: its steps with what they answered, its drains and its halts. A stepper may tell
+-- them or not.
+use Rattle.std.specs.Prelude.{◌≡◌, List, [], ◌∷◌, ◌++◌, Option, Some, None}
+use Rattle.nc_outside.specs.declared.motion.Move.{Move}
+use Rattle.nc_outside.specs.declared.halt.Halt.{Halt}
+use Rattle.nc_outside.specs.declared.halt.Halt.TheVariants.{Turret}
+use Rattle.nc_outside.specs.declared.halt.Next.{Next}
+use Rattle.nc_outside.specs.declared.halt.Next.TheVariants.{Moves}
+use Rattle.nc_outside.specs.declared.stepper.Call.{Call}
+use Rattle.nc_outside.specs.declared.stepper.Call.TheVariants as Call
+
+-- these calls came besides; who tells nothing goes on telling nothing
+abbrev pub IsCalled : Option (List Call) → Option (List Call) → List Call → Type 0
+IsCalled None after calls = after ≡ None
+IsCalled (Some was) after calls = after ≡ Some (was ++ calls)
+
+-- the moves that a step answers
+abbrev pub moves_of : Next → List Move
+moves_of (Moves moves) = moves.list
+moves_of _ = []
+
+-- the moves that the steps among these calls answered
+abbrev pub moves_answered : List Call → List Move
+moves_answered [] = []
+moves_answered (Call.Step path answer ∷ calls) = moves_of answer ++ moves_answered calls
+moves_answered (Call.Drained path count ∷ calls) = moves_answered calls
+moves_answered (Call.Halt why ∷ calls) = moves_answered calls
+
+-- what the last step among these calls answered, and `before` where there is none
+abbrev pub last_answer_behind : Option Next → List Call → Option Next
+last_answer_behind before [] = before
+last_answer_behind before (Call.Step path answer ∷ calls) = last_answer_behind (Some answer) calls
+last_answer_behind before (Call.Drained path count ∷ calls) = last_answer_behind before calls
+last_answer_behind before (Call.Halt why ∷ calls) = last_answer_behind before calls
+
+-- what the last step among these calls answered
+abbrev pub last_answer : List Call → Option Next
+last_answer calls = last_answer_behind None calls
+
+-- the halt is that of a turret
+abbrev pub IsOfTurret : Halt → Type 0
+IsOfTurret (Turret path) = Unit {0}
+IsOfTurret _ = ⊥

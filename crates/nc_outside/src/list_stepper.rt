@@ -1,0 +1,184 @@
+//! A stepper that answers a stated list.
+ghost use Rattle.std.specs.Prelude.{◌≡◌, ◌<◌, [], ◌∷◌, ◌++◌, Some, drop, vec_len, vec_capacity};
+ghost use Rattle.nc_outside.specs.Kept.{next_answer};
+
+use crate::{Call, Drained, Halt, Next, Stepper};
+use nc_number::Path;
+use std::alloc::Global;
+use std::collections::VecDeque;
+use std::marker::Model;
+use std::sync::Wait;
+
+/// Answers a stated list, and behind it that the path has finished. It keeps its calls; where there is no memory for
+/// one more, that call does not return.
+#[derive(Drop)]
+pub struct ListStepper<'r, R> {
+    rt: &'r R,
+    coming: VecDeque<Next>,
+    calls: Vec<Call>,
+}
+
+impl<'r, R> Model for ListStepper<'r, R> {
+    ghost use Rattle.nc_outside.specs.Kept.{KeptCalls};
+
+    ghost Value = { KeptCalls };
+
+    ghost view = { λ s. record { coming = s.coming.items; calls = s.calls.items } };
+}
+
+impl<'r, R> ListStepper<'r, R> {
+    /// A stepper that had no call yet and is to answer these, the first first.
+    pub fn new(rt: &'r R, alloc: Global, answers: Vec<Next>) -> Self
+        ensures { result ≡ record { coming = answers.items; calls = [] } }
+    {
+        ListStepper {
+            rt,
+            coming: VecDeque::from_vec(answers),
+            calls: Vec::new(alloc),
+        }
+    }
+
+    /// The calls that it had, in order.
+    pub fn calls(&self) -> &[Call]
+        ensures { result.now ≡ self.now.calls }
+    {
+        self.calls.as_slice()
+    }
+}
+
+// Makes room for one call more. Where there is no memory for it, it does not return.
+fn make_room<R: Wait>(rt: &R, calls: &mut Vec<Call>)
+    ensures items { calls.new.items ≡ calls.old.items }
+    ensures room { vec_len calls.new < vec_capacity calls.new }
+{
+    for _ in rt.forever() {
+        match calls.reserve(1) {
+            Ok(()) => return,
+            Err(_) => {}
+        }
+    }
+    unreachable!()
+}
+
+impl<'r, R: Wait> ListStepper<'r, R> {
+    // Keeps one call.
+    fn note(&mut self, call: Call)
+        ensures { self.new ≡ record self.old { calls = self.old.calls ++ call ∷ [] } }
+    {
+        make_room(self.rt, &mut self.calls);
+        self.calls.push_reserved(call);
+    }
+}
+
+impl<'r, R: Wait> Stepper for ListStepper<'r, R> {
+    type Origin = ();
+
+    ghost calls = { λ s. Some s.calls };
+
+    ghost origin = { λ _. tt };
+
+    fn step(&mut self, path: Path) -> Next
+        ensures answer { result ≡ next_answer self.old }
+        ensures new { self.new ≡ record {
+          coming = drop 1 self.old.coming;
+          calls = self.old.calls ++ Call.Step path result ∷ [];
+        } }
+    {
+        let answer = self.coming.pop_front().unwrap_or(Next::Finished);
+        let told = answer.copy();
+        self.note(Call::Step { path, answer: told });
+        answer
+    }
+
+    fn drained(&mut self, path: Path, proof: Drained)
+        ensures new { self.new ≡ record self.old { calls = self.old.calls ++ Call.Drained path proof.count ∷ [] } }
+    {
+        self.note(Call::Drained {
+            path,
+            count: proof.count(),
+        });
+    }
+
+    fn halt(&mut self, why: Halt)
+        ensures new { self.new ≡ record self.old { calls = self.old.calls ++ Call.Halt why ∷ [] } }
+    {
+        self.note(Call::Halt(why));
+    }
+}
+
+#[cfg(test)]
+mod tests {
+    use super::*;
+    use crate::{Drains, MoveList, Moves};
+    use std::test::Fail;
+
+    // A line along which so many moves were sent.
+    #[derive(Drop)]
+    struct Sent {
+        count: u64,
+    }
+
+    impl Drains for Sent {
+        ghost use Rattle.std.specs.Prelude.{◌≡◌, ⊤};
+
+        ghost drains = { λ old _ count. count ≡ old.count };
+
+        ghost can_drain = { λ _. ⊤ };
+
+        fn drain_now(&mut self) -> u64 {
+            self.count
+        }
+    }
+
+    // What a call was, in a word, with its path.
+    fn told(call: &Call) -> (&'static str, Path) {
+        match call {
+            Call::Step { path, answer } => (word(answer), *path),
+            Call::Drained { path, .. } => ("drained", *path),
+            Call::Halt(Halt::Turret(path)) => ("halt", *path),
+            Call::Halt(_) => ("another halt", Path::Two),
+        }
+    }
+
+    fn word(answer: &Next) -> &'static str {
+        match answer {
+            Next::Silent => "silent",
+            Next::Moves(_) => "moves",
+            Next::Drain => "drain",
+            Next::Finished => "finished",
+            Next::Halted(_) => "halted",
+        }
+    }
+
+    fn step<S: Stepper>(stepper: &mut S, path: Path) -> &'static str {
+        word(&stepper.step(path))
+    }
+
+    #[test]
+    fn it_answers_its_list_and_keeps_every_call(rt: HostRuntime) -> Result<(), Fail> {
+        let alloc = rt.alloc();
+        let mut answers = Vec::new(alloc);
+        let list = MoveList::empty();
+        answers.push(Next::Moves(Moves { line: 4, list }))?;
+        answers.push(Next::Drain)?;
+        let mut stepper = ListStepper::new(&rt, alloc, answers);
+        assert_eq!(rt; step(&mut stepper, Path::One), "moves");
+        assert_eq!(rt; step(&mut stepper, Path::One), "drain");
+        stepper.drained(Path::One, Drained::by(&mut Sent { count: 1 }));
+        assert_eq!(rt; step(&mut stepper, Path::Two), "finished");
+        stepper.halt(Halt::Turret(Path::One));
+        let mut seen = Vec::new(alloc);
+        for call in stepper.calls() {
+            seen.push(told(call))?;
+        }
+        let calls = [
+            ("moves", Path::One),
+            ("drain", Path::One),
+            ("drained", Path::One),
+            ("finished", Path::Two),
+            ("halt", Path::One),
+        ];
+        assert_eq!(rt; seen.as_slice(), calls.as_slice());
+        Ok(())
+    }
+}

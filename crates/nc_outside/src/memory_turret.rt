@@ -1,0 +1,162 @@
+//! A turret in memory.
+ghost use Rattle.std.specs.Prelude.{◌≡◌, [], ◌∷◌, IfOk, OnOk, OnErr, is_err, IsErr, IsTrue};
+ghost use Rattle.nc_outside.specs.Faults.{CountsFault};
+ghost use Rattle.nc_outside.specs.Kept.{after_handing, refuses_next, turret_of, when_counted};
+ghost use Rattle.nc_outside.specs.Plan.{fresh_plan};
+ghost use Rattle.nc_outside.specs.Received.{Receives};
+
+use crate::plan::Plan;
+use crate::{Failed, Got, Move, Turret};
+use nc_number::{NoMemory, Point};
+use std::alloc::Global;
+use std::marker::Model;
+
+/// What a turret got, in memory, with a fixed room for it, and the numbers of the calls that are to fail. A call that
+/// finds no room fails too. Its calls take no memory.
+#[derive(Drop)]
+pub struct MemoryTurret {
+    got: Vec<Got>,
+    room: usize,
+    plan: Plan,
+    past: u64,
+}
+
+impl Model for MemoryTurret {
+    ghost use Rattle.std.specs.Prelude.{◌≤◌, vec_len, vec_capacity};
+    ghost use Rattle.nc_outside.specs.Kept.{KeptMoves};
+
+    ghost Value = { KeptMoves };
+
+    ghost view = { λ t. record { got = t.got.items; room = t.room; plan = t.plan; past = t.past } };
+
+    ghost invariant = { λ t. (vec_len t.got ≤ t.room) × (t.room ≤ vec_capacity t.got) };
+}
+
+impl MemoryTurret {
+    /// A turret that got nothing yet, with room for so many places and moves, of which the `failing` calls of `place`
+    /// and `hand` together are to fail, counted from 1.
+    pub fn new(alloc: Global, room: usize, failing: &[u64]) -> Result<Self, NoMemory>
+        ensures { IfOk result (λ turret. turret ≡ record {
+          got = [];
+          room = room;
+          plan = fresh_plan failing.now;
+          past = 0;
+        }) }
+    {
+        let got = Vec::with_capacity(alloc, room)?;
+        let plan = Plan::new(alloc, failing)?;
+        Ok(MemoryTurret {
+            got,
+            room,
+            plan,
+            past: 0,
+        })
+    }
+
+    /// What it got, in order.
+    pub fn got(&self) -> &[Got]
+        ensures { result.now ≡ self.now.got }
+    {
+        self.got.as_slice()
+    }
+
+    // Counts a call, and says whether it fails.
+    fn refuses(&mut self) -> bool
+        ensures fails { result ≡ refuses_next self.old }
+        ensures new { self.new ≡ when_counted self.old }
+        ensures fault { CountsFault (turret_of self.old).faults (turret_of self.new).faults (IsTrue result) }
+    {
+        if self.plan.call() {
+            return true;
+        }
+        if self.got.len() < self.room {
+            return false;
+        }
+        self.past = self.past.saturating_add(1);
+        true
+    }
+
+    // One call, which hands the turret this.
+    #[tactic(auto, unfolding(crate::specs::Received::counted_on))]
+    fn receive(&mut self, what: Got) -> Result<(), Failed>
+        ensures fails { is_err result ≡ refuses_next self.old }
+        ensures new { self.new ≡ after_handing what self.old }
+        ensures ok { OnOk result (Receives (turret_of self.old) (turret_of self.new) (what ∷ []) 1) }
+        ensures err { OnErr result (Receives (turret_of self.old) (turret_of self.new) [] 1) }
+        ensures fault { CountsFault (turret_of self.old).faults (turret_of self.new).faults (IsErr result) }
+    {
+        if self.refuses() {
+            return Err(Failed);
+        }
+        // Each kind by its name: what is kept across a call must have its parts' types in sight.
+        match what {
+            Got::Placed(at) => self.got.push_reserved(Got::Placed(at)),
+            Got::Moved(what) => self.got.push_reserved(Got::Moved(what)),
+        }
+        Ok(())
+    }
+}
+
+impl Turret for MemoryTurret {
+    ghost state = { turret_of };
+
+    fn faults(&self) -> u64 {
+        self.plan.faults().saturating_add(self.past)
+    }
+
+    fn place(&mut self, at: Point) -> Result<(), Failed>
+        ensures fails { is_err result ≡ refuses_next self.old }
+        ensures new { self.new ≡ after_handing (Got.Placed at) self.old }
+        ensures ok { OnOk result (Receives (turret_of self.old) (turret_of self.new) (Got.Placed at ∷ []) 1) }
+        ensures err { OnErr result (Receives (turret_of self.old) (turret_of self.new) [] 1) }
+        ensures fault { CountsFault (turret_of self.old).faults (turret_of self.new).faults (IsErr result) }
+    {
+        self.receive(Got::Placed(at))
+    }
+
+    fn hand(&mut self, what: &Move) -> Result<(), Failed>
+        ensures fails { is_err result ≡ refuses_next self.old }
+        ensures new { self.new ≡ after_handing (Got.Moved what.now) self.old }
+        ensures ok { OnOk result (Receives (turret_of self.old) (turret_of self.new) (Got.Moved what.now ∷ []) 1) }
+        ensures err { OnErr result (Receives (turret_of self.old) (turret_of self.new) [] 1) }
+        ensures fault { CountsFault (turret_of self.old).faults (turret_of self.new).faults (IsErr result) }
+    {
+        self.receive(Got::Moved(*what))
+    }
+}
+
+#[cfg(test)]
+mod tests {
+    use super::*;
+    use std::test::Fail;
+
+    fn hand<T: Turret>(turret: &mut T, what: &Move) -> (bool, u64) {
+        let outcome = turret.hand(what);
+        (outcome.is_ok(), turret.faults())
+    }
+
+    #[test]
+    fn a_planned_call_and_one_past_the_room_fail_and_add_nothing(
+        rt: HostRuntime,
+    ) -> Result<(), Fail> {
+        let at = Point { x: 50_000, z: 0 };
+        let mut turret = MemoryTurret::new(rt.alloc(), 2, &[3, 2, 0])?;
+        assert_eq!(rt; turret.place(at), Ok(()));
+        for (m, taken, faults) in [
+            (3, false, 1),
+            (8, false, 2),
+            (9, true, 2),
+            (30, false, 3),
+            (30, false, 4),
+        ] {
+            assert_eq!(rt;
+                hand(&mut turret, &Move::Aux { m }),
+                (taken, faults),
+                "M{m}"
+            );
+        }
+        let got = [Got::Placed(at), Got::Moved(Move::Aux { m: 9 })];
+        assert_eq!(rt; turret.got(), got.as_slice());
+        Ok(())
+    }
+}
