@@ -2,7 +2,7 @@ use Rattle.std.proofs.Common.{◌≡◌, ℕ, ◌*◌, ◌≤◌, ◌∙◌, ap,
 use Rattle.std.proofs.Math.Nat.{mul-le-mul}
 use Rattle.std.proofs.lemmas.Int.{to_z-of_z, fits_signed_from_abs}
 use Rattle.nc_number.specs.declared.point.Point.{Point}
-use Rattle.motion_track.specs.declared.axis.Axis.{Axis}
+use Rattle.nc_number.specs.declared.axis.Axis.{Axis}
 use Rattle.motion_track.specs.declared.circle.Place.{Place}
 use Rattle.motion_track.specs.Target.{part_of}
 

@@ -6,7 +6,7 @@ use Rattle.nc_outside.specs.declared.motion.Centre.{Centre}
 use Rattle.nc_outside.specs.declared.motion.Centre.TheVariants.{Offset, Radius}
 use Rattle.motion_track.specs.declared.circle.Place.{Place}
 use Rattle.motion_track.specs.declared.fault.MotionFault.{MotionFault}
-use Rattle.motion_track.specs.declared.fault.TheConstants.{ARC_RADIUS, NO_CENTRE}
+use Rattle.nc_number.specs.declared.cause.Cause.TheVariants.{ArcRadius, NoCentre}
 use Rattle.motion_track.specs.Faults.{fault}
 use Rattle.motion_track.specs.Cut.{at_feed}
 
@@ -51,17 +51,8 @@ misses at to (Radius r) =
     let diameter = 4 * unsigned_abs r in
     nat_lt (diameter * diameter) (square_between (place_of at) (place_of to))
 
--- the lengths of a centre are no larger than that
-abbrev pub IsCentreWithin : ℕ → Centre → Type 0
-IsCentreWithin far (Offset i k) = (unsigned_abs i ≤ far) × (unsigned_abs k ≤ far)
-IsCentreWithin far (Radius r) = unsigned_abs r ≤ far
-
-abbrev pub IsGivenWithin : ℕ → Option Centre → Type 0
-IsGivenWithin far None = Unit {0}
-IsGivenWithin far (Some centre) = IsCentreWithin far centre
-
 -- the arc, or alarm 43, else 42, else 44
 abbrev pub arc_of : Point → Point → Bool → Option Centre → ℤ → Bool → Result Move MotionFault
-arc_of at to clockwise None feed per_rev = Err (fault NO_CENTRE)
+arc_of at to clockwise None feed per_rev = Err (fault NoCentre)
 arc_of at to clockwise (Some centre) feed per_rev =
-    if misses at to centre then Err (fault ARC_RADIUS) else at_feed feed (Arc clockwise to centre feed per_rev)
+    if misses at to centre then Err (fault ArcRadius) else at_feed feed (Arc clockwise to centre feed per_rev)

@@ -4,12 +4,12 @@ use Rattle.nc_number.specs.Arithmetic.{is_zero}
 use Rattle.nc_outside.specs.declared.motion.Move.{Move}
 use Rattle.nc_outside.specs.declared.motion.Move.TheVariants.{Feed, Thread}
 use Rattle.motion_track.specs.declared.fault.MotionFault.{MotionFault}
-use Rattle.motion_track.specs.declared.fault.TheConstants.{FEED_ZERO}
+use Rattle.nc_number.specs.declared.cause.Cause.TheVariants.{FeedZero}
 use Rattle.motion_track.specs.Faults.{fault}
 
 -- a cut at this feed, or alarm 44 where the feed is 0
 abbrev pub at_feed : {X : Type 0} → ℤ → X → Result X MotionFault
-at_feed feed what = if is_zero feed then Err (fault FEED_ZERO) else Ok what
+at_feed feed what = if is_zero feed then Err (fault FeedZero) else Ok what
 
 abbrev pub line_of : Point → ℤ → Bool → Result Move MotionFault
 line_of to feed per_rev = at_feed feed (Feed to feed per_rev)

@@ -3,12 +3,13 @@ ghost use Rattle.nc_number.specs.declared.point.Point.{Point};
 ghost use Rattle.nc_outside.specs.declared.motion.Centre.TheVariants.{Offset};
 ghost use Rattle.nc_number.specs.Position.{IsWithin};
 ghost use Rattle.motion_track.specs.Tolerance.{EndsOnCircle};
-ghost use Rattle.motion_track.specs.Circle.{IsNear, place_of, centre_from, square_between, is_past_tolerance, IsCentreWithin, IsGivenWithin, misses, arc_of};
+ghost use Rattle.motion_track.specs.Circle.{IsNear, place_of, centre_from, square_between, is_past_tolerance, misses, arc_of};
+ghost use Rattle.motion_track.specs.Centre.{IsCentreWithin, IsGivenWithin};
 
-use crate::axis::LONGEST;
 use crate::cut::is_feed_zero;
-use crate::fault::{ARC_RADIUS, FEED_ZERO, MotionFault, NO_CENTRE};
-use nc_number::{Point, Value};
+use crate::fault::MotionFault;
+use crate::targets::LONGEST;
+use nc_number::{Cause, Point, Value};
 use nc_outside::{Centre, Move};
 
 /// How far an arc's end may lie from its circle, in 0.0005 mm.
@@ -38,13 +39,13 @@ pub fn arc(
     ensures { result ≡ arc_of at to clockwise centre feed per_rev }
 {
     let Some(centre) = centre else {
-        return Err(MotionFault { number: NO_CENTRE });
+        return Err(MotionFault::of(Cause::NoCentre));
     };
     if misses(&at, &to, &centre) {
-        return Err(MotionFault { number: ARC_RADIUS });
+        return Err(MotionFault::of(Cause::ArcRadius));
     }
     if is_feed_zero(&feed) {
-        return Err(MotionFault { number: FEED_ZERO });
+        return Err(MotionFault::of(Cause::FeedZero));
     }
     Ok(Move::Arc {
         clockwise,

@@ -2,8 +2,8 @@ ghost use Rattle.std.specs.Prelude.{◌≡◌};
 ghost use Rattle.nc_number.specs.Arithmetic.{is_zero};
 ghost use Rattle.motion_track.specs.Cut.{line_of, thread_of};
 
-use crate::fault::{FEED_ZERO, MotionFault};
-use nc_number::{Point, Value};
+use crate::fault::MotionFault;
+use nc_number::{Cause, Point, Value};
 use nc_outside::Move;
 
 /// A straight cut; alarm 44 exactly where the feed is 0.
@@ -11,7 +11,7 @@ pub fn line(to: Point, feed: Value, per_rev: bool) -> Result<Move, MotionFault>
     ensures { result ≡ line_of to feed per_rev }
 {
     if is_feed_zero(&feed) {
-        return Err(MotionFault { number: FEED_ZERO });
+        return Err(MotionFault::of(Cause::FeedZero));
     }
     Ok(Move::Feed { to, feed, per_rev })
 }
@@ -21,7 +21,7 @@ pub fn thread(to: Point, lead: Value) -> Result<Move, MotionFault>
     ensures { result ≡ thread_of to lead }
 {
     if is_feed_zero(&lead) {
-        return Err(MotionFault { number: FEED_ZERO });
+        return Err(MotionFault::of(Cause::FeedZero));
     }
     Ok(Move::Thread { to, lead })
 }

@@ -1,20 +1,26 @@
 //! The moves of a block, in whole increments: where an axis word leads, a line, a thread, an arc, and
 //! the way home.
 //!
-//! Points are machine positions in 0.001 mm, X a diameter. No call overflows at any length that it
-//! may be given. An arc by its centre is refused exactly where its end is farther than 0.010 mm from
-//! the circle through its start, and `arcs_end_on_their_circle` is the law that says so. The layer
-//! above leans on the one clause of each call: the move, or the alarm and when it comes.
+//! `track` is the table of the control: from the kind of a block's code, its words and the state of its
+//! path to its moves, or to the alarm that comes first. Points are machine positions in 0.001 mm, X a
+//! diameter. No call overflows at any length that it may be given. An arc by its centre is refused
+//! exactly where its end is farther than 0.010 mm from the circle through its start, and
+//! `arcs_end_on_their_circle` is the law that says so. The layer above leans on the first clause of
+//! `track`, which is that table, and on its last: every move ends at a position.
 #![tactic(auto)]
 
-mod axis;
+mod block;
+mod centre;
 mod circle;
 mod cut;
 mod fault;
 mod reference;
+mod targets;
 
-pub use axis::{Axis, LONGEST, target};
+pub use block::{BlockMotion, return_home, track};
+pub use centre::centre_of;
 pub use circle::{arc, arcs_end_on_their_circle};
 pub use cut::{is_feed_zero, line, thread};
-pub use fault::{ARC_RADIUS, FEED_ZERO, MotionFault, NO_CENTRE, POSITION_RANGE};
+pub use fault::MotionFault;
 pub use reference::home;
+pub use targets::{LONGEST, target};

@@ -1,23 +1,13 @@
-ghost use Rattle.std.specs.Prelude.{◌≡◌, ◌≤◌, unsigned_abs};
-ghost use Rattle.nc_number.specs.Position.{IsWithin};
-ghost use Rattle.motion_track.specs.Target.{IsAxisWithin, part_of, reached, target_of};
+ghost use Rattle.std.specs.Prelude.{◌≡◌, ◌≤◌, unsigned_abs, IfOk};
+ghost use Rattle.nc_number.specs.Position.{IsWithin, IsPosition};
+ghost use Rattle.nc_number.specs.Axes.{IsAxisWithin};
+ghost use Rattle.motion_track.specs.Target.{part_of, reached, target_of};
 
-use crate::fault::{MotionFault, POSITION_RANGE};
-use nc_number::Point;
+use crate::fault::MotionFault;
+use nc_number::{Axis, Cause, Point};
 
-/// The longest length that a call takes, in 0.001 mm.
+/// The longest length that a call takes, in 0.001 mm: a thousand times what a word of a tape can say.
 pub const LONGEST: u64 = 100_000_000_000_000;
-
-/// What a block says of an axis, in 0.001 mm.
-#[derive(Clone, Copy, Debug, PartialEq, Eq)]
-pub enum Axis {
-    /// Nothing: the axis stays.
-    Keep,
-    /// An absolute word, in programmed coordinates.
-    To(i64),
-    /// An incremental word.
-    By(i64),
-}
 
 /// Where a block leads from `at`, in machine coordinates: an absolute word counts from the shift, an
 /// incremental one from the present position, and an axis without a word stays. Alarm 41 exactly
@@ -27,15 +17,14 @@ pub fn target(at: Point, shift: Point, x: Axis, z: Axis) -> Result<Point, Motion
     requires shift { IsWithin LONGEST shift }
     requires x { IsAxisWithin LONGEST x }
     requires z { IsAxisWithin LONGEST z }
-    ensures { result ≡ target_of at shift x z }
+    ensures target { result ≡ target_of at shift x z }
+    ensures position { IfOk result IsPosition }
 {
     let to = reached(&at, &shift, x, z);
     if to.is_position() {
         Ok(to)
     } else {
-        Err(MotionFault {
-            number: POSITION_RANGE,
-        })
+        Err(MotionFault::of(Cause::PositionRange))
     }
 }
 

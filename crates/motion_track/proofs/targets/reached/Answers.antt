@@ -1,5 +1,5 @@
 use Rattle.motion_track.proofs.Places.{same_point, stored_part}
-use Rattle.motion_track.proofs.axis.reached.Goals as goal
+use Rattle.motion_track.proofs.targets.reached.Goals as goal
 
 pub returns : goal.returns
 returns c =
