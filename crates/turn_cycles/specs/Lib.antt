@@ -1,1 +1,3 @@
 pub mod Cycles
+pub mod End
+pub mod Pass

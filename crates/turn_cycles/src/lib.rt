@@ -1,9 +1,13 @@
 //! The canned cycles of a lathe: four moves round the rectangle between a start and an end.
 //!
-//! Every cycle ends where it started. The layer above leans on `cycle`, whose clause is the table of
-//! the moves, and alarm 44 exactly where there is no feed.
+//! Every cycle ends where it started. The layer above leans on `cycle_pass`, a whole block with a cycle: where
+//! it ends its cut (`cycle_end`), its moves (`cycle`), and the end that it keeps for the next block.
 #![tactic(auto)]
 
+mod end;
+mod pass;
 mod rectangle;
 
+pub use end::cycle_end;
+pub use pass::{CyclePass, cycle_pass};
 pub use rectangle::{CycleKind, cycle};

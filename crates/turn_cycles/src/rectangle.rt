@@ -1,8 +1,11 @@
-ghost use Rattle.std.specs.Prelude.{◌≡◌};
+ghost use Rattle.std.specs.Prelude.{◌≡◌, IfOk};
+ghost use Rattle.nc_number.specs.Position.{IsPosition};
+ghost use Rattle.motion_track.specs.Block.{AllEnd};
 ghost use Rattle.turn_cycles.specs.Cycles.{cycle_of};
 
-use motion_track::{FEED_ZERO, MotionFault, is_feed_zero};
-use nc_number::{Point, Value};
+use code_tables::CodeKind;
+use motion_track::{MotionFault, is_feed_zero};
+use nc_number::{Cause, Point, Value};
 use nc_outside::Move;
 
 /// Which cycle, by its code in system A.
@@ -16,9 +19,26 @@ pub enum CycleKind {
     G94,
 }
 
+impl CycleKind {
+    ghost use Rattle.turn_cycles.specs.Pass.{cycle_kind_of};
+
+    /// The cycle of a code, if it has one.
+    pub fn of(kind: CodeKind) -> Option<Self>
+        ensures { result ≡ cycle_kind_of kind }
+    {
+        match kind {
+            CodeKind::CycleTurn => Some(CycleKind::G90),
+            CodeKind::CycleThread => Some(CycleKind::G92),
+            CodeKind::CycleFace => Some(CycleKind::G94),
+            _ => None,
+        }
+    }
+}
+
 /// The moves of a cycle, in machine coordinates. G90 and G92 go first across to the end's X, G94 first
 /// along to the end's Z; the last move leads back to the start. The feed of G92 is the lead of its
 /// thread. Alarm 44 exactly where the feed is 0.
+#[tactic(auto, using(crate::proofs::Positions::cycle_ends))]
 pub fn cycle(
     kind: CycleKind,
     start: Point,
@@ -26,10 +46,11 @@ pub fn cycle(
     feed: Value,
     per_rev: bool,
 ) -> Result<[Move; 4], MotionFault>
-    ensures { result ≡ cycle_of kind start end feed per_rev }
+    ensures moves { result ≡ cycle_of kind start end feed per_rev }
+    ensures positions { IsPosition start → IsPosition end → IfOk result (AllEnd IsPosition) }
 {
     if is_feed_zero(&feed) {
-        return Err(MotionFault { number: FEED_ZERO });
+        return Err(MotionFault::of(Cause::FeedZero));
     }
     let across = Point {
         x: end.x,
