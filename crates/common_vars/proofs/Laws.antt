@@ -1,7 +1,8 @@
 -- The laws of both kinds of variables.
-use Rattle.std.proofs.Common.{◌≡◌, ℕ, ◌<◌, ◌==◌, List, [], ◌∷◌, ◌++◌, true, false, cond, Option, None, Some, length, arith, refl, sym, ◌∙◌, ap, inl, inr, unwrap_or, eq-eqb}
+use Rattle.std.proofs.Common.{◌≡◌, ℕ, ◌<◌, ◌≤◌, nat_le, All, ◌==◌, List, [], ◌∷◌, ◌++◌, true, false, cond, Option, None, Some, length, arith, refl, sym, ◌∙◌, ap, inl, inr, unwrap_or, eq-eqb}
 use Rattle.std.specs.Option.{option_or}
-use Rattle.std.proofs.lemmas.Bool.{cases_eq, ne_eqb}
+use Rattle.std.proofs.lemmas.Bool.{cases_eq, ne_eqb, and_right, lt-leb, le-leb}
+use Rattle.std.proofs.lemmas.List.Elements.{All-head, All-tail}
 use Rattle.std.proofs.lemmas.List.{get_or-set_same, get_or-set_other, get_or-replicate}
 use Rattle.std.proofs.Math.ListN.{length-set}
 use Rattle.nc_number.specs.declared.value.Var.{Var}
@@ -60,3 +61,43 @@ pub seen_from_its_stamp : (writes : List Write) (w : Write) (k v : ℕ)
 seen_from_its_stamp writes w k v =
     ap (λ o. unwrap_or o Vacant) (one_more writes w k v)
     ∙ elim (is_write_of k v w) as (λ b. unwrap_or (option_or (cond b (Some w.value) None) (latest_write k v writes)) Vacant ≡ cond b w.value (value_after k v writes)) [ true ↦ refl | false ↦ refl ]
+
+-- later writes are no writes by the first k records
+none_of_later : (later : List Write) (k v : ℕ) → All (λ w. k < w.stamp) later → latest_write k v later ≡ None
+none_of_later [] k v past = refl
+none_of_later (w ∷ later) k v past =
+    let Past : Write → Type 0 = λ w. k < w.stamp in
+    let first : k < w.stamp = All-head Past w later past in
+    let skipped : is_write_of k v w ≡ false = and_right (w.variable == v) (nat_le w.stamp k) (lt-leb w.stamp k first) in
+    let rest = none_of_later later k v (All-tail Past w later past) in
+    rw (rest, skipped) refl
+
+behind_later : (writes later : List Write) (k v : ℕ) → All (λ w. k < w.stamp) later
+    → latest_write k v (writes ++ later) ≡ latest_write k v writes
+behind_later [] later k v past = none_of_later later k v past
+behind_later (x ∷ writes) later k v past =
+    ap (λ o. option_or o (cond (is_write_of k v x) (Some x.value) None)) (behind_later writes later k v past)
+
+pub earlier_value_stays : (writes later : List Write) (k v : ℕ) → All (λ w. k < w.stamp) later
+    → value_after k v (writes ++ later) ≡ value_after k v writes
+earlier_value_stays writes later k v past = ap (λ o. unwrap_or o Vacant) (behind_later writes later k v past)
+
+-- once all writes are seen, no more are
+seen_alike : (w : Write) (last k v : ℕ) → w.stamp ≤ last → last ≤ k → is_write_of k v w ≡ is_write_of last v w
+seen_alike w last k v early behind =
+    let now : nat_le w.stamp last ≡ true = le-leb w.stamp last early in
+    let later : nat_le w.stamp k ≡ true = le-leb w.stamp k (omega arith) in
+    rw (now, later) refl
+
+all_seen : (writes : List Write) (last k v : ℕ) → All (λ w. w.stamp ≤ last) writes → last ≤ k
+    → latest_write k v writes ≡ latest_write last v writes
+all_seen [] last k v early behind = refl
+all_seen (w ∷ writes) last k v early behind =
+    let Early : Write → Type 0 = λ w. w.stamp ≤ last in
+    let alike = seen_alike w last k v (All-head Early w writes early) behind in
+    let rest = all_seen writes last k v (All-tail Early w writes early) behind in
+    rw (rest, alike) refl
+
+pub last_value_stays : (writes : List Write) (last k v : ℕ) → All (λ w. w.stamp ≤ last) writes → last ≤ k
+    → value_after k v writes ≡ value_after last v writes
+last_value_stays writes last k v early behind = ap (λ o. unwrap_or o Vacant) (all_seen writes last k v early behind)

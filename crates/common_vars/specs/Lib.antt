@@ -1,3 +1,4 @@
 pub mod Common
+pub mod Variables
 pub mod Writes
 pub mod Links

@@ -3,6 +3,8 @@ ghost use Rattle.common_vars.specs.Writes.{value_after};
 ghost use Rattle.common_vars.specs.Links.{AreLinked, IsLatestBefore, IsSomeBefore, IsPast};
 
 use nc_number::Var;
+use std::marker::Model;
+use std::mem::size_of;
 
 /// One write of a shared variable.
 #[derive(Clone, Copy, Debug)]
@@ -15,18 +17,61 @@ pub struct Write {
     pub value: Var,
 }
 
+/// The place of a node, or none, in the room of one number.
+#[derive(Debug, Drop)]
+pub(crate) struct Link {
+    /// The place counted from 1, or 0 for none.
+    from_one: usize,
+}
+
+// Clauses see the place, if there is one.
+impl Model for Link {
+    ghost use Rattle.std.specs.Prelude.{ℕ, ◌-◌, ◌==◌, if◌then◌else◌, Option, Some, None};
+
+    ghost Value = { Option ℕ };
+
+    ghost view = { λ link. if link.from_one == 0 then None else Some (link.from_one - 1) };
+}
+
+impl Link {
+    fn to(place: Option<usize>) -> Link
+        requires { IfSome place (λ i. i < usize.MAX) }
+        ensures { result ≡ place }
+    {
+        Link {
+            from_one: match place {
+                Some(place) => place + 1,
+                None => 0,
+            },
+        }
+    }
+
+    fn place(&self) -> Option<usize>
+        ensures { result ≡ self.now }
+    {
+        if self.from_one == 0 {
+            None
+        } else {
+            Some(self.from_one - 1)
+        }
+    }
+}
+
 /// A write, linked to earlier writes of the same variable.
-#[derive(Clone, Copy, Debug)]
+#[derive(Debug, Drop)]
 pub struct Node {
     pub(crate) write: Write,
     /// The write before it.
-    pub(crate) previous: Option<usize>,
+    pub(crate) previous: Link,
     /// A write further back, so chosen that any earlier write is a few such steps away: a node
     /// jumps over two jumps of equal span, or else to the one before.
-    pub(crate) jump: Option<usize>,
+    pub(crate) jump: Link,
     /// How many writes back `jump` leads.
     pub(crate) span: usize,
 }
+
+// A run has a node for each write of a shared variable.
+const _: () = prove!(size_of::<Node>() <= 48);
 
 /// Where the jump of the node at `place` leads; with no place, nowhere.
 fn jump_from(nodes: &[Node], place: Option<usize>) -> Option<usize>
@@ -36,7 +81,7 @@ fn jump_from(nodes: &[Node], place: Option<usize>) -> Option<usize>
     ensures variable { (v : ℕ) → IsSomeBefore nodes.now (length nodes.now) v place
         → IsSomeBefore nodes.now (length nodes.now) v result }
 {
-    nodes[place?].jump
+    nodes[place?].jump.place()
 }
 
 /// How many writes back the jump of the node at `place` leads.
@@ -62,15 +107,15 @@ pub(crate) fn linked(nodes: &[Node], previous: Option<usize>, write: Write) -> N
     if span != span_at(nodes, near) {
         return Node {
             write,
-            previous,
-            jump: previous,
+            previous: Link::to(previous),
+            jump: Link::to(previous),
             span: 1,
         };
     }
     Node {
         write,
-        previous,
-        jump: jump_from(nodes, near),
+        previous: Link::to(previous),
+        jump: Link::to(jump_from(nodes, near)),
         span: span.saturating_mul(2).saturating_add(1),
     }
 }
@@ -91,9 +136,9 @@ pub(crate) fn value_at(nodes: &[Node], latest: Option<usize>, stamp: u32, v: u32
         if node.write.stamp <= stamp {
             return node.write.value;
         }
-        place = match node.jump {
+        place = match node.jump.place() {
             Some(far) if nodes[far].write.stamp > stamp => Some(far),
-            _ => node.previous,
+            _ => node.previous.place(),
         };
     }
     Var::Vacant

@@ -37,6 +37,14 @@ impl Model for Shared {
         × AreLinked shared.nodes.items × AreEnds shared.nodes.items shared.latest.items };
 }
 
+/// Whether both paths share `#v`, where the first `shared100` variables from `#100` on and the
+/// first `shared500` from `#500` on are shared.
+pub fn is_shared(shared100: u32, shared500: u32, v: u32) -> bool
+    ensures { IsTrue result ↔ IsShared shared100 shared500 v }
+{
+    (v >= 100 && v - 100 < shared100) || (v >= 500 && v - 500 < shared500)
+}
+
 impl Shared {
     /// No variable written, the first `shared100` from `#100` on and the first `shared500` from
     /// `#500` on shared.
@@ -60,7 +68,7 @@ impl Shared {
     pub fn holds(&self, v: u32) -> bool
         ensures { IsTrue result ↔ IsShared self.now.shared100 self.now.shared500 v }
     {
-        (v >= 100 && v < 100 + self.shared100) || (v >= 500 && v < 500 + self.shared500)
+        is_shared(self.shared100, self.shared500, v)
     }
 
     /// Makes room for `n` more writes.
@@ -112,12 +120,26 @@ pub fn a_write_is_seen_from_its_stamp_on()
         → value_after k v (writes ++ w ∷ []) ≡ (if is_write_of k v w then w.value else value_after k v writes) }
 {}
 
+/// What a variable held early is the same whatever is written later.
+pub fn later_writes_change_no_earlier_value()
+    ensures { (writes later : List Write) (k v : ℕ) → All (λ w. k < w.stamp) later
+        → value_after k v (writes ++ later) ≡ value_after k v writes }
+{}
+
+/// Nothing changes behind the last write.
+pub fn nothing_changes_behind_the_last_write()
+    ensures { (writes : List Write) (last k v : ℕ) → All (λ w. w.stamp ≤ last) writes → last ≤ k
+        → value_after k v writes ≡ value_after last v writes }
+{}
+
 #[cfg(test)]
 mod tests {
-    use super::Shared;
+    use super::{Shared, is_shared};
     use crate::own::{Own, is_common};
     use nc_number::{Value, Var};
     use std::test::Fail;
+
+    const WRITES: u32 = 200_000;
 
     fn number(micro: u32) -> Var {
         match Value::of(i64::from(micro)) {
@@ -156,10 +178,46 @@ mod tests {
     }
 
     #[test]
+    fn the_first_ones_from_each_hundred_on_are_shared(rt: HostRuntime) {
+        for (shared100, shared500, v, shared) in [
+            (0, 0, 100, false),
+            (0, 0, 500, false),
+            (1, 1, 99, false),
+            (1, 1, 100, true),
+            (1, 1, 101, false),
+            (1, 1, 499, false),
+            (1, 1, 500, true),
+            (1, 1, 501, false),
+            (100, 500, 199, true),
+            (100, 500, 200, false),
+            (100, 500, 999, true),
+            (100, 500, 1000, false),
+            (0, 100, 599, true),
+            (0, 100, 600, false),
+            (0, 100, 0, false),
+        ] {
+            assert_eq!(rt; is_shared(shared100, shared500, v), shared, "#{v}");
+        }
+    }
+
+    /// A search that passed each later write would take ten thousand million steps here.
+    #[test]
+    fn early_moments_of_many_writes_are_found_at_once(rt: HostRuntime) -> Result<(), Fail> {
+        let mut shared = Shared::new(rt.alloc(), 0, 500)?;
+        shared.reserve(WRITES as usize)?;
+        for stamp in 0..WRITES {
+            shared.write(stamp, 500, number(stamp));
+        }
+        for stamp in 0..WRITES {
+            assert_eq!(rt; micro(shared.at(stamp, 500)), i64::from(stamp));
+        }
+        Ok(())
+    }
+
+    #[test]
     fn each_moment_of_the_run_has_its_value(rt: HostRuntime) -> Result<(), Fail> {
         let mut shared = Shared::new(rt.alloc(), 10, 500)?;
-        let held = [99, 100, 109, 110, 499, 500, 999, 1000].map(|v| shared.holds(v));
-        assert_eq!(rt; held, [false, true, true, false, false, true, true, false]);
+        assert_eq!(rt; [100, 110].map(|v| shared.holds(v)), [true, false]);
         shared.reserve(3)?;
         shared.write(2, 500, number(1));
         shared.write(4, 100, number(7));

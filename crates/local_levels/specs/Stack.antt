@@ -3,10 +3,11 @@ use Rattle.std.specs.Prelude.{ℕ, ◌-◌, List, [], ◌∷◌, replicate, slic
 use Rattle.nc_number.specs.declared.value.Var.{Var}
 use Rattle.nc_number.specs.declared.value.Var.TheVariants.{Vacant}
 use Rattle.local_levels.specs.declared.stack.Level.{Level}
+use Rattle.local_levels.specs.declared.stack.TheConstants.{LOCALS}
 
--- 33 vacant variables
+-- all the variables of a level, vacant
 abbrev pub all_vacant : List Var
-all_vacant = replicate 33 Vacant
+all_vacant = replicate LOCALS Vacant
 
 -- a level just opened: its variables hold the arguments
 abbrev pub opened : List Var → Level

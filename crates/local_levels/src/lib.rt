@@ -9,4 +9,4 @@
 
 mod stack;
 
-pub use stack::{Level, Levels};
+pub use stack::{LOCALS, Level, Levels, MOST_OPEN};

@@ -1,0 +1,5 @@
+use Rattle.common_vars.proofs.Laws.{last_value_stays}
+use Rattle.common_vars.proofs.shared.nothing_changes_behind_the_last_write.Goals as goal
+
+pub returns : goal.returns
+returns c = last_value_stays

@@ -1,0 +1,12 @@
+use Rattle.std.proofs.Common.{◌≡◌, ◌≤◌, ◌+◌, All}
+use Rattle.common_vars.proofs.shared.tests.early_moments_of_many_writes_are_found_at_once.Given as goal
+
+abbrev pub invariant-loop-stamp : goal.invariant-loop-stamp
+invariant-loop-stamp g l = record {
+  upper : l.shared.shared500 ≡ 500;
+  room : 200000 ≤ l.stamp + l.shared.room;
+  early : All (λ w. w.stamp ≤ l.stamp) l.shared.writes;
+}
+
+abbrev pub invariant-loop-stamp-2 : goal.invariant-loop-stamp-2
+invariant-loop-stamp-2 g l = l.shared.shared500 ≡ 500

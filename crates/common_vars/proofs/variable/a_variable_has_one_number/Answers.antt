@@ -1,0 +1,5 @@
+use Rattle.common_vars.proofs.VariableNumbers.{one_number}
+use Rattle.common_vars.proofs.variable.a_variable_has_one_number.Goals as goal
+
+pub returns : goal.returns
+returns c = one_number

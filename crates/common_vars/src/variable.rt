@@ -1,0 +1,210 @@
+ghost use Rattle.std.specs.Prelude.{◌≡◌, ◌≢◌, ◌↔◌, ◌+◌, ◌≤◌, ℕ, Some, IsNone, IfSome};
+ghost use Rattle.common_vars.specs.declared.variable.Variable.{Variable};
+ghost use Rattle.common_vars.specs.Variables.{IsVariable, IsWorkOffset, number_of, variable_of, is_protected, is_readable};
+
+/// The letter of an axis.
+#[derive(Clone, Copy, Debug, PartialEq, Eq)]
+pub enum AxisLetter {
+    X,
+    Z,
+}
+
+/// What the number behind a `#` names.
+#[derive(Clone, Copy, Debug, PartialEq, Eq)]
+pub enum Variable {
+    /// `#0`, which is always vacant.
+    Null,
+    /// `#1` to `#33`: a local variable of the running level.
+    Local(u8),
+    /// `#100` to `#199` and `#500` to `#999`: a common variable, by its number.
+    Common(u32),
+    /// `#4001`, `#4002`, `#4005`, `#4006`, `#4007` and `#4014`: the code in force of that modal group.
+    Code(u8),
+    /// `#4109`: F.
+    Feed,
+    /// `#4119`: S.
+    Speed,
+    /// `#4120`: T.
+    Tool,
+    /// `#5001` and `#5002`: the programmed position.
+    Programmed(AxisLetter),
+    /// `#5021` and `#5022`: the machine's position.
+    Machine(AxisLetter),
+    /// `#5201` and `#5202`: the external work offset, number 0; from there on in steps of 20 those of
+    /// G54 to G59, numbers 1 to 6.
+    Work(u8, AxisLetter),
+    /// `#3000`: writing it raises an alarm of the program.
+    Raise,
+}
+
+impl Variable {
+    /// Whether it can't be written: writing one that is read only is the alarm
+    /// [`Protected`](nc_number::Cause::Protected).
+    pub fn is_protected(self) -> bool
+        ensures { result ≡ is_protected self }
+    {
+        match self {
+            Variable::Null
+            | Variable::Code(_)
+            | Variable::Feed
+            | Variable::Speed
+            | Variable::Tool
+            | Variable::Programmed(_)
+            | Variable::Machine(_) => true,
+            Variable::Local(_) | Variable::Common(_) | Variable::Work(_, _) | Variable::Raise =>
+                false,
+        }
+    }
+
+    /// Whether it can be read: reading `#3000` is the alarm
+    /// [`VariableRange`](nc_number::Cause::VariableRange).
+    pub fn is_readable(self) -> bool
+        ensures { result ≡ is_readable self }
+    {
+        !matches!(self, Variable::Raise)
+    }
+}
+
+/// What `#number` names. A number that names nothing is the alarm
+/// [`VariableRange`](nc_number::Cause::VariableRange).
+pub fn variable_of(number: u32) -> Option<Variable>
+    ensures { result ≡ variable_of number }
+{
+    named_by(number)
+}
+
+fn named_by(number: u32) -> Option<Variable>
+    ensures named { IfSome result (λ variable. IsVariable variable) }
+    ensures number { IfSome result (λ variable. number_of variable ≡ number) }
+    ensures none { IsNone result → (variable : Variable) → IsVariable variable → number_of variable ≢ number }
+{
+    use AxisLetter::{X, Z};
+    Some(match number {
+        0 => Variable::Null,
+        1..=33 => Variable::Local(number as u8),
+        100..=199 | 500..=999 => Variable::Common(number),
+        3000 => Variable::Raise,
+        4001 | 4002 | 4005 | 4006 | 4007 | 4014 => Variable::Code((number - 4000) as u8),
+        4109 => Variable::Feed,
+        4119 => Variable::Speed,
+        4120 => Variable::Tool,
+        5001 => Variable::Programmed(X),
+        5002 => Variable::Programmed(Z),
+        5021 => Variable::Machine(X),
+        5022 => Variable::Machine(Z),
+        5201..=5322 => return work_offset((number - 5201) as u8),
+        _ => return None,
+    })
+}
+
+/// The work offset whose variable stands so many numbers behind that of the external offset's X.
+fn work_offset(behind: u8) -> Option<Variable>
+    requires { behind ≤ 121 }
+    ensures named { IfSome result IsWorkOffset }
+    ensures number { IfSome result (λ variable. number_of variable ≡ 5201 + behind) }
+    ensures none { IsNone result → (variable : Variable) → IsWorkOffset variable → number_of variable ≢ 5201 + behind }
+{
+    match behind % 20 {
+        0 => Some(Variable::Work(behind / 20, AxisLetter::X)),
+        1 => Some(Variable::Work(behind / 20, AxisLetter::Z)),
+        _ => None,
+    }
+}
+
+/// Each variable has one number, and each number names at most one variable.
+pub fn a_variable_has_one_number()
+    ensures { (number : ℕ) (variable : Variable)
+        → (variable_of number ≡ Some variable) ↔ (IsVariable variable × (number_of variable ≡ number)) }
+{}
+
+#[cfg(test)]
+mod tests {
+    use super::*;
+    use AxisLetter::{X, Z};
+
+    #[test]
+    fn each_number_names_its_variable(rt: HostRuntime) {
+        for (number, variable) in [
+            (0, Some(Variable::Null)),
+            (1, Some(Variable::Local(1))),
+            (33, Some(Variable::Local(33))),
+            (34, None),
+            (99, None),
+            (100, Some(Variable::Common(100))),
+            (199, Some(Variable::Common(199))),
+            (200, None),
+            (499, None),
+            (500, Some(Variable::Common(500))),
+            (999, Some(Variable::Common(999))),
+            (1000, None),
+            (2999, None),
+            (3000, Some(Variable::Raise)),
+            (3001, None),
+            (4000, None),
+            (4001, Some(Variable::Code(1))),
+            (4002, Some(Variable::Code(2))),
+            (4003, None),
+            (4004, None),
+            (4005, Some(Variable::Code(5))),
+            (4006, Some(Variable::Code(6))),
+            (4007, Some(Variable::Code(7))),
+            (4008, None),
+            (4013, None),
+            (4014, Some(Variable::Code(14))),
+            (4015, None),
+            (4108, None),
+            (4109, Some(Variable::Feed)),
+            (4110, None),
+            (4118, None),
+            (4119, Some(Variable::Speed)),
+            (4120, Some(Variable::Tool)),
+            (4121, None),
+            (5000, None),
+            (5001, Some(Variable::Programmed(X))),
+            (5002, Some(Variable::Programmed(Z))),
+            (5003, None),
+            (5020, None),
+            (5021, Some(Variable::Machine(X))),
+            (5022, Some(Variable::Machine(Z))),
+            (5023, None),
+            (5200, None),
+            (5201, Some(Variable::Work(0, X))),
+            (5202, Some(Variable::Work(0, Z))),
+            (5203, None),
+            (5220, None),
+            (5221, Some(Variable::Work(1, X))),
+            (5222, Some(Variable::Work(1, Z))),
+            (5242, Some(Variable::Work(2, Z))),
+            (5261, Some(Variable::Work(3, X))),
+            (5320, None),
+            (5321, Some(Variable::Work(6, X))),
+            (5322, Some(Variable::Work(6, Z))),
+            (5323, None),
+            (5341, None),
+            (9999, None),
+            (u32::MAX, None),
+        ] {
+            assert_eq!(rt; variable_of(number), variable, "#{number}");
+        }
+    }
+
+    #[test]
+    fn variables_of_the_machine_are_read_only(rt: HostRuntime) {
+        for (variable, protected, readable) in [
+            (Variable::Null, true, true),
+            (Variable::Local(1), false, true),
+            (Variable::Common(500), false, true),
+            (Variable::Code(14), true, true),
+            (Variable::Feed, true, true),
+            (Variable::Speed, true, true),
+            (Variable::Tool, true, true),
+            (Variable::Programmed(X), true, true),
+            (Variable::Machine(Z), true, true),
+            (Variable::Work(0, X), false, true),
+            (Variable::Raise, false, false),
+        ] {
+            assert_eq!(rt; variable.is_protected(), protected, "{variable:?}");
+            assert_eq!(rt; variable.is_readable(), readable, "{variable:?}");
+        }
+    }
+}
