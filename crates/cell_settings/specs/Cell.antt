@@ -2,8 +2,8 @@
 use Rattle.std.specs.Prelude.{ℕ, ◌+◌, ◌^◌, Bool, true, List, [], ◌∷◌, Option, Some, None, Result, Ok, Err, pos, slice_index, slice_set, bit_or}
 use Rattle.std.specs.Str.Lines.{lines}
 use Rattle.nc_number.specs.declared.path.Path.{Path}
-use Rattle.nc_number.specs.declared.path.Path.TheVariants.{One, Two}
 use Rattle.nc_number.specs.declared.point.Point.{Point}
+use Rattle.nc_number.specs.Path.{index_of}
 use Rattle.cell_settings.specs.declared.preset.Preset.{Preset}
 use Rattle.cell_settings.specs.declared.entry.Entry.{Entry}
 use Rattle.cell_settings.specs.declared.entry.Entry.TheVariants as says
@@ -41,10 +41,9 @@ standard = record {
   presets = [];
 }
 
--- where a list with an element for each path has that path's
-abbrev pub index_of : Path → ℕ
-index_of One = 0
-index_of Two = 1
+-- the switches of the paths with one more of this path: bit n is switch n
+abbrev pub with_switch : Path → ℕ → List ℕ → List ℕ
+with_switch path switch skips = slice_set skips (index_of path) (bit_or (slice_index skips (index_of path)) (2 ^ switch))
 
 -- one line more: it takes the place of an earlier one of its name and numbers, but a switch is added
 abbrev pub taken : Cell → Entry → Cell
@@ -53,7 +52,7 @@ taken cell (says.Wait low high) = record cell { wait_low = low; wait_high = high
 taken cell (says.Shared100 n) = record cell { shared100 = n }
 taken cell (says.Shared500 n) = record cell { shared500 = n }
 taken cell (says.Paths bits) = record cell { bits = bits }
-taken cell (says.Skip path switch) = record cell { skips = slice_set cell.skips (index_of path) (bit_or (slice_index cell.skips (index_of path)) (2 ^ switch)) }
+taken cell (says.Skip path switch) = record cell { skips = with_switch path switch cell.skips }
 taken cell (says.Place path to) = record cell { place = slice_set cell.place (index_of path) to }
 taken cell (says.Home path to) = record cell { home = slice_set cell.home (index_of path) to }
 taken cell (says.Offset preset) = record cell { presets = with_preset preset cell.presets }

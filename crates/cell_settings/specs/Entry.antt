@@ -8,7 +8,9 @@ use Rattle.cell_settings.specs.declared.preset.PresetKind.{PresetKind}
 use Rattle.cell_settings.specs.declared.preset.PresetKind.TheVariants.{Work, Geometry, Wear}
 use Rattle.cell_settings.specs.declared.entry.Entry.{Entry}
 use Rattle.cell_settings.specs.declared.entry.Entry.TheVariants as says
-use Rattle.cell_settings.specs.Field.{◌>>=◌, number_in, fields_of}
+use Rattle.nc_number.specs.Options.{◌>>=◌}
+use Rattle.nc_number.specs.declared.point.TheConstants.{TOOL_OFFSETS}
+use Rattle.cell_settings.specs.Field.{number_in, fields_of}
 use Rattle.cell_settings.specs.Length.{point_of}
 use Rattle.nc_number.specs.Position.{IsPosition}
 use Rattle.cell_settings.specs.Preset.{IsPreset}
@@ -89,7 +91,7 @@ work_of _ = None
 unfoldable pub tool_of : PresetKind → List (List ℕ) → Option Entry
 tool_of kind (path ∷ number ∷ x ∷ z ∷ []) = do
   p ← path_of path
-  n ← number_in 1 64 number
+  n ← number_in 1 TOOL_OFFSETS number
   to ← point_of x z
   Some (says.Offset (record { path = p; kind = kind; number = n; to = to }))
 tool_of kind _ = None

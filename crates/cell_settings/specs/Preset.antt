@@ -5,6 +5,7 @@ use Rattle.nc_number.specs.declared.path.Path.TheVariants.{One, Two}
 use Rattle.cell_settings.specs.declared.preset.Preset.{Preset}
 use Rattle.cell_settings.specs.declared.preset.PresetKind.{PresetKind}
 use Rattle.cell_settings.specs.declared.preset.PresetKind.TheVariants.{Work, Geometry, Wear}
+use Rattle.nc_number.specs.declared.point.TheConstants.{TOOL_OFFSETS}
 use Rattle.nc_number.specs.Position.{IsPosition}
 
 abbrev pub is_path : Path → Path → Bool
@@ -39,8 +40,8 @@ least_number Wear = 1
 
 abbrev pub greatest_number : PresetKind → ℕ
 greatest_number Work = 6
-greatest_number Geometry = 64
-greatest_number Wear = 64
+greatest_number Geometry = TOOL_OFFSETS
+greatest_number Wear = TOOL_OFFSETS
 
 pub record IsPreset (preset : Preset) : Type 0 where
   pub least : least_number preset.kind ≤ preset.number

@@ -1,35 +1,10 @@
 ghost use Rattle.std.specs.Prelude.{◌≡◌, ◌≤◌, IfSome, unsigned_abs};
-ghost use Rattle.nc_number.specs.Range.{InRange};
-ghost use Rattle.cell_settings.specs.Length.{on_side_of, length_in, within_travel, length_of, axis_of, point_of};
+ghost use Rattle.cell_settings.specs.Length.{within_travel, length_of, axis_of, point_of};
 ghost use Rattle.nc_number.specs.Position.{travel, IsPosition};
 
-use nc_number::{Literal, Point, TRAVEL, is_literal, parse_word};
+use nc_number::{Point, TRAVEL, is_literal, parse_word};
 
-/// A size on the side of 0 where `count` is.
-fn on_side_of(count: i64, size: u64) -> i64
-    requires { size ≤ 99999999999999 }
-    ensures { result ≡ on_side_of count size }
-{
-    if count < 0 {
-        -(size as i64)
-    } else {
-        size as i64
-    }
-}
-
-/// The length that a literal means, in 0.001 mm.
-fn length_in(literal: Literal) -> i64
-    requires { InRange literal.micro }
-    ensures { result ≡ length_in literal }
-{
-    let size = literal.micro.unsigned_abs();
-    if literal.point {
-        on_side_of(literal.micro, (size + 500) / 1_000)
-    } else {
-        on_side_of(literal.micro, size / 1_000_000)
-    }
-}
-
+/// A length in 0.001 mm, if it is in the travel.
 fn within_travel(length: i64) -> Option<i64>
     ensures value { result ≡ within_travel length }
     ensures travel { IfSome result (λ n. unsigned_abs n ≤ travel) }
@@ -51,7 +26,7 @@ fn length_of(text: &[u8]) -> Option<i64>
         return None;
     }
     match parse_word(text) {
-        Ok(literal) => within_travel(length_in(literal)),
+        Ok(literal) => within_travel(literal.increments()),
         Err(_) => None,
     }
 }

@@ -6,7 +6,7 @@ use crate::entry::Entry;
 use crate::field::number_in;
 use crate::length::read_point;
 use crate::preset::{Preset, PresetKind};
-use nc_number::Path;
+use nc_number::{Path, TOOL_OFFSETS};
 
 #[tactic(auto, unfolding(crate::specs::Entry::path_of))]
 fn read_path(text: &[u8]) -> Option<Path>
@@ -170,7 +170,7 @@ fn geometry(values: &[&[u8]]) -> Option<Entry>
     match values {
         [path, number, x, z] => {
             let path = read_path(path)?;
-            let number = number_in(1, 64, number)?;
+            let number = number_in(1, u32::from(TOOL_OFFSETS), number)?;
             let to = read_point(x, z)?;
             Some(Entry::Offset(Preset {
                 path,
@@ -191,7 +191,7 @@ fn wear(values: &[&[u8]]) -> Option<Entry>
     match values {
         [path, number, x, z] => {
             let path = read_path(path)?;
-            let number = number_in(1, 64, number)?;
+            let number = number_in(1, u32::from(TOOL_OFFSETS), number)?;
             let to = read_point(x, z)?;
             Some(Entry::Offset(Preset {
                 path,

@@ -1,18 +1,29 @@
-ghost use Rattle.std.specs.Prelude.{◌<◌, ◌^◌, length};
+ghost use Rattle.std.specs.Prelude.{◌≡◌, ◌<◌, ◌^◌, length};
+ghost use Rattle.nc_number.specs.Answers.{GivesBy};
+ghost use Rattle.nc_number.specs.Causes.{cause_number};
 ghost use Rattle.cell_settings.specs.Cell.{settings_of};
-ghost use Rattle.cell_settings.specs.View.{Gives};
+ghost use Rattle.cell_settings.specs.View.{view, line_of};
 
 use crate::line::{cut_line, read_line};
 use crate::settings::Settings;
-use nc_number::Failing;
+use nc_number::{Cause, Failing};
 use std::alloc::Global;
 use thiserror::Error;
 
-/// The line of the settings that is not allowed, counted from 1: refusal 90.
+/// The line of the settings that is not allowed, counted from 1.
 #[derive(Clone, Copy, Debug, PartialEq, Eq, Error)]
 #[error("line {line} of the settings is not allowed")]
 pub struct SettingFault {
     pub line: u32,
+}
+
+impl SettingFault {
+    /// The number of the refusal, that of [`BadSetting`](Cause::BadSetting).
+    pub fn number(self) -> u8
+        ensures { result ≡ cause_number Cause.BadSetting }
+    {
+        Cause::BadSetting.number()
+    }
 }
 
 /// Reads the settings of the cell.
@@ -21,7 +32,7 @@ pub struct SettingFault {
 pub fn read_settings(alloc: Global, text: &[u8]) -> Result<Settings, Failing<SettingFault>>
     requires { length text.now < 2 ^ 32 }
     // The settings that the text gives, or the first line that is not allowed, unless memory runs out.
-    ensures exact { Gives result (settings_of text.now) }
+    ensures exact { GivesBy view line_of result (settings_of text.now) }
 {
     let mut settings = Settings::standard(alloc);
     let mut rest = text;

@@ -2,11 +2,10 @@ ghost use Rattle.std.specs.Prelude.{◌≡◌, ◌^◌, ◌<◌, ◌≤◌, bit_
 ghost use Rattle.cell_settings.specs.Settings.{IsWaitRange, IsSwitches};
 ghost use Rattle.nc_number.specs.Position.{IsPosition};
 ghost use Rattle.cell_settings.specs.Preset.{IsPreset};
-ghost use Rattle.cell_settings.specs.Cell.{index_of};
 
 use crate::entry::Entry;
 use crate::preset::{Preset, PresetList};
-use nc_number::{Path, Point};
+use nc_number::Point;
 use std::alloc::{AllocFailed, Global};
 
 /// The settings of the cell. The path that a list of two speaks of is its place in the list.
@@ -82,25 +81,15 @@ impl Settings {
             Entry::Shared500(count) => self.shared500 = count,
             Entry::Paths { bits } => self.bits = bits,
             Entry::Skip { path, switch } => {
-                let at = index(path);
+                let at = path.index();
                 self.skips[at] = with_switch(self.skips[at], switch);
             }
-            Entry::Place { path, to } => self.place[index(path)] = to,
-            Entry::Home { path, to } => self.home[index(path)] = to,
+            Entry::Place { path, to } => self.place[path.index()] = to,
+            Entry::Home { path, to } => self.home[path.index()] = to,
             Entry::Offset(preset) => self.presets.set(preset)?,
             Entry::Records(count) => self.records = count,
         }
         Ok(())
-    }
-}
-
-fn index(path: Path) -> usize
-    ensures value { result ≡ index_of path }
-    ensures range { result < 2 }
-{
-    match path {
-        Path::One => 0,
-        Path::Two => 1,
     }
 }
 
