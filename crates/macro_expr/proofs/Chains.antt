@@ -1,13 +1,15 @@
 -- One operator of a chain, and its end.
 use Rattle.std.proofs.Common.{◌≡◌, ℕ, zero, suc, ◌+◌, ◌-◌, ◌<◌, ◌≤◌, List, Option, None, Some, Result, Ok, Err, refl, sym, ◌∙◌, ap, arith}
-use Rattle.macro_expr.specs.declared.tree.ExprFault.{ExprFault}
+use Rattle.macro_expr.specs.declared.stop.Stop.{Stop}
 use Rattle.macro_expr.specs.declared.tree.Op.{Op}
 use Rattle.macro_expr.specs.Tree.{Tree, Joined}
 use Rattle.nc_number.specs.declared.fault.Failing.{Failing}
 use Rattle.nc_number.specs.declared.fault.Failing.TheVariants as failing
-use Rattle.macro_expr.specs.Reading.{Read, Fails, chain, joined_by, ◌>>=◌}
+use Rattle.nc_number.specs.Results.{◌>>=◌}
+use Rattle.nc_number.specs.Answers.{Fails}
+use Rattle.macro_expr.specs.Reading.{Read, chain, joined_by}
 
-abbrev pub ok_tree : Tree → Result Tree ExprFault
+abbrev pub ok_tree : Tree → Result Tree Stop
 ok_tree t = Ok t
 
 module _ (operator : List ℕ → Option (Op × List ℕ)) (operand : List ℕ → Read Tree) where
@@ -29,7 +31,7 @@ module _ (operator : List ℕ → Option (Op × List ℕ)) (operand : List ℕ �
       ap (λ n. chain operator operand n left text) more
       ∙ ap (λ o. joined_by left text o operand (chain operator operand m)) some
 
-  pub chain_fails : (end i : ℕ) (left : Tree) (text rest : List ℕ) (op : Op) (f : ExprFault) → i < end
+  pub chain_fails : (end i : ℕ) (left : Tree) (text rest : List ℕ) (op : Op) (f : Stop) → i < end
       → operator text ≡ Some (op, rest) → operand rest ≡ Err f → chain operator operand (end - i) left text ≡ Err f
   chain_fails end i left text rest op f inside some err =
       step (end - i) (end - (i + 1)) left text rest op (omega arith) some
@@ -43,7 +45,7 @@ module _ (operator : List ℕ → Option (Op × List ℕ)) (operand : List ℕ �
       ∙ ap (λ r. r >>= (λ right. chain operator operand (end - (i + 1)) (Joined op left right.0) right.1)) ok
 
   -- a step that fails, seen by the loop
-  pub stops_at_fault : (end i : ℕ) (left : Tree) (text rest : List ℕ) (op : Op) (whole : Read Tree) (e : Failing ExprFault)
+  pub stops_at_fault : (end i : ℕ) (left : Tree) (text rest : List ℕ) (op : Op) (whole : Read Tree) (e : Failing Stop)
       → i < end → operator text ≡ Some (op, rest) → Fails e (operand rest)
       → chain operator operand (end - i) left text ≡ whole → Fails e whole
   stops_at_fault end i left text rest op whole failing.NoMemory inside some err kept = tt

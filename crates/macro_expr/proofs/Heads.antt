@@ -1,12 +1,15 @@
 -- Words and runs at the head of a text.
 use Rattle.std.proofs.Common.{◌≡◌, ℕ, suc, ◌+◌, ◌≤◌, ◌==◌, ◌&&◌, not, Bool, true, false, cond, List, [], ◌∷◌, ◌++◌, length, take, drop, Option, None, Some, refl, sym, ◌∙◌, ap, subst, arith, inl, inr, eqb-true, eq-eqb}
+use Rattle.std.specs.Prelude.{nat_le}
 use Rattle.std.specs.Option.{option_or, option_map}
 use Rattle.std.specs.List.{list_all, prefix_len, position_or_len}
-use Rattle.std.proofs.lemmas.Bool.{and_parts}
+use Rattle.std.proofs.lemmas.Bool.{and_parts, leb-true}
 use Rattle.std.proofs.lemmas.List.{take-append-drop}
 use Rattle.std.proofs.Math.Seq.{take-append_seam, drop-append_seam}
 use Rattle.macro_expr.specs.declared.tree.Op.{Op}
-use Rattle.macro_expr.specs.Words.{behind, first_word, product_words, sum_words, product_operator, sum_operator, run, behind_run, begins, is_number_byte}
+use Rattle.macro_expr.specs.declared.words.Rank.{Rank}
+use Rattle.macro_expr.specs.declared.words.Rank.TheVariants.{Product, Sum}
+use Rattle.macro_expr.specs.Words.{behind, first_word, operator_words, operator, run, behind_run, begins, is_number_byte}
 use Rattle.macro_expr.specs.Grammar.{IsWord}
 
 pub behind-append : (word rest : List ℕ) → behind word (word ++ rest) ≡ Some rest
@@ -47,46 +50,45 @@ first_word-sound {A} (w ∷ words) text rest m found = go (first_word-sound word
         let same : r ≡ rest = sym (ap (λ q. q.1) pair) in
         (w.0, inl (refl, meaning), behind-sound w.0 text rest (is ∙ ap Some same))
 
+-- what holds of each word of a table
+abbrev pub Each : {A : Type 0} → List (List ℕ × A) → (List ℕ → A → Type 0) → Type 0
+Each [] P = Unit {0}
+Each (w ∷ words) P = P w.0 w.1 × Each words P
+
+pub each : {A : Type 0} (words : List (List ℕ × A)) (P : List ℕ → A → Type 0) → Each words P
+    → (word : List ℕ) (m : A) → IsWord words word m → P word m
+each [] P all word m is = absurd is
+each (w ∷ words) P all word m (inl same) = subst (λ x. P x m) (sym same.0) (subst (P w.0) (sym same.1) all.0)
+each (w ∷ words) P all word m (inr later) = each words P all.1 word m later
+
+-- how an operator begins a text
+abbrev Begins : Rank → List ℕ → List ℕ → Op → Type 0
+Begins rank rest word op =
+    ◌≡◌ {A = Option (Op × List ℕ) × Bool × Bool}
+    (operator rank (word ++ rest), begins is_number_byte (word ++ rest), nat_le 1 (length word)) (Some (op, rest), false, true)
+
+begin : (rank : Rank) (rest : List ℕ) → Each (operator_words rank) (Begins rank rest)
+unfolding operator
+begin Product rest = (refl, (refl, (refl, (refl, tt))))
+begin Sum rest = (refl, (refl, (refl, (refl, tt))))
+
 -- how a word of operators begins a text
-pub record Leads (operator : List ℕ → Option (Op × List ℕ)) (word : List ℕ) (op : Op) (rest : List ℕ) : Type 0 where
-  pub found : operator (word ++ rest) ≡ Some (op, rest)
+pub record Leads (rank : Rank) (word : List ℕ) (op : Op) (rest : List ℕ) : Type 0 where
+  pub found : operator rank (word ++ rest) ≡ Some (op, rest)
   pub quiet : begins is_number_byte (word ++ rest) ≡ false
   pub long : 1 ≤ length word
 
-leads_at : (operator : List ℕ → Option (Op × List ℕ)) (word w : List ℕ) (op o : Op) (rest : List ℕ)
-    → (word ≡ w) × (op ≡ o) → Leads operator w o rest → Leads operator word op rest
-leads_at operator word w op o rest same leads =
-    let P : List ℕ → Type 0 = λ x. Leads operator x op rest in
-    let Q : Op → Type 0 = λ x. Leads operator w x rest in
-    subst P (sym same.0) (subst Q (sym same.1) leads)
-
-pub product_leads : (word : List ℕ) (op : Op) (rest : List ℕ) → IsWord product_words word op
-    → Leads product_operator word op rest
-unfolding product_operator
-product_leads word op rest (inl same) = leads_at _ _ _ _ _ rest same (record { found = refl; quiet = refl; long = omega arith })
-product_leads word op rest (inr (inl same)) = leads_at _ _ _ _ _ rest same (record { found = refl; quiet = refl; long = omega arith })
-product_leads word op rest (inr (inr (inl same))) = leads_at _ _ _ _ _ rest same (record { found = refl; quiet = refl; long = omega arith })
-product_leads word op rest (inr (inr (inr (inl same)))) = leads_at _ _ _ _ _ rest same (record { found = refl; quiet = refl; long = omega arith })
-product_leads word op rest (inr (inr (inr (inr none)))) = absurd none
-
-pub sum_leads : (word : List ℕ) (op : Op) (rest : List ℕ) → IsWord sum_words word op
-    → Leads sum_operator word op rest
-unfolding sum_operator
-sum_leads word op rest (inl same) = leads_at _ _ _ _ _ rest same (record { found = refl; quiet = refl; long = omega arith })
-sum_leads word op rest (inr (inl same)) = leads_at _ _ _ _ _ rest same (record { found = refl; quiet = refl; long = omega arith })
-sum_leads word op rest (inr (inr (inl same))) = leads_at _ _ _ _ _ rest same (record { found = refl; quiet = refl; long = omega arith })
-sum_leads word op rest (inr (inr (inr (inl same)))) = leads_at _ _ _ _ _ rest same (record { found = refl; quiet = refl; long = omega arith })
-sum_leads word op rest (inr (inr (inr (inr none)))) = absurd none
+pub leads : (rank : Rank) (word : List ℕ) (op : Op) (rest : List ℕ) → IsWord (operator_words rank) word op → Leads rank word op rest
+leads rank word op rest is =
+    let b = each (operator_words rank) (Begins rank rest) (begin rank rest) word op is in
+    record { found = ap (λ q. q.0) b; quiet = ap (λ q. q.1) b; long = leb-true 1 (length word) (ap (λ q. q.2) b) }
 
 -- no word of sums is one of products
-pub sum_ends_product : (word : List ℕ) (op : Op) (rest : List ℕ) → IsWord sum_words word op
-    → product_operator (word ++ rest) ≡ None
-unfolding product_operator
-sum_ends_product word op rest (inl same) = ap (λ w. product_operator (w ++ rest)) same.0
-sum_ends_product word op rest (inr (inl same)) = ap (λ w. product_operator (w ++ rest)) same.0
-sum_ends_product word op rest (inr (inr (inl same))) = ap (λ w. product_operator (w ++ rest)) same.0
-sum_ends_product word op rest (inr (inr (inr (inl same)))) = ap (λ w. product_operator (w ++ rest)) same.0
-sum_ends_product word op rest (inr (inr (inr (inr none)))) = absurd none
+pub sum_ends_product : (word : List ℕ) (op : Op) (rest : List ℕ) → IsWord (operator_words Sum) word op
+    → operator Product (word ++ rest) ≡ None
+unfolding operator
+sum_ends_product word op rest is =
+    each (operator_words Sum) (λ w _. operator Product (w ++ rest) ≡ None) (refl, (refl, (refl, (refl, tt)))) word op is
 
 count_run : (p : ℕ → Bool) (t rest : List ℕ) → list_all p t ≡ true → begins p rest ≡ false
     → position_or_len (λ b. not (p b)) (t ++ rest) ≡ length t
@@ -121,3 +123,15 @@ run_all p (b ∷ text) = go (run_all p text) (p b) refl
         ap (λ n. list_all p (take n (b ∷ text))) e
         ∙ ap (λ x. x && list_all p (run p text)) passes ∙ further
     go further false stops = refl
+
+-- a run ends where it says
+pub run_ends : (p : ℕ → Bool) (text : List ℕ) → begins p (behind_run p text) ≡ false
+run_ends p [] = refl
+run_ends p (b ∷ text) = go (run_ends p text) (p b) refl
+  where
+    go : begins p (behind_run p text) ≡ false → (t : Bool) → p b ≡ t
+        → begins p (drop (cond (not (not t)) (1 + prefix_len (λ b. not (not (p b))) text) 0) (b ∷ text)) ≡ false
+    go further true passes =
+        let e : 1 + prefix_len (λ b. not (not (p b))) text ≡ suc (prefix_len (λ b. not (not (p b))) text) = omega arith in
+        ap (λ n. begins p (drop n (b ∷ text))) e ∙ further
+    go further false stops = stops

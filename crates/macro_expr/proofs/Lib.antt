@@ -2,10 +2,13 @@ pub mod Prefixes
 pub mod Chains
 pub mod Scans
 pub mod Heads
+pub mod Steps
 pub mod ChainLaws
 pub mod Complete
-pub mod Sound
-pub mod Trees
 pub mod StatementsComplete
+pub mod Sound
 pub mod StatementsSound
 pub mod Shallow
+pub mod Counts
+pub mod Trees
+pub mod Causes

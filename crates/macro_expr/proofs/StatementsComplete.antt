@@ -1,44 +1,48 @@
 -- A statement of the grammar is read as that statement.
-use Rattle.std.proofs.Common.{◌≡◌, ℕ, ◌==◌, nat_lt, true, false, cond, List, [], ◌++◌, Some, Ok, refl, sym, ◌∙◌, ap, subst, append_assoc, inl, inr}
+use Rattle.std.proofs.Common.{◌≡◌, ℕ, ◌==◌, Bool, true, false, cond, List, [], ◌++◌, Option, None, Some, Ok, Err, refl, sym, ◌∙◌, ap, append_assoc}
 use Rattle.std.specs.Prelude.{codes}
 use Rattle.std.specs.Char.{is_ascii_digit}
 use Rattle.std.proofs.lemmas.Bool.{le-ltb}
 use Rattle.std.proofs.lemmas.List.{append-nil}
+use Rattle.macro_expr.specs.declared.stop.Stop.TheVariants as stop
+use Rattle.macro_expr.specs.declared.tree.Op.{Op}
 use Rattle.macro_expr.specs.declared.tree.Rel.{Rel}
-use Rattle.macro_expr.specs.Tree.{Tree, Test, Aim, ToNumber, ToNumberOf, Sentence, Assign, Goto, IfGoto, IfThen, WhileDo, DoOnly, EndLoop}
-use Rattle.macro_expr.specs.Words.{relation_words, loop_words, behind, relation, keyword, loop_of, loop_word, product_operator, sum_operator, begins}
-use Rattle.macro_expr.specs.Reading.{Read, refused, ◌>>=◌, word_at, digits_at, bracket_at, variable_at, inside}
+use Rattle.macro_expr.specs.declared.words.Rank.TheVariants.{Product, Sum}
+use Rattle.macro_expr.specs.Tree.{Tree, Named, look, Test, Aim, ToNumber, ToNumberOf, Sentence, Assign, Goto, IfGoto, IfThen, WhileDo, DoOnly, EndLoop}
+use Rattle.macro_expr.specs.Words.{relation_words, loop_words, behind, relation, keyword, loop_of, loop_word, operator, is_number_byte, begins}
+use Rattle.nc_number.specs.Results.{◌>>=◌}
+use Rattle.macro_expr.specs.Reading.{Read, word_at, digits_at, bracket_at, variable_at, inside}
 use Rattle.macro_expr.specs.Statements.{expression_at, relation_found, relation_at, condition_at, or_no_condition, test_at, numbered, target_at, loop_at, assignment_at, branch_by, branch_at, if_at, while_at, statement_by, statement_at, whole}
-use Rattle.macro_expr.specs.Grammar.{IsWord, IsWhole, IsVariable, fixed, computed, IsWithin, IsExpression, IsTest, compares, IsTarget, line, line_of, line_in, IsAssignment, assigns, IsStatement, assign, goto, if_goto, if_then, while_do, do_only, end_loop}
-use Rattle.macro_expr.proofs.Complete.{NoSum, digits_read, begins_it, closed, bracket_read, variable_read, within_read}
+use Rattle.macro_expr.specs.Grammar.{IsWord, IsWhole, closed, IsVariable, fixed, computed, IsWithin, IsExpression, IsTest, compares, IsTarget, line, line_of, line_in, IsAssignment, assigns, IsStatement, assign, goto, if_goto, if_then, while_do, do_only, end_loop}
+use Rattle.macro_expr.proofs.Heads.{each}
+use Rattle.macro_expr.proofs.Complete.{NoSum, digits_read, begins_it, behind_bracket, bracket_read, variable_read, within_read}
 
 -- how a relation begins a text
 record Compares (word : List ℕ) (rel : Rel) (rest : List ℕ) : Type 0 where
   found : relation (word ++ rest) ≡ Some (rel, rest)
   quiet : NoSum (word ++ rest)
 
-compares_at : (word w : List ℕ) (rel r : Rel) (rest : List ℕ) → (word ≡ w) × (rel ≡ r) → Compares w r rest → Compares word rel rest
-compares_at word w rel r rest same c =
-    let P : List ℕ → Type 0 = λ x. Compares x rel rest in
-    let Q : Rel → Type 0 = λ x. Compares w x rest in
-    subst P (sym same.0) (subst Q (sym same.1) c)
+abbrev ComparesIt : List ℕ → List ℕ → Rel → Type 0
+ComparesIt rest word rel =
+    ◌≡◌ {A = Option (Rel × List ℕ) × Bool × Option (Op × List ℕ) × Option (Op × List ℕ)}
+    (relation (word ++ rest), begins is_number_byte (word ++ rest), operator Product (word ++ rest), operator Sum (word ++ rest))
+    (Some (rel, rest), false, None, None)
 
 compares_of : (word : List ℕ) (rel : Rel) (rest : List ℕ) → IsWord relation_words word rel → Compares word rel rest
-unfolding relation product_operator sum_operator
-compares_of word rel rest (inl same) = compares_at _ _ _ _ rest same (record { found = refl; quiet = record { product = record { number = refl; operator = refl }; operator = refl } })
-compares_of word rel rest (inr (inl same)) = compares_at _ _ _ _ rest same (record { found = refl; quiet = record { product = record { number = refl; operator = refl }; operator = refl } })
-compares_of word rel rest (inr (inr (inl same))) = compares_at _ _ _ _ rest same (record { found = refl; quiet = record { product = record { number = refl; operator = refl }; operator = refl } })
-compares_of word rel rest (inr (inr (inr (inl same)))) = compares_at _ _ _ _ rest same (record { found = refl; quiet = record { product = record { number = refl; operator = refl }; operator = refl } })
-compares_of word rel rest (inr (inr (inr (inr (inl same))))) = compares_at _ _ _ _ rest same (record { found = refl; quiet = record { product = record { number = refl; operator = refl }; operator = refl } })
-compares_of word rel rest (inr (inr (inr (inr (inr (inl same)))))) = compares_at _ _ _ _ rest same (record { found = refl; quiet = record { product = record { number = refl; operator = refl }; operator = refl } })
-compares_of word rel rest (inr (inr (inr (inr (inr (inr none)))))) = absurd none
+unfolding relation operator
+compares_of word rel rest is =
+    let c = each relation_words (ComparesIt rest) (refl, (refl, (refl, (refl, (refl, (refl, tt)))))) word rel is in
+    record {
+      found = ap (λ q. q.0) c;
+      quiet = record { product = record { number = ap (λ q. q.1) c; operator = ap (λ q. q.2) c }; operator = ap (λ q. q.3) c };
+    }
 
 inner_reads : (n : ℕ) (t : List ℕ) (e : Tree) → IsWithin n t e → (rest : List ℕ)
     → inside n (t ++ (codes "]" ++ rest)) ≡ Ok (e, codes "]" ++ rest)
-inner_reads n t e is rest = within_read n t e is (codes "]" ++ rest) (closed rest)
+inner_reads n t e is rest = within_read n t e is (codes "]" ++ rest) (behind_bracket rest)
 
 nothing_follows : NoSum []
-unfolding product_operator sum_operator
+unfolding operator
 nothing_follows = record { product = record { number = refl; operator = refl }; operator = refl }
 
 pub expression_read : (t : List ℕ) (e : Tree) → IsExpression t e → inside 6 t ≡ Ok (e, [])
@@ -47,7 +51,7 @@ expression_read t e is = ap (inside 6) (sym (append-nil t)) ∙ within_read 6 t 
 abbrev pub closing : Tree → Rel → (Tree × List ℕ) → Read Test
 closing left rel right = word_at (codes "]") right.1 >>= λ rest. Ok (record { left = left; rel = rel; right = right.0 }, rest)
 
-condition_read : (c : List ℕ) (test : Test) → IsTest c test → (rest : List ℕ) → condition_at (c ++ rest) ≡ Ok (test, rest)
+pub condition_read : (c : List ℕ) (test : Test) → IsTest c test → (rest : List ℕ) → condition_at (c ++ rest) ≡ Ok (test, rest)
 unfolding condition_at relation_at word_at
 condition_read _ _ (compares t word u rel left right is_left is_rel is_right) rest =
     let after_right : List ℕ = codes "]" ++ rest in
@@ -60,58 +64,65 @@ condition_read _ _ (compares t word u rel left right is_left is_rel is_right) re
     ∙ ap (λ o. relation_found o >>= behind_rel) c.found
     ∙ ap (λ r. r >>= (λ x. closing left rel x)) (inner_reads 5 u right is_right rest)
 
-test_read : (c : List ℕ) (test : Test) → IsTest c test → (rest : List ℕ) → test_at (c ++ rest) ≡ Ok (test, rest)
+pub test_read : (c : List ℕ) (test : Test) → IsTest c test → (rest : List ℕ) → test_at (c ++ rest) ≡ Ok (test, rest)
 unfolding test_at
 test_read c test is rest = ap or_no_condition (condition_read c test is rest)
 
-as_number : (t : List ℕ) (n : ℕ) → IsWhole t n → digits_at t ≡ Ok (n, [])
-as_number t n is = ap digits_at (sym (append-nil t)) ∙ digits_read t n is [] refl
-
-as_variable : (t : List ℕ) (v : Tree) → IsVariable (IsWithin 5) t v → variable_at (inside 5) t ≡ Ok (v, [])
+as_variable : (t : List ℕ) (v : Named) → IsVariable (IsWithin 5) t v → variable_at (inside 5) t ≡ Ok (v, [])
 as_variable t v is =
     ap (variable_at (inside 5)) (sym (append-nil t)) ∙ variable_read (inside 5) (IsWithin 5) (inner_reads 5) t v is [] refl
 
-abbrev pub as_aim_of : Tree × List ℕ → Read Aim
-as_aim_of v = Ok (ToNumberOf v.0, v.1)
+-- a target that is no number
+abbrev pub other_target : List ℕ → Read Aim
+other_target t =
+    cond (begins (λ b. b == 35) t) (variable_at (inside 5) t >>= λ v. Ok (ToNumberOf (look v.0), v.1))
+    (bracket_at (inside 5) t >>= λ e. Ok (ToNumberOf e.0, e.1))
+
+-- a target of digits, whatever stands behind them
+pub digits_target : (t rest : List ℕ) (n : ℕ) → IsWhole t n → begins is_ascii_digit rest ≡ false
+    → target_at (t ++ rest) ≡ numbered n rest
+unfolding target_at
+digits_target t rest n is quiet =
+    ap (λ x. cond x (digits_at (t ++ rest) >>= λ n. numbered n.0 n.1) (other_target (t ++ rest)))
+    (begins_it is_ascii_digit t rest is.bytes is.literal)
+    ∙ ap (λ r. r >>= (λ (n : ℕ × List ℕ). numbered n.0 n.1)) (digits_read t n is rest quiet)
 
 target_read : (t : List ℕ) (aim : Aim) → IsTarget t aim → target_at t ≡ Ok (aim, [])
 unfolding target_at
 target_read _ _ (line t n is small) =
-    let digit : begins is_ascii_digit t ≡ true =
-    ap (begins is_ascii_digit) (sym (append-nil t)) ∙ begins_it is_ascii_digit t [] is.bytes is.literal in
-    let test : nat_lt 99999 n ≡ false = le-ltb 99999 n small in
-    ap (λ x. cond x (digits_at t >>= λ n. numbered n.0 n.1)
-    (cond (begins (λ b. b == 35) t) (variable_at (inside 5) t >>= as_aim_of) (bracket_at (inside 5) t >>= as_aim_of))) digit
-    ∙ ap (λ r. r >>= (λ (n : ℕ × List ℕ). numbered n.0 n.1)) (as_number t n is)
-    ∙ ap (λ x. cond x (refused 64) (Ok (ToNumber n, []))) test
-target_read _ _ (line_of _ _ (fixed t n is)) = ap (λ r. r >>= as_aim_of) (as_variable _ _ (fixed t n is))
-target_read _ _ (line_of _ _ (computed t e is)) = ap (λ r. r >>= as_aim_of) (as_variable _ _ (computed t e is))
-target_read _ _ (line_in t e is) =
-    let all : (codes "[" ++ (t ++ codes "]")) ++ [] ≡ codes "[" ++ (t ++ codes "]") = append-nil (codes "[" ++ (t ++ codes "]")) in
-    ap (λ r. r >>= as_aim_of)
-    (ap (bracket_at (inside 5)) (sym all) ∙ bracket_read (inside 5) (IsWithin 5) (inner_reads 5) t e is [])
+    ap target_at (sym (append-nil t)) ∙ digits_target t [] n is refl
+    ∙ ap (λ x. cond x (Err stop.Sequence) (Ok (ToNumber n, []))) (le-ltb 99999 n small)
+target_read _ _ (line_of _ _ (fixed t n is)) =
+    ap (λ r. r >>= λ v. Ok (ToNumberOf (look v.0), v.1)) (as_variable _ _ (fixed t n is))
+target_read _ _ (line_of _ _ (computed t e is)) =
+    ap (λ r. r >>= λ v. Ok (ToNumberOf (look v.0), v.1)) (as_variable _ _ (computed t e is))
+target_read _ _ (line_in _ _ (closed t e is)) =
+    let all = append-nil (codes "[" ++ (t ++ codes "]")) in
+    ap (λ r. r >>= λ e. Ok (ToNumberOf e.0, e.1))
+    (ap (bracket_at (inside 5)) (sym all) ∙ bracket_read (inside 5) (IsWithin 5) (inner_reads 5) _ e (closed t e is) [])
+
+pub loop_known : (word : List ℕ) (m : ℕ) → IsWord loop_words word m → loop_of word ≡ Some m
+unfolding loop_of loop_word
+loop_known word m is = each loop_words (λ w m. loop_of w ≡ Some m) (refl, (refl, (refl, tt))) word m is
 
 loop_read : (word : List ℕ) (m : ℕ) → IsWord loop_words word m → loop_at word ≡ Ok (m, [])
 unfolding loop_at loop_of loop_word
-loop_read word m (inl same) = ap loop_at same.0 ∙ ap (λ m. Ok (m, [])) (sym same.1)
-loop_read word m (inr (inl same)) = ap loop_at same.0 ∙ ap (λ m. Ok (m, [])) (sym same.1)
-loop_read word m (inr (inr (inl same))) = ap loop_at same.0 ∙ ap (λ m. Ok (m, [])) (sym same.1)
-loop_read word m (inr (inr (inr none))) = absurd none
+loop_read word m is = each loop_words (λ w m. loop_at w ≡ Ok (m, [])) (refl, (refl, (refl, tt))) word m is
 
-abbrev pub equals : Tree × List ℕ → Read (Tree × Tree)
+abbrev pub equals : Named × List ℕ → Read (Named × Tree)
 equals v = word_at (codes "=") v.1 >>= λ rest. inside 6 rest >>= λ e. Ok ((v.0, e.0), e.1)
 
-assignment_read : (t : List ℕ) (v e : Tree) → IsAssignment t v e → assignment_at t ≡ Ok ((v, e), [])
+assignment_read : (t : List ℕ) (v : Named) (e : Tree) → IsAssignment t v e → assignment_at t ≡ Ok ((v, e), [])
 unfolding assignment_at word_at
 assignment_read _ _ _ (assigns t u v e is_variable is) =
     ap (λ r. r >>= equals) (variable_read (inside 5) (IsWithin 5) (inner_reads 5) t v is_variable (codes "=" ++ u) refl)
     ∙ ap (λ r. r >>= (λ e. Ok ((v, e.0), e.1))) (expression_read u e is)
 
-starts_as_variable : (t : List ℕ) (v e : Tree) → IsAssignment t v e → begins (λ b. b == 35) t ≡ true
+starts_as_variable : (t : List ℕ) (v : Named) (e : Tree) → IsAssignment t v e → begins (λ b. b == 35) t ≡ true
 starts_as_variable _ _ _ (assigns _ u _ e (fixed t n w) is) = refl
 starts_as_variable _ _ _ (assigns _ u _ e (computed t x w) is) = refl
 
-abbrev pub as_assign : (Tree × Tree) × List ℕ → Read Sentence
+abbrev pub as_assign : (Named × Tree) × List ℕ → Read Sentence
 as_assign a = Ok (Assign a.0.0 a.0.1, a.1)
 
 statement_read : (t : List ℕ) (s : Sentence) → IsStatement t s → statement_at t ≡ Ok (s, [])

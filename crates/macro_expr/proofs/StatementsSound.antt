@@ -1,225 +1,198 @@
--- A statement that is read is one of the grammar.
-use Rattle.std.proofs.Common.{◌≡◌, ℕ, ◌≤◌, ◌==◌, nat_lt, Bool, true, false, cond, List, [], ◌∷◌, ◌++◌, length, Option, None, Some, Ok, Err, refl, sym, ◌∙◌, ap, subst, arith, append_assoc, inl, inr}
+-- A statement that is read is one of the grammar, and where reading stops its cause stands.
+use Rattle.std.proofs.Common.{◌≡◌, ℕ, ◌==◌, nat_lt, Bool, true, false, cond, List, [], ◌∷◌, ◌++◌, length, Option, None, Some, Result, Ok, Err, pos, refl, sym, ◌∙◌, ap, subst, arith, append_assoc}
 use Rattle.std.specs.Prelude.{codes}
 use Rattle.std.specs.Char.{is_ascii_digit}
-use Rattle.std.proofs.lemmas.Bool.{ltb-false}
+use Rattle.std.proofs.lemmas.Bool.{ltb-false, ltb-true}
 use Rattle.std.proofs.lemmas.Bool.Decides.{nat_tests}
 use Rattle.std.proofs.lemmas.List.{append-nil}
+use Rattle.macro_expr.specs.declared.stop.Stop.{Stop}
+use Rattle.macro_expr.specs.declared.stop.Stop.TheVariants as stop
 use Rattle.macro_expr.specs.declared.tree.Rel.{Rel}
 use Rattle.macro_expr.specs.declared.words.Keyword.{Keyword}
 use Rattle.macro_expr.specs.declared.words.Keyword.TheVariants as word
-use Rattle.macro_expr.specs.Tree.{Tree, Test, Aim, ToNumber, ToNumberOf, Sentence, Assign, Goto, IfGoto, IfThen, WhileDo, DoOnly, EndLoop}
-use Rattle.macro_expr.specs.Words.{first_word, all_of, relation_words, loop_words, keyword_words, behind, relation, keyword, loop_of, loop_word, run, behind_run, begins}
-use Rattle.macro_expr.specs.Reading.{Read, refused, ◌>>=◌, word_at, digits_at, bracket_at, variable_at, inside}
+use Rattle.macro_expr.specs.Tree.{Tree, Number, Named, look, Test, ToNumber, ToNumberOf, Sentence, Assign, Goto, IfGoto, IfThen, WhileDo, DoOnly, EndLoop}
+use Rattle.macro_expr.specs.Words.{first_word, relation_words, loop_words, keyword_words, behind, relation, keyword, loop_of, loop_word, run, behind_run, begins}
+use Rattle.nc_number.specs.Results.{◌>>=◌}
+use Rattle.macro_expr.specs.Reading.{Read, word_at, digits_at, bracket_at, variable_at, inside}
 use Rattle.macro_expr.specs.Statements.{expression_at, relation_found, relation_at, condition_at, or_no_condition, test_at, numbered, target_at, loop_found, loop_at, assignment_at, branch_by, branch_at, if_at, while_at, statement_for, statement_by, statement_at, whole}
-use Rattle.macro_expr.specs.Grammar.{IsWord, IsWithin, IsExpression, IsTest, compares, IsTarget, line, line_of, line_in, IsAssignment, assigns, IsStatement, assign, goto, if_goto, if_then, while_do, do_only, end_loop}
-use Rattle.macro_expr.proofs.Heads.{behind-sound, first_word-sound, run_splits}
-use Rattle.macro_expr.proofs.ChainLaws.{bind_ok}
-use Rattle.macro_expr.proofs.Sound.{ok_parts, word-sound, digits-sound, bracket-sound, variable-sound, within-sound}
-use Rattle.macro_expr.proofs.StatementsComplete.{equals, as_aim_of, as_assign}
+use Rattle.macro_expr.specs.Grammar.{IsWord, number, plain, one, IsWhole, IsBracketed, IsVariable, IsWithin, IsExpression, IsTest, compares, IsTarget, line, line_of, line_in, IsAssignment, assigns, IsStatement, assign, goto, if_goto, if_then, while_do, do_only, end_loop}
+use Rattle.macro_expr.specs.Refusals.{Lacks, Never, HasNo, HasNoLoop, LacksCondition, no_if, no_while, LacksLoop, no_do, no_end, no_while_do, IsPast, HasPastTarget, past_goto, past_if, OfStatement}
+use Rattle.macro_expr.proofs.Heads.{each, behind-sound, first_word-sound, run_splits}
+use Rattle.macro_expr.proofs.Steps.{Sound, step, word_step, within, joins}
+use Rattle.macro_expr.proofs.Sound.{Reads, same, digits_step, all_of-sound, bracket-sound, variable-sound, within-sound}
+use Rattle.macro_expr.proofs.StatementsComplete.{condition_read, loop_known}
 
-relation-sound : (text rest : List ℕ) (rel : Rel) → relation_at text ≡ Ok (rel, rest)
-    → (t : List ℕ) × IsWord relation_words t rel × (text ≡ t ++ rest)
-unfolding relation_at relation
-relation-sound text rest rel done = go (first_word relation_words text) refl done
+-- a condition that is read is one of the grammar, whatever stops the reading of another
+condition-sound : (text : List ℕ) → Sound IsTest (λ _. Unit {0}) text (condition_at text)
+unfolding condition_at relation_at relation
+condition-sound text =
+    let G : Read Test → Type 0 = Sound IsTest (λ _. Unit {0}) text in
+    word_step G (codes "[") text _ (λ opened here.
+    step (IsWithin 5) (Lacks (IsWithin 5) Never opened) G opened (inside 5 opened) _ (within-sound 5 opened)
+    (λ left after t is_t is_left. related opened t left here is_left after is_t (first_word relation_words after) refl)
+    (λ s fails. tt)) tt
   where
-    go : (o : Option (Rel × List ℕ)) → first_word relation_words text ≡ o → relation_found o ≡ Ok (rel, rest)
-        → (t : List ℕ) × IsWord relation_words t rel × (text ≡ t ++ rest)
-    go None is done = absurd (let no : ⊥ = cc in no)
-    go (Some found) is done =
-        let same : found ≡ (rel, rest) = cc in
-        first_word-sound relation_words text rest rel (is ∙ ap Some same)
+    related : (opened t : List ℕ) (left : Tree) → text ≡ codes "[" ++ opened → IsWithin 5 t left
+        → (after : List ℕ) → opened ≡ t ++ after → (o : Option (Rel × List ℕ)) → first_word relation_words after ≡ o
+        → Sound IsTest (λ _. Unit {0}) text
+        (relation_found o >>= λ rel. inside 5 rel.1 >>= λ right. word_at (codes "]") right.1 >>= λ rest.
+        Ok (record { left = left; rel = rel.0; right = right.0 }, rest))
+    related opened t left here is_left after is_t None none = tt
+    related opened t left here is_left after is_t (Some found) some =
+        let G : Read Test → Type 0 = Sound IsTest (λ _. Unit {0}) text in
+        let w = first_word-sound relation_words after found.1 found.0 some in
+        step (IsWithin 5) (Lacks (IsWithin 5) Never found.1) G found.1 (inside 5 found.1) _ (within-sound 5 found.1)
+        (λ right behind u is_u is_right.
+        word_step G (codes "]") behind _ (λ rest ends. (
+          codes "[" ++ (t ++ (w.0 ++ (u ++ codes "]"))),
+          here ∙ ap (λ xs. codes "[" ++ xs) (is_t ∙ ap (λ xs. t ++ xs) (w.2 ∙ ap (λ xs. w.0 ++ xs) (is_u ∙ ap (λ xs. u ++ xs) ends)))
+              ∙ simp append_assoc,
+          compares t w.0 u found.0 left right is_left w.1 is_right,
+        )) tt)
+        (λ s fails. tt)
 
-condition-sound : (text rest : List ℕ) (test : Test) → condition_at text ≡ Ok (test, rest)
-    → (c : List ℕ) × (text ≡ c ++ rest) × IsTest c test
-unfolding condition_at
-condition-sound text rest test done =
-    let a = bind_ok (word_at (codes "[") text) _ (test, rest) done in
-    let b = bind_ok (inside 5 a.0) _ (test, rest) a.2 in
-    let c = bind_ok (relation_at b.0.1) _ (test, rest) b.2 in
-    let d = bind_ok (inside 5 c.0.1) _ (test, rest) c.2 in
-    let e = bind_ok (word_at (codes "]") d.0.1) _ (test, rest) d.2 in
-    let made : Test = record { left = b.0.0; rel = c.0.0; right = d.0.0 } in
-    let same = ok_parts made test e.0 rest e.2 in
-    let l = within-sound 5 a.0 b.0.1 b.0.0 b.1 in
-    let w = relation-sound b.0.1 c.0.1 c.0.0 c.1 in
-    let r = within-sound 5 c.0.1 d.0.1 d.0.0 d.1 in
-    let text_of : List ℕ = codes "[" ++ (l.0 ++ (w.0 ++ (r.0 ++ codes "]"))) in
-    let P : Test → Type 0 = IsTest text_of in (
-      text_of,
-      word-sound (codes "[") text a.0 a.1
-          ∙ ap (λ xs. codes "[" ++ xs)
-          (l.1 ∙ ap (λ xs. l.0 ++ xs)
-          (w.2 ∙ ap (λ xs. w.0 ++ xs)
-          (r.1 ∙ ap (λ xs. r.0 ++ xs) (word-sound (codes "]") d.0.1 e.0 e.1 ∙ ap (λ xs. codes "]" ++ xs) same.1))))
-          ∙ simp append_assoc,
-      subst P same.0 (compares l.0 w.0 r.0 c.0.0 b.0.0 d.0.0 l.2 w.1 r.2),
-    )
+-- a place of this kind alone
+abbrev pub Only : Stop → Type 0 → Stop → Type 0
+Only kind P s = (s ≡ kind) × P
 
-test-sound : (text rest : List ℕ) (test : Test) → test_at text ≡ Ok (test, rest)
-    → (c : List ℕ) × (text ≡ c ++ rest) × IsTest c test
+of_kind : (kind : Stop) (P : Type 0) (Q : Stop → Type 0) → (P → Q kind) → (s : Stop) → Only kind P s → Q s
+of_kind kind P Q f s only = subst Q (sym only.0) (f only.1)
+
+-- a reading that fails can't be of a text with a condition
+no_test : (text : List ℕ) (s : Stop) → condition_at text ≡ Err s → HasNo IsTest text
+no_test text s fails = λ t rest test stands is.
+    let read = ap condition_at stands ∙ condition_read t test is rest in
+    let no : ⊥ = cc in no
+
+pub test-sound : (text : List ℕ) → Sound IsTest (Only stop.Condition (HasNo IsTest text)) text (test_at text)
 unfolding test_at
-test-sound text rest test done = go (condition_at text) refl done
+test-sound text = go (condition_at text) refl (condition-sound text)
   where
-    go : (r : Read Test) → condition_at text ≡ r → or_no_condition r ≡ Ok (test, rest)
-        → (c : List ℕ) × (text ≡ c ++ rest) × IsTest c test
-    go (Ok x) is done = condition-sound text rest test (is ∙ done)
-    go (Err f) is done = absurd (let no : ⊥ = cc in no)
+    go : (r : Read Test) → condition_at text ≡ r → Sound IsTest (λ _. Unit {0}) text r
+        → Sound IsTest (Only stop.Condition (HasNo IsTest text)) text (or_no_condition r)
+    go (Ok found) is sound = sound
+    go (Err s) is sound = (refl, no_test text s is)
 
-five-sound : (text rest : List ℕ) (e : Tree) → inside 5 text ≡ Ok (e, rest) → (t : List ℕ) × (text ≡ t ++ rest) × IsWithin 5 t e
-five-sound = within-sound 5
+abbrev AtTarget : List ℕ → Stop → Type 0
+AtTarget text = Only stop.Sequence (IsPast text)
 
-numbered-sound : (n : ℕ) (after rest : List ℕ) (aim : Aim) → numbered n after ≡ Ok (aim, rest)
-    → (n ≤ 99999) × (ToNumber n ≡ aim) × (after ≡ rest)
-numbered-sound n after rest aim done = go (nat_lt 99999 n) refl done
-  where
-    go : (b : Bool) → nat_lt 99999 n ≡ b → cond b (refused {A = Aim × List ℕ} 64) (Ok (ToNumber n, after)) ≡ Ok (aim, rest)
-        → (n ≤ 99999) × (ToNumber n ≡ aim) × (after ≡ rest)
-    go true large done = absurd (let no : ⊥ = cc in no)
-    go false small done =
-        let same = ok_parts (ToNumber n) aim after rest done in
-        (ltb-false 99999 n small, same.0, same.1)
-
-target-sound : (text rest : List ℕ) (aim : Aim) → target_at text ≡ Ok (aim, rest)
-    → (t : List ℕ) × (text ≡ t ++ rest) × IsTarget t aim
+target-sound : (text : List ℕ) → Sound IsTarget (Lacks IsTarget (AtTarget text) text) text (target_at text)
 unfolding target_at
-target-sound text rest aim done = go (begins is_ascii_digit text) (begins (λ b. b == 35) text) done
+target-sound text = go (begins is_ascii_digit text) (begins (λ b. b == 35) text)
   where
-    go : (a b : Bool)
-        → cond a (digits_at text >>= λ n. numbered n.0 n.1)
-        (cond b (variable_at (inside 5) text >>= as_aim_of) (bracket_at (inside 5) text >>= as_aim_of)) ≡ Ok (aim, rest)
-        → (t : List ℕ) × (text ≡ t ++ rest) × IsTarget t aim
-    go true b done =
-        let a = bind_ok (digits_at text) (λ n. numbered n.0 n.1) (aim, rest) done in
-        let d = digits-sound text a.0.1 a.0.0 a.1 in
-        let n = numbered-sound a.0.0 a.0.1 rest aim a.2 in
-        let P : Aim → Type 0 = IsTarget d.0 in
-        (d.0, d.1 ∙ ap (λ xs. d.0 ++ xs) n.2, subst P n.1 (line d.0 a.0.0 d.2 n.0))
-    go false true done =
-        let a = bind_ok (variable_at (inside 5) text) as_aim_of (aim, rest) done in
-        let same = ok_parts (ToNumberOf a.0.0) aim a.0.1 rest a.2 in
-        let v = variable-sound (inside 5) (IsWithin 5) five-sound text a.0.1 a.0.0 a.1 in
-        let P : Aim → Type 0 = IsTarget v.0 in
-        (v.0, v.1 ∙ ap (λ xs. v.0 ++ xs) same.1, subst P same.0 (line_of v.0 a.0.0 v.2))
-    go false false done =
-        let a = bind_ok (bracket_at (inside 5) text) as_aim_of (aim, rest) done in
-        let same = ok_parts (ToNumberOf a.0.0) aim a.0.1 rest a.2 in
-        let v = bracket-sound (inside 5) (IsWithin 5) five-sound text a.0.1 a.0.0 a.1 in
-        let t : List ℕ = codes "[" ++ (v.0 ++ codes "]") in
-        let P : Aim → Type 0 = IsTarget t in
-        (t, v.1 ∙ ap (λ xs. t ++ xs) same.1, subst P same.0 (line_in v.0 a.0.0 v.2))
+    at_range : (n : ℕ) (t rest : List ℕ) → text ≡ t ++ rest → IsWhole t n → begins is_ascii_digit rest ≡ false
+        → (large : Bool) → nat_lt 99999 n ≡ large
+        → Sound IsTarget (Lacks IsTarget (AtTarget text) text) text (cond large (Err stop.Sequence) (Ok (ToNumber n, rest)))
+    at_range n t rest stands is ends true large =
+        (refl, record { digits = t; rest = rest; number = n; stands = stands; whole = is; ends = ends; large = ltb-true 99999 n large })
+    at_range n t rest stands is ends false small = (t, stands, line t n is (ltb-false 99999 n small))
 
-loop-known : (digits : List ℕ) (m : ℕ) → loop_of digits ≡ Some m → IsWord loop_words digits m
+    go : (a b : Bool) → Sound IsTarget (Lacks IsTarget (AtTarget text) text) text
+        (cond a (digits_at text >>= λ n. numbered n.0 n.1)
+        (cond b (variable_at (inside 5) text >>= λ v. Ok (ToNumberOf (look v.0), v.1)) (bracket_at (inside 5) text >>= λ e. Ok (ToNumberOf e.0, e.1))))
+    go true b =
+        digits_step (Sound IsTarget (Lacks IsTarget (AtTarget text) text) text) text (λ n. numbered n.0 n.1)
+        (λ n t rest stands is ends. at_range n t rest stands is ends (nat_lt 99999 n) refl) tt
+    go false true =
+        joins (IsVariable (IsWithin 5)) IsTarget Never (AtTarget text) (λ s never. absurd never) (λ v. ToNumberOf (look v)) [] text text refl
+        (λ t v is. (t, refl, line_of t v is)) (variable_at (inside 5) text) (variable-sound (inside 5) (IsWithin 5) (within-sound 5) text)
+    go false false =
+        joins (IsBracketed (IsWithin 5)) IsTarget Never (AtTarget text) (λ s never. absurd never) ToNumberOf [] text text refl
+        (λ t e is. (t, refl, line_in t e is)) (bracket_at (inside 5) text) (bracket-sound (inside 5) (IsWithin 5) (within-sound 5) text)
+
+abbrev AtLoop : List ℕ → Stop → Type 0
+AtLoop text = Only stop.Loop (HasNoLoop text)
+
+no_loop : (digits : List ℕ) → loop_of digits ≡ None → (m : ℕ) → IsWord loop_words digits m → ⊥
+no_loop digits none m is =
+    let known = loop_known digits m is in
+    let no : ⊥ = cc in no
+
+pub loop_word-sound : (digits : List ℕ) (m : ℕ) → loop_of digits ≡ Some m → IsWord loop_words digits m
 unfolding loop_of loop_word
-loop-known digits m known = go (first_word loop_words digits) refl known
-  where
-    go : (o : Option (ℕ × List ℕ)) → first_word loop_words digits ≡ o → all_of o ≡ Some m → IsWord loop_words digits m
-    go None is known = absurd (let no : ⊥ = cc in no)
-    go (Some (n, [])) is known =
-        let same : n ≡ m = cc in
-        let w = first_word-sound loop_words digits [] n is in
-        let P : List ℕ → ℕ → Type 0 = IsWord loop_words in
-        subst (P digits) same (subst (λ t. P t n) (sym (w.2 ∙ append-nil w.0)) w.1)
-    go (Some (n, b ∷ rest)) is known =
-        let test : (length (b ∷ rest) == 0) ≡ false = grind (arith, nat_tests) in
-        let none : (let o : Option ℕ = None in o) ≡ Some m = ap (λ x. cond x (Some n) None) (sym test) ∙ known in
-        absurd (let no : ⊥ = cc in no)
+loop_word-sound digits m known = all_of-sound loop_words digits m known
 
-loop-sound : (text rest : List ℕ) (m : ℕ) → loop_at text ≡ Ok (m, rest)
-    → (t : List ℕ) × (text ≡ t ++ rest) × IsWord loop_words t m
+loop-sound : (text : List ℕ) → Sound (IsWord loop_words) (Lacks (IsWord loop_words) (AtLoop text) text) text (loop_at text)
 unfolding loop_at
-loop-sound text rest m done = go (loop_of (run is_ascii_digit text)) refl done
+loop-sound text = go (loop_of (run is_ascii_digit text)) refl
   where
-    go : (o : Option ℕ) → loop_of (run is_ascii_digit text) ≡ o → loop_found o (behind_run is_ascii_digit text) ≡ Ok (m, rest)
-        → (t : List ℕ) × (text ≡ t ++ rest) × IsWord loop_words t m
-    go None is done = absurd (let no : ⊥ = cc in no)
-    go (Some n) is done =
-        let same = ok_parts n m (behind_run is_ascii_digit text) rest done in
-        let t : List ℕ = run is_ascii_digit text in
-        (t, run_splits is_ascii_digit text ∙ ap (λ xs. t ++ xs) same.1, loop-known t m (is ∙ ap Some same.0))
+    go : (o : Option ℕ) → loop_of (run is_ascii_digit text) ≡ o
+        → Sound (IsWord loop_words) (Lacks (IsWord loop_words) (AtLoop text) text) text (loop_found o (behind_run is_ascii_digit text))
+    go None none = (refl, no_loop (run is_ascii_digit text) none)
+    go (Some m) known = (run is_ascii_digit text, run_splits is_ascii_digit text, loop_word-sound (run is_ascii_digit text) m known)
 
-assignment-sound : (text rest : List ℕ) (a : Tree × Tree) → assignment_at text ≡ Ok (a, rest)
-    → (t : List ℕ) × (text ≡ t ++ rest) × IsAssignment t a.0 a.1
+zero_read : IsExpression (codes "0") (Number (pos 0))
+zero_read =
+    one _ _ (one _ _ (plain _ _ (number (codes "0") (pos 0) (record { bytes = refl; literal = refl; short = refl; value = refl }))))
+
+abbrev IsAssign : List ℕ → Named × Tree → Type 0
+IsAssign t a = IsAssignment t a.0 a.1
+
+assignment-sound : Reads IsAssign assignment_at
 unfolding assignment_at
-assignment-sound text rest a done =
-    let b = bind_ok (variable_at (inside 5) text) equals (a, rest) done in
-    let c = bind_ok (word_at (codes "=") b.0.1) _ (a, rest) b.2 in
-    let d = bind_ok (inside 6 c.0) (λ e. Ok ((b.0.0, e.0), e.1)) (a, rest) c.2 in
-    let same = ok_parts (b.0.0, d.0.0) a d.0.1 rest d.2 in
-    let v = variable-sound (inside 5) (IsWithin 5) five-sound text b.0.1 b.0.0 b.1 in
-    let e = within-sound 6 c.0 d.0.1 d.0.0 d.1 in
-    let t : List ℕ = v.0 ++ (codes "=" ++ e.0) in
-    let P : (Tree × Tree) → Type 0 = λ a. IsAssignment t a.0 a.1 in (
-      t,
-      v.1 ∙ ap (λ xs. v.0 ++ xs)
-          (word-sound (codes "=") b.0.1 c.0 c.1 ∙ ap (λ xs. codes "=" ++ xs) (e.1 ∙ ap (λ xs. e.0 ++ xs) same.1))
-          ∙ simp append_assoc,
-      subst P same.0 (assigns v.0 e.0 b.0.0 d.0.0 v.2 e.2),
-    )
+assignment-sound text =
+    let G : Read (Named × Tree) → Type 0 = Sound IsAssign (Lacks IsAssign Never text) text in
+    step (IsVariable (IsWithin 5)) (Lacks (IsVariable (IsWithin 5)) Never text) G text (variable_at (inside 5) text) _
+    (variable-sound (inside 5) (IsWithin 5) (within-sound 5) text)
+    (λ v after t is_t is_v.
+    word_step G (codes "=") after _ (λ right equals.
+    let here : text ≡ (t ++ codes "=") ++ right = is_t ∙ ap (λ xs. t ++ xs) equals ∙ simp append_assoc in
+    step IsExpression (Lacks IsExpression Never right) G right (inside 6 right) _ (within-sound 6 right)
+    (λ e rest u is_u is_e. (
+      t ++ (codes "=" ++ u),
+      here ∙ ap (λ xs. (t ++ codes "=") ++ xs) is_u ∙ simp append_assoc,
+      assigns t u v e is_v is_e,
+    ))
+    (within IsExpression IsAssign Never Never same (t ++ codes "=") text right here
+    (λ u e is. ([], t ++ (codes "=" ++ u), (v, e), simp (append_assoc, append-nil), assigns t u v e is_v is)))) tt)
+    (within (IsVariable (IsWithin 5)) IsAssign Never Never same [] text text refl
+    (λ t v is. (codes "=0", t ++ (codes "=" ++ codes "0"), (v, Number (pos 0)), refl, assigns t (codes "0") v (Number (pos 0)) is zero_read)))
 
--- what a reading that is done gives: the front of the text, with this tree
-abbrev pub Found : List ℕ → List ℕ → Sentence → Type 0
-Found text rest s = (t : List ℕ) × (text ≡ t ++ rest) × IsStatement t s
+-- what is due of the reading of a statement
+abbrev pub Found : List ℕ → Read Sentence → Type 0
+Found text = Sound IsStatement (Lacks IsStatement (OfStatement text) text) text
 
-branch-sound : (c text rest : List ℕ) (test : Test) (s : Sentence) → IsTest c test → branch_at test text ≡ Ok (s, rest)
-    → Found (codes "IF" ++ (c ++ text)) rest s
+branch-sound : (text c at : List ℕ) (test : Test) → IsTest c test → text ≡ codes "IF" ++ (c ++ at) → Found text (branch_at test at)
 unfolding branch_at
-branch-sound c text rest test s is_test done = go (behind (codes "GOTO") text) refl done
+branch-sound text c at test is_test here = go (behind (codes "GOTO") at) refl
   where
-    go : (o : Option (List ℕ)) → behind (codes "GOTO") text ≡ o → branch_by test o text ≡ Ok (s, rest)
-        → Found (codes "IF" ++ (c ++ text)) rest s
-    go (Some after) is done =
-        let a = bind_ok (target_at after) (λ aim. Ok (IfGoto test aim.0, aim.1)) (s, rest) done in
-        let same = ok_parts (IfGoto test a.0.0) s a.0.1 rest a.2 in
-        let v = target-sound after a.0.1 a.0.0 a.1 in
-        let t : List ℕ = codes "IF" ++ (c ++ (codes "GOTO" ++ v.0)) in
-        let P : Sentence → Type 0 = IsStatement t in (
-          t,
-          ap (λ xs. codes "IF" ++ (c ++ xs))
-              (behind-sound (codes "GOTO") text after is ∙ ap (λ xs. codes "GOTO" ++ xs) (v.1 ∙ ap (λ xs. v.0 ++ xs) same.1))
-              ∙ simp append_assoc,
-          subst P same.0 (if_goto c v.0 test a.0.0 is_test v.2),
-        )
-    go None is done =
-        let b = bind_ok (word_at (codes "THEN") text) _ (s, rest) done in
-        let a = bind_ok (assignment_at b.0) (λ a. Ok (IfThen test a.0.0 a.0.1, a.1)) (s, rest) b.2 in
-        let same = ok_parts (IfThen test a.0.0.0 a.0.0.1) s a.0.1 rest a.2 in
-        let v = assignment-sound b.0 a.0.1 a.0.0 a.1 in
-        let t : List ℕ = codes "IF" ++ (c ++ (codes "THEN" ++ v.0)) in
-        let P : Sentence → Type 0 = IsStatement t in (
-          t,
-          ap (λ xs. codes "IF" ++ (c ++ xs))
-              (word-sound (codes "THEN") text b.0 b.1 ∙ ap (λ xs. codes "THEN" ++ xs) (v.1 ∙ ap (λ xs. v.0 ++ xs) same.1))
-              ∙ simp append_assoc,
-          subst P same.0 (if_then c v.0 test a.0.0.0 a.0.0.1 is_test v.2),
-        )
+    go : (o : Option (List ℕ)) → behind (codes "GOTO") at ≡ o → Found text (branch_by test o at)
+    go (Some after) some =
+        let whole : text ≡ codes "IF" ++ (c ++ (codes "GOTO" ++ after)) =
+        here ∙ ap (λ xs. codes "IF" ++ (c ++ xs)) (behind-sound (codes "GOTO") at after some) in
+        joins IsTarget IsStatement (AtTarget after) (OfStatement text)
+        (of_kind stop.Sequence (IsPast after) (OfStatement text) (λ past. subst HasPastTarget (sym whole) (past_if c after test is_test past)))
+        (IfGoto test) (codes "IF" ++ (c ++ codes "GOTO")) text after (whole ∙ simp append_assoc)
+        (λ t aim is. (codes "IF" ++ (c ++ (codes "GOTO" ++ t)), simp append_assoc, if_goto c t test aim is_test is))
+        (target_at after) (target-sound after)
+    go None none =
+        word_step (Found text) (codes "THEN") at _ (λ rest stands.
+        joins IsAssign IsStatement Never (OfStatement text) (λ s never. absurd never) (λ a. IfThen test a.0 a.1)
+        (codes "IF" ++ (c ++ codes "THEN")) text rest (here ∙ ap (λ xs. codes "IF" ++ (c ++ xs)) stands ∙ simp append_assoc)
+        (λ t a is. (codes "IF" ++ (c ++ (codes "THEN" ++ t)), simp append_assoc, if_then c t test a.0 a.1 is_test is))
+        (assignment_at rest) (assignment-sound rest)) tt
 
-if-sound : (text rest : List ℕ) (s : Sentence) → if_at text ≡ Ok (s, rest) → Found (codes "IF" ++ text) rest s
+if-sound : (text at : List ℕ) → text ≡ codes "IF" ++ at → Found text (if_at at)
 unfolding if_at
-if-sound text rest s done =
-    let a = bind_ok (test_at text) (λ test. branch_at test.0 test.1) (s, rest) done in
-    let c = test-sound text a.0.1 a.0.0 a.1 in
-    let f = branch-sound c.0 a.0.1 rest a.0.0 s c.2 a.2 in
-    (f.0, ap (λ xs. codes "IF" ++ xs) c.1 ∙ f.1, f.2)
+if-sound text at here =
+    step IsTest (Only stop.Condition (HasNo IsTest at)) (Found text) at (test_at at) _ (test-sound at)
+    (λ test rest c stands is. branch-sound text c rest test is (here ∙ ap (λ xs. codes "IF" ++ xs) stands))
+    (of_kind stop.Condition (HasNo IsTest at) (Lacks IsStatement (OfStatement text) text) (λ no. subst LacksCondition (sym here) (no_if at no)))
 
-while-sound : (text rest : List ℕ) (s : Sentence) → while_at text ≡ Ok (s, rest) → Found (codes "WHILE" ++ text) rest s
+while-sound : (text at : List ℕ) → text ≡ codes "WHILE" ++ at → Found text (while_at at)
 unfolding while_at
-while-sound text rest s done =
-    let a = bind_ok (test_at text) _ (s, rest) done in
-    let b = bind_ok (word_at (codes "DO") a.0.1) _ (s, rest) a.2 in
-    let m = bind_ok (loop_at b.0) (λ m. Ok (WhileDo a.0.0 m.0, m.1)) (s, rest) b.2 in
-    let same = ok_parts (WhileDo a.0.0 m.0.0) s m.0.1 rest m.2 in
-    let c = test-sound text a.0.1 a.0.0 a.1 in
-    let l = loop-sound b.0 m.0.1 m.0.0 m.1 in
-    let t : List ℕ = codes "WHILE" ++ (c.0 ++ (codes "DO" ++ l.0)) in
-    let P : Sentence → Type 0 = IsStatement t in (
-      t,
-      ap (λ xs. codes "WHILE" ++ xs)
-          (c.1 ∙ ap (λ xs. c.0 ++ xs)
-          (word-sound (codes "DO") a.0.1 b.0 b.1 ∙ ap (λ xs. codes "DO" ++ xs) (l.1 ∙ ap (λ xs. l.0 ++ xs) same.1)))
-          ∙ simp append_assoc,
-      subst P same.0 (while_do c.0 l.0 a.0.0 m.0.0 c.2 l.2),
-    )
+while-sound text at here =
+    step IsTest (Only stop.Condition (HasNo IsTest at)) (Found text) at (test_at at) _ (test-sound at)
+    (λ test rest c stands is_test.
+    word_step (Found text) (codes "DO") rest _ (λ after is_do.
+    let whole : text ≡ codes "WHILE" ++ (c ++ (codes "DO" ++ after)) =
+    here ∙ ap (λ xs. codes "WHILE" ++ xs) (stands ∙ ap (λ xs. c ++ xs) is_do) in
+    joins (IsWord loop_words) IsStatement (AtLoop after) (OfStatement text)
+    (of_kind stop.Loop (HasNoLoop after) (OfStatement text) (λ no. subst LacksLoop (sym whole) (no_while_do c after test is_test no)))
+    (WhileDo test) (codes "WHILE" ++ (c ++ codes "DO")) text after (whole ∙ simp append_assoc)
+    (λ t m is. (codes "WHILE" ++ (c ++ (codes "DO" ++ t)), simp append_assoc, while_do c t test m is_test is))
+    (loop_at after) (loop-sound after)) tt)
+    (of_kind stop.Condition (HasNo IsTest at) (Lacks IsStatement (OfStatement text) text) (λ no. subst LacksCondition (sym here) (no_while at no)))
 
 abbrev pub text_of : Keyword → List ℕ
 text_of word.If = codes "IF"
@@ -228,81 +201,56 @@ text_of word.Goto = codes "GOTO"
 text_of word.Do = codes "DO"
 text_of word.End = codes "END"
 
-keyword-text : (w : List ℕ) (k : Keyword) → IsWord keyword_words w k → w ≡ text_of k
-keyword-text w k (inl same) = same.0 ∙ sym (ap text_of same.1)
-keyword-text w k (inr (inl same)) = same.0 ∙ sym (ap text_of same.1)
-keyword-text w k (inr (inr (inl same))) = same.0 ∙ sym (ap text_of same.1)
-keyword-text w k (inr (inr (inr (inl same)))) = same.0 ∙ sym (ap text_of same.1)
-keyword-text w k (inr (inr (inr (inr (inl same))))) = same.0 ∙ sym (ap text_of same.1)
-keyword-text w k (inr (inr (inr (inr (inr none))))) = absurd none
+for-sound : (k : Keyword) (text at : List ℕ) → text ≡ text_of k ++ at → Found text (statement_for k at)
+for-sound word.If text at here = if-sound text at here
+for-sound word.While text at here = while-sound text at here
+for-sound word.Goto text at here =
+    joins IsTarget IsStatement (AtTarget at) (OfStatement text)
+    (of_kind stop.Sequence (IsPast at) (OfStatement text) (λ past. subst HasPastTarget (sym here) (past_goto at past)))
+    Goto (codes "GOTO") text at here (λ t aim is. (codes "GOTO" ++ t, refl, goto t aim is)) (target_at at) (target-sound at)
+for-sound word.Do text at here =
+    joins (IsWord loop_words) IsStatement (AtLoop at) (OfStatement text)
+    (of_kind stop.Loop (HasNoLoop at) (OfStatement text) (λ no. subst LacksLoop (sym here) (no_do at no)))
+    DoOnly (codes "DO") text at here (λ t m is. (codes "DO" ++ t, refl, do_only t m is)) (loop_at at) (loop-sound at)
+for-sound word.End text at here =
+    joins (IsWord loop_words) IsStatement (AtLoop at) (OfStatement text)
+    (of_kind stop.Loop (HasNoLoop at) (OfStatement text) (λ no. subst LacksLoop (sym here) (no_end at no)))
+    EndLoop (codes "END") text at here (λ t m is. (codes "END" ++ t, refl, end_loop t m is)) (loop_at at) (loop-sound at)
 
-for-sound : (k : Keyword) (text rest : List ℕ) (s : Sentence) → statement_for k text ≡ Ok (s, rest)
-    → Found (text_of k ++ text) rest s
-for-sound word.If text rest s done = if-sound text rest s done
-for-sound word.While text rest s done = while-sound text rest s done
-for-sound word.Goto text rest s done =
-    let a = bind_ok (target_at text) (λ aim. Ok (Goto aim.0, aim.1)) (s, rest) done in
-    let same = ok_parts (Goto a.0.0) s a.0.1 rest a.2 in
-    let v = target-sound text a.0.1 a.0.0 a.1 in
-    let P : Sentence → Type 0 = IsStatement (codes "GOTO" ++ v.0) in (
-      codes "GOTO" ++ v.0,
-      ap (λ xs. codes "GOTO" ++ xs) (v.1 ∙ ap (λ xs. v.0 ++ xs) same.1) ∙ simp append_assoc,
-      subst P same.0 (goto v.0 a.0.0 v.2),
-    )
-for-sound word.Do text rest s done =
-    let a = bind_ok (loop_at text) (λ m. Ok (DoOnly m.0, m.1)) (s, rest) done in
-    let same = ok_parts (DoOnly a.0.0) s a.0.1 rest a.2 in
-    let v = loop-sound text a.0.1 a.0.0 a.1 in
-    let P : Sentence → Type 0 = IsStatement (codes "DO" ++ v.0) in (
-      codes "DO" ++ v.0,
-      ap (λ xs. codes "DO" ++ xs) (v.1 ∙ ap (λ xs. v.0 ++ xs) same.1) ∙ simp append_assoc,
-      subst P same.0 (do_only v.0 a.0.0 v.2),
-    )
-for-sound word.End text rest s done =
-    let a = bind_ok (loop_at text) (λ m. Ok (EndLoop m.0, m.1)) (s, rest) done in
-    let same = ok_parts (EndLoop a.0.0) s a.0.1 rest a.2 in
-    let v = loop-sound text a.0.1 a.0.0 a.1 in
-    let P : Sentence → Type 0 = IsStatement (codes "END" ++ v.0) in (
-      codes "END" ++ v.0,
-      ap (λ xs. codes "END" ++ xs) (v.1 ∙ ap (λ xs. v.0 ++ xs) same.1) ∙ simp append_assoc,
-      subst P same.0 (end_loop v.0 a.0.0 v.2),
-    )
-
-statement-sound : (text rest : List ℕ) (s : Sentence) → statement_at text ≡ Ok (s, rest) → Found text rest s
+pub statement-sound : (text : List ℕ) → Found text (statement_at text)
 unfolding statement_at keyword
-statement-sound text rest s done = go (begins (λ b. b == 35) text) (first_word keyword_words text) refl done
+statement-sound text = go (begins (λ b. b == 35) text) (first_word keyword_words text) refl
   where
     go : (b : Bool) (o : Option (Keyword × List ℕ)) → first_word keyword_words text ≡ o
-        → cond b (assignment_at text >>= as_assign) (statement_by o) ≡ Ok (s, rest) → Found text rest s
-    go true o is done =
-        let a = bind_ok (assignment_at text) as_assign (s, rest) done in
-        let same = ok_parts (Assign a.0.0.0 a.0.0.1) s a.0.1 rest a.2 in
-        let v = assignment-sound text a.0.1 a.0.0 a.1 in
-        let P : Sentence → Type 0 = IsStatement v.0 in
-        (v.0, v.1 ∙ ap (λ xs. v.0 ++ xs) same.1, subst P same.0 (assign v.0 a.0.0.0 a.0.0.1 v.2))
-    go false None is done = absurd (let no : ⊥ = cc in no)
-    go false (Some found) is done =
+        → Found text (cond b (assignment_at text >>= λ a. Ok (Assign a.0.0 a.0.1, a.1)) (statement_by o))
+    go true o is =
+        joins IsAssign IsStatement Never (OfStatement text) (λ s never. absurd never) (λ a. Assign a.0 a.1) [] text text refl
+        (λ t a is. (t, refl, assign t a.0 a.1 is)) (assignment_at text) (assignment-sound text)
+    go false None is = tt
+    go false (Some found) is =
         let w = first_word-sound keyword_words text found.1 found.0 is in
-        let f = for-sound found.0 found.1 rest s done in
-        (f.0, w.2 ∙ ap (λ xs. xs ++ found.1) (keyword-text w.0 found.0 w.1) ∙ f.1, f.2)
+        let meant = each keyword_words (λ w k. w ≡ text_of k) (refl, (refl, (refl, (refl, (refl, tt))))) w.0 found.0 w.1 in
+        for-sound found.0 text found.1 (w.2 ∙ ap (λ xs. xs ++ found.1) meant)
 
--- nothing stands behind what is read whole
-nothing_behind : {A : Type 0} (r : Read A) (x : A) → whole r ≡ Ok x → r ≡ Ok (x, [])
-nothing_behind (Err f) x done = absurd (let no : ⊥ = cc in no)
-nothing_behind (Ok (y, [])) x done = let same : y ≡ x = cc in ap (λ y. Ok (y, [])) same
-nothing_behind {A} (Ok (y, b ∷ rest)) x done =
+-- what a reading of all of the text gives
+abbrev pub SoundWhole : {A : Type 0} → (List ℕ → A → Type 0) → (Stop → Type 0) → List ℕ → Result A Stop → Type 0
+SoundWhole Is Fails text (Ok x) = Is text x
+SoundWhole Is Fails text (Err s) = Fails s
+
+whole-sound : {A : Type 0} (Is : List ℕ → A → Type 0) (Fails : Stop → Type 0) (text : List ℕ) (r : Read A) → Fails stop.Expression
+    → Sound Is Fails text r → SoundWhole Is Fails text (whole r)
+whole-sound Is Fails text (Err s) fails sound = sound
+whole-sound Is Fails text (Ok (x, [])) fails sound =
+    subst (λ t. Is t x) (sym (sound.1 ∙ append-nil sound.0)) sound.2
+whole-sound Is Fails text (Ok (x, b ∷ rest)) fails sound =
     let test : (length (b ∷ rest) == 0) ≡ false = grind (arith, nat_tests) in
-    let none : refused {A = A} 20 ≡ Ok x = ap (λ t. cond t (Ok y) (refused {A = A} 20)) (sym test) ∙ done in
-    absurd (let no : ⊥ = cc in no)
+    subst (λ t. SoundWhole Is Fails text (cond t (Ok x) (Err stop.Expression))) (sym test) fails
 
-pub whole-expression-sound : (t : List ℕ) (e : Tree) → whole (expression_at t) ≡ Ok e → IsExpression t e
-whole-expression-sound t e done =
-    let f = within-sound 6 t [] e (nothing_behind (expression_at t) e done) in
-    let P : List ℕ → Type 0 = λ t. IsExpression t e in
-    subst P (sym (f.1 ∙ append-nil f.0)) f.2
+pub whole-expression-sound : (text : List ℕ)
+    → SoundWhole IsExpression (Lacks IsExpression Never text) text (whole (expression_at text))
+whole-expression-sound text = whole-sound IsExpression (Lacks IsExpression Never text) text (inside 6 text) tt (within-sound 6 text)
 
-pub whole-statement-sound : (t : List ℕ) (s : Sentence) → whole (statement_at t) ≡ Ok s → IsStatement t s
-whole-statement-sound t s done =
-    let f = statement-sound t [] s (nothing_behind (statement_at t) s done) in
-    let P : List ℕ → Type 0 = λ t. IsStatement t s in
-    subst P (sym (f.1 ∙ append-nil f.0)) f.2
+pub whole-statement-sound : (text : List ℕ)
+    → SoundWhole IsStatement (Lacks IsStatement (OfStatement text) text) text (whole (statement_at text))
+whole-statement-sound text =
+    whole-sound IsStatement (Lacks IsStatement (OfStatement text) text) text (statement_at text) tt (statement-sound text)

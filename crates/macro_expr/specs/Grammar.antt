@@ -6,8 +6,10 @@ use Rattle.nc_number.specs.Literals.{is_literal, has_too_many_digits, literal_mi
 use Rattle.macro_expr.specs.declared.tree.Fun.{Fun}
 use Rattle.macro_expr.specs.declared.tree.Op.{Op}
 use Rattle.macro_expr.specs.declared.tree.Rel.{Rel}
-use Rattle.macro_expr.specs.Tree.{Tree, Number, Variable, VariableOf, Signed, Applied, Joined, Test, Aim, ToNumber, ToNumberOf, Sentence, Assign, Goto, IfGoto, IfThen, WhileDo, DoOnly, EndLoop}
-use Rattle.macro_expr.specs.Words.{product_words, sum_words, sign_words, function_words, relation_words, loop_words, is_number_byte}
+use Rattle.macro_expr.specs.declared.words.Rank.{Rank}
+use Rattle.macro_expr.specs.declared.words.Rank.TheVariants as rank
+use Rattle.macro_expr.specs.Tree.{Tree, Number, Named, Fixed, Computed, look, Signed, Applied, Joined, Test, Aim, ToNumber, ToNumberOf, Sentence, Assign, Goto, IfGoto, IfThen, WhileDo, DoOnly, EndLoop}
+use Rattle.macro_expr.specs.Words.{operator_words, sign_words, function_words, relation_words, loop_words, is_number_byte}
 
 -- the text is a word of the table, with this meaning
 abbrev pub IsWord : {A : Type 0} → List (List ℕ × A) → List ℕ → A → Type 0
@@ -28,18 +30,22 @@ pub record IsWhole (t : List ℕ) (n : ℕ) : Type 0 where
   pub short : has_too_many_digits t ≡ false
   pub value : n ≡ unsigned_abs (literal_micro t) / 1000000
 
--- var = "#" digits | "#" "[" expr "]", where Inner says what stands in brackets
-pub data IsVariable (Inner : List ℕ → Tree → Type 0) : List ℕ → Tree → Type 0 where
-  fixed : (t : List ℕ) (n : ℕ) → IsWhole t n → IsVariable Inner (codes "#" ++ t) (Variable n)
-  computed : (t : List ℕ) (e : Tree) → Inner t e → IsVariable Inner (codes "#" ++ (codes "[" ++ (t ++ codes "]"))) (VariableOf e)
+-- "[" expr "]", where Inner says what stands in brackets
+pub data IsBracketed (Inner : List ℕ → Tree → Type 0) : List ℕ → Tree → Type 0 where
+  closed : (t : List ℕ) (e : Tree) → Inner t e → IsBracketed Inner (codes "[" ++ (t ++ codes "]")) e
+
+-- var = "#" digits | "#" "[" expr "]"
+pub data IsVariable (Inner : List ℕ → Tree → Type 0) : List ℕ → Named → Type 0 where
+  fixed : (t : List ℕ) (n : ℕ) → IsWhole t n → IsVariable Inner (codes "#" ++ t) (Fixed n)
+  computed : (t : List ℕ) (e : Tree) → IsBracketed Inner t e → IsVariable Inner (codes "#" ++ t) (Computed e)
 
 -- prim = literal without sign | var | "[" expr "]" | fun "[" expr "]"
 pub data IsPrim (Inner : List ℕ → Tree → Type 0) : List ℕ → Tree → Type 0 where
   number : (t : List ℕ) (micro : ℤ) → IsNumber t micro → IsPrim Inner t (Number micro)
-  variable : (t : List ℕ) (v : Tree) → IsVariable Inner t v → IsPrim Inner t v
-  bracket : (t : List ℕ) (e : Tree) → Inner t e → IsPrim Inner (codes "[" ++ (t ++ codes "]")) e
-  function : (name t : List ℕ) (f : Fun) (e : Tree) → IsWord function_words name f → Inner t e
-      → IsPrim Inner (name ++ (codes "[" ++ (t ++ codes "]"))) (Applied f e)
+  variable : (t : List ℕ) (v : Named) → IsVariable Inner t v → IsPrim Inner t (look v)
+  bracket : (t : List ℕ) (e : Tree) → IsBracketed Inner t e → IsPrim Inner t e
+  function : (name t : List ℕ) (f : Fun) (e : Tree) → IsWord function_words name f → IsBracketed Inner t e
+      → IsPrim Inner (name ++ t) (Applied f e)
 
 -- a prim with its sign, if it has one
 pub data IsSigned (Inner : List ℕ → Tree → Type 0) : List ℕ → Tree → Type 0 where
@@ -47,19 +53,20 @@ pub data IsSigned (Inner : List ℕ → Tree → Type 0) : List ℕ → Tree →
   signed : (word t : List ℕ) (minus : Bool) (e : Tree) → IsWord sign_words word minus → IsPrim Inner t e
       → IsSigned Inner (word ++ t) (Signed minus e)
 
--- first { operator operand }, from left to right
-pub data IsChain (words : List (List ℕ × Op)) (First Operand : List ℕ → Tree → Type 0) : List ℕ → Tree → Type 0 where
-  one : (t : List ℕ) (e : Tree) → First t e → IsChain words First Operand t e
-  more : (t word u : List ℕ) (op : Op) (left right : Tree) → IsChain words First Operand t left → IsWord words word op
-      → Operand u right → IsChain words First Operand (t ++ (word ++ u)) (Joined op left right)
+-- first { operator operand }, from left to right, the operators all of one rank
+pub data IsChain (rank : Rank) (First Operand : List ℕ → Tree → Type 0) : List ℕ → Tree → Type 0 where
+  one : (t : List ℕ) (e : Tree) → First t e → IsChain rank First Operand t e
+  more : (t word u : List ℕ) (op : Op) (left right : Tree) → IsChain rank First Operand t left
+      → IsWord (operator_words rank) word op → Operand u right
+      → IsChain rank First Operand (t ++ (word ++ u)) (Joined op left right)
 
 -- term = prim { ( "*" | "/" | "AND" | "MOD" ) prim }
 abbrev pub IsProduct : (List ℕ → Tree → Type 0) → List ℕ → Tree → Type 0
-IsProduct Inner = IsChain product_words (IsPrim Inner) (IsPrim Inner)
+IsProduct Inner = IsChain rank.Product (IsPrim Inner) (IsPrim Inner)
 
 -- expr = [ "+" | "-" ] term { ( "+" | "-" | "OR" | "XOR" ) term }, and the sign is the first prim's
 abbrev pub IsSum : (List ℕ → Tree → Type 0) → List ℕ → Tree → Type 0
-IsSum Inner = IsChain sum_words (IsChain product_words (IsSigned Inner) (IsPrim Inner)) (IsProduct Inner)
+IsSum Inner = IsChain rank.Sum (IsChain rank.Product (IsSigned Inner) (IsPrim Inner)) (IsProduct Inner)
 
 -- an expression whose brackets nest less than so deep
 abbrev pub IsWithin : ℕ → List ℕ → Tree → Type 0
@@ -79,21 +86,21 @@ pub data IsTest : List ℕ → Test → Type 0 where
 -- target = digits | var | "[" expr "]", with digits in the range of a sequence number
 pub data IsTarget : List ℕ → Aim → Type 0 where
   line : (t : List ℕ) (n : ℕ) → IsWhole t n → n ≤ 99999 → IsTarget t (ToNumber n)
-  line_of : (t : List ℕ) (v : Tree) → IsVariable (IsWithin 5) t v → IsTarget t (ToNumberOf v)
-  line_in : (t : List ℕ) (e : Tree) → IsWithin 5 t e → IsTarget (codes "[" ++ (t ++ codes "]")) (ToNumberOf e)
+  line_of : (t : List ℕ) (v : Named) → IsVariable (IsWithin 5) t v → IsTarget t (ToNumberOf (look v))
+  line_in : (t : List ℕ) (e : Tree) → IsBracketed (IsWithin 5) t e → IsTarget t (ToNumberOf e)
 
 -- assign = var "=" expr
-pub data IsAssignment : List ℕ → Tree → Tree → Type 0 where
-  assigns : (t u : List ℕ) (v e : Tree) → IsVariable (IsWithin 5) t v → IsExpression u e
+pub data IsAssignment : List ℕ → Named → Tree → Type 0 where
+  assigns : (t u : List ℕ) (v : Named) (e : Tree) → IsVariable (IsWithin 5) t v → IsExpression u e
       → IsAssignment (t ++ (codes "=" ++ u)) v e
 
 -- a statement
 pub data IsStatement : List ℕ → Sentence → Type 0 where
-  assign : (t : List ℕ) (v e : Tree) → IsAssignment t v e → IsStatement t (Assign v e)
+  assign : (t : List ℕ) (v : Named) (e : Tree) → IsAssignment t v e → IsStatement t (Assign v e)
   goto : (t : List ℕ) (aim : Aim) → IsTarget t aim → IsStatement (codes "GOTO" ++ t) (Goto aim)
   if_goto : (c t : List ℕ) (test : Test) (aim : Aim) → IsTest c test → IsTarget t aim
       → IsStatement (codes "IF" ++ (c ++ (codes "GOTO" ++ t))) (IfGoto test aim)
-  if_then : (c t : List ℕ) (test : Test) (v e : Tree) → IsTest c test → IsAssignment t v e
+  if_then : (c t : List ℕ) (test : Test) (v : Named) (e : Tree) → IsTest c test → IsAssignment t v e
       → IsStatement (codes "IF" ++ (c ++ (codes "THEN" ++ t))) (IfThen test v e)
   while_do : (c word : List ℕ) (test : Test) (m : ℕ) → IsTest c test → IsWord loop_words word m
       → IsStatement (codes "WHILE" ++ (c ++ (codes "DO" ++ word))) (WhileDo test m)

@@ -5,3 +5,4 @@ pub mod Statements
 pub mod Limits
 pub mod Answers
 pub mod Grammar
+pub mod Refusals

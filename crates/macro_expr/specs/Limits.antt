@@ -1,15 +1,27 @@
 -- The limits of a text, and which refusal is answered where several hold.
-use Rattle.std.specs.Prelude.{ℕ, suc, Bool, true, false, ◌-◌, ◌==◌, ◌&&◌, ◌||◌, not, nat_eq, nat_lt, List, [], ◌∷◌, ◌++◌, length, slice_index, count_by, codes, Option, Some, None, Result, Ok, Err, if◌then◌else◌}
+use Rattle.std.specs.Prelude.{ℕ, suc, Bool, true, false, ◌-◌, ◌==◌, ◌&&◌, ◌||◌, not, nat_eq, nat_lt, List, [], ◌∷◌, ◌++◌, length, slice_index, count_by, codes, Result, Ok, Err, if◌then◌else◌}
 use Rattle.std.specs.Char.{is_ascii_digit, to_ascii_uppercase}
-use Rattle.std.specs.List.{ends_with}
+use Rattle.std.specs.List.{starts_with, ends_with}
+use Rattle.std.specs.Str.{bytes_eq}
 use Rattle.nc_number.specs.Literals.{significant}
+use Rattle.nc_number.specs.declared.cause.Cause.{Cause}
+use Rattle.nc_number.specs.declared.cause.Cause.TheVariants.{TooManyDigits, BadExpression, TooManyBrackets, BadCondition, UnknownFunction, BadLoopNumber, TooManyVariables, WordRange}
+use Rattle.nc_number.specs.Causes.{cause_number}
+use Rattle.nc_number.specs.declared.fault.Failing.{Failing}
+use Rattle.nc_number.specs.declared.fault.Failing.TheVariants as failing
 use Rattle.macro_expr.specs.declared.tree.ExprFault.{ExprFault}
+use Rattle.macro_expr.specs.declared.stop.Stop.{Stop}
+use Rattle.macro_expr.specs.declared.stop.Stop.TheVariants.{Expression, Condition, Function, Loop, Sequence}
 use Rattle.macro_expr.specs.Words.{run, begins}
-use Rattle.macro_expr.specs.Reading.{refused}
 
--- The text without spaces, tabs and comments, and in upper case. The test says whether it begins inside a comment.
+abbrev pub refusal : Cause → ExprFault
+refusal cause = record { number = cause_number cause }
+
+-- The text without spaces, tabs and comments, and in upper case. The test says whether it begins inside a comment. A comment
+-- that is open at the end leaves its bracket, which is no part of any expression.
 abbrev pub cleaned : Bool → List ℕ → List ℕ
-cleaned comment [] = []
+cleaned true [] = codes "("
+cleaned false [] = []
 cleaned true (b ∷ text) = cleaned (not (b == 41)) text
 cleaned false (b ∷ text) =
     if b == 40 then cleaned true text
@@ -20,12 +32,18 @@ cleaned false (b ∷ text) =
 abbrev pub ends : (ℕ → Bool) → List ℕ → Bool
 ends p text = nat_lt 0 (length text) && p (slice_index text (length text - 1))
 
+-- whether the number of a loop stands behind that text, in a statement of its own
+abbrev pub is_loop_head : List ℕ → Bool
+is_loop_head before =
+    bytes_eq before (codes "DO") || bytes_eq before (codes "END")
+    || (starts_with nat_eq before (codes "WHILE") && ends_with nat_eq before (codes "]DO"))
+
 -- whether these digits, behind that text, are more than a number may have: 6 behind a point, else 8, zeros at the
--- head not counted. The digits behind DO and END are no number.
+-- head not counted. The digits of a loop are no number.
 abbrev pub are_too_many : List ℕ → List ℕ → Bool
 are_too_many before digits =
     if ends (λ b. b == 46) before then nat_lt 6 (length digits)
-    else if ends_with nat_eq before (codes "DO") || ends_with nat_eq before (codes "END") then false
+    else if is_loop_head before then false
     else nat_lt 8 (length (significant digits))
 
 -- whether a number with too many digits begins behind that text
@@ -53,26 +71,44 @@ too_deep opened (b ∷ text) = nat_lt 5 opened || too_deep (open_behind opened b
 unfoldable pub has_deep_brackets : List ℕ → Bool
 has_deep_brackets text = too_deep 0 text
 
-unfoldable pub has_many_variables : List ℕ → Bool
-has_many_variables text = nat_lt 32 (count_by (λ b. b == 35) text)
+-- how many variables the text names
+abbrev pub variable_signs : List ℕ → ℕ
+variable_signs text = count_by (λ b. b == 35) text
 
--- the refusal of a limit that is looked for before the text is read
-abbrev pub limit_of : List ℕ → Option ExprFault
-limit_of text =
-    if has_long_number text then Some (record { number = 5 })
-    else if has_deep_brackets text then Some (record { number = 21 })
-    else None
+abbrev pub has_many_variables : List ℕ → Bool
+has_many_variables text = nat_lt 32 (variable_signs text)
 
--- the refusal for too many variables comes before 64, and before 20, which is answered only for no other cause
-abbrev pub refusal_of : Bool → ExprFault → ExprFault
-refusal_of many fault = if many && (fault.number == 20 || nat_lt 25 fault.number) then record { number = 25 } else fault
+-- the refusal of a place where reading stops
+abbrev pub cause_of : Stop → Cause
+cause_of Expression = BadExpression
+cause_of Condition = BadCondition
+cause_of Function = UnknownFunction
+cause_of Loop = BadLoopNumber
+cause_of Sequence = WordRange
 
--- of several refusals the least
-abbrev pub answered : {A : Type 0} → Option ExprFault → Bool → Result A ExprFault → Result A ExprFault
-answered (Some limit) many read = Err limit
-answered None many (Ok x) = if many then refused 25 else Ok x
-answered None many (Err fault) = Err (refusal_of many fault)
+-- too many variables come before 64, and before 20, which is answered only for no other cause
+abbrev pub cause_beside : Bool → Stop → Cause
+cause_beside true Expression = TooManyVariables
+cause_beside true Sequence = TooManyVariables
+cause_beside true Condition = BadCondition
+cause_beside true Function = UnknownFunction
+cause_beside true Loop = BadLoopNumber
+cause_beside false stop = cause_of stop
 
--- what is answered for a cleaned text that is read so
-abbrev pub answer : {A : Type 0} → List ℕ → Result A ExprFault → Result A ExprFault
-answer text read = answered (limit_of text) (has_many_variables text) read
+-- the refusal of a text that is not read: the least of those that hold
+abbrev pub refusal_of : List ℕ → Stop → ExprFault
+refusal_of text stop =
+    if has_long_number text then refusal TooManyDigits
+    else if has_deep_brackets text then refusal TooManyBrackets
+    else refusal (cause_beside (has_many_variables text) stop)
+
+-- what is answered for a cleaned text that is read so: a text that is read has no other refusal than too many variables
+abbrev pub answer : {A : Type 0} → List ℕ → Result A Stop → Result A ExprFault
+answer text (Ok tree) = if has_many_variables text then Err (refusal TooManyVariables) else Ok tree
+answer text (Err stop) = Err (refusal_of text stop)
+
+-- the same of what a call answers that may lack memory
+abbrev pub answer_to : {A : Type 0} → List ℕ → Result A (Failing Stop) → Result A (Failing ExprFault)
+answer_to text (Ok tree) = if has_many_variables text then Err (failing.Fault (refusal TooManyVariables)) else Ok tree
+answer_to text (Err (failing.Fault stop)) = Err (failing.Fault (refusal_of text stop))
+answer_to text (Err failing.NoMemory) = Err failing.NoMemory

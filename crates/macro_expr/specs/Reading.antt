@@ -1,49 +1,34 @@
 -- Reading a text from left to right: its tree, or the refusal of the first place where reading fails.
 -- Laws beside this say that the trees are exactly those of the grammar.
-use Rattle.std.specs.Prelude.{◌≡◌, ℕ, zero, suc, ◌/◌, ◌==◌, Bool, List, length, Option, Some, None, Result, Ok, Err, ℤ, unsigned_abs, codes, if◌then◌else◌}
+use Rattle.std.specs.Prelude.{ℕ, zero, suc, ◌/◌, ◌==◌, Bool, List, length, Option, Some, None, Result, Ok, Err, ℤ, unsigned_abs, codes, if◌then◌else◌}
 use Rattle.std.specs.Char.{is_ascii_digit}
 use Rattle.nc_number.specs.Literals.{is_literal, has_too_many_digits, literal_micro}
-use Rattle.nc_number.specs.declared.fault.Failing.{Failing}
-use Rattle.nc_number.specs.declared.fault.Failing.TheVariants as failing
-use Rattle.macro_expr.specs.declared.tree.ExprFault.{ExprFault}
+use Rattle.nc_number.specs.Results.{◌>>=◌}
+use Rattle.macro_expr.specs.declared.stop.Stop.{Stop}
+use Rattle.macro_expr.specs.declared.stop.Stop.TheVariants as stop
+use Rattle.macro_expr.specs.declared.words.Rank.{Rank}
+use Rattle.macro_expr.specs.declared.words.Rank.TheVariants.{Product, Sum}
 use Rattle.macro_expr.specs.declared.tree.Fun.{Fun}
 use Rattle.macro_expr.specs.declared.tree.Op.{Op}
-use Rattle.macro_expr.specs.Tree.{Tree, Number, Variable, VariableOf, Signed, Applied, Joined}
-use Rattle.macro_expr.specs.Words.{behind, product_operator, sum_operator, sign, function_of, is_letter, is_number_byte, run, behind_run, begins}
-
-infixl 10 ◌>>=◌
-abbrev pub ◌>>=◌ : {A B : Type 0} → Result A ExprFault → (A → Result B ExprFault) → Result B ExprFault
-(Ok x) >>= f = f x
-(Err e) >>= f = Err e
-
--- What a function returned, seen by view, is what reading gives, unless memory ran out.
-abbrev pub Fails : {Y : Type 0} → Failing ExprFault → Result Y ExprFault → Type 0
-Fails failing.NoMemory read = Unit {0}
-Fails (failing.Fault f) read = read ≡ Err f
-
-abbrev pub Gives : {X Y : Type 0} → (X → Y) → Result X (Failing ExprFault) → Result Y ExprFault → Type 0
-Gives view (Ok x) read = read ≡ Ok (view x)
-Gives view (Err e) read = Fails e read
+use Rattle.macro_expr.specs.Tree.{Tree, Number, Named, Fixed, Computed, look, Signed, Applied, Joined}
+use Rattle.macro_expr.specs.Words.{behind, operator, sign, function_of, is_letter, is_number_byte, run, behind_run, begins}
 
 -- a value that was read, and what stands behind it
 abbrev pub Read : Type 0 → Type 0
-Read A = Result (A × List ℕ) ExprFault
-
-abbrev pub refused : {A : Type 0} → ℕ → Result A ExprFault
-refused n = Err (record { number = n })
+Read A = Result (A × List ℕ) Stop
 
 -- the word must stand here
-abbrev pub expected : Option (List ℕ) → Result (List ℕ) ExprFault
-expected None = refused 20
+abbrev pub expected : Option (List ℕ) → Result (List ℕ) Stop
+expected None = Err stop.Expression
 expected (Some rest) = Ok rest
 
-unfoldable pub word_at : List ℕ → List ℕ → Result (List ℕ) ExprFault
+unfoldable pub word_at : List ℕ → List ℕ → Result (List ℕ) Stop
 word_at word text = expected (behind word text)
 
 -- the number of a literal, in millionths
-unfoldable pub literal_of : List ℕ → Result ℤ ExprFault
+unfoldable pub literal_of : List ℕ → Result ℤ Stop
 literal_of digits =
-    if is_literal digits then (if has_too_many_digits digits then refused 5 else Ok (literal_micro digits)) else refused 20
+    if is_literal digits then (if has_too_many_digits digits then Err stop.Expression else Ok (literal_micro digits)) else Err stop.Expression
 
 unfoldable pub number_at : List ℕ → Read Tree
 number_at text = do
@@ -65,20 +50,20 @@ bracket_at inner text = do
   Ok (e.0, rest)
 
 -- what stands behind the sign of a variable
-unfoldable pub variable_behind : (List ℕ → Read Tree) → List ℕ → Read Tree
+unfoldable pub variable_behind : (List ℕ → Read Tree) → List ℕ → Read Named
 variable_behind inner text =
     if begins is_ascii_digit text
-    then (digits_at text >>= λ n. Ok (Variable n.0, n.1))
-    else (bracket_at inner text >>= λ e. Ok (VariableOf e.0, e.1))
+    then (digits_at text >>= λ n. Ok (Fixed n.0, n.1))
+    else (bracket_at inner text >>= λ e. Ok (Computed e.0, e.1))
 
-unfoldable pub variable_at : (List ℕ → Read Tree) → List ℕ → Read Tree
+unfoldable pub variable_at : (List ℕ → Read Tree) → List ℕ → Read Named
 variable_at inner text = do
   rest ← word_at (codes "#") text
   variable_behind inner rest
 
 -- a function's brackets, once its name was read
 abbrev pub applied : (List ℕ → Read Tree) → Option Fun → List ℕ → Read Tree
-applied inner None text = refused 23
+applied inner None text = Err stop.Function
 applied inner (Some f) text = do
   e ← bracket_at inner text
   Ok (Applied f e.0, e.1)
@@ -89,7 +74,7 @@ function_at inner text = applied inner (function_of (run is_letter text)) (behin
 -- what an operator can stand before or behind
 unfoldable pub prim_at : (List ℕ → Read Tree) → List ℕ → Read Tree
 prim_at inner text =
-    if begins (λ b. b == 35) text then variable_at inner text
+    if begins (λ b. b == 35) text then (variable_at inner text >>= λ v. Ok (look v.0, v.1))
     else if begins (λ b. b == 91) text then bracket_at inner text
     else if begins is_letter text then function_at inner text
     else number_at text
@@ -116,24 +101,28 @@ unfoldable pub chain : (List ℕ → Option (Op × List ℕ)) → (List ℕ → 
 chain operator operand zero left text = Ok (left, text)
 chain operator operand (suc n) left text = joined_by left text (operator text) operand (chain operator operand n)
 
-unfoldable pub product_rest : (List ℕ → Read Tree) → Tree → List ℕ → Read Tree
-product_rest inner left text = chain product_operator (prim_at inner) (length text) left text
-
+-- a product: its operators join prims
 unfoldable pub product_at : (List ℕ → Read Tree) → List ℕ → Read Tree
 product_at inner text = do
   first ← prim_at inner text
-  product_rest inner first.0 first.1
+  chain (operator Product) (prim_at inner) (length first.1) first.0 first.1
 
-unfoldable pub sum_rest : (List ℕ → Read Tree) → Tree → List ℕ → Read Tree
-sum_rest inner left text = chain sum_operator (product_at inner) (length text) left text
+-- what stands between the operators of a rank
+abbrev pub operand_at : Rank → (List ℕ → Read Tree) → List ℕ → Read Tree
+operand_at Product inner = prim_at inner
+operand_at Sum inner = product_at inner
+
+-- the operators of a rank and what they join to left
+abbrev pub chain_at : Rank → (List ℕ → Read Tree) → Tree → List ℕ → Read Tree
+chain_at rank inner left text = chain (operator rank) (operand_at rank inner) (length text) left text
 
 unfoldable pub sum_at : (List ℕ → Read Tree) → List ℕ → Read Tree
 sum_at inner text = do
   first ← signed_at inner text
-  product ← product_rest inner first.0 first.1
-  sum_rest inner product.0 product.1
+  product ← chain_at Product inner first.0 first.1
+  chain_at Sum inner product.0 product.1
 
 -- an expression, where so many brackets less one may still be open at once
 unfoldable pub inside : ℕ → List ℕ → Read Tree
-inside zero text = refused 21
+inside zero text = Err stop.Expression
 inside (suc n) text = sum_at (inside n) text

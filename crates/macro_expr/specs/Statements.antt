@@ -1,20 +1,22 @@
 -- Reading a statement from left to right.
 use Rattle.std.specs.Prelude.{ℕ, ◌==◌, nat_lt, List, length, Option, Some, None, Result, Ok, Err, codes, if◌then◌else◌}
 use Rattle.std.specs.Char.{is_ascii_digit}
-use Rattle.macro_expr.specs.declared.tree.ExprFault.{ExprFault}
+use Rattle.nc_number.specs.Results.{◌>>=◌}
+use Rattle.macro_expr.specs.declared.stop.Stop.{Stop}
+use Rattle.macro_expr.specs.declared.stop.Stop.TheVariants as stop
 use Rattle.macro_expr.specs.declared.tree.Rel.{Rel}
 use Rattle.macro_expr.specs.declared.words.Keyword.{Keyword}
 use Rattle.macro_expr.specs.declared.words.Keyword.TheVariants as word
-use Rattle.macro_expr.specs.Tree.{Tree, Test, Aim, ToNumber, ToNumberOf, Sentence, Assign, Goto, IfGoto, IfThen, WhileDo, DoOnly, EndLoop}
+use Rattle.macro_expr.specs.Tree.{Tree, Named, look, Test, Aim, ToNumber, ToNumberOf, Sentence, Assign, Goto, IfGoto, IfThen, WhileDo, DoOnly, EndLoop}
 use Rattle.macro_expr.specs.Words.{behind, relation, keyword, loop_of, run, behind_run, begins}
-use Rattle.macro_expr.specs.Reading.{◌>>=◌, Read, refused, word_at, digits_at, bracket_at, variable_at, inside}
+use Rattle.macro_expr.specs.Reading.{Read, word_at, digits_at, bracket_at, variable_at, inside}
 
 -- Brackets nest five deep, so that what stands in brackets has four more.
 abbrev pub expression_at : List ℕ → Read Tree
 expression_at = inside 6
 
 abbrev pub relation_found : Option (Rel × List ℕ) → Read Rel
-relation_found None = refused 20
+relation_found None = Err stop.Expression
 relation_found (Some found) = Ok found
 
 unfoldable pub relation_at : List ℕ → Read Rel
@@ -32,7 +34,7 @@ condition_at text = do
 
 abbrev pub or_no_condition : Read Test → Read Test
 or_no_condition (Ok test) = Ok test
-or_no_condition (Err fault) = refused 22
+or_no_condition (Err fault) = Err stop.Condition
 
 -- the condition behind IF or WHILE
 unfoldable pub test_at : List ℕ → Read Test
@@ -40,16 +42,16 @@ test_at text = or_no_condition (condition_at text)
 
 -- a sequence number of a block
 abbrev pub numbered : ℕ → List ℕ → Read Aim
-numbered n rest = if nat_lt 99999 n then refused 64 else Ok (ToNumber n, rest)
+numbered n rest = if nat_lt 99999 n then Err stop.Sequence else Ok (ToNumber n, rest)
 
 unfoldable pub target_at : List ℕ → Read Aim
 target_at text =
     if begins is_ascii_digit text then (digits_at text >>= λ n. numbered n.0 n.1)
-    else if begins (λ b. b == 35) text then (variable_at (inside 5) text >>= λ v. Ok (ToNumberOf v.0, v.1))
+    else if begins (λ b. b == 35) text then (variable_at (inside 5) text >>= λ v. Ok (ToNumberOf (look v.0), v.1))
     else (bracket_at (inside 5) text >>= λ e. Ok (ToNumberOf e.0, e.1))
 
 abbrev pub loop_found : Option ℕ → List ℕ → Read ℕ
-loop_found None rest = refused 24
+loop_found None rest = Err stop.Loop
 loop_found (Some m) rest = Ok (m, rest)
 
 -- the number of a loop
@@ -57,7 +59,7 @@ unfoldable pub loop_at : List ℕ → Read ℕ
 loop_at text = loop_found (loop_of (run is_ascii_digit text)) (behind_run is_ascii_digit text)
 
 -- a variable and what it is to hold
-unfoldable pub assignment_at : List ℕ → Read (Tree × Tree)
+unfoldable pub assignment_at : List ℕ → Read (Named × Tree)
 assignment_at text = do
   v ← variable_at (inside 5) text
   rest ← word_at (codes "=") v.1
@@ -98,7 +100,7 @@ statement_for word.Do text = loop_at text >>= λ m. Ok (DoOnly m.0, m.1)
 statement_for word.End text = loop_at text >>= λ m. Ok (EndLoop m.0, m.1)
 
 abbrev pub statement_by : Option (Keyword × List ℕ) → Read Sentence
-statement_by None = refused 20
+statement_by None = Err stop.Expression
 statement_by (Some found) = statement_for found.0 found.1
 
 unfoldable pub statement_at : List ℕ → Read Sentence
@@ -107,5 +109,5 @@ statement_at text =
     else statement_by (keyword text)
 
 -- nothing may stand behind it
-abbrev pub whole : {A : Type 0} → Read A → Result A ExprFault
-whole read = read >>= λ x. if length x.1 == 0 then Ok x.0 else refused 20
+abbrev pub whole : {A : Type 0} → Read A → Result A Stop
+whole read = read >>= λ x. if length x.1 == 0 then Ok x.0 else Err stop.Expression

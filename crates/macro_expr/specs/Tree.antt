@@ -1,10 +1,10 @@
 -- Trees of expressions and statements, without where they lie in memory.
-use Rattle.std.specs.Prelude.{ℕ, suc, max, ℤ, Bool, List, [], ◌∷◌, ◌++◌}
+use Rattle.std.specs.Prelude.{ℕ, suc, ◌+◌, ◌≤◌, max, ℤ, Bool, List, [], ◌∷◌, ◌++◌}
 use Rattle.macro_expr.specs.declared.tree.Fun.{Fun}
 use Rattle.macro_expr.specs.declared.tree.Op.{Op}
 use Rattle.macro_expr.specs.declared.tree.Rel.{Rel}
 use Rattle.macro_expr.specs.declared.tree.Expr.{Expr, Lit, Look, Sign', Call', Two'}
-use Rattle.macro_expr.specs.declared.tree.VarRef.{VarRef, Fixed, Computed'}
+use Rattle.macro_expr.specs.declared.tree.VarRef.{VarRef, Fixed as FixedRef, Computed' as ComputedRef}
 use Rattle.macro_expr.specs.declared.tree.Cond.{Cond}
 use Rattle.macro_expr.specs.declared.tree.Target.{Target}
 use Rattle.macro_expr.specs.declared.tree.Target.TheVariants.{Fixed as Line, Computed as LineOf}
@@ -32,17 +32,36 @@ right_depth (Signed minus e) = right_depth e
 right_depth (Applied f e) = right_depth e
 right_depth (Joined op a b) = max (right_depth a) (suc (right_depth b))
 
+-- how many variables it names, those that give a number of another among them
+abbrev pub variables : Tree → ℕ
+variables (Number z) = 0
+variables (Variable n) = 1
+variables (VariableOf e) = variables e + 1
+variables (Signed minus e) = variables e
+variables (Applied f e) = variables e
+variables (Joined op a b) = variables a + variables b
+
+-- a variable that is named: the one of this number, or the one whose number the tree gives
+pub data Named : Type 0 where
+  Fixed : ℕ → Named
+  Computed : Tree → Named
+
+-- the variable as an expression
+abbrev pub look : Named → Tree
+look (Fixed n) = Variable n
+look (Computed e) = VariableOf e
+
 abbrev mutual
   pub tree_of : Expr → Tree
   tree_of (Lit z) = Number z
-  tree_of (Look v) = variable_of v
+  tree_of (Look v) = look (variable_of v)
   tree_of (Sign' minus p e) = Signed minus (tree_of e)
   tree_of (Call' f p e) = Applied f (tree_of e)
   tree_of (Two' op p e q f) = Joined op (tree_of e) (tree_of f)
 
-  pub variable_of : VarRef → Tree
-  variable_of (Fixed n) = Variable n
-  variable_of (Computed' p e) = VariableOf (tree_of e)
+  pub variable_of : VarRef → Named
+  variable_of (FixedRef n) = Fixed n
+  variable_of (ComputedRef p e) = Computed (tree_of e)
 
 -- a condition
 pub record Test : Type 0 where
@@ -64,10 +83,10 @@ aim_of (LineOf e) = ToNumberOf (tree_of e)
 
 -- a statement
 pub data Sentence : Type 0 where
-  Assign : Tree → Tree → Sentence
+  Assign : Named → Tree → Sentence
   Goto : Aim → Sentence
   IfGoto : Test → Aim → Sentence
-  IfThen : Test → Tree → Tree → Sentence
+  IfThen : Test → Named → Tree → Sentence
   WhileDo : Test → ℕ → Sentence
   DoOnly : ℕ → Sentence
   EndLoop : ℕ → Sentence
@@ -81,19 +100,46 @@ sentence_of (statement.WhileDo c m) = WhileDo (test_of c) m
 sentence_of (statement.DoOnly m) = DoOnly m
 sentence_of (statement.EndLoop m) = EndLoop m
 
--- the expressions and variables of a statement
-abbrev pub trees_of_test : Test → List Tree
-trees_of_test test = test.left ∷ test.right ∷ []
+-- The trees that a statement evaluates, in their order: of a condition left and right, then the number of a variable on the
+-- left side where it is computed, then the value; of a target its number where it is computed.
+abbrev pub evaluated_test : Test → List Tree
+evaluated_test test = test.left ∷ test.right ∷ []
 
-abbrev pub trees_of_aim : Aim → List Tree
-trees_of_aim (ToNumber n) = []
-trees_of_aim (ToNumberOf e) = e ∷ []
+abbrev pub evaluated_name : Named → List Tree
+evaluated_name (Fixed n) = []
+evaluated_name (Computed e) = e ∷ []
 
-abbrev pub trees_of : Sentence → List Tree
-trees_of (Assign v e) = v ∷ e ∷ []
-trees_of (Goto aim) = trees_of_aim aim
-trees_of (IfGoto test aim) = trees_of_test test ++ trees_of_aim aim
-trees_of (IfThen test v e) = trees_of_test test ++ v ∷ e ∷ []
-trees_of (WhileDo test m) = trees_of_test test
-trees_of (DoOnly m) = []
-trees_of (EndLoop m) = []
+abbrev pub evaluated_aim : Aim → List Tree
+evaluated_aim (ToNumber n) = []
+evaluated_aim (ToNumberOf e) = e ∷ []
+
+abbrev pub evaluated : Sentence → List Tree
+evaluated (Assign v e) = evaluated_name v ++ e ∷ []
+evaluated (Goto aim) = evaluated_aim aim
+evaluated (IfGoto test aim) = evaluated_test test ++ evaluated_aim aim
+evaluated (IfThen test v e) = evaluated_test test ++ (evaluated_name v ++ e ∷ [])
+evaluated (WhileDo test m) = evaluated_test test
+evaluated (DoOnly m) = []
+evaluated (EndLoop m) = []
+
+-- how many variables the trees name
+abbrev pub variables_in : List Tree → ℕ
+variables_in [] = 0
+variables_in (e ∷ trees) = variables e + variables_in trees
+
+-- a loop is 1, 2 or 3, and a sequence number at most 99,999
+abbrev pub IsLoop : ℕ → Type 0
+IsLoop m = (1 ≤ m) × (m ≤ 3)
+
+abbrev pub IsAimInRange : Aim → Type 0
+IsAimInRange (ToNumber n) = n ≤ 99999
+IsAimInRange (ToNumberOf e) = Unit {0}
+
+abbrev pub IsInRange : Sentence → Type 0
+IsInRange (Assign v e) = Unit {0}
+IsInRange (Goto aim) = IsAimInRange aim
+IsInRange (IfGoto test aim) = IsAimInRange aim
+IsInRange (IfThen test v e) = Unit {0}
+IsInRange (WhileDo test m) = IsLoop m
+IsInRange (DoOnly m) = IsLoop m
+IsInRange (EndLoop m) = IsLoop m

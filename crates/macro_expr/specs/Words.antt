@@ -9,6 +9,8 @@ use Rattle.macro_expr.specs.declared.words.Keyword.{Keyword}
 use Rattle.macro_expr.specs.declared.words.Keyword.TheVariants.{If, While, Goto, Do, End}
 use Rattle.macro_expr.specs.declared.tree.Op.{Op}
 use Rattle.macro_expr.specs.declared.tree.Op.TheVariants.{Add, Sub, BitOr, BitXor, Mul, Div, BitAnd, Modulo}
+use Rattle.macro_expr.specs.declared.words.Rank.{Rank}
+use Rattle.macro_expr.specs.declared.words.Rank.TheVariants.{Product, Sum}
 use Rattle.macro_expr.specs.declared.tree.Rel.{Rel}
 use Rattle.macro_expr.specs.declared.tree.Rel.TheVariants.{Eq, Ne, Gt, Ge, Lt, Le}
 
@@ -23,11 +25,10 @@ abbrev pub first_word : {A : Type 0} → List (List ℕ × A) → List ℕ → O
 first_word [] text = None
 first_word (w ∷ words) text = option_or (option_map (λ rest. (w.1, rest)) (behind w.0 text)) (first_word words text)
 
-abbrev pub product_words : List (List ℕ × Op)
-product_words = (codes "*", Mul) ∷ (codes "/", Div) ∷ (codes "AND", BitAnd) ∷ (codes "MOD", Modulo) ∷ []
-
-abbrev pub sum_words : List (List ℕ × Op)
-sum_words = (codes "+", Add) ∷ (codes "-", Sub) ∷ (codes "OR", BitOr) ∷ (codes "XOR", BitXor) ∷ []
+-- the operators of a rank
+abbrev pub operator_words : Rank → List (List ℕ × Op)
+operator_words Product = (codes "*", Mul) ∷ (codes "/", Div) ∷ (codes "AND", BitAnd) ∷ (codes "MOD", Modulo) ∷ []
+operator_words Sum = (codes "+", Add) ∷ (codes "-", Sub) ∷ (codes "OR", BitOr) ∷ (codes "XOR", BitXor) ∷ []
 
 abbrev pub relation_words : List (List ℕ × Rel)
 relation_words =
@@ -36,11 +37,8 @@ relation_words =
 abbrev pub sign_words : List (List ℕ × Bool)
 sign_words = (codes "+", false) ∷ (codes "-", true) ∷ []
 
-unfoldable pub product_operator : List ℕ → Option (Op × List ℕ)
-product_operator = first_word product_words
-
-unfoldable pub sum_operator : List ℕ → Option (Op × List ℕ)
-sum_operator = first_word sum_words
+unfoldable pub operator : Rank → List ℕ → Option (Op × List ℕ)
+operator rank = first_word (operator_words rank)
 
 unfoldable pub relation : List ℕ → Option (Rel × List ℕ)
 relation = first_word relation_words

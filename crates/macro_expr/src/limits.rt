@@ -1,6 +1,6 @@
 ghost use Rattle.std.specs.Prelude.{◌≡◌, ◌==◌, ◌++◌, nat_eq, false, IfOk};
 ghost use Rattle.std.specs.Char.{is_ascii_digit};
-ghost use Rattle.macro_expr.specs.Limits.{cleaned, ends, are_too_many, begins_long, has_long_number, open_behind, has_deep_brackets, has_many_variables};
+ghost use Rattle.macro_expr.specs.Limits.{cleaned, ends, is_loop_head, are_too_many, begins_long, has_long_number, open_behind, has_deep_brackets, has_many_variables};
 
 use crate::words::{begins_with_digit, digits, significant};
 use nc_number::NoMemory;
@@ -12,7 +12,8 @@ const MOST_BRACKETS: usize = 5;
 /// How many variables a text may name.
 const MOST_VARIABLES: usize = 32;
 
-/// The text without spaces, tabs and comments, and in upper case.
+/// The text without spaces, tabs and comments, and in upper case. A comment that is open at the end
+/// leaves its bracket, which is no part of any expression.
 pub(crate) fn cleaned(alloc: Global, text: &[u8]) -> Result<Vec<u8>, NoMemory>
     ensures { IfOk result (λ clean. clean.items ≡ cleaned false text.now) }
 {
@@ -26,6 +27,9 @@ pub(crate) fn cleaned(alloc: Global, text: &[u8]) -> Result<Vec<u8>, NoMemory>
         } else if *b != b' ' && *b != b'\t' {
             clean.push(b.to_ascii_uppercase())?;
         }
+    }
+    if comment {
+        clean.push(b'(')?;
     }
     Ok(clean)
 }
@@ -42,6 +46,15 @@ fn ends_with_point(text: &[u8]) -> bool
     !text.is_empty() && text[text.len() - 1] == b'.'
 }
 
+/// Whether the number of a loop stands behind that text, in a statement of its own.
+fn is_loop_head(before: &[u8]) -> bool
+    ensures { result ≡ is_loop_head before.now }
+{
+    before == b"DO".as_slice()
+        || before == b"END".as_slice()
+        || before.starts_with(b"WHILE") && before.ends_with(b"]DO")
+}
+
 /// Whether these digits, behind that text, are more than a number may have.
 fn are_too_many(before: &[u8], number: &[u8]) -> bool
     ensures { result ≡ are_too_many before.now number.now }
@@ -49,7 +62,7 @@ fn are_too_many(before: &[u8], number: &[u8]) -> bool
     if ends_with_point(before) {
         return number.len() > 6;
     }
-    if before.ends_with(b"DO") || before.ends_with(b"END") {
+    if is_loop_head(before) {
         return false;
     }
     significant(number).len() > 8
@@ -98,7 +111,6 @@ pub(crate) fn has_deep_brackets(text: &[u8]) -> bool
 }
 
 /// Whether the text names more than 32 variables.
-#[tactic(auto, unfolding(crate::specs::Limits::has_many_variables))]
 pub(crate) fn has_many_variables(text: &[u8]) -> bool
     ensures { result ≡ has_many_variables text.now }
 {

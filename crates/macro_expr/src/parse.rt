@@ -1,111 +1,102 @@
-ghost use Rattle.std.specs.Prelude.{◌≡◌, ◌≤◌, ℕ, List, false, IfOk, Ok};
+ghost use Rattle.std.specs.Prelude.{◌≡◌, ◌≤◌, ◌==◌, ℕ, List, false, length, IfOk, Ok, Err, if◌then◌else◌};
 ghost use Rattle.std.specs.List.{All};
-ghost use Rattle.macro_expr.specs.Tree.{Tree, Sentence, tree_of, sentence_of, right_depth, trees_of};
+ghost use Rattle.nc_number.specs.declared.fault.Failing.TheVariants.{Fault};
+ghost use Rattle.macro_expr.specs.declared.stop.Stop.TheVariants.{Expression};
+ghost use Rattle.macro_expr.specs.Tree.{Tree, Sentence, tree_of, sentence_of, right_depth, variables, variables_in, evaluated, IsInRange};
 ghost use Rattle.macro_expr.specs.Grammar.{IsExpression, IsStatement};
-ghost use Rattle.macro_expr.specs.Reading.{Gives};
+ghost use Rattle.nc_number.specs.Answers.{Gives};
 ghost use Rattle.macro_expr.specs.Statements.{expression_at, statement_at, whole};
-ghost use Rattle.macro_expr.specs.Limits.{cleaned, limit_of, refusal_of};
-ghost use Rattle.macro_expr.specs.Answers.{IsWithinLimits, expression_of, statement_of};
+ghost use Rattle.macro_expr.specs.Limits.{cleaned, variable_signs, refusal_of, answer_to};
+ghost use Rattle.macro_expr.specs.Answers.{HasTree, HasSentence, expression_of, statement_of};
 
 use crate::limits::{cleaned, has_deep_brackets, has_long_number, has_many_variables};
-use crate::reading::{BAD_EXPRESSION, TOO_MANY_BRACKETS, TOO_MANY_DIGITS, inside};
+use crate::reading::inside;
 use crate::statements::statement_at;
+use crate::stop::Stop;
 use crate::tree::{Expr, ExprFault, Statement};
-use nc_number::Failing;
+use nc_number::{Cause, Failing};
 use std::alloc::Global;
 
-const TOO_MANY_VARIABLES: ExprFault = ExprFault { number: 25 };
-
-/// The refusal of a limit that is looked for before the text is read.
-fn limit_of(text: &[u8]) -> Option<ExprFault>
-    ensures { result ≡ limit_of text.now }
+/// The refusal of a text whose reading stops so: the least of those that hold.
+fn refusal_of(text: &[u8], stop: Stop) -> ExprFault
+    ensures { result ≡ refusal_of text.now stop }
 {
     if has_long_number(text) {
-        return Some(TOO_MANY_DIGITS);
+        return ExprFault::of(Cause::TooManyDigits);
     }
     if has_deep_brackets(text) {
-        return Some(TOO_MANY_BRACKETS);
+        return ExprFault::of(Cause::TooManyBrackets);
     }
-    None
+    stop.refusal(has_many_variables(text))
 }
 
-/// The refusal, or that for too many variables where that comes first.
-fn refusal_of(many: bool, fault: ExprFault) -> ExprFault
-    ensures { result ≡ refusal_of many fault }
+/// The answer for a text that is read so.
+fn answer<T: Drop>(text: &[u8], read: Result<T, Failing<Stop>>) -> Result<T, Failing<ExprFault>>
+    ensures { result ≡ answer_to text.now read }
 {
-    if many && (fault.number == BAD_EXPRESSION.number || fault.number > TOO_MANY_VARIABLES.number) {
-        return TOO_MANY_VARIABLES;
+    match read {
+        Ok(_) if has_many_variables(text) => Err(Failing::Fault(ExprFault::of(
+            Cause::TooManyVariables,
+        ))),
+        Ok(tree) => Ok(tree),
+        Err(Failing::Fault(stop)) => Err(Failing::Fault(refusal_of(text, stop))),
+        Err(Failing::NoMemory) => Err(Failing::NoMemory),
     }
-    fault
 }
 
-/// An expression, all of the text.
-fn expression(alloc: Global, text: &[u8]) -> Result<Expr, Failing<ExprFault>>
+/// What was read, where nothing stands behind it.
+fn alone<T: Drop>(tree: T, rest: &[u8]) -> Result<T, Failing<Stop>>
+    ensures { result ≡ (if length rest.now == 0 then Ok tree else Err (Fault Expression)) }
+{
+    if rest.is_empty() {
+        Ok(tree)
+    } else {
+        Err(Failing::Fault(Stop::Expression))
+    }
+}
+
+fn read_expression(alloc: Global, text: &[u8]) -> Result<Expr, Failing<Stop>>
     ensures { Gives (λ tree. tree_of tree) result (whole (expression_at text.now)) }
 {
     let (tree, rest) = inside(alloc, 6, text)?;
-    if !rest.is_empty() {
-        return Err(Failing::Fault(BAD_EXPRESSION));
-    }
-    Ok(tree)
+    alone(tree, rest)
 }
 
-/// A statement, all of the text.
-fn statement(alloc: Global, text: &[u8]) -> Result<Statement, Failing<ExprFault>>
+fn read_statement(alloc: Global, text: &[u8]) -> Result<Statement, Failing<Stop>>
     ensures { Gives (λ tree. sentence_of tree) result (whole (statement_at text.now)) }
 {
     let (tree, rest) = statement_at(alloc, text)?;
-    if !rest.is_empty() {
-        return Err(Failing::Fault(BAD_EXPRESSION));
-    }
-    Ok(tree)
+    alone(tree, rest)
 }
 
 fn answer_expression(alloc: Global, text: &[u8]) -> Result<Expr, Failing<ExprFault>>
     ensures { Gives (λ tree. tree_of tree) result (expression_of text.now) }
 {
     let text = cleaned(alloc, text)?;
-    if let Some(fault) = limit_of(&text) {
-        return Err(Failing::Fault(fault));
-    }
-    let many = has_many_variables(&text);
-    match expression(alloc, &text) {
-        Ok(_) if many => Err(Failing::Fault(TOO_MANY_VARIABLES)),
-        Ok(tree) => Ok(tree),
-        Err(Failing::Fault(fault)) => Err(Failing::Fault(refusal_of(many, fault))),
-        Err(Failing::NoMemory) => Err(Failing::NoMemory),
-    }
+    let read = read_expression(alloc, &text);
+    answer(&text, read)
 }
 
 fn answer_statement(alloc: Global, text: &[u8]) -> Result<Statement, Failing<ExprFault>>
     ensures { Gives (λ tree. sentence_of tree) result (statement_of text.now) }
 {
     let text = cleaned(alloc, text)?;
-    if let Some(fault) = limit_of(&text) {
-        return Err(Failing::Fault(fault));
-    }
-    let many = has_many_variables(&text);
-    match statement(alloc, &text) {
-        Ok(_) if many => Err(Failing::Fault(TOO_MANY_VARIABLES)),
-        Ok(tree) => Ok(tree),
-        Err(Failing::Fault(fault)) => Err(Failing::Fault(refusal_of(many, fault))),
-        Err(Failing::NoMemory) => Err(Failing::NoMemory),
-    }
+    let read = read_statement(alloc, &text);
+    answer(&text, read)
 }
 
 /// The tree of an expression, all of the text.
 ///
-/// Spaces, tabs and comments are left out, and lower case letters are read as upper case. Of
-/// several refusals the least number is given, 20 only where there is no other: 5, 21 and 25 are
-/// conditions of the whole text, and the others are that of the first place where reading from
-/// left to right fails.
+/// Spaces, tabs and comments are left out, and lower case letters are read as upper case. A text
+/// that has a tree and names at most 32 variables gets it. Of several refusals the least number is
+/// given, 20 only where there is no other: 5, 21 and 25 are conditions of the whole text, and the
+/// others are that of the first place where reading from left to right stops.
 pub fn parse_expr(alloc: Global, text: &[u8]) -> Result<Expr, Failing<ExprFault>>
-    // The tree is one that the grammar gives the text.
-    ensures found { IfOk result (λ tree. IsExpression (cleaned false text.now) (tree_of tree)) }
+    // The tree is the one that the grammar gives the text, which names at most 32 variables.
+    ensures found { IfOk result (λ tree. HasTree text.now (tree_of tree)) }
 
-    // A text with a tree gets it, unless a limit refuses the text or memory runs out.
-    ensures only { (tree : Tree) → IsExpression (cleaned false text.now) tree → IsWithinLimits (cleaned false text.now)
-        → Gives (λ tree. tree_of tree) result (Ok tree) }
+    // Such a text gets its tree, unless memory runs out.
+    ensures only { (tree : Tree) → HasTree text.now tree → Gives (λ tree. tree_of tree) result (Ok tree) }
 
     // Which refusal it is.
     ensures exact { Gives (λ tree. tree_of tree) result (expression_of text.now) }
@@ -113,6 +104,9 @@ pub fn parse_expr(alloc: Global, text: &[u8]) -> Result<Expr, Failing<ExprFault>
     // Right operands stand in one another twelve deep at most: two in the whole, and two in each of
     // five brackets.
     ensures shallow { IfOk result (λ tree. right_depth (tree_of tree) ≤ 12) }
+
+    // The tree names no more variables than the text.
+    ensures named { IfOk result (λ tree. variables (tree_of tree) ≤ variable_signs (cleaned false text.now)) }
 {
     answer_expression(alloc, text)
 }
@@ -121,18 +115,22 @@ pub fn parse_expr(alloc: Global, text: &[u8]) -> Result<Expr, Failing<ExprFault>
 ///
 /// It reads the text, and answers of several refusals, as [`parse_expr`] does.
 pub fn parse_statement(alloc: Global, text: &[u8]) -> Result<Statement, Failing<ExprFault>>
-    // The tree is one that the grammar gives the text.
-    ensures found { IfOk result (λ tree. IsStatement (cleaned false text.now) (sentence_of tree)) }
+    // The tree is the one that the grammar gives the text, which names at most 32 variables.
+    ensures found { IfOk result (λ tree. HasSentence text.now (sentence_of tree)) }
 
-    // A text with a tree gets it, unless a limit refuses the text or memory runs out.
-    ensures only { (tree : Sentence) → IsStatement (cleaned false text.now) tree → IsWithinLimits (cleaned false text.now)
-        → Gives (λ tree. sentence_of tree) result (Ok tree) }
+    // Such a text gets its tree, unless memory runs out.
+    ensures only { (tree : Sentence) → HasSentence text.now tree → Gives (λ tree. sentence_of tree) result (Ok tree) }
 
     // Which refusal it is.
     ensures exact { Gives (λ tree. sentence_of tree) result (statement_of text.now) }
 
-    // So they do in each expression and variable of it.
-    ensures shallow { IfOk result (λ tree. All (λ e. right_depth e ≤ 12) (trees_of (sentence_of tree))) }
+    // So do right operands in each expression of it, and they name no more variables than the text.
+    ensures shallow { IfOk result (λ tree. All (λ e. right_depth e ≤ 12) (evaluated (sentence_of tree))) }
+    ensures named { IfOk result
+        (λ tree. variables_in (evaluated (sentence_of tree)) ≤ variable_signs (cleaned false text.now)) }
+
+    // A loop number is 1, 2 or 3, and a sequence number that is written out at most 99,999.
+    ensures ranges { IfOk result (λ tree. IsInRange (sentence_of tree)) }
 {
     answer_statement(alloc, text)
 }

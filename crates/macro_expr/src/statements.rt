@@ -1,38 +1,36 @@
 ghost use Rattle.std.specs.Prelude.{◌≡◌};
 ghost use Rattle.macro_expr.specs.Tree.{tree_of, variable_of, test_of, aim_of, sentence_of};
-ghost use Rattle.macro_expr.specs.Reading.{Gives};
+ghost use Rattle.nc_number.specs.Answers.{Gives};
 ghost use Rattle.macro_expr.specs.Statements.{relation_at, condition_at, test_at, target_at, loop_at, assignment_at, branch_at, if_at, while_at, statement_for, statement_at};
 
-use crate::reading::{BAD_EXPRESSION, bracket_at, digits_at, inside, variable_at, word_at};
-use crate::tree::{Cond, Expr, ExprFault, Rel, Statement, Target, VarRef};
+use crate::reading::{bracket_at, digits_at, inside, variable_at, word_at};
+use crate::stop::Stop;
+use crate::tree::{Cond, Expr, Rel, Statement, Target, VarRef};
 use crate::words::{
     Keyword, begins_with_digit, behind, digits, leading_keyword, loop_of, relation,
 };
 use nc_number::Failing;
 use std::alloc::Global;
 
-pub(crate) const BAD_CONDITION: ExprFault = ExprFault { number: 22 };
-
-pub(crate) const BAD_LOOP_NUMBER: ExprFault = ExprFault { number: 24 };
-
-pub(crate) const WORD_RANGE: ExprFault = ExprFault { number: 64 };
+/// The greatest sequence number.
+const MOST_SEQUENCE: u32 = 99_999;
 
 /// How many brackets may stand open above the expressions of a condition and of a variable, with
 /// those themselves.
 const LEVELS: u8 = 5;
 
 #[tactic(auto, unfolding(crate::specs::Statements::relation_at))]
-fn relation_at(text: &[u8]) -> Result<(Rel, &[u8]), Failing<ExprFault>>
+fn relation_at(text: &[u8]) -> Result<(Rel, &[u8]), Failing<Stop>>
     ensures { Gives (λ x. (x.0, x.1.now)) result (relation_at text.now) }
 {
     match relation(text) {
         Some((rel, rest)) => Ok((rel, rest)),
-        None => Err(Failing::Fault(BAD_EXPRESSION)),
+        None => Err(Failing::Fault(Stop::Expression)),
     }
 }
 
 #[tactic(auto, unfolding(crate::specs::Statements::condition_at))]
-fn condition_at(alloc: Global, text: &[u8]) -> Result<(Cond, &[u8]), Failing<ExprFault>>
+fn condition_at(alloc: Global, text: &[u8]) -> Result<(Cond, &[u8]), Failing<Stop>>
     ensures { Gives (λ x. (test_of x.0, x.1.now)) result (condition_at text.now) }
 {
     let text = word_at(text, b"[")?;
@@ -45,25 +43,25 @@ fn condition_at(alloc: Global, text: &[u8]) -> Result<(Cond, &[u8]), Failing<Exp
 
 /// The condition behind IF or WHILE.
 #[tactic(auto, unfolding(crate::specs::Statements::test_at))]
-fn test_at(alloc: Global, text: &[u8]) -> Result<(Cond, &[u8]), Failing<ExprFault>>
+fn test_at(alloc: Global, text: &[u8]) -> Result<(Cond, &[u8]), Failing<Stop>>
     ensures { Gives (λ x. (test_of x.0, x.1.now)) result (test_at text.now) }
 {
     match condition_at(alloc, text) {
         Ok(found) => Ok(found),
         Err(Failing::NoMemory) => Err(Failing::NoMemory),
-        Err(Failing::Fault(_)) => Err(Failing::Fault(BAD_CONDITION)),
+        Err(Failing::Fault(_)) => Err(Failing::Fault(Stop::Condition)),
     }
 }
 
 /// Where a jump leads.
 #[tactic(auto, unfolding(crate::specs::Statements::target_at))]
-fn target_at(alloc: Global, text: &[u8]) -> Result<(Target, &[u8]), Failing<ExprFault>>
+fn target_at(alloc: Global, text: &[u8]) -> Result<(Target, &[u8]), Failing<Stop>>
     ensures { Gives (λ x. (aim_of x.0, x.1.now)) result (target_at text.now) }
 {
     if begins_with_digit(text) {
         let (number, rest) = digits_at(text)?;
-        if number > 99_999 {
-            return Err(Failing::Fault(WORD_RANGE));
+        if number > MOST_SEQUENCE {
+            return Err(Failing::Fault(Stop::Sequence));
         }
         return Ok((Target::Fixed(number), rest));
     }
@@ -77,19 +75,19 @@ fn target_at(alloc: Global, text: &[u8]) -> Result<(Target, &[u8]), Failing<Expr
 
 /// The number of a loop: 1, 2 or 3.
 #[tactic(auto, unfolding(crate::specs::Statements::loop_at))]
-fn loop_at(text: &[u8]) -> Result<(u8, &[u8]), Failing<ExprFault>>
+fn loop_at(text: &[u8]) -> Result<(u8, &[u8]), Failing<Stop>>
     ensures { Gives (λ x. (x.0, x.1.now)) result (loop_at text.now) }
 {
     let (number, rest) = digits(text);
     match loop_of(number) {
         Some(m) => Ok((m, rest)),
-        None => Err(Failing::Fault(BAD_LOOP_NUMBER)),
+        None => Err(Failing::Fault(Stop::Loop)),
     }
 }
 
 /// A variable and what it is to hold.
 #[tactic(auto, unfolding(crate::specs::Statements::assignment_at))]
-fn assignment_at(alloc: Global, text: &[u8]) -> Result<((VarRef, Expr), &[u8]), Failing<ExprFault>>
+fn assignment_at(alloc: Global, text: &[u8]) -> Result<((VarRef, Expr), &[u8]), Failing<Stop>>
     ensures { Gives (λ x. ((variable_of x.0.0, tree_of x.0.1), x.1.now)) result (assignment_at text.now) }
 {
     let (variable, text) = variable_at(alloc, LEVELS, text)?;
@@ -104,7 +102,7 @@ fn branch_at(
     alloc: Global,
     condition: Cond,
     text: &[u8],
-) -> Result<(Statement, &[u8]), Failing<ExprFault>>
+) -> Result<(Statement, &[u8]), Failing<Stop>>
     ensures { Gives (λ x. (sentence_of x.0, x.1.now)) result (branch_at (test_of condition) text.now) }
 {
     if let Some(rest) = behind(text, b"GOTO") {
@@ -117,7 +115,7 @@ fn branch_at(
 }
 
 #[tactic(auto, unfolding(crate::specs::Statements::if_at))]
-fn if_at(alloc: Global, text: &[u8]) -> Result<(Statement, &[u8]), Failing<ExprFault>>
+fn if_at(alloc: Global, text: &[u8]) -> Result<(Statement, &[u8]), Failing<Stop>>
     ensures { Gives (λ x. (sentence_of x.0, x.1.now)) result (if_at text.now) }
 {
     let (condition, text) = test_at(alloc, text)?;
@@ -125,7 +123,7 @@ fn if_at(alloc: Global, text: &[u8]) -> Result<(Statement, &[u8]), Failing<ExprF
 }
 
 #[tactic(auto, unfolding(crate::specs::Statements::while_at))]
-fn while_at(alloc: Global, text: &[u8]) -> Result<(Statement, &[u8]), Failing<ExprFault>>
+fn while_at(alloc: Global, text: &[u8]) -> Result<(Statement, &[u8]), Failing<Stop>>
     ensures { Gives (λ x. (sentence_of x.0, x.1.now)) result (while_at text.now) }
 {
     let (condition, text) = test_at(alloc, text)?;
@@ -139,7 +137,7 @@ fn statement_for(
     alloc: Global,
     word: Keyword,
     text: &[u8],
-) -> Result<(Statement, &[u8]), Failing<ExprFault>>
+) -> Result<(Statement, &[u8]), Failing<Stop>>
     ensures { Gives (λ x. (sentence_of x.0, x.1.now)) result (statement_for word text.now) }
 {
     match word {
@@ -162,10 +160,7 @@ fn statement_for(
 
 /// A statement.
 #[tactic(auto, unfolding(crate::specs::Statements::statement_at))]
-pub(crate) fn statement_at(
-    alloc: Global,
-    text: &[u8],
-) -> Result<(Statement, &[u8]), Failing<ExprFault>>
+pub(crate) fn statement_at(alloc: Global, text: &[u8]) -> Result<(Statement, &[u8]), Failing<Stop>>
     ensures { Gives (λ x. (sentence_of x.0, x.1.now)) result (statement_at text.now) }
 {
     if matches!(text, [b'#', ..]) {
@@ -174,6 +169,6 @@ pub(crate) fn statement_at(
     }
     match leading_keyword(text) {
         Some((word, text)) => statement_for(alloc, word, text),
-        None => Err(Failing::Fault(BAD_EXPRESSION)),
+        None => Err(Failing::Fault(Stop::Expression)),
     }
 }

@@ -1,4 +1,7 @@
-use nc_number::Value;
+ghost use Rattle.std.specs.Prelude.{◌≡◌};
+ghost use Rattle.macro_expr.specs.Limits.{refusal};
+
+use nc_number::{Cause, Value};
 use thiserror::Error;
 
 /// An expression. Brackets leave no node.
@@ -119,4 +122,14 @@ pub enum Statement {
 #[error("refusal {number}")]
 pub struct ExprFault {
     pub number: u8,
+}
+
+impl ExprFault {
+    pub(crate) fn of(cause: Cause) -> ExprFault
+        ensures { result ≡ refusal cause }
+    {
+        ExprFault {
+            number: cause.number(),
+        }
+    }
 }

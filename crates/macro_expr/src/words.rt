@@ -2,7 +2,7 @@ ghost use Rattle.std.specs.Prelude.{◌≡◌, ◌≤◌, ◌==◌, not, length,
 ghost use Rattle.std.specs.Option.{option_map};
 ghost use Rattle.std.specs.Char.{is_ascii_digit};
 ghost use Rattle.nc_number.specs.Literals.{significant};
-ghost use Rattle.macro_expr.specs.Words.{behind, product_operator, sum_operator, relation, sign, function_word, function_of, keyword, loop_word, loop_of, is_letter, is_number_byte, run, behind_run, begins};
+ghost use Rattle.macro_expr.specs.Words.{behind, operator, relation, sign, function_word, function_of, keyword, loop_word, loop_of, is_letter, is_number_byte, run, behind_run, begins};
 
 use crate::tree::{Fun, Op, Rel};
 
@@ -16,6 +16,15 @@ pub enum Keyword {
     End,
 }
 
+/// How tightly an operator binds.
+#[derive(Clone, Copy, Debug, PartialEq, Eq)]
+pub enum Rank {
+    /// `*`, `/`, AND and MOD.
+    Product,
+    /// `+`, `-`, OR and XOR.
+    Sum,
+}
+
 /// What stands behind the word, where the text begins with it.
 pub(crate) fn behind<'a>(text: &'a [u8], word: &[u8]) -> Option<&'a [u8]>
     ensures { option_map (λ rest. rest.now) result ≡ behind word.now text.now }
@@ -23,40 +32,27 @@ pub(crate) fn behind<'a>(text: &'a [u8], word: &[u8]) -> Option<&'a [u8]>
     text.strip_prefix(word)
 }
 
-/// The operator of a product with which the text begins, and what stands behind it.
-#[tactic(auto, unfolding(crate::specs::Words::product_operator))]
-pub(crate) fn product_operator(text: &[u8]) -> Option<(Op, &[u8])>
-    ensures { option_map (λ found. (found.0, found.1.now)) result ≡ product_operator text.now }
-{
-    if let Some(rest) = behind(text, b"*") {
-        return Some((Op::Mul, rest));
-    }
-    if let Some(rest) = behind(text, b"/") {
-        return Some((Op::Div, rest));
-    }
-    if let Some(rest) = behind(text, b"AND") {
-        return Some((Op::BitAnd, rest));
-    }
-    let rest = behind(text, b"MOD")?;
-    Some((Op::Modulo, rest))
+// A table of words: the meaning of the first one with which the text begins, and what stands behind it.
+macro_rules! first_word {
+    ($text:ident: $($word:literal $meaning:expr),+) => {{
+        $(if let Some(rest) = behind($text, $word) {
+            return Some(($meaning, rest));
+        })+
+        None
+    }};
 }
 
-/// The operator of a sum with which the text begins, and what stands behind it.
-#[tactic(auto, unfolding(crate::specs::Words::sum_operator))]
-pub(crate) fn sum_operator(text: &[u8]) -> Option<(Op, &[u8])>
-    ensures { option_map (λ found. (found.0, found.1.now)) result ≡ sum_operator text.now }
+/// The operator of that rank with which the text begins, and what stands behind it.
+#[tactic(auto, unfolding(crate::specs::Words::operator))]
+pub(crate) fn operator(rank: Rank, text: &[u8]) -> Option<(Op, &[u8])>
+    ensures { option_map (λ found. (found.0, found.1.now)) result ≡ operator rank text.now }
 {
-    if let Some(rest) = behind(text, b"+") {
-        return Some((Op::Add, rest));
+    match rank {
+        Rank::Product =>
+            first_word!(text: b"*" Op::Mul, b"/" Op::Div, b"AND" Op::BitAnd, b"MOD" Op::Modulo),
+        Rank::Sum =>
+            first_word!(text: b"+" Op::Add, b"-" Op::Sub, b"OR" Op::BitOr, b"XOR" Op::BitXor),
     }
-    if let Some(rest) = behind(text, b"-") {
-        return Some((Op::Sub, rest));
-    }
-    if let Some(rest) = behind(text, b"OR") {
-        return Some((Op::BitOr, rest));
-    }
-    let rest = behind(text, b"XOR")?;
-    Some((Op::BitXor, rest))
 }
 
 /// The relation with which the text begins, and what stands behind it.
@@ -64,23 +60,7 @@ pub(crate) fn sum_operator(text: &[u8]) -> Option<(Op, &[u8])>
 pub(crate) fn relation(text: &[u8]) -> Option<(Rel, &[u8])>
     ensures { option_map (λ found. (found.0, found.1.now)) result ≡ relation text.now }
 {
-    if let Some(rest) = behind(text, b"EQ") {
-        return Some((Rel::Eq, rest));
-    }
-    if let Some(rest) = behind(text, b"NE") {
-        return Some((Rel::Ne, rest));
-    }
-    if let Some(rest) = behind(text, b"GT") {
-        return Some((Rel::Gt, rest));
-    }
-    if let Some(rest) = behind(text, b"GE") {
-        return Some((Rel::Ge, rest));
-    }
-    if let Some(rest) = behind(text, b"LT") {
-        return Some((Rel::Lt, rest));
-    }
-    let rest = behind(text, b"LE")?;
-    Some((Rel::Le, rest))
+    first_word!(text: b"EQ" Rel::Eq, b"NE" Rel::Ne, b"GT" Rel::Gt, b"GE" Rel::Ge, b"LT" Rel::Lt, b"LE" Rel::Le)
 }
 
 /// The sign with which the text begins, `true` for minus, and what stands behind it.
@@ -88,11 +68,7 @@ pub(crate) fn relation(text: &[u8]) -> Option<(Rel, &[u8])>
 pub(crate) fn sign(text: &[u8]) -> Option<(bool, &[u8])>
     ensures { option_map (λ found. (found.0, found.1.now)) result ≡ sign text.now }
 {
-    if let Some(rest) = behind(text, b"+") {
-        return Some((false, rest));
-    }
-    let rest = behind(text, b"-")?;
-    Some((true, rest))
+    first_word!(text: b"+" false, b"-" true)
 }
 
 /// The function whose name begins the text, and what stands behind it.
@@ -100,20 +76,7 @@ pub(crate) fn sign(text: &[u8]) -> Option<(bool, &[u8])>
 fn function_word(text: &[u8]) -> Option<(Fun, &[u8])>
     ensures { option_map (λ found. (found.0, found.1.now)) result ≡ function_word text.now }
 {
-    if let Some(rest) = behind(text, b"SQRT") {
-        return Some((Fun::Sqrt, rest));
-    }
-    if let Some(rest) = behind(text, b"ABS") {
-        return Some((Fun::Abs, rest));
-    }
-    if let Some(rest) = behind(text, b"FIX") {
-        return Some((Fun::Fix, rest));
-    }
-    if let Some(rest) = behind(text, b"FUP") {
-        return Some((Fun::Fup, rest));
-    }
-    let rest = behind(text, b"ROUND")?;
-    Some((Fun::Round, rest))
+    first_word!(text: b"SQRT" Fun::Sqrt, b"ABS" Fun::Abs, b"FIX" Fun::Fix, b"FUP" Fun::Fup, b"ROUND" Fun::Round)
 }
 
 /// The function of this name.
@@ -134,20 +97,7 @@ pub(crate) fn function_of(name: &[u8]) -> Option<Fun>
 pub(crate) fn leading_keyword(text: &[u8]) -> Option<(Keyword, &[u8])>
     ensures { option_map (λ found. (found.0, found.1.now)) result ≡ keyword text.now }
 {
-    if let Some(rest) = behind(text, b"IF") {
-        return Some((Keyword::If, rest));
-    }
-    if let Some(rest) = behind(text, b"WHILE") {
-        return Some((Keyword::While, rest));
-    }
-    if let Some(rest) = behind(text, b"GOTO") {
-        return Some((Keyword::Goto, rest));
-    }
-    if let Some(rest) = behind(text, b"DO") {
-        return Some((Keyword::Do, rest));
-    }
-    let rest = behind(text, b"END")?;
-    Some((Keyword::End, rest))
+    first_word!(text: b"IF" Keyword::If, b"WHILE" Keyword::While, b"GOTO" Keyword::Goto, b"DO" Keyword::Do, b"END" Keyword::End)
 }
 
 /// The loop number with which the text begins, and what stands behind it.
@@ -155,14 +105,7 @@ pub(crate) fn leading_keyword(text: &[u8]) -> Option<(Keyword, &[u8])>
 fn loop_word(text: &[u8]) -> Option<(u8, &[u8])>
     ensures { option_map (λ found. (found.0, found.1.now)) result ≡ loop_word text.now }
 {
-    if let Some(rest) = behind(text, b"1") {
-        return Some((1, rest));
-    }
-    if let Some(rest) = behind(text, b"2") {
-        return Some((2, rest));
-    }
-    let rest = behind(text, b"3")?;
-    Some((3, rest))
+    first_word!(text: b"1" 1, b"2" 2, b"3" 3)
 }
 
 /// The loop of this number.

@@ -1,47 +1,49 @@
-use Rattle.std.proofs.Common.{◌≡◌, ◌+◌, ◌-◌, ◌*◌}
+use Rattle.std.proofs.Common.{◌≡◌, ℕ, ◌+◌, ◌-◌, ◌*◌}
+use Rattle.macro_expr.specs.declared.words.Rank.{Rank}
+use Rattle.macro_expr.specs.declared.words.Rank.TheVariants.{Product, Sum}
 use Rattle.macro_expr.specs.Tree.{tree_of}
-use Rattle.macro_expr.specs.Reading.{chain, prim_at, product_at, inside, product_rest, sum_rest}
-use Rattle.macro_expr.specs.Words.{product_operator, sum_operator}
+use Rattle.macro_expr.specs.Words.{operator}
+use Rattle.macro_expr.specs.Reading.{chain, operand_at, chain_at, inside}
 use Rattle.macro_expr.proofs.reading.+reading.Given as goal
 
 -- Fewer levels, or the same and nearer to the brackets.
 abbrev pub decreases-inside : goal.decreases-inside
-decreases-inside l = 8 * l.levels
+decreases-inside l = 10 * l.levels
 
 abbrev pub decreases-bracket_at : goal.decreases-bracket_at
-decreases-bracket_at l = 8 * l.levels + 1
+decreases-bracket_at l = 10 * l.levels + 1
 
 abbrev pub decreases-variable_at : goal.decreases-variable_at
-decreases-variable_at l = 8 * l.levels + 2
+decreases-variable_at l = 10 * l.levels + 2
 
 abbrev pub decreases-function_at : goal.decreases-function_at
-decreases-function_at l = 8 * l.levels + 2
+decreases-function_at l = 10 * l.levels + 2
 
 abbrev pub decreases-prim_at : goal.decreases-prim_at
-decreases-prim_at l = 8 * l.levels + 3
+decreases-prim_at l = 10 * l.levels + 3
 
 abbrev pub decreases-signed_at : goal.decreases-signed_at
-decreases-signed_at l = 8 * l.levels + 4
+decreases-signed_at l = 10 * l.levels + 4
 
-abbrev pub decreases-product_rest : goal.decreases-product_rest
-decreases-product_rest l = 8 * l.levels + 4
+-- a sum's operands are products
+abbrev pub above_prims : Rank → ℕ
+above_prims Product = 0
+above_prims Sum = 3
+
+abbrev pub decreases-operand_at : goal.decreases-operand_at
+decreases-operand_at l = 10 * l.levels + 4 + above_prims l.rank
+
+abbrev pub decreases-chain_at : goal.decreases-chain_at
+decreases-chain_at l = 10 * l.levels + 5 + above_prims l.rank
 
 abbrev pub decreases-product_at : goal.decreases-product_at
-decreases-product_at l = 8 * l.levels + 5
-
-abbrev pub decreases-sum_rest : goal.decreases-sum_rest
-decreases-sum_rest l = 8 * l.levels + 6
+decreases-product_at l = 10 * l.levels + 6
 
 abbrev pub decreases-sum_at : goal.decreases-sum_at
-decreases-sum_at l = 8 * l.levels + 7
+decreases-sum_at l = 10 * l.levels + 9
 
 -- what is left to read, joined to what was read, is the whole
-abbrev pub invariant-product_rest-loop-round : goal.invariant-product_rest-loop-round
-invariant-product_rest-loop-round l =
-    chain product_operator (prim_at (inside l.levels)) (l._round-end - l._round) (tree_of l.left) l.rest
-    ≡ product_rest (inside l.levels) (tree_of l.fn.first) l.text
-
-abbrev pub invariant-sum_rest-loop-round : goal.invariant-sum_rest-loop-round
-invariant-sum_rest-loop-round l =
-    chain sum_operator (product_at (inside l.levels)) (l._round-end - l._round) (tree_of l.left) l.rest
-    ≡ sum_rest (inside l.levels) (tree_of l.fn.first) l.text
+abbrev pub invariant-chain_at-loop-round : goal.invariant-chain_at-loop-round
+invariant-chain_at-loop-round l =
+    chain (operator l.rank) (operand_at l.rank (inside l.levels)) (l._round-end - l._round) (tree_of l.left) l.rest
+    ≡ chain_at l.rank (inside l.levels) (tree_of l.fn.first) l.text
