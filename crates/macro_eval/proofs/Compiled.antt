@@ -1,16 +1,14 @@
--- The postfix code of a tree makes of it what the tree means.
-use Rattle.std.proofs.Common.{◌≡◌, ℕ, List, [], ◌∷◌, ◌++◌, Result, refl, sym, ◌∙◌, ap, append_assoc}
-use Rattle.std.proofs.lemmas.List.{append-nil}
+-- The code of a tree makes of it what the tree means, and the tree itself.
+use Rattle.std.proofs.Common.{◌≡◌, ℕ, List, [], ◌∷◌, Result, refl, sym, ◌∙◌}
 use Rattle.nc_number.specs.declared.value.Var.{Var}
 use Rattle.macro_expr.specs.Tree.{Tree, Number, Variable, VariableOf, Signed, Applied, Joined}
 use Rattle.macro_eval.specs.declared.scope.Look.{Look}
 use Rattle.macro_eval.specs.declared.scope.VarFault.{VarFault}
-use Rattle.macro_eval.specs.declared.scope.Eval.{Eval}
 use Rattle.macro_eval.specs.declared.scope.Eval.TheVariants.{Got, Need, Fault}
 use Rattle.macro_eval.specs.declared.code.Instr.{Instr}
 use Rattle.macro_eval.specs.declared.code.Instr.TheVariants as instr
 use Rattle.macro_eval.specs.Meaning.{Answer, meaning, then_with, looked_up, signed, applied, joined}
-use Rattle.macro_eval.specs.Postfix.{postfix, run}
+use Rattle.macro_eval.specs.Postfix.{code_before, postfix, run}
 
 then_then : (a : Answer) (f g : Var → List Var → Answer)
     → then_with (then_with a f) g ≡ then_with a (λ v left. then_with (f v left) g)
@@ -27,32 +25,23 @@ then_same (Fault n, left) f g same = refl
 module _ (table : ℕ → Result Look VarFault) where
   -- the code of a tree leaves its value on the stack, and goes on
   runs : (t : Tree) (code : List Instr) (stack reads : List Var)
-      → run table (postfix t ++ code) stack reads
+      → run table (code_before t code) stack reads
       ≡ then_with (meaning table t reads) (λ v left. run table code (v ∷ stack) left)
   runs (Number z) code stack reads = refl
   runs (Variable n) code stack reads = refl
   runs (VariableOf e) code stack reads =
-      let apart : (postfix e ++ instr.LookUp ∷ []) ++ code ≡ postfix e ++ instr.LookUp ∷ code = simp append_assoc in
-      ap (λ xs. run table xs stack reads) apart
-      ∙ runs e (instr.LookUp ∷ code) stack reads
+      runs e (instr.LookUp ∷ code) stack reads
       ∙ sym (then_then (meaning table e reads) (looked_up table) (λ v left. run table code (v ∷ stack) left))
   runs (Signed minus e) code stack reads =
-      let apart : (postfix e ++ instr.Sign minus ∷ []) ++ code ≡ postfix e ++ instr.Sign minus ∷ code = simp append_assoc in
-      ap (λ xs. run table xs stack reads) apart
-      ∙ runs e (instr.Sign minus ∷ code) stack reads
+      runs e (instr.Sign minus ∷ code) stack reads
       ∙ sym (then_then (meaning table e reads) (λ v left. (signed minus v, left)) (λ v left. run table code (v ∷ stack) left))
   runs (Applied f e) code stack reads =
-      let apart : (postfix e ++ instr.Call f ∷ []) ++ code ≡ postfix e ++ instr.Call f ∷ code = simp append_assoc in
-      ap (λ xs. run table xs stack reads) apart
-      ∙ runs e (instr.Call f ∷ code) stack reads
+      runs e (instr.Call f ∷ code) stack reads
       ∙ sym (then_then (meaning table e reads) (λ v left. (applied f v, left)) (λ v left. run table code (v ∷ stack) left))
   runs (Joined op a b) code stack reads =
-      let apart : (postfix a ++ (postfix b ++ instr.Join op ∷ [])) ++ code ≡ postfix a ++ (postfix b ++ instr.Join op ∷ code)
-      = simp append_assoc in
-      ap (λ xs. run table xs stack reads) apart
-      ∙ runs a (postfix b ++ instr.Join op ∷ code) stack reads
+      runs a (code_before b (instr.Join op ∷ code)) stack reads
       ∙ then_same (meaning table a reads)
-      (λ v left. run table (postfix b ++ instr.Join op ∷ code) (v ∷ stack) left)
+      (λ v left. run table (code_before b (instr.Join op ∷ code)) (v ∷ stack) left)
       (λ v left. then_with (then_with (meaning table b left) (λ w left. (joined op v w, left))) (λ x left. run table code (x ∷ stack) left))
       (λ v left.
       runs b (instr.Join op ∷ code) (v ∷ stack) left
@@ -68,19 +57,4 @@ module _ (table : ℕ → Result Look VarFault) where
 
   -- the code of a tree alone answers its meaning
   pub run_is_meaning : (t : Tree) (reads : List Var) → run table (postfix t) [] reads ≡ meaning table t reads
-  run_is_meaning t reads =
-      ap (λ xs. run table xs [] reads) (sym (append-nil (postfix t)))
-      ∙ runs t [] [] reads ∙ ends (meaning table t reads)
-
--- what was run is the code of the tree, so that its answer is the tree's
-pub answer_is : (table : ℕ → Result Look VarFault) (tree : Tree) (instrs code : List Instr) (reads left : List Var) (a : Eval)
-    → ◌≡◌ {A = Answer} (a, left) (run table instrs [] reads) → instrs ≡ code → code ≡ postfix tree
-    → a ≡ (meaning table tree reads).0
-answer_is table tree instrs code reads left a ran same is =
-    ap (λ p. p.0) ran ∙ ap (λ xs. (run table xs [] reads).0) (same ∙ is) ∙ ap (λ p. p.0) (run_is_meaning table tree reads)
-
-pub left_is : (table : ℕ → Result Look VarFault) (tree : Tree) (instrs code : List Instr) (reads left : List Var) (a : Eval)
-    → ◌≡◌ {A = Answer} (a, left) (run table instrs [] reads) → instrs ≡ code → code ≡ postfix tree
-    → left ≡ (meaning table tree reads).1
-left_is table tree instrs code reads left a ran same is =
-    ap (λ p. p.1) ran ∙ ap (λ xs. (run table xs [] reads).1) (same ∙ is) ∙ ap (λ p. p.1) (run_is_meaning table tree reads)
+  run_is_meaning t reads = runs t [] [] reads ∙ ends (meaning table t reads)

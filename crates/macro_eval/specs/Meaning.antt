@@ -1,11 +1,14 @@
 -- What an expression means: its value, the shared variable that must be read next, or an alarm; and the reads left.
-use Rattle.std.specs.Prelude.{ℕ, ◌/◌, ◌%◌, ◌==◌, Bool, not, List, [], ◌∷◌, Result, Ok, Err, ℤ, pos, neg_ℤ, unsigned_abs, if◌then◌else◌}
+use Rattle.std.specs.Prelude.{ℕ, Bool, List, [], ◌∷◌, Option, Some, None, Result, Ok, Err, ℤ, pos, neg_ℤ, unsigned_abs, if◌then◌else◌}
 use Rattle.std.specs.Int.{is_negative}
+use Rattle.nc_number.specs.declared.cause.Cause.{Cause}
+use Rattle.nc_number.specs.declared.cause.Cause.TheVariants.{NotWhole, VariableRange}
 use Rattle.nc_number.specs.declared.value.Var.{Var}
-use Rattle.nc_number.specs.declared.value.Var.TheVariants.{Vacant, Is}
+use Rattle.nc_number.specs.declared.value.Var.TheVariants.{Is}
 use Rattle.nc_number.specs.declared.fault.NumberFault.{NumberFault}
-use Rattle.nc_number.specs.declared.fault.NumberFault.TheVariants.{Overflow, ZeroDivide, NegativeRoot, NotWhole, TooManyDigits}
-use Rattle.nc_number.specs.Arithmetic.{sum_of, difference_of, product_of, quotient_of, remainder_of, and_of, or_of, xor_of, root_of, rounded, dropped, raised}
+use Rattle.nc_number.specs.Causes.{cause_number, cause_of_number_fault}
+use Rattle.nc_number.specs.Variables.{or_zero}
+use Rattle.nc_number.specs.Arithmetic.{sum_of, difference_of, product_of, quotient_of, remainder_of, and_of, or_of, xor_of, root_of, rounded, dropped, raised, whole_of}
 use Rattle.macro_expr.specs.declared.tree.Fun.{Fun}
 use Rattle.macro_expr.specs.declared.tree.Fun.TheVariants.{Sqrt, Abs, Fix, Fup, Round}
 use Rattle.macro_expr.specs.declared.tree.Op.{Op}
@@ -17,39 +20,30 @@ use Rattle.macro_eval.specs.declared.scope.VarFault.{VarFault}
 use Rattle.macro_eval.specs.declared.scope.Eval.{Eval}
 use Rattle.macro_eval.specs.declared.scope.Eval.TheVariants.{Got, Need, Fault}
 
--- in arithmetic a vacant variable counts as 0
-abbrev pub number_of : Var → ℤ
-number_of Vacant = pos 0
-number_of (Is z) = z
-
-abbrev pub alarm_of : NumberFault → ℕ
-alarm_of Overflow = 1
-alarm_of ZeroDivide = 2
-alarm_of NegativeRoot = 3
-alarm_of NotWhole = 4
-alarm_of TooManyDigits = 5
+abbrev pub alarm : Cause → Eval
+alarm cause = Fault (cause_number cause)
 
 -- a computed number
 abbrev pub made : Result ℤ NumberFault → Eval
 made (Ok z) = Got (Is z)
-made (Err fault) = Fault (alarm_of fault)
+made (Err fault) = alarm (cause_of_number_fault fault)
 
 -- behind a sign, which makes a number
 abbrev pub with_sign : Bool → ℤ → ℤ
 with_sign minus z = if minus then neg_ℤ z else z
 
 abbrev pub signed : Bool → Var → Eval
-signed minus v = Got (Is (with_sign minus (number_of v)))
+signed minus v = Got (Is (with_sign minus (or_zero v)))
 
 abbrev pub function_value : Fun → ℤ → Result ℤ NumberFault
 function_value Sqrt z = root_of z
 function_value Abs z = Ok (pos (unsigned_abs z))
-function_value Fix z = dropped z
+function_value Fix z = Ok (dropped z)
 function_value Fup z = raised z
 function_value Round z = rounded z
 
 abbrev pub applied : Fun → Var → Eval
-applied f v = made (function_value f (number_of v))
+applied f v = made (function_value f (or_zero v))
 
 abbrev pub operator_value : Op → ℤ → ℤ → Result ℤ NumberFault
 operator_value Add a b = sum_of a b
@@ -62,7 +56,24 @@ operator_value BitAnd a b = and_of a b
 operator_value Modulo a b = remainder_of a b
 
 abbrev pub joined : Op → Var → Var → Eval
-joined op a b = made (operator_value op (number_of a) (number_of b))
+joined op a b = made (operator_value op (or_zero a) (or_zero b))
+
+-- a value that must be whole
+abbrev pub whole_or_alarm : Option ℤ → Result ℤ Cause
+whole_or_alarm (Some n) = Ok n
+whole_or_alarm None = Err NotWhole
+
+abbrev pub whole_number : Var → Result ℤ Cause
+whole_number v = whole_or_alarm (whole_of (or_zero v))
+
+-- no number below 0 names a variable
+abbrev pub named_by : Result ℤ Cause → Result ℕ Cause
+named_by (Ok n) = if is_negative n then Err VariableRange else Ok (unsigned_abs n)
+named_by (Err cause) = Err cause
+
+-- the variable whose number was computed
+abbrev pub variable_number : Var → Result ℕ Cause
+variable_number v = named_by (whole_number v)
 
 -- an answer, and the reads that are left
 abbrev pub Answer : Type 0
@@ -77,18 +88,18 @@ next_read n (v ∷ left) = (Got v, left)
 abbrev pub seen : Result Look VarFault → ℕ → List Var → Answer
 seen (Ok (look.Is v)) n reads = (Got v, reads)
 seen (Ok look.Shared) n reads = next_read n reads
-seen (Err fault) n reads = (Fault 30, reads)
+seen (Err fault) n reads = (alarm VariableRange, reads)
 
 module _ (table : ℕ → Result Look VarFault) where
   abbrev pub looked_at : ℕ → List Var → Answer
   looked_at n reads = seen (table n) n reads
 
-  -- the variable whose number was computed: it must be whole, and no number below 0 names a variable
+  abbrev pub looked_by : Result ℕ Cause → List Var → Answer
+  looked_by (Ok n) reads = looked_at n reads
+  looked_by (Err cause) reads = (alarm cause, reads)
+
   abbrev pub looked_up : Var → List Var → Answer
-  looked_up v reads =
-      if not (unsigned_abs (number_of v) % 1000000 == 0) then (Fault 4, reads)
-      else if is_negative (number_of v) then (Fault 30, reads)
-      else looked_at (unsigned_abs (number_of v) / 1000000) reads
+  looked_up v reads = looked_by (variable_number v) reads
 
 -- goes on with a value; a need or an alarm is the answer
 abbrev pub then_with : Answer → (Var → List Var → Answer) → Answer

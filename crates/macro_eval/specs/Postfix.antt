@@ -1,5 +1,6 @@
 -- Postfix code, and what a machine with a stack of operands makes of it.
-use Rattle.std.specs.Prelude.{ℕ, ◌+◌, ◌-◌, ◌==◌, ◌&&◌, nat_le, Bool, List, [], ◌∷◌, ◌++◌, Result}
+use Rattle.std.specs.Prelude.{◌≡◌, ℕ, ◌+◌, ◌-◌, ◌==◌, ◌&&◌, nat_le, Bool, true, List, [], ◌∷◌, Result, pos, refl}
+use Rattle.std.proofs.Common.{◌∙◌, ap}
 use Rattle.nc_number.specs.declared.value.Var.{Var}
 use Rattle.nc_number.specs.declared.value.Var.TheVariants.{Vacant, Is}
 use Rattle.macro_expr.specs.Tree.{Tree, Number, Variable, VariableOf, Signed, Applied, Joined}
@@ -10,14 +11,53 @@ use Rattle.macro_eval.specs.declared.code.Instr.{Instr}
 use Rattle.macro_eval.specs.declared.code.Instr.TheVariants as instr
 use Rattle.macro_eval.specs.Meaning.{Answer, looked_at, looked_up, signed, applied, joined, then_with}
 
--- the code of a tree: its operands first
+-- the code of a tree, its operands first, before the code that goes on with it
+abbrev pub code_before : Tree → List Instr → List Instr
+code_before (Number z) code = instr.Number z ∷ code
+code_before (Variable n) code = instr.Variable n ∷ code
+code_before (VariableOf e) code = code_before e (instr.LookUp ∷ code)
+code_before (Signed minus e) code = code_before e (instr.Sign minus ∷ code)
+code_before (Applied f e) code = code_before e (instr.Call f ∷ code)
+code_before (Joined op a b) code = code_before a (code_before b (instr.Join op ∷ code))
+
 abbrev pub postfix : Tree → List Instr
-postfix (Number z) = instr.Number z ∷ []
-postfix (Variable n) = instr.Variable n ∷ []
-postfix (VariableOf e) = postfix e ++ instr.LookUp ∷ []
-postfix (Signed minus e) = postfix e ++ instr.Sign minus ∷ []
-postfix (Applied f e) = postfix e ++ instr.Call f ∷ []
-postfix (Joined op a b) = postfix a ++ (postfix b ++ instr.Join op ∷ [])
+postfix t = code_before t []
+
+-- what an instruction makes of the trees on a stack, the last one first
+abbrev pub put : Instr → List Tree → List Tree
+put (instr.Number z) trees = Number z ∷ trees
+put (instr.Variable n) trees = Variable n ∷ trees
+put instr.LookUp (e ∷ trees) = VariableOf e ∷ trees
+put (instr.Sign minus) (e ∷ trees) = Signed minus e ∷ trees
+put (instr.Call f) (e ∷ trees) = Applied f e ∷ trees
+put (instr.Join op) (b ∷ a ∷ trees) = Joined op a b ∷ trees
+put i trees = trees
+
+abbrev pub built : List Instr → List Tree → List Tree
+built [] trees = trees
+built (i ∷ code) trees = built code (put i trees)
+
+abbrev pub first_tree : List Tree → Tree
+first_tree [] = Number (pos 0)
+first_tree (e ∷ trees) = e
+
+-- the tree whose code it is
+abbrev pub tree_of_code : List Instr → Tree
+tree_of_code code = first_tree (built code [])
+
+-- the code of a tree puts it on the stack, and goes on
+built_is : (t : Tree) (code : List Instr) (trees : List Tree) → built (code_before t code) trees ≡ built code (t ∷ trees)
+built_is (Number z) code trees = refl
+built_is (Variable n) code trees = refl
+built_is (VariableOf e) code trees = built_is e (instr.LookUp ∷ code) trees
+built_is (Signed minus e) code trees = built_is e (instr.Sign minus ∷ code) trees
+built_is (Applied f e) code trees = built_is e (instr.Call f ∷ code) trees
+built_is (Joined op a b) code trees =
+    built_is a (code_before b (instr.Join op ∷ code)) trees ∙ built_is b (instr.Join op ∷ code) (a ∷ trees)
+
+-- the code of a tree gives it back
+pub tree_is : (t : Tree) → tree_of_code (postfix t) ≡ t
+tree_is t = ap first_tree (built_is t [] [])
 
 -- how many operands an instruction takes
 abbrev pub takes : Instr → ℕ
@@ -33,6 +73,11 @@ abbrev pub fits : ℕ → List Instr → ℕ → Bool
 fits most [] height = height == 1
 fits most (i ∷ code) height =
     (nat_le (takes i) height && nat_le ((height - takes i) + 1) most) && fits most code ((height - takes i) + 1)
+
+-- code that is a tree's, and finds room for its operands
+pub record IsCode (code : List Instr) : Type 0 where
+  pub written : code ≡ postfix (tree_of_code code)
+  pub runs : fits 16 code 0 ≡ true
 
 -- one instruction on the stack, its last operand first: its answer, and the stack below
 abbrev pub step : (ℕ → Result Look VarFault) → Instr → List Var → List Var → Answer × List Var

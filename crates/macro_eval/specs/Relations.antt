@@ -5,7 +5,7 @@ use Rattle.nc_number.specs.declared.value.Var.{Var}
 use Rattle.nc_number.specs.declared.value.Var.TheVariants.{Vacant, Is}
 use Rattle.macro_expr.specs.declared.tree.Rel.{Rel}
 use Rattle.macro_expr.specs.declared.tree.Rel.TheVariants.{Eq, Ne, Gt, Ge, Lt, Le}
-use Rattle.macro_eval.specs.Meaning.{number_of}
+use Rattle.nc_number.specs.Variables.{or_zero}
 
 abbrev pub are_same : Var → Var → Bool
 are_same Vacant Vacant = true
@@ -16,7 +16,7 @@ are_same (Is x) Vacant = false
 abbrev pub holds_of : Rel → Var → Var → Bool
 holds_of Eq a b = are_same a b
 holds_of Ne a b = not (are_same a b)
-holds_of Gt a b = int_lt (number_of b) (number_of a)
-holds_of Ge a b = int_le (number_of b) (number_of a)
-holds_of Lt a b = int_lt (number_of a) (number_of b)
-holds_of Le a b = int_le (number_of a) (number_of b)
+holds_of Gt a b = int_lt (or_zero b) (or_zero a)
+holds_of Ge a b = int_le (or_zero b) (or_zero a)
+holds_of Lt a b = int_lt (or_zero a) (or_zero b)
+holds_of Le a b = int_le (or_zero a) (or_zero b)

@@ -1,6 +1,6 @@
-ghost use Rattle.std.specs.Prelude.{◌≡◌, ◌<◌, nat_le, [], ◌∷◌, ◌++◌, reverse, true, IfOk, OnOk};
-ghost use Rattle.macro_expr.specs.Tree.{Tree, tree_of, right_depth};
-ghost use Rattle.macro_eval.specs.Postfix.{postfix, fits};
+ghost use Rattle.std.specs.Prelude.{◌≡◌, ◌-◌, ◌<◌, nat_le, ◌∷◌, reverse, true, IfOk, OnOk};
+ghost use Rattle.macro_expr.specs.Tree.{tree_of, right_depth};
+ghost use Rattle.macro_eval.specs.Postfix.{postfix, code_before, fits};
 
 use macro_expr::{Expr, Fun, Op, VarRef};
 use nc_number::{NoMemory, Value};
@@ -28,55 +28,57 @@ pub enum Instr {
     Join(Op),
 }
 
-/// An expression as postfix code, whose operands the stack can hold.
+/// An expression as postfix code, whose operands the stack can hold. Contracts see its tree.
 #[derive(Debug, Drop)]
 pub struct Code {
     instrs: Vec<Instr>,
 }
 
 impl Model for Code {
-    ghost use Rattle.std.specs.Prelude.{◌≡◌, true, List};
+    ghost use Rattle.std.specs.Prelude.{List};
+    ghost use Rattle.std.specs.Coded.{code_by, coded_list};
+    ghost use denote.Enum.Declared.{row};
+    ghost use Rattle.macro_expr.specs.Tree.{Tree};
+    ghost use Rattle.macro_eval.specs.contracts.code.Instr.{the_type as instr_type};
     ghost use Rattle.macro_eval.specs.declared.code.Instr.{Instr};
-    ghost use Rattle.macro_eval.specs.Postfix.{fits};
+    ghost use Rattle.macro_eval.specs.Postfix.{postfix, tree_of_code, tree_is, IsCode};
 
-    ghost Value = { List Instr };
+    ghost Value = { Tree };
 
-    ghost view = { λ code. code.instrs.items };
+    ghost coded = { code_by (List Instr) (coded_list (row instr_type).coded) postfix tree_of_code tree_is };
 
-    ghost invariant = { λ code. fits 16 code.instrs.items 0 ≡ true };
+    ghost view = { λ code. tree_of_code code.instrs.items };
+
+    ghost invariant = { λ code. IsCode code.instrs.items };
 }
 
 impl Code {
     /// Its instructions, first to last.
-    pub fn instrs(&self) -> &[Instr]
-        ensures all { result.now ≡ self.now }
-        ensures runs { fits OPERANDS self.now 0 ≡ true }
+    pub(crate) fn instrs(&self) -> &[Instr]
+        ensures all { result.now ≡ postfix self.now }
+        ensures runs { fits OPERANDS result.now 0 ≡ true }
     {
         &self.instrs
     }
 }
 
-/// The postfix code of an expression.
+/// The code of an expression.
 ///
 /// An expression whose right operands stand 16 deep or deeper inside one another is refused as if
 /// memory ran out; none that the tape can write is.
 pub fn compile(alloc: Global, tree: &Expr) -> Result<Code, NoMemory>
-    ensures { IfOk result (λ code. code ≡ postfix (tree_of tree.now)) }
+    ensures { IfOk result (λ code. code ≡ tree_of tree.now) }
 {
-    a_shallow_tree_fits();
     if !is_shallow(tree, OPERANDS - 1) {
         return Err(NoMemory);
     }
-    let mut instrs = Vec::new(alloc);
-    emit_backwards(&mut instrs, tree)?;
-    instrs.reverse();
+    let mut written = Vec::new(alloc);
+    emit_backwards(&mut written, tree)?;
+    written.reverse();
+    // A copy takes just the room that it needs.
+    let instrs = Vec::from_slice(alloc, &written)?;
     Ok(Code { instrs })
 }
-
-/// An expression needs at most one operand at once more than its right operands are deep.
-pub fn a_shallow_tree_fits()
-    ensures { (tree : Tree) → right_depth tree < OPERANDS → fits OPERANDS (postfix tree) 0 ≡ true }
-{}
 
 /// Whether at most `room` right operands of the tree stand inside one another.
 ///
@@ -105,7 +107,7 @@ fn is_shallow(tree: &Expr, room: usize) -> bool
 /// It calls itself on right operands alone, as deep as they stand inside one another.
 fn emit_backwards(instrs: &mut Vec<Instr>, tree: &Expr) -> Result<(), NoMemory>
     requires { right_depth (tree_of tree.now) < OPERANDS }
-    ensures { OnOk result (instrs.new.items ≡ instrs.old.items ++ reverse (postfix (tree_of tree.now))) }
+    ensures { OnOk result (reverse instrs.new.items ≡ code_before (tree_of tree.now) (reverse instrs.old.items)) }
 {
     let mut part = tree;
     loop {
@@ -134,7 +136,7 @@ fn emit_backwards(instrs: &mut Vec<Instr>, tree: &Expr) -> Result<(), NoMemory>
 }
 
 fn put(instrs: &mut Vec<Instr>, instr: Instr) -> Result<(), NoMemory>
-    ensures { OnOk result (instrs.new.items ≡ instrs.old.items ++ instr ∷ []) }
+    ensures { OnOk result (reverse instrs.new.items ≡ instr ∷ reverse instrs.old.items) }
 {
     instrs.push(instr)?;
     Ok(())

@@ -1,21 +1,8 @@
 ghost use Rattle.std.specs.Prelude.{◌≡◌};
-ghost use Rattle.nc_number.specs.Range.{InRange};
-ghost use Rattle.macro_eval.specs.Meaning.{number_of};
 ghost use Rattle.macro_eval.specs.Relations.{are_same, holds_of};
 
 use macro_expr::Rel;
 use nc_number::Var;
-
-/// The count of millionths, 0 where the variable is vacant.
-pub(crate) fn micro(variable: &Var) -> i64
-    ensures value { result ≡ number_of variable.now }
-    ensures range { InRange result }
-{
-    match variable {
-        Var::Vacant => 0,
-        Var::Is(value) => value.micro(),
-    }
-}
 
 /// Whether both are vacant, or both are the same number.
 fn are_same(a: &Var, b: &Var) -> bool
@@ -33,7 +20,7 @@ fn are_same(a: &Var, b: &Var) -> bool
 pub fn holds(rel: Rel, a: Var, b: Var) -> bool
     ensures { result ≡ holds_of rel a b }
 {
-    let (left, right) = (micro(&a), micro(&b));
+    let (left, right) = (a.or_zero().micro(), b.or_zero().micro());
     match rel {
         Rel::Eq => are_same(&a, &b),
         Rel::Ne => !are_same(&a, &b),

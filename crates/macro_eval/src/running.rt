@@ -1,7 +1,10 @@
-ghost use Rattle.std.specs.Prelude.{◌≡◌, ◌-◌, [], true, length};
-ghost use Rattle.macro_expr.specs.Tree.{Tree};
+ghost use Rattle.std.specs.Prelude.{◌≡◌, ◌+◌, ◌-◌, ◌<◌, ◌≤◌, ℕ, List, [], true, length, Result};
+ghost use Rattle.nc_number.specs.declared.value.Var.{Var};
+ghost use Rattle.macro_expr.specs.Tree.{Tree, variables};
+ghost use Rattle.macro_eval.specs.declared.scope.Look.{Look};
+ghost use Rattle.macro_eval.specs.declared.scope.VarFault.{VarFault};
 ghost use Rattle.macro_eval.specs.Meaning.{meaning};
-ghost use Rattle.macro_eval.specs.Postfix.{postfix, fits, run};
+ghost use Rattle.macro_eval.specs.Postfix.{fits, run};
 
 use crate::code::{Code, Instr, OPERANDS};
 use crate::operands::Operands;
@@ -28,27 +31,42 @@ fn run<'a, S: Scope>(instrs: &[Instr], scope: &S, reads: &'a [Var]) -> (Eval, &'
     (Eval::Got(stack.pop()), left)
 }
 
-/// The value of the expression, the shared variable that must be read next, or an alarm. Each
-/// shared variable takes the next of `reads`, from left to right in the text.
+/// The value of the expression, the shared variable that must be read next, or an alarm; and the
+/// reads that are left. Each shared variable takes the next of `reads`, from left to right in the
+/// text.
 ///
 /// Alarms: 1 a result past the range, 2 a division by 0, 3 the root of a negative value, 4 what
 /// must be a whole number is none, 30 a variable that does not exist or can't be read.
-pub fn eval<S: Scope>(code: &Code, scope: &S, reads: &[Var]) -> Eval
-    ensures { (tree : Tree) → code.now ≡ postfix tree → result ≡ (meaning (S.table scope.now) tree reads.now).0 }
+pub fn evaluate<'a, S: Scope>(code: &Code, scope: &S, reads: &'a [Var]) -> (Eval, &'a [Var])
+    ensures { (result.0, result.1.now) ≡ meaning (S.table scope.now) code.now reads.now }
 {
-    let (answer, _) = run(code.instrs(), scope, reads);
-    answer
+    run(code.instrs(), scope, reads)
 }
 
-/// How many of `reads` the evaluation takes, so that the next expression of a block goes on
-/// behind them.
-pub fn count_reads<S: Scope>(code: &Code, scope: &S, reads: &[Var]) -> usize
-    ensures { (tree : Tree) → code.now ≡ postfix tree
-        → result ≡ length reads.now - length (meaning (S.table scope.now) tree reads.now).1 }
+/// The answer of [`evaluate`] alone.
+pub fn eval<S: Scope>(code: &Code, scope: &S, reads: &[Var]) -> Eval
+    ensures { result ≡ (meaning (S.table scope.now) code.now reads.now).0 }
 {
-    let (_, left) = run(code.instrs(), scope, reads);
-    reads.len().saturating_sub(left.len())
+    evaluate(code, scope, reads).0
 }
+
+/// How many of `reads` the evaluation takes.
+pub fn count_reads<S: Scope>(code: &Code, scope: &S, reads: &[Var]) -> usize
+    ensures { result ≡ length reads.now - length (meaning (S.table scope.now) code.now reads.now).1 }
+{
+    reads
+        .len()
+        .saturating_sub(evaluate(code, scope, reads).1.len())
+}
+
+/// Each variable of an expression takes at most one read, and a read is needed only where fewer
+/// were given than it names variables.
+pub fn each_variable_takes_one_read_at_most()
+    ensures takes { (table : ℕ → Result Look VarFault) (tree : Tree) (reads : List Var)
+        → length reads ≤ length (meaning table tree reads).1 + variables tree }
+    ensures needs { (table : ℕ → Result Look VarFault) (tree : Tree) (reads : List Var) (n : ℕ)
+        → (meaning table tree reads).0 ≡ Eval.Need n → length reads < variables tree }
+{}
 
 #[cfg(test)]
 mod tests;

@@ -1,46 +1,23 @@
 ghost use Rattle.std.specs.Prelude.{◌≡◌, ◌≤◌, length};
-ghost use Rattle.macro_eval.specs.Meaning.{number_of, alarm_of, made, signed, function_value, applied, operator_value, joined, looked_at, looked_up};
+ghost use Rattle.macro_eval.specs.Meaning.{made, signed, function_value, applied, operator_value, joined, looked_at, looked_up};
 ghost use Rattle.macro_eval.specs.Postfix.{takes, step};
 
 use crate::code::Instr;
-use crate::compare::micro;
 use crate::operands::Operands;
 use crate::scope::{Eval, Look, Scope};
+use crate::whole::variable_number;
 use macro_expr::{Fun, Op};
 use nc_number::{
-    NumberFault, Value, Var, abs, add, bit_and, bit_or, bit_xor, div, fix, fup, modulo, mul, neg,
-    round, sqrt, sub,
+    Cause, NumberFault, Value, Var, abs, add, bit_and, bit_or, bit_xor, div, fix, fup, modulo, mul,
+    neg, round, sqrt, sub,
 };
-
-/// The value, 0 where the variable is vacant.
-fn value(variable: &Var) -> Value
-    ensures { result ≡ number_of variable.now }
-{
-    match variable {
-        Var::Vacant => Value::of(0).unwrap(),
-        Var::Is(value) => *value,
-    }
-}
-
-/// The number of the alarm.
-fn alarm(fault: NumberFault) -> u8
-    ensures { result ≡ alarm_of fault }
-{
-    match fault {
-        NumberFault::Overflow => 1,
-        NumberFault::ZeroDivide => 2,
-        NumberFault::NegativeRoot => 3,
-        NumberFault::NotWhole => 4,
-        NumberFault::TooManyDigits => 5,
-    }
-}
 
 fn made(number: Result<Value, NumberFault>) -> Eval
     ensures { result ≡ made number }
 {
     match number {
         Ok(value) => Eval::Got(Var::Is(value)),
-        Err(fault) => Eval::Fault(alarm(fault)),
+        Err(fault) => Eval::Fault(fault.number()),
     }
 }
 
@@ -48,7 +25,7 @@ fn made(number: Result<Value, NumberFault>) -> Eval
 fn signed(minus: bool, operand: &Var) -> Eval
     ensures { result ≡ signed minus operand.now }
 {
-    let value = value(operand);
+    let value = operand.or_zero();
     Eval::Got(Var::Is(if minus { neg(value) } else { value }))
 }
 
@@ -58,7 +35,7 @@ fn function_value(function: Fun, value: Value) -> Result<Value, NumberFault>
     match function {
         Fun::Sqrt => sqrt(value),
         Fun::Abs => Ok(abs(value)),
-        Fun::Fix => fix(value),
+        Fun::Fix => Ok(fix(value)),
         Fun::Fup => fup(value),
         Fun::Round => round(value),
     }
@@ -89,7 +66,7 @@ fn looked_at<'a, S: Scope>(scope: &S, variable: u32, reads: &'a [Var]) -> (Eval,
             [first, left @ ..] => (Eval::Got(*first), left),
             [] => (Eval::Need(variable), reads),
         },
-        Err(_) => (Eval::Fault(30), reads),
+        Err(_) => (Eval::Fault(Cause::VariableRange.number()), reads),
     }
 }
 
@@ -97,15 +74,10 @@ fn looked_at<'a, S: Scope>(scope: &S, variable: u32, reads: &'a [Var]) -> (Eval,
 fn looked_up<'a, S: Scope>(scope: &S, number: &Var, reads: &'a [Var]) -> (Eval, &'a [Var])
     ensures { (result.0, result.1.now) ≡ looked_up (S.table scope.now) number.now reads.now }
 {
-    let number = micro(number);
-    let size = number.unsigned_abs();
-    if size % 1_000_000 != 0 {
-        return (Eval::Fault(4), reads);
+    match variable_number(number) {
+        Ok(variable) => looked_at(scope, variable, reads),
+        Err(cause) => (Eval::Fault(cause.number()), reads),
     }
-    if number < 0 {
-        return (Eval::Fault(30), reads);
-    }
-    looked_at(scope, (size / 1_000_000) as u32, reads)
 }
 
 /// One instruction: its answer, and the reads that are left. It takes its operands off the stack.
@@ -131,13 +103,13 @@ pub(crate) fn step<'a, S: Scope>(
         }
         Instr::Call(function) => {
             let operand = stack.pop();
-            (made(function_value(*function, value(&operand))), reads)
+            (made(function_value(*function, operand.or_zero())), reads)
         }
         Instr::Join(op) => {
             let right = stack.pop();
             let left = stack.pop();
             (
-                made(operator_value(*op, value(&left), value(&right))),
+                made(operator_value(*op, left.or_zero(), right.or_zero())),
                 reads,
             )
         }

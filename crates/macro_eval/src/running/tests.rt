@@ -1,10 +1,11 @@
 ghost use Rattle.macro_eval.specs.Sample.{sample_table};
 
-use super::{count_reads, eval};
+use super::{count_reads, eval, evaluate};
 use crate::code::compile;
-use crate::compare::{holds, micro};
+use crate::code_list::compile_statement;
+use crate::compare::holds;
 use crate::scope::{Eval, Look, Scope, VarFault};
-use macro_expr::{Rel, parse_expr};
+use macro_expr::{Rel, parse_expr, parse_statement};
 use nc_number::{Value, Var};
 use std::alloc::{AllocError, Global};
 use std::test::Fail;
@@ -30,7 +31,7 @@ impl Scope for Sample {
 /// that is needed, 3 an alarm.
 fn shown(answer: &Eval) -> (u8, i64) {
     match answer {
-        Eval::Got(variable) => (u8::from(is_number(variable)), micro(variable)),
+        Eval::Got(variable) => (u8::from(is_number(variable)), variable.or_zero().micro()),
         Eval::Need(variable) => (2, i64::from(*variable)),
         Eval::Fault(number) => (3, i64::from(*number)),
     }
@@ -131,6 +132,43 @@ fn each_shared_variable_takes_the_next_read(rt: HostRuntime) -> Result<(), Fail>
     for (text, count, kind, number, taken) in &READS {
         let (some, _) = reads.split_at((*count).min(3));
         assert_eq!(rt; answer(rt.alloc(), text, some), (*kind, *number, *taken));
+    }
+    Ok(())
+}
+
+/// The answers of what the statement evaluates, one behind the other; `?` where it has no tree.
+fn evaluated(alloc: Global, text: &str) -> Result<String, AllocError> {
+    let mut answers = String::new(alloc);
+    let Ok(statement) = parse_statement(alloc, text.as_bytes()) else {
+        return format!(in alloc; "?");
+    };
+    let Ok(list) = compile_statement(alloc, &statement) else {
+        return format!(in alloc; "?");
+    };
+    for code in list.codes() {
+        let (answer, _) = evaluate(code, &Sample, &[]);
+        let (kind, number) = shown(&answer);
+        answers = format!(in alloc; "{answers}{kind}:{number} ")?;
+    }
+    Ok(answers)
+}
+
+static ORDERS: [(&str, &str); 6] = [
+    ("#[#3]=4", "1:3000000 1:4000000 "),
+    ("#9=5", "1:5000000 "),
+    (
+        "IF [#1 EQ 2] THEN #[3]=#500",
+        "0:0 1:2000000 1:3000000 2:500 ",
+    ),
+    ("IF [1/0 EQ 2] GOTO #3", "3:2 1:2000000 1:3000000 "),
+    ("WHILE [2 LT #3] DO 1", "1:2000000 1:3000000 "),
+    ("GOTO 5", ""),
+];
+
+#[test]
+fn a_statement_is_evaluated_from_left_to_right(rt: HostRuntime) -> Result<(), Fail> {
+    for (text, answers) in &ORDERS {
+        assert_eq!(rt; evaluated(rt.alloc(), text)?.as_str(), *answers);
     }
     Ok(())
 }

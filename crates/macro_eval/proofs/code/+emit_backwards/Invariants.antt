@@ -1,6 +1,6 @@
-use Rattle.std.proofs.Common.{◌≡◌, ◌≤◌, ◌++◌, reverse}
+use Rattle.std.proofs.Common.{◌≡◌, ◌≤◌, reverse}
 use Rattle.macro_expr.specs.Tree.{tree_of, right_depth}
-use Rattle.macro_eval.specs.Postfix.{postfix}
+use Rattle.macro_eval.specs.Postfix.{code_before}
 use Rattle.macro_eval.proofs.code.+emit_backwards.Given as goal
 
 -- It calls itself on right operands, in which fewer stand inside one another.
@@ -10,4 +10,4 @@ decreases-emit_backwards l = right_depth (tree_of l.tree.now)
 abbrev pub invariant-loop-part : goal.invariant-loop-part
 invariant-loop-part l =
     (right_depth (tree_of l.part) ≤ right_depth (tree_of l.tree))
-    × (l.instrs.items ++ reverse (postfix (tree_of l.part)) ≡ l.initial.instrs.items ++ reverse (postfix (tree_of l.tree)))
+    × (code_before (tree_of l.part) (reverse l.instrs.items) ≡ code_before (tree_of l.tree) (reverse l.initial.instrs.items))
