@@ -1,0 +1,4 @@
+pub mod Scan
+pub mod Numbers
+pub mod Grammar
+pub mod Exact

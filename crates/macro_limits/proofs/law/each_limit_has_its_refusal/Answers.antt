@@ -1,0 +1,10 @@
+use Rattle.std.proofs.Common.{false}
+use Rattle.macro_expr.specs.Limits.{cleaned}
+use Rattle.macro_limits.proofs.Exact.{expression_refused, statement_refused}
+use Rattle.macro_limits.proofs.law.each_limit_has_its_refusal.Goals as goal
+
+pub returns-clause-expressions : goal.returns-clause-expressions
+returns-clause-expressions c = λ text. expression_refused (cleaned false text)
+
+pub returns-clause-statements : goal.returns-clause-statements
+returns-clause-statements c = λ text. statement_refused (cleaned false text)

@@ -1,0 +1,23 @@
+//! The laws of the limits, over what `macro_expr` answers for a text.
+
+ghost use Rattle.std.specs.Prelude.{◌≡◌, ℕ, false, List};
+ghost use Rattle.macro_expr.specs.Tree.{Tree, Sentence};
+ghost use Rattle.macro_expr.specs.Grammar.{IsExpression, IsStatement};
+ghost use Rattle.macro_expr.specs.Limits.{cleaned, has_long_number, has_deep_brackets};
+ghost use Rattle.macro_expr.specs.Statements.{expression_at, statement_at, whole};
+ghost use Rattle.macro_expr.specs.Answers.{expression_of, statement_of};
+ghost use Rattle.macro_limits.specs.Refused.{IsWithinLimits, IsRefusedByLimits};
+
+/// A law: a text of the grammar has no number with too many digits, and opens no sixth bracket.
+pub fn a_text_that_reads_is_within_its_limits()
+    ensures expressions { (text : List ℕ) (tree : Tree) → IsExpression text tree → IsWithinLimits text }
+    ensures statements { (text : List ℕ) (tree : Sentence) → IsStatement text tree → IsWithinLimits text }
+{}
+
+/// A law: for every text, 5, 21 and 25 are answered exactly where their limits say, whether it reads or not.
+pub fn each_limit_has_its_refusal()
+    ensures expressions { (text : List ℕ) → IsRefusedByLimits (cleaned false text)
+        (whole (expression_at (cleaned false text))) (expression_of text) }
+    ensures statements { (text : List ℕ) → IsRefusedByLimits (cleaned false text)
+        (whole (statement_at (cleaned false text))) (statement_of text) }
+{}
