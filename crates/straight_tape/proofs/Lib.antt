@@ -1,0 +1,13 @@
+pub mod LinesOfText
+pub mod WordsOfLine
+pub mod BlocksOfLine
+pub mod BlocksOfText
+pub mod PartsOfTape
+pub mod ShapeOfTape
+pub mod RangeOfTape
+pub mod SpelledWords
+pub mod MotionForm
+pub mod LineForm
+pub mod TapeForm
+pub mod BreakForm
+pub mod LinesForm
