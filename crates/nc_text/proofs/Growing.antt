@@ -57,9 +57,8 @@ said_grows old (said.Program (Some number)) = program_grows old number
 said_grows old (said.Block block) = block_grows old block
 
 -- with a line of the programs
-pub grows_said : (old mid new : Before) (says : Said) (len : ℕ) (ended : Bool) → mid ≡ with_said old says → new ≡ next mid len ended → Grows old new
-grows_said old mid new says len ended said-is e = λ start follows.
-    subst (λ (b : Before). Follows start b) (sym e) (subst (λ (b : Before). Follows start b) (sym said-is) (said_grows old says start follows))
+pub grows_said : (old new : Before) (says : Said) (len : ℕ) (ended : Bool) → new ≡ next (with_said old says) len ended → Grows old new
+grows_said old new says len ended e = λ start follows. subst (λ (b : Before). Follows start b) (sym e) (said_grows old says start follows)
 
 cut_to : (start : Option Program) (programs : List Program) → GoesOn start programs → cut_program (block_count start) (first_of programs) ≡ start
 cut_to None programs g = refl

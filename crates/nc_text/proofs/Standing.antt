@@ -4,6 +4,7 @@ use Rattle.std.proofs.Math.Seq.{take-append_seam}
 use Rattle.std.proofs.lemmas.List.{length-append, append-nil, nil_from_length}
 use Rattle.std.proofs.lemmas.List.Elements.{All-append, All-nil}
 use Rattle.std.specs.Prelude.{Some, Result, Ok, Err, OnOk}
+use Rattle.nc_number.specs.Answers.{Gives}
 use Rattle.nc_number.specs.declared.fault.Failing.{Failing}
 use Rattle.nc_text.specs.declared.fault.TextFault.{TextFault}
 use Rattle.nc_text.specs.declared.tape.Program.{Program}
@@ -11,7 +12,7 @@ use Rattle.nc_text.specs.declared.stage.Stage.{Stage}
 use Rattle.nc_text.specs.declared.stage.Stage.TheVariants as stages
 use Rattle.nc_text.specs.Lines.{Line, IsOneLine, lines_of}
 use Rattle.nc_text.specs.Tape.{Before, tape_of}
-use Rattle.nc_text.specs.Reading.{State, refusal_of, kept_of, more_kept, continued, LeadsTo, IsOpenLine, IsAt, HasRead, IsRefused, Gives}
+use Rattle.nc_text.specs.Reading.{State, refusal_of, kept_of, more_kept, continued, LeadsTo, IsOpenLine, IsAt, HasRead, IsRefused}
 use Rattle.nc_text.proofs.LineEnds.{line_ends, text_ends, kept_none, kept_more}
 
 abbrev pub state : ℕ → Stage → List ℕ → ℕ → Before → State
@@ -133,13 +134,13 @@ whole_is s stage kept len before skips bytes line same at =
     ap (λ (k : ℕ). tape_of k bytes) (sym same) ∙ ap (tape_of s) (sym (append-nil bytes)) ∙ at.whole [] ∙ ap (λ (l : List ℕ). continued s stage (lines_of l) before) (append-nil line)
 
 -- no line is left
-pub no_line : (s : ℕ) (stage : Stage) (kept : List ℕ) (len : ℕ) (before : Before) (r : Result (List Program) (Failing TextFault)) → len ≡ 0 → ((k : ℕ) → Gives r (continued k stage [] before))
-    → (skips : ℕ) (bytes : List ℕ) → HasRead (state s stage kept len before) skips bytes → Gives r (tape_of skips bytes)
+pub no_line : (s : ℕ) (stage : Stage) (kept : List ℕ) (len : ℕ) (before : Before) (r : Result (List Program) (Failing TextFault)) → len ≡ 0 → ((k : ℕ) → Gives (λ tape. tape) r (continued k stage [] before))
+    → (skips : ℕ) (bytes : List ℕ) → HasRead (state s stage kept len before) skips bytes → Gives (λ tape. tape) r (tape_of skips bytes)
 no_line s stage kept len before r none concluded skips bytes read =
     let line = read.1.0 in
     let at : IsAt (state s stage kept len before) bytes line = read.1.1 in
     let line-is : line ≡ [] = nil_from_length line (sym at.is_line.len_is ∙ none) in
-    subst (Gives r) (sym (whole_is s stage kept len before skips bytes line read.0 at ∙ ap (λ (l : List ℕ). continued s stage (lines_of l) before) line-is)) (concluded s)
+    subst (Gives (λ tape. tape) r) (sym (whole_is s stage kept len before skips bytes line read.0 at ∙ ap (λ (l : List ℕ). continued s stage (lines_of l) before) line-is)) (concluded s)
 
 -- a line that is left
 text_left : (line : List ℕ) → IsOneLine line → (length line ≡ 0 → ⊥) → lines_of line ≡ record { bytes = line; ended = false } ∷ []
@@ -149,10 +150,10 @@ text_left (b ∷ line) one long = text_ends b line one
 -- the last line ends with the text
 pub last_line : (s : ℕ) (stage new-stage : Stage) (kept : List ℕ) (len : ℕ) (before new-before : Before) (r : Result (List Program) (Failing TextFault)) → (len ≡ 0 → ⊥)
     → ((lines : List Line) (line : List ℕ) → kept ≡ kept_of stage line → length line ≡ len → continued s stage (record { bytes = line; ended = false } ∷ lines) before ≡ continued s new-stage lines new-before)
-    → ((k : ℕ) → Gives r (continued k new-stage [] new-before))
-    → (skips : ℕ) (bytes : List ℕ) → HasRead (state s stage kept len before) skips bytes → Gives r (tape_of skips bytes)
+    → ((k : ℕ) → Gives (λ tape. tape) r (continued k new-stage [] new-before))
+    → (skips : ℕ) (bytes : List ℕ) → HasRead (state s stage kept len before) skips bytes → Gives (λ tape. tape) r (tape_of skips bytes)
 last_line s stage new-stage kept len before new-before r long step concluded skips bytes read =
     let line = read.1.0 in
     let at : IsAt (state s stage kept len before) bytes line = read.1.1 in
     let left = text_left line at.is_line.one_line (λ e. long (at.is_line.len_is ∙ e)) in
-    subst (Gives r) (sym (whole_is s stage kept len before skips bytes line read.0 at ∙ ap (λ (ls : List Line). continued s stage ls before) left ∙ step [] line at.is_line.kept_is (sym at.is_line.len_is))) (concluded s)
+    subst (Gives (λ tape. tape) r) (sym (whole_is s stage kept len before skips bytes line read.0 at ∙ ap (λ (ls : List Line). continued s stage ls before) left ∙ step [] line at.is_line.kept_is (sym at.is_line.len_is))) (concluded s)

@@ -1,10 +1,3 @@
-pub mod StraightText
-pub mod StraightNumber
-pub mod StraightLine
-pub mod StraightTape
-pub mod StraightShape
-pub mod StraightForm
-pub mod StraightBreak
 pub mod Signs
 pub mod Places
 pub mod Pieces
@@ -14,6 +7,8 @@ pub mod Refusals
 pub mod Said
 pub mod Lines
 pub mod Tape
+pub mod Shape
+pub mod ReadShape
 pub mod View
 pub mod Mark
 pub mod Reading

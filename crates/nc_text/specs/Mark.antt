@@ -5,6 +5,7 @@ use Rattle.nc_text.specs.declared.tape.Block.{Block}
 use Rattle.nc_text.specs.declared.tape.Program.{Program}
 use Rattle.nc_text.specs.declared.mark.Mark.{Mark}
 use Rattle.nc_text.specs.Tape.{Before}
+use Rattle.nc_text.specs.ReadShape.{IsShaped}
 
 abbrev pub block_count : Option Program → Option ℕ
 block_count None = None
@@ -48,3 +49,10 @@ Follows start now = (programs : List Program) × (now.done ≡ start.done ++ pro
 -- what was read at any time before still stands
 abbrev pub Grows : Before → Before → Type 0
 Grows old new = (start : Before) → Follows start old → Follows start new
+
+-- what was read at the mark still stands, and had the shape of what is read
+pub record StoodAt (mark : Mark) (now : Before) : Type 0 where
+  pub start : Before
+  pub mark_is : IsMarkOf mark start
+  pub follows : Follows start now
+  pub shaped : IsShaped start

@@ -85,8 +85,3 @@ FaultIs NoMemory P = Unit {0}
 abbrev pub IfRefused : {A : Type 0} → Result A (Failing TextFault) → (TextFault → Type 0) → Type 0
 IfRefused (Ok x) P = Unit {0}
 IfRefused (Err error) P = FaultIs error P
-
--- a call answers what the definition answers, unless memory runs out
-abbrev pub Gives : Result (List Program) (Failing TextFault) → Answer → Type 0
-Gives (Ok tape) answer = answer ≡ Ok tape
-Gives (Err error) answer = FaultIs error (λ fault. answer ≡ Err fault)

@@ -1,8 +1,6 @@
 -- What a line between the `%` lines says, and what makes it unreadable.
 use Rattle.std.specs.Prelude.{◌≡◌, ℕ, ◌<◌, ◌+◌, ◌/◌, ◌%◌, ◌^◌, Bool, true, false, not, ◌&&◌, ◌||◌, ◌==◌, nat_lt, List, [], ◌∷◌, length, map, filter, take, All, Option, Some, None, Result, Ok, Err, is_some, if◌then◌else◌}
 use Rattle.std.specs.List.{list_all, list_any, prefix_len}
-use Rattle.nc_number.specs.declared.fault.Failing.{Failing}
-use Rattle.nc_number.specs.declared.fault.Failing.TheVariants.{Fault, NoMemory}
 use Rattle.std.specs.Global.{Vec}
 use Rattle.nc_number.specs.Literals.{is_literal, has_too_many_digits}
 use Rattle.nc_text.specs.declared.sign.Sign.{Sign}
@@ -145,15 +143,6 @@ judged_signs skips scan =
 -- what a line says, or its least refusal by itself
 unfoldable pub line_says : ℕ → List ℕ → Bool → Result Said Refusal
 line_says skips line ended = judged_signs skips (signs_of line ended)
-
--- a call answers what the definition answers, unless memory runs out
-abbrev pub FailsBy : Failing Refusal → Result Said Refusal → Type 0
-FailsBy (Fault refusal) read = read ≡ Err refusal
-FailsBy NoMemory read = Unit {0}
-
-abbrev pub Says : Result Said (Failing Refusal) → Result Said Refusal → Type 0
-Says (Ok says) read = read ≡ Ok says
-Says (Err error) read = FailsBy error read
 
 -- the number and the text of a numbered statement, where the signs are one
 abbrev pub IsNumbered : List Sign → Option (Vec ℕ × Vec ℕ) → Type 0

@@ -1,9 +1,10 @@
 -- What may stand behind an address letter.
-use Rattle.std.specs.Prelude.{ℕ, ◌+◌, ◌%◌, ◌/◌, Bool, false, ◌&&◌, ◌||◌, ◌==◌, nat_le, List, [], ◌∷◌, length, take, drop, Option, Some, None, Result, Ok, Err, ℤ, pos, negsuc, if◌then◌else◌}
+use Rattle.std.specs.Prelude.{ℕ, ◌+◌, Bool, false, ◌&&◌, ◌||◌, ◌==◌, nat_le, List, [], ◌∷◌, length, take, drop, Option, Some, None, Result, Ok, Err, ℤ, pos, negsuc, if◌then◌else◌}
 use Rattle.std.specs.Char.{is_ascii_digit}
 use Rattle.std.specs.List.{list_all, prefix_len}
 use Rattle.nc_number.specs.declared.literal.Literal.{Literal}
 use Rattle.nc_number.specs.declared.fault.NumberFault.{NumberFault}
+use Rattle.nc_number.specs.Arithmetic.{whole_of}
 use Rattle.nc_number.specs.Literals.{is_literal, is_sign, behind_sign, word_literal, has_too_many_digits}
 use Rattle.nc_text.specs.Pieces.{depth_behind}
 
@@ -26,17 +27,13 @@ is_reference (b ∷ bs) = if b == 35 then is_variable bs else b == 91 && closes 
 abbrev pub is_value : List ℕ → Bool
 is_value text = is_literal text || is_reference (behind_sign text)
 
--- the whole number of so many millionths, if it is one and not below 0
-abbrev pub whole_of : ℤ → Option ℕ
-whole_of (pos micro) = if micro % 1000000 == 0 then Some (micro / 1000000) else None
-whole_of (negsuc micro) = None
-
-abbrev pub in_range : ℕ → ℕ → Option ℕ → Option ℕ
+abbrev pub in_range : ℕ → ℕ → Option ℤ → Option ℕ
 in_range low high None = None
-in_range low high (Some n) = if nat_le low n && nat_le n high then Some n else None
+in_range low high (Some (pos n)) = if nat_le low n && nat_le n high then Some n else None
+in_range low high (Some (negsuc n)) = None
 
 abbrev pub range_of : ℕ → ℕ → Result Literal NumberFault → Option ℕ
-range_of low high (Ok literal) = in_range low high (whole_of literal.micro)
+range_of low high (Ok literal) = in_range low high (whole_of literal.value)
 range_of low high (Err fault) = None
 
 -- the whole number that a literal writes, if it is in the range

@@ -1,7 +1,5 @@
 -- What was read, as contracts see it.
 use Rattle.std.specs.Prelude.{◌≡◌, Result, Ok, Err}
-use Rattle.nc_number.specs.declared.fault.Failing.{Failing}
-use Rattle.nc_number.specs.declared.fault.Failing.TheVariants.{Fault, NoMemory}
 use Rattle.nc_text.specs.declared.refusal.Refusal.{Refusal}
 use Rattle.nc_text.specs.declared.progress.Progress.{Progress}
 use Rattle.nc_text.specs.Tape.{Before}
@@ -20,12 +18,3 @@ before_of progress = record {
 abbrev pub Passes : {A : Type 0} → Result A Refusal → Before → Result Before Refusal → Type 0
 Passes (Ok x) new read = read ≡ Ok new
 Passes (Err refusal) new read = read ≡ Err refusal
-
--- the same, unless memory ran out
-abbrev pub AdvancesTo : Failing Refusal → Result Before Refusal → Type 0
-AdvancesTo (Fault refusal) read = read ≡ Err refusal
-AdvancesTo NoMemory read = Unit {0}
-
-abbrev pub Advances : {A : Type 0} → Result A (Failing Refusal) → Before → Result Before Refusal → Type 0
-Advances (Ok x) new read = read ≡ Ok new
-Advances (Err error) new read = AdvancesTo error read

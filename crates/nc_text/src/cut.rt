@@ -6,7 +6,7 @@ ghost use Rattle.nc_text.specs.Said.{AreShort};
 
 use crate::piece::Piece;
 use crate::sign::Sign;
-use crate::tape::ByteList;
+use nc_number::ByteList;
 use std::alloc::{AllocError, Global};
 
 pub(crate) fn depth_behind(depth: usize, byte: u8) -> usize

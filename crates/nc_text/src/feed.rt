@@ -1,10 +1,11 @@
 ghost use Rattle.std.specs.Prelude.{◌≡◌, ◌∷◌, [], ◌++◌, List, ℕ, IfOk, OnOk, OnErr};
+ghost use Rattle.nc_number.specs.Answers.{Gives};
 ghost use Rattle.nc_text.specs.Lines.{IsOneLine};
 ghost use Rattle.nc_text.specs.declared.fault.TextFault.{TextFault};
 ghost use Rattle.nc_text.specs.Tape.{Before, tape_of};
 ghost use Rattle.nc_text.specs.View.{before_of};
 ghost use Rattle.nc_text.specs.Mark.{Grows};
-ghost use Rattle.nc_text.specs.Reading.{continued, refusal_of, LeadsTo, IsOpenLine, HasRead, HasRefused, Gives};
+ghost use Rattle.nc_text.specs.Reading.{continued, refusal_of, LeadsTo, IsOpenLine, HasRead, HasRefused};
 
 use crate::fault::TextFault;
 use crate::line_feed::cut_at_line_feed;
@@ -42,7 +43,8 @@ impl Feed {
 
     /// Takes a piece of the text.
     pub(crate) fn take(&mut self, piece: &[u8]) -> Result<(), NoMemory>
-        ensures reads { OnOk result ((skips : ℕ) (bytes : List ℕ) → HasRead (state_of self.old) skips bytes → HasRead (state_of self.new) skips (bytes ++ piece.now)) }
+        ensures reads { OnOk result ((skips : ℕ) (bytes : List ℕ) → HasRead (state_of self.old) skips bytes
+            → HasRead (state_of self.new) skips (bytes ++ piece.now)) }
         ensures as_before { OnErr result (state_of self.new ≡ state_of self.old) }
     {
         match cut_at_line_feed(piece) {
@@ -54,7 +56,8 @@ impl Feed {
     /// Takes the rest of the present line, its line feed and what stands behind that.
     fn take_lines(&mut self, front: &[u8], behind: &[u8]) -> Result<(), NoMemory>
         requires { IsOneLine front.now }
-        ensures reads { OnOk result ((skips : ℕ) (bytes : List ℕ) → HasRead (state_of self.old) skips bytes → HasRead (state_of self.new) skips (bytes ++ (front.now ++ 10 ∷ behind.now))) }
+        ensures reads { OnOk result ((skips : ℕ) (bytes : List ℕ) → HasRead (state_of self.old) skips bytes
+            → HasRead (state_of self.new) skips (bytes ++ (front.now ++ 10 ∷ behind.now))) }
         ensures as_before { OnErr result (state_of self.new ≡ state_of self.old) }
     {
         let mark = self.progress.mark();
@@ -89,7 +92,8 @@ impl Feed {
 
     /// Ends the text, and with it the present line.
     pub(crate) fn finish(self) -> Result<Tape, Failing<TextFault>>
-        ensures exact { (skips : ℕ) (bytes : List ℕ) → HasRead (state_of self) skips bytes → Gives result (tape_of skips bytes) }
+        ensures exact { (skips : ℕ) (bytes : List ℕ) → HasRead (state_of self) skips bytes
+            → Gives (λ tape. tape) result (tape_of skips bytes) }
         ensures same { (fault : TextFault) → HasRefused (state_of self) fault → result ≡ Err (Failing.Fault fault) }
     {
         let Feed {
@@ -123,7 +127,8 @@ fn line_behind(
     progress: &mut Progress,
     behind: &[u8],
 ) -> Result<OpenLine, NoMemory>
-    ensures reads { IfOk result (λ next. (bytes : List ℕ) → IsOpenLine line.now.stage line.now.kept.items line.now.len bytes →
+    ensures reads { IfOk result (λ next. (bytes : List ℕ)
+        → IsOpenLine line.now.stage line.now.kept.items line.now.len bytes →
         (rest : List ℕ) × IsOpenLine next.stage next.kept.items next.len rest
         × LeadsTo skips line.now.stage (before_of progress.old) (bytes ++ 10 ∷ behind.now) next.stage (before_of progress.new) rest) }
     ensures grows { Grows (before_of progress.old) (before_of progress.new) }
@@ -144,7 +149,7 @@ fn line_behind(
 
 /// What the text is where no line is left.
 fn conclude(stage: Stage, progress: Progress) -> Result<Tape, Failing<TextFault>>
-    ensures exact { (skips : ℕ) → Gives result (continued skips stage [] (before_of progress)) }
+    ensures exact { (skips : ℕ) → Gives (λ tape. tape) result (continued skips stage [] (before_of progress)) }
     ensures same { (fault : TextFault) → stage ≡ Stage.Refused fault → result ≡ Err (Failing.Fault fault) }
 {
     match stage {

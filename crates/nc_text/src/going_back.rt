@@ -3,7 +3,8 @@ ghost use Rattle.std.specs.Option.{option_to_list};
 ghost use Rattle.nc_text.specs.declared.tape.Program.{Program};
 ghost use Rattle.nc_text.specs.Tape.{Before};
 ghost use Rattle.nc_text.specs.View.{before_of};
-ghost use Rattle.nc_text.specs.Mark.{IsMarkOf, Follows, block_count, first_of, cut_program};
+ghost use Rattle.nc_text.specs.ReadShape.{IsShaped};
+ghost use Rattle.nc_text.specs.Mark.{IsMarkOf, Follows, StoodAt, block_count, first_of, cut_program};
 
 use crate::mark::Mark;
 use crate::progress::Progress;
@@ -12,7 +13,8 @@ use crate::tape::Program;
 impl Progress {
     /// Where to go back to what was read so far.
     pub(crate) fn mark(&self) -> Mark
-        ensures { IsMarkOf result (before_of self.now) }
+        ensures mark { IsMarkOf result (before_of self.now) }
+        ensures shaped { IsShaped (before_of self.now) }
     {
         Mark {
             lines: self.lines,
@@ -26,7 +28,9 @@ impl Progress {
 
     /// Goes back to what was read at the mark. It takes no memory.
     pub(crate) fn cut_back(&mut self, mark: &Mark)
-        ensures { (start : Before) → IsMarkOf mark.now start → Follows start (before_of self.old) → before_of self.new ≡ start }
+        requires { StoodAt mark.now (before_of self.old) }
+        ensures { (start : Before) → IsMarkOf mark.now start → Follows start (before_of self.old)
+            → before_of self.new ≡ start }
     {
         reopen(&mut self.done, &mut self.current, mark.done);
         cut_program(&mut self.current, mark.current);

@@ -19,43 +19,71 @@ pub fn lower_case_reads_as_upper_case()
 
 /// A tape is read line by line: texts whose lines say the same have the same answer.
 pub fn lines_that_say_the_same_read_the_same()
-    ensures { (skips : ℕ) (a b : List ℕ) → Fits a → Fits b → AllZip (IsAlike skips) (lines_of a) (lines_of b) → tape_of skips a ≡ tape_of skips b }
+    ensures { (skips : ℕ) (a b : List ℕ) → Fits a → Fits b → AllZip (IsAlike skips) (lines_of a) (lines_of b)
+        → tape_of skips a ≡ tape_of skips b }
 {}
 
 /// An empty line behind others only raises the numbers of the lines behind it.
 pub fn an_empty_line_only_moves_lines()
-    ensures { (skips : ℕ) (front back : List ℕ) → are_whole front ≡ true → 0 < length front → Fits (front ++ 10 ∷ back) → tape_of skips (front ++ back) ≡ lowered (length (lines_of front)) (tape_of skips (front ++ 10 ∷ back)) }
+    ensures { (skips : ℕ) (front back : List ℕ) → are_whole front ≡ true → 0 < length front
+        → Fits (front ++ 10 ∷ back)
+        → tape_of skips (front ++ back) ≡ lowered (length (lines_of front)) (tape_of skips (front ++ 10 ∷ back)) }
 {}
 
 /// A line that says nothing reads as an empty line, and behind others as no line.
 pub fn a_line_that_says_nothing_reads_as_no_line()
-    ensures emptied { (skips : ℕ) (front line back : List ℕ) → IsLine front line back → line_says skips line true ≡ Ok said.Nothing → tape_of skips (with_line front line back) ≡ tape_of skips (with_line front [] back) }
-    ensures taken_out { (skips : ℕ) (front line back : List ℕ) → IsLine front line back → 0 < length front → line_says skips line true ≡ Ok said.Nothing → tape_of skips (front ++ back) ≡ lowered (length (lines_of front)) (tape_of skips (with_line front line back)) }
-    ensures last { (skips : ℕ) (front line : List ℕ) → IsLastLine front line → 0 < length front → line_says skips line false ≡ Ok said.Nothing → tape_of skips front ≡ lowered (length (lines_of front)) (tape_of skips (front ++ line)) }
+    ensures emptied { (skips : ℕ) (front line back : List ℕ) → IsLine front line back
+        → line_says skips line true ≡ Ok said.Nothing
+        → tape_of skips (with_line front line back) ≡ tape_of skips (with_line front [] back) }
+    ensures taken_out { (skips : ℕ) (front line back : List ℕ) → IsLine front line back → 0 < length front
+        → line_says skips line true ≡ Ok said.Nothing
+        → tape_of skips (front ++ back) ≡ lowered (length (lines_of front)) (tape_of skips (with_line front line back)) }
+    ensures last { (skips : ℕ) (front line : List ℕ) → IsLastLine front line → 0 < length front
+        → line_says skips line false ≡ Ok said.Nothing
+        → tape_of skips front ≡ lowered (length (lines_of front)) (tape_of skips (front ++ line)) }
 {}
 
 /// A line of nothing but closed comments and blanks is no block.
 pub fn a_line_of_comments_is_no_block()
-    ensures emptied { (skips : ℕ) (front line back : List ℕ) → IsLine front line back → HasOnlyComments line true → tape_of skips (with_line front line back) ≡ tape_of skips (with_line front [] back) }
-    ensures taken_out { (skips : ℕ) (front line back : List ℕ) → IsLine front line back → 0 < length front → HasOnlyComments line true → tape_of skips (front ++ back) ≡ lowered (length (lines_of front)) (tape_of skips (with_line front line back)) }
-    ensures last { (skips : ℕ) (front line : List ℕ) → IsLastLine front line → 0 < length front → HasOnlyComments line false → tape_of skips front ≡ lowered (length (lines_of front)) (tape_of skips (front ++ line)) }
+    ensures emptied { (skips : ℕ) (front line back : List ℕ) → IsLine front line back
+        → HasOnlyComments line true
+        → tape_of skips (with_line front line back) ≡ tape_of skips (with_line front [] back) }
+    ensures taken_out { (skips : ℕ) (front line back : List ℕ) → IsLine front line back → 0 < length front
+        → HasOnlyComments line true
+        → tape_of skips (front ++ back) ≡ lowered (length (lines_of front)) (tape_of skips (with_line front line back)) }
+    ensures last { (skips : ℕ) (front line : List ℕ) → IsLastLine front line → 0 < length front
+        → HasOnlyComments line false
+        → tape_of skips front ≡ lowered (length (lines_of front)) (tape_of skips (front ++ line)) }
 {}
 
 /// A block whose switch is set reads as if its line was deleted, where it is readable.
 pub fn a_skipped_block_reads_as_no_line()
-    ensures emptied { (skips : ℕ) (front line back : List ℕ) → IsLine front line back → IsSkipped skips line true → tape_of skips (with_line front line back) ≡ tape_of skips (with_line front [] back) }
-    ensures taken_out { (skips : ℕ) (front line back : List ℕ) → IsLine front line back → 0 < length front → IsSkipped skips line true → tape_of skips (front ++ back) ≡ lowered (length (lines_of front)) (tape_of skips (with_line front line back)) }
-    ensures last { (skips : ℕ) (front line : List ℕ) → IsLastLine front line → 0 < length front → IsSkipped skips line false → tape_of skips front ≡ lowered (length (lines_of front)) (tape_of skips (front ++ line)) }
+    ensures emptied { (skips : ℕ) (front line back : List ℕ) → IsLine front line back
+        → IsSkipped skips line true
+        → tape_of skips (with_line front line back) ≡ tape_of skips (with_line front [] back) }
+    ensures taken_out { (skips : ℕ) (front line back : List ℕ) → IsLine front line back → 0 < length front
+        → IsSkipped skips line true
+        → tape_of skips (front ++ back) ≡ lowered (length (lines_of front)) (tape_of skips (with_line front line back)) }
+    ensures last { (skips : ℕ) (front line : List ℕ) → IsLastLine front line → 0 < length front
+        → IsSkipped skips line false
+        → tape_of skips front ≡ lowered (length (lines_of front)) (tape_of skips (front ++ line)) }
 {}
 
 /// A carriage return before a line feed changes nothing: lines may end with both, or with the line feed alone.
 pub fn a_carriage_return_changes_nothing()
-    ensures one_line { (skips : ℕ) (front line back : List ℕ) → EndsWithoutReturn line → IsLine front (line ++ 13 ∷ []) back → tape_of skips (with_line front (line ++ 13 ∷ []) back) ≡ tape_of skips (with_line front line back) }
-    ensures each_line { (skips : ℕ) (text : List ℕ) → HasNoReturn text → HaveRoom text → Fits (with_returns text) → tape_of skips (with_returns text) ≡ tape_of skips text }
+    ensures one_line { (skips : ℕ) (front line back : List ℕ) → EndsWithoutReturn line
+        → IsLine front (line ++ 13 ∷ []) back
+        → tape_of skips (with_line front (line ++ 13 ∷ []) back) ≡ tape_of skips (with_line front line back) }
+    ensures each_line { (skips : ℕ) (text : List ℕ) → HasNoReturn text → HaveRoom text
+        → Fits (with_returns text) → tape_of skips (with_returns text) ≡ tape_of skips text }
 {}
 
 /// A space or a tab in a line changes nothing but the places of the words behind it.
 pub fn a_blank_changes_only_places()
-    ensures ended { (skips blank : ℕ) (front left right back : List ℕ) → is_blank blank ≡ true → MayHaveBlank left right → IsLine front (left ++ blank ∷ right) back → forget_places (tape_of skips (with_line front (left ++ blank ∷ right) back)) ≡ forget_places (tape_of skips (with_line front (left ++ right) back)) }
-    ensures last { (skips blank : ℕ) (front left right : List ℕ) → is_blank blank ≡ true → MayHaveBlank left right → IsLastLine front (left ++ blank ∷ right) → 0 < length (left ++ right) → forget_places (tape_of skips (front ++ (left ++ blank ∷ right))) ≡ forget_places (tape_of skips (front ++ (left ++ right))) }
+    ensures ended { (skips blank : ℕ) (front left right back : List ℕ) → is_blank blank ≡ true
+        → MayHaveBlank left right → IsLine front (left ++ blank ∷ right) back
+        → forget_places (tape_of skips (with_line front (left ++ blank ∷ right) back)) ≡ forget_places (tape_of skips (with_line front (left ++ right) back)) }
+    ensures last { (skips blank : ℕ) (front left right : List ℕ) → is_blank blank ≡ true
+        → MayHaveBlank left right → IsLastLine front (left ++ blank ∷ right) → 0 < length (left ++ right)
+        → forget_places (tape_of skips (front ++ (left ++ blank ∷ right))) ≡ forget_places (tape_of skips (front ++ (left ++ right))) }
 {}

@@ -2,9 +2,6 @@
 //!
 //! `Reader` takes the bytes of a tape in any pieces, and answers with its programs and blocks or with the one refusal
 //! and its line.
-//!
-//! A straight tape is a `%` line, an O number, blocks of fixed moves and waits with `M30` as the last,
-//! and a `%` line. `read_straight` takes exactly these, and names the first line that breaks the form.
 #![tactic(auto)]
 
 mod cut;
@@ -18,6 +15,7 @@ mod line_feed;
 mod mark;
 mod open_line;
 mod piece;
+mod programs;
 mod progress;
 mod reader;
 mod refusal;
@@ -25,12 +23,6 @@ mod said;
 mod sign;
 mod stage;
 mod step;
-mod straight_law;
-mod straight_line;
-mod straight_number;
-mod straight_reading;
-mod straight_tape;
-mod straight_text;
 mod tape;
 mod values;
 mod words;
@@ -42,13 +34,12 @@ pub use laws::{
     an_empty_line_only_moves_lines, lines_that_say_the_same_read_the_same,
     lower_case_reads_as_upper_case,
 };
+pub use piece::Piece;
 pub use reader::Reader;
-pub use straight_law::straight_form;
-pub use straight_reading::read_straight;
-pub use straight_tape::{Straight, StraightBlock, StraightBody, StraightFault};
-pub use tape::{Block, BlockList, Body, ByteList, Program, Tape, Word, WordList};
+pub use refusal::Refusal;
+pub use said::{Reading, Said, SaidBlock};
+pub use sign::Sign;
+pub use tape::{Block, BlockList, Body, Program, Tape, Word, WordList};
 
-#[cfg(test)]
-mod straight_tests;
 #[cfg(test)]
 mod tests;

@@ -1,17 +1,18 @@
 ghost use Rattle.std.specs.Prelude.{◌≡◌, ◌-◌, ◌^◌, ◌<◌, length, IfOk, IsTrue, IfSome, ◌≤◌};
+ghost use Rattle.nc_number.specs.Answers.{Gives};
 ghost use Rattle.nc_text.specs.Places.{ArePlaced};
 ghost use Rattle.nc_text.specs.Front.{is_numbered, sentence_of};
-ghost use Rattle.nc_text.specs.Said.{read_words, read_numbered, read_statement, read_block, read_head, is_skipped, judged, line_says, Says, IsNumbered, statement_reading};
+ghost use Rattle.nc_text.specs.Said.{read_words, read_numbered, read_statement, read_block, read_head, is_skipped, judged, line_says, IsNumbered, statement_reading};
 
 use crate::cut::{bytes, pieces, value_len};
 use crate::front::{behind_comments, front, is_statement, number_len, sentence};
 use crate::refusal::Refusal;
 use crate::said::{Reading, Said, SaidBlock};
 use crate::sign::{Sign, are_allowed, read_signs};
-use crate::tape::{Body, ByteList};
+use crate::tape::Body;
 use crate::values::{has_too_many_digits, number_in};
 use crate::words::read_pieces;
-use nc_number::{Failing, is_literal};
+use nc_number::{ByteList, Failing, is_literal};
 use std::alloc::{AllocError, Global};
 
 /// A block of words.
@@ -107,7 +108,7 @@ fn judged(
     unclosed: bool,
     reading: Reading,
 ) -> Result<Said, Failing<Refusal>>
-    ensures { Says result (judged skipped allowed unclosed reading) }
+    ensures { Gives (λ said. said) result (judged skipped allowed unclosed reading) }
 {
     if reading.long && !skipped {
         Err(Failing::Fault(Refusal::TooManyDigits))
@@ -151,7 +152,7 @@ pub(crate) fn read_line(
     ended: bool,
 ) -> Result<Said, Failing<Refusal>>
     requires { length line.now < 2 ^ 32 - 1 }
-    ensures { Says result (line_says skips line.now ended) }
+    ensures { Gives (λ said. said) result (line_says skips line.now ended) }
 {
     let signs = read_signs(alloc, line, ended)?;
     let list = signs.list.as_slice();

@@ -37,7 +37,8 @@ impl OpenLine {
     /// A line that begins with these bytes.
     pub(crate) fn begin(alloc: Global, stage: Stage, bytes: &[u8]) -> Result<Self, NoMemory>
         requires { IsOneLine bytes.now }
-        ensures { IfOk result (λ line. (line.stage ≡ stage) × IsOpenLine line.stage line.kept.items line.len bytes.now) }
+        ensures { IfOk result (λ line. (line.stage ≡ stage)
+            × IsOpenLine line.stage line.kept.items line.len bytes.now) }
     {
         let mut line = OpenLine::empty(alloc, stage);
         line.extend(bytes)?;
@@ -86,7 +87,8 @@ pub(crate) fn longer(len: u32, bytes: &[u8]) -> Result<u32, NoMemory>
 
 /// What is kept of these bytes at the beginning of a line.
 pub(crate) fn kept_of(stage: Stage, bytes: &[u8]) -> &[u8]
-    ensures { result.now ≡ kept_of stage bytes.now }
+    ensures value { result.now ≡ kept_of stage bytes.now }
+    ensures short { length result.now ≤ length bytes.now }
 {
     match bytes {
         [] => bytes,

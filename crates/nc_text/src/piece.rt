@@ -1,8 +1,8 @@
-use crate::tape::ByteList;
+use nc_number::ByteList;
 
 /// A letter and what may be its value.
 #[derive(Debug, Drop)]
-pub(crate) struct Piece {
+pub struct Piece {
     pub letter: u8,
     pub start: u32,
     pub end: u32,

@@ -1,14 +1,18 @@
-ghost use Rattle.std.specs.Prelude.{◌≡◌, ◌<◌, ◌≤◌, false, IsTrue, Ok, Err, OnOk, OnErr};
+ghost use Rattle.std.specs.Prelude.{◌≡◌, ◌<◌, ◌≤◌, ◌++◌, false, Ok, Err, OnOk, OnErr};
+ghost use Rattle.std.specs.Option.{option_to_list};
 ghost use Rattle.nc_text.specs.Lines.{size_of};
 ghost use Rattle.nc_text.specs.Tape.{nothing_read, is_past_end, next, percent_refusal, outer_refusal, said_refusal, is_block, is_said_in_range, with_said, with_program, begun, after_outer, after_percent, after_said, unfinished, finished};
-ghost use Rattle.nc_text.specs.Reading.{Gives};
+ghost use Rattle.nc_number.specs.Answers.{Gives};
 ghost use Rattle.nc_text.specs.Mark.{Grows};
+ghost use Rattle.nc_text.specs.Shape.{IsSaidShape};
+ghost use Rattle.nc_text.specs.ReadShape.{IsSaid, IsReadShape, IsReadShape-prop};
 ghost use Rattle.nc_text.specs.declared.said.Said.TheVariants as said;
 
 use crate::fault::TextFault;
+use crate::programs::{add_block, begin_program};
 use crate::refusal::Refusal;
 use crate::said::{Said, SaidBlock};
-use crate::tape::{Block, BlockList, Program, Tape};
+use crate::tape::{Program, Tape};
 use nc_number::Failing;
 use std::alloc::{AllocError, Global};
 
@@ -33,10 +37,11 @@ pub(crate) struct Progress {
     ghost few_lines: { lines ≤ bytes },
     ghost few_bytes: { bytes ≤ 4194304 },
     ghost few_blocks: { blocks ≤ 20000 },
+    ghost shaped: { IsReadShape lines blocks (done.items ++ option_to_list current) } by { IsReadShape-prop lines blocks (done.items ++ option_to_list current) },
 }
 
 impl Progress {
-    ghost use Rattle.nc_text.specs.View.{before_of, Passes, Advances};
+    ghost use Rattle.nc_text.specs.View.{before_of, Passes};
 
     pub(crate) fn new(alloc: Global) -> Self
         ensures { before_of result ≡ nothing_read }
@@ -119,59 +124,42 @@ impl Progress {
         self.percent = self.lines;
     }
 
-    fn begin_program(&mut self, alloc: Global, number: u32) -> Result<(), AllocError>
-        ensures ok { OnOk result (before_of self.new ≡ with_program (before_of self.old) number) }
+    /// Goes on behind a line that begins a program.
+    fn pass_program(
+        &mut self,
+        alloc: Global,
+        number: u32,
+        len: u32,
+        ended: bool,
+    ) -> Result<(), AllocError>
+        requires some { 0 < size_of len ended }
+        requires fits { is_past_end (before_of self.old) len ended ≡ false }
+        requires range { (1 ≤ number) × (number ≤ 9999) }
+        ensures ok { OnOk result (before_of self.new ≡ next (with_program (before_of self.old) number) len ended) }
         ensures as_before { OnErr result (before_of self.new ≡ before_of self.old) }
     {
         let line = self.lines + 1;
-        if let Some(program) = self.current.take() {
-            if let Err(failed) = self.done.push(program) {
-                self.current = Some(failed.value);
-                return Err(AllocError);
-            }
-        }
-        self.current = Some(Program {
-            number,
-            line,
-            blocks: BlockList::empty(alloc),
-        });
+        begin_program(alloc, &mut self.done, &mut self.current, line, number)?;
+        self.bytes += size_of(len, ended) as u32;
+        self.lines = line;
         Ok(())
     }
 
-    fn add_block(&mut self, block: SaidBlock) -> Result<(), AllocError>
-        requires { self.old.blocks < 20000 }
-        ensures ok { OnOk result (before_of self.new ≡ with_said (before_of self.old) (said.Block block)) }
+    /// Goes on behind a line that says a block.
+    fn pass_block(&mut self, block: SaidBlock, len: u32, ended: bool) -> Result<(), AllocError>
+        requires some { 0 < size_of len ended }
+        requires fits { is_past_end (before_of self.old) len ended ≡ false }
+        requires few { self.old.blocks < 20000 }
+        requires shape { IsSaidShape 512 block.sequence block.body }
+        ensures ok { OnOk result (before_of self.new ≡ next (with_said (before_of self.old) (said.Block block)) len ended) }
         ensures as_before { OnErr result (before_of self.new ≡ before_of self.old) }
     {
         let line = self.lines + 1;
-        let SaidBlock {
-            sequence,
-            in_range: _,
-            body,
-        } = block;
-        if let Some(program) = &mut self.current {
-            program.blocks.push(Block {
-                line,
-                sequence,
-                body,
-            })?;
-        }
+        add_block(&mut self.current, line, block)?;
         self.blocks += 1;
+        self.bytes += size_of(len, ended) as u32;
+        self.lines = line;
         Ok(())
-    }
-
-    /// Takes what a line says.
-    fn take(&mut self, alloc: Global, said: Said) -> Result<(), AllocError>
-        requires { IsTrue (is_block said) → self.old.blocks < 20000 }
-        ensures ok { OnOk result (before_of self.new ≡ with_said (before_of self.old) said) }
-        ensures as_before { OnErr result (before_of self.new ≡ before_of self.old) }
-    {
-        match said {
-            Said::Nothing => Ok(()),
-            Said::Program(None) => Ok(()),
-            Said::Program(Some(number)) => self.begin_program(alloc, number),
-            Said::Block(block) => self.add_block(block),
-        }
     }
 
     /// Takes a line before the first `%` line, or one behind the second.
@@ -208,15 +196,20 @@ impl Progress {
         ended: bool,
         said: Said,
     ) -> Result<(), Failing<Refusal>>
-        requires { 0 < size_of len ended }
-        ensures step { Advances result (before_of self.new) (after_said (before_of self.old) len ended (Ok said)) }
+        requires some { 0 < size_of len ended }
+        requires shape { IsSaid len said }
+        ensures step { Gives (λ _. before_of self.new) result (after_said (before_of self.old) len ended (Ok said)) }
         ensures grows { Grows (before_of self.old) (before_of self.new) }
     {
         if let Some(refusal) = self.said_refusal(len, ended, &said) {
             return Err(Failing::Fault(refusal));
         }
-        self.take(alloc, said)?;
-        self.pass(len, ended);
+        match said {
+            Said::Nothing => self.pass(len, ended),
+            Said::Program(None) => self.pass(len, ended),
+            Said::Program(Some(number)) => self.pass_program(alloc, number, len, ended)?,
+            Said::Block(block) => self.pass_block(block, len, ended)?,
+        }
         Ok(())
     }
 
@@ -236,7 +229,7 @@ impl Progress {
 
     /// The tape behind its second `%` line.
     pub(crate) fn finish(self) -> Result<Tape, Failing<TextFault>>
-        ensures { Gives result (finished (before_of self)) }
+        ensures { Gives (λ tape. tape) result (finished (before_of self)) }
     {
         let Progress {
             lines: _,

@@ -1,7 +1,8 @@
 ghost use Rattle.std.specs.Prelude.{◌≡◌, [], ◌++◌, ℕ, List, IfOk, IsOk, OnOk};
+ghost use Rattle.nc_number.specs.Answers.{Gives};
 ghost use Rattle.nc_text.specs.declared.fault.TextFault.{TextFault};
 ghost use Rattle.nc_text.specs.Tape.{tape_of};
-ghost use Rattle.nc_text.specs.Reading.{HasRead, HasRefused, IsRefused, IfRefused, Gives};
+ghost use Rattle.nc_text.specs.Reading.{HasRead, HasRefused, IsRefused, IfRefused};
 
 use crate::fault::TextFault;
 use crate::feed::Feed;
@@ -46,12 +47,15 @@ impl Reader {
     /// follows; from then on every call gives the same refusal. Where memory ran out the piece was not taken, and can be
     /// given again.
     pub fn feed(&mut self, piece: &[u8]) -> Result<(), Failing<TextFault>>
-        ensures reads { (skips : ℕ) (bytes : List ℕ) → HasRead self.old skips bytes → OnOk result (HasRead self.new skips (bytes ++ piece.now)) }
-        ensures refuses { (skips : ℕ) (bytes : List ℕ) → HasRead self.old skips bytes → IfRefused result (λ fault. IsRefused skips (bytes ++ piece.now) fault) }
+        ensures reads { (skips : ℕ) (bytes : List ℕ) → HasRead self.old skips bytes
+            → OnOk result (HasRead self.new skips (bytes ++ piece.now)) }
+        ensures refuses { (skips : ℕ) (bytes : List ℕ) → HasRead self.old skips bytes
+            → IfRefused result (λ fault. IsRefused skips (bytes ++ piece.now) fault) }
         ensures refused { IfRefused result (λ fault. HasRefused self.new fault) }
         // A reader that comes to a refusal says so in the same call.
         ensures at_once { (fault : TextFault) → HasRefused self.new fault → result ≡ Err (Failing.Fault fault) }
-        ensures same { (fault : TextFault) → HasRefused self.old fault → (result ≡ Err (Failing.Fault fault)) × (self.new ≡ self.old) }
+        ensures same { (fault : TextFault) → HasRefused self.old fault → (result ≡ Err (Failing.Fault fault))
+            × (self.new ≡ self.old) }
         ensures as_before { result ≡ Err Failing.NoMemory → self.new ≡ self.old }
     {
         if let Some(fault) = self.feed.refusal() {
@@ -67,7 +71,8 @@ impl Reader {
     /// Ends the tape, and answers its programs or its refusal: the least line at which one holds, and there the
     /// least number.
     pub fn finish(self) -> Result<Tape, Failing<TextFault>>
-        ensures exact { (skips : ℕ) (bytes : List ℕ) → HasRead self skips bytes → Gives result (tape_of skips bytes) }
+        ensures exact { (skips : ℕ) (bytes : List ℕ) → HasRead self skips bytes
+            → Gives (λ tape. tape) result (tape_of skips bytes) }
         ensures same { (fault : TextFault) → HasRefused self fault → result ≡ Err (Failing.Fault fault) }
     {
         let Reader { feed } = self;

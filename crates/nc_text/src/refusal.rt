@@ -1,9 +1,11 @@
 ghost use Rattle.std.specs.Prelude.{◌≡◌};
-ghost use Rattle.nc_text.specs.Refusals.{refusal_number};
+ghost use Rattle.nc_text.specs.Refusals.{cause_of, refusal_number};
+
+use nc_number::Cause;
 
 /// Why a tape can't be read.
 #[derive(Clone, Copy, Debug, PartialEq, Eq)]
-pub(crate) enum Refusal {
+pub enum Refusal {
     /// A sequence number or an O number of more than 8 whole or 6 fraction digits.
     TooManyDigits,
     /// A byte that may not stand there.
@@ -27,21 +29,28 @@ pub(crate) enum Refusal {
 }
 
 impl Refusal {
-    /// The number under which the refusal is printed. Of several on one line the least counts.
-    pub(crate) fn number(self) -> u8
-        ensures { result ≡ refusal_number self }
+    /// Its row in the table of causes.
+    fn cause(self) -> Cause
+        ensures { result ≡ cause_of self }
     {
         match self {
-            Refusal::TooManyDigits => 5,
-            Refusal::BadCharacter => 10,
-            Refusal::NoNumber => 11,
-            Refusal::OpenComment => 12,
-            Refusal::NoProgramNumber => 13,
-            Refusal::NoEnd => 14,
-            Refusal::LineTooLong => 15,
-            Refusal::TooManyBlocks => 16,
-            Refusal::TapeTooLong => 17,
-            Refusal::WordRange => 64,
+            Refusal::TooManyDigits => Cause::TooManyDigits,
+            Refusal::BadCharacter => Cause::BadCharacter,
+            Refusal::NoNumber => Cause::NoNumber,
+            Refusal::OpenComment => Cause::OpenComment,
+            Refusal::NoProgramNumber => Cause::NoProgramNumber,
+            Refusal::NoEnd => Cause::NoEnd,
+            Refusal::LineTooLong => Cause::LineTooLong,
+            Refusal::TooManyBlocks => Cause::TooManyBlocks,
+            Refusal::TapeTooLong => Cause::TapeTooLong,
+            Refusal::WordRange => Cause::WordRange,
         }
+    }
+
+    /// The number under which the refusal is printed. Of several on one line the least counts.
+    pub fn number(self) -> u8
+        ensures { result ≡ refusal_number self }
+    {
+        self.cause().number()
     }
 }

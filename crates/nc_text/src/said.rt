@@ -2,7 +2,7 @@ use crate::tape::Body;
 
 /// A block without its line.
 #[derive(Debug, Drop)]
-pub(crate) struct SaidBlock {
+pub struct SaidBlock {
     pub sequence: Option<u32>,
     /// Each sequence number of the block is in its range.
     pub in_range: bool,
@@ -11,7 +11,7 @@ pub(crate) struct SaidBlock {
 
 /// What a line says.
 #[derive(Debug, Drop)]
-pub(crate) enum Said {
+pub enum Said {
     Nothing,
     /// An O number, if it is in its range.
     Program(Option<u32>),
@@ -20,7 +20,7 @@ pub(crate) enum Said {
 
 /// What a line says if it is readable.
 #[derive(Debug, Drop)]
-pub(crate) struct Reading {
+pub struct Reading {
     /// A sequence number or an O number has too many digits.
     pub long: bool,
     /// Something stands where no word can.

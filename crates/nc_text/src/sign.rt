@@ -7,7 +7,7 @@ use std::alloc::{AllocError, Global};
 
 /// A byte of a line that counts, in upper case, and its place in the line. A comment is its opening bracket.
 #[derive(Clone, Copy, Debug, PartialEq, Eq)]
-pub(crate) struct Sign {
+pub struct Sign {
     pub place: u32,
     pub byte: u8,
 }

@@ -1,10 +1,11 @@
 ghost use Rattle.std.specs.Prelude.{◌≡◌, ◌∷◌, ◌<◌, ◌-◌, ◌^◌, List, ℕ, true, length, ◌≤◌, IfOk, Ok};
+ghost use Rattle.nc_number.specs.Answers.{Gives};
 ghost use Rattle.nc_text.specs.Lines.{Line, IsOneLine, is_percent, size_of};
 ghost use Rattle.nc_text.specs.declared.fault.TextFault.{TextFault};
 ghost use Rattle.nc_text.specs.Refusals.{refusal_number};
 ghost use Rattle.nc_text.specs.Said.{line_says};
 ghost use Rattle.nc_text.specs.Tape.{Before, in_leader, in_body, in_rest, after_said};
-ghost use Rattle.nc_text.specs.View.{before_of, Advances};
+ghost use Rattle.nc_text.specs.View.{before_of};
 ghost use Rattle.nc_text.specs.Mark.{Grows};
 ghost use Rattle.nc_text.specs.Reading.{continued, kept_of, LeadsTo};
 
@@ -98,7 +99,8 @@ fn program_line(
 ) -> Result<(), Failing<Refusal>>
     requires some { 0 < size_of len ended }
     requires short { length bytes.now < 2 ^ 32 - 1 }
-    ensures step { Advances result (before_of progress.new) (after_said (before_of progress.old) len ended (line_says skips bytes.now ended)) }
+    requires within { length bytes.now ≤ len }
+    ensures step { Gives (λ _. before_of progress.new) result (after_said (before_of progress.old) len ended (line_says skips bytes.now ended)) }
     ensures grows { Grows (before_of progress.old) (before_of progress.new) }
 {
     match read_line(alloc, skips, bytes, ended) {
@@ -118,7 +120,9 @@ fn body_line(
 ) -> Result<Stage, NoMemory>
     requires some { 0 < size_of len ended }
     requires short { length kept.now < 2 ^ 32 - 1 }
-    ensures step { IfOk result (λ stage. (lines : List Line) (bytes : List ℕ) → kept.now ≡ kept_of Stage.Body bytes → length bytes ≡ len →
+    requires within { length kept.now ≤ len }
+    ensures step { IfOk result (λ stage. (lines : List Line) (bytes : List ℕ)
+        → kept.now ≡ kept_of Stage.Body bytes → length bytes ≡ len →
         in_body skips (record { bytes = bytes; ended = ended } ∷ lines) (before_of progress.old) ≡ continued skips stage lines (before_of progress.new)) }
     ensures grows { Grows (before_of progress.old) (before_of progress.new) }
 {
@@ -145,7 +149,9 @@ pub(crate) fn behind_line(
 ) -> Result<Stage, NoMemory>
     requires some { 0 < size_of len ended }
     requires short { length kept.now < 2 ^ 32 - 1 }
-    ensures step { IfOk result (λ behind. (lines : List Line) (bytes : List ℕ) → kept.now ≡ kept_of stage bytes → length bytes ≡ len →
+    requires within { length kept.now ≤ len }
+    ensures step { IfOk result (λ behind. (lines : List Line) (bytes : List ℕ)
+        → kept.now ≡ kept_of stage bytes → length bytes ≡ len →
         continued skips stage (record { bytes = bytes; ended = ended } ∷ lines) (before_of progress.old) ≡ continued skips behind lines (before_of progress.new)) }
     ensures grows { Grows (before_of progress.old) (before_of progress.new) }
     ensures same { (fault : TextFault) → stage ≡ Stage.Refused fault → result ≡ Ok (Stage.Refused fault) }

@@ -1,35 +1,8 @@
 ghost use Rattle.std.specs.Prelude.{◌≡◌, [], ◌∷◌, ◌++◌, take, OnOk, OnErr};
 
+use nc_number::ByteList;
 use std::alloc::{AllocFailed, Global};
 use std::marker::Model;
-
-/// Bytes of a tape's text, without ignored bytes and in upper case.
-#[derive(Debug, Drop)]
-pub struct ByteList {
-    bytes: Vec<u8>,
-}
-
-impl Model for ByteList {
-    ghost use Rattle.std.specs.Prelude.{List, ℕ};
-
-    ghost Value = { List ℕ };
-
-    ghost view = { λ l. l.bytes.items };
-}
-
-impl ByteList {
-    pub(crate) fn of(bytes: Vec<u8>) -> Self
-        ensures { result ≡ bytes.items }
-    {
-        ByteList { bytes }
-    }
-
-    pub fn as_slice(&self) -> &[u8]
-        ensures { result.now ≡ self.now }
-    {
-        self.bytes.as_slice()
-    }
-}
 
 /// An address letter and its value.
 #[derive(Debug, Drop)]
@@ -40,7 +13,7 @@ pub struct Word {
     pub start: u32,
     /// The place behind the value's last byte.
     pub end: u32,
-    /// The value: a literal, a variable or a bracketed expression, whole.
+    /// The value: a literal, a variable or a bracketed expression, whole; without ignored bytes and in upper case.
     pub text: ByteList,
 }
 
@@ -147,6 +120,9 @@ pub struct Program {
 }
 
 /// A tape as its programs. The first one is the main program.
+///
+/// Every tape has the shape `IsTapeShape`: at least one program, numbers from 1 to 9,999, lines that rise from the first O
+/// number to the last block, at most 20,000 blocks, and in each block words with a letter and a whole value, or a statement.
 #[derive(Debug, Drop)]
 pub struct Tape {
     programs: Vec<Program>,
@@ -159,17 +135,26 @@ impl Model for Tape {
     ghost Value = { List Program };
 
     ghost view = { λ t. t.programs.items };
+
+    ghost use Rattle.nc_text.specs.Shape.{IsTapeShape};
+
+    ghost invariant = { λ t. IsTapeShape t.programs.items };
 }
 
 impl Tape {
+    ghost use Rattle.nc_text.specs.Shape.{IsTapeShape};
+
     pub(crate) fn of(programs: Vec<Program>) -> Self
+        requires { IsTapeShape programs.items }
         ensures { result ≡ programs.items }
     {
         Tape { programs }
     }
 
+    /// The programs, in the order of the text.
     pub fn as_slice(&self) -> &[Program]
-        ensures { result.now ≡ self.now }
+        ensures value { result.now ≡ self.now }
+        ensures shape { IsTapeShape self.now }
     {
         self.programs.as_slice()
     }

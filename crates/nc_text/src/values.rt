@@ -1,10 +1,9 @@
 ghost use Rattle.std.specs.Prelude.{◌≡◌, ◌+◌, ◌^◌, ◌<◌, ◌≤◌, length, IfSome, IsTrue};
 ghost use Rattle.std.specs.Char.{is_ascii_digit};
 ghost use Rattle.std.specs.List.{list_all};
-ghost use Rattle.nc_number.specs.Range.{InRange};
 ghost use Rattle.nc_number.specs.Literals.{IsLiteral, behind_sign, has_too_many_digits};
 ghost use Rattle.nc_text.specs.Pieces.{depth_behind};
-ghost use Rattle.nc_text.specs.Values.{closes, is_variable, is_reference, is_value, whole_of, in_range, number_in, digits_len, fraction_len, sign_len, unsigned_len, number_front, has_long_front};
+ghost use Rattle.nc_text.specs.Values.{closes, is_variable, is_reference, is_value, in_range, number_in, digits_len, fraction_len, sign_len, unsigned_len, number_front, has_long_front};
 
 use crate::cut::depth_behind;
 use nc_number::{is_literal, parse_word};
@@ -168,25 +167,12 @@ pub(crate) fn has_long_front(text: &[u8]) -> bool
     is_literal(front) && has_too_many_digits(front)
 }
 
-/// The whole number of so many millionths, if it is one and not below 0.
-fn whole_of(micro: i64) -> Option<u64>
-    requires { InRange micro }
-    ensures value { result ≡ whole_of micro }
-{
-    let size = micro.unsigned_abs();
-    if micro >= 0 && size % 1_000_000 == 0 {
-        Some(size / 1_000_000)
-    } else {
-        None
-    }
-}
-
-fn in_range(low: u32, high: u32, n: Option<u64>) -> Option<u32>
+fn in_range(low: u32, high: u32, n: Option<i64>) -> Option<u32>
     ensures value { result ≡ in_range low high n }
     ensures range { IfSome result (λ n. n ≤ high) }
 {
     let n = n?;
-    if u64::from(low) <= n && n <= u64::from(high) {
+    if i64::from(low) <= n && n <= i64::from(high) {
         Some(n as u32)
     } else {
         None
@@ -201,7 +187,7 @@ pub(crate) fn number_in(low: u32, high: u32, text: &[u8]) -> Option<u32>
     ensures range { IfSome result (λ n. n ≤ high) }
 {
     match parse_word(text) {
-        Ok(literal) => in_range(low, high, whole_of(literal.micro)),
+        Ok(literal) => in_range(low, high, literal.whole()),
         Err(_) => None,
     }
 }

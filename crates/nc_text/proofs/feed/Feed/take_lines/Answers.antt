@@ -20,4 +20,9 @@ returns-in-Err-clause-as_before c =
     let counted : c.len-kept.result ≡ length old.line.kept.items = search rules in
     as_before old.skips old.line.stage line.stage old.line.kept.items line.kept.items old.line.len line.len (before_of old.progress) (before_of c.cut_back-in-Err.new.self)
     (c.cut_back.ensures.stage ∙ c.extend.ensures.stage) (kept_back old.line.stage old.line.kept.items c.args.front.now mid.kept.items line.kept.items c.len-kept.result counted c.in_ok-extend.ensures.kept c.cut_back.ensures.kept) c.cut_back.ensures.len
-    (c.cut_back-in-Err.ensures (before_of old.progress) c.mark-mark.ensures (c.line_behind.ensures.grows (before_of old.progress) (follows_itself (before_of old.progress))))
+    (c.cut_back-in-Err.ensures (before_of old.progress) c.mark-mark.ensures.mark (c.line_behind.ensures.grows (before_of old.progress) (follows_itself (before_of old.progress))))
+
+pub cut_back-requires-in-Err : goal.cut_back-requires-in-Err
+cut_back-requires-in-Err c =
+    let start = before_of c.args.self.now.progress in
+    record { start = start; mark_is = c.mark-mark.ensures.mark; follows = c.line_behind.ensures.grows start (follows_itself start); shaped = c.mark-mark.ensures.shaped }

@@ -1,0 +1,57 @@
+ghost use Rattle.std.specs.Prelude.{◌≡◌, ◌++◌, Some, OnOk, OnErr};
+ghost use Rattle.std.specs.Option.{option_to_list};
+ghost use Rattle.nc_text.specs.Tape.{program_at, block_at, with_block};
+
+use crate::said::SaidBlock;
+use crate::tape::{Block, BlockList, Program};
+use std::alloc::{AllocError, Global};
+
+/// Begins a program, behind the one that is being read.
+pub(crate) fn begin_program(
+    alloc: Global,
+    done: &mut Vec<Program>,
+    current: &mut Option<Program>,
+    line: u32,
+    number: u32,
+) -> Result<(), AllocError>
+    ensures done { OnOk result (done.new.items ≡ done.old.items ++ option_to_list current.old) }
+    ensures current { OnOk result (current.new ≡ Some (program_at line number)) }
+    ensures as_before { OnErr result ((done.new.items ≡ done.old.items) × (current.new ≡ current.old)) }
+{
+    if let Some(program) = current.take() {
+        if let Err(failed) = done.push(program) {
+            *current = Some(failed.value);
+            return Err(AllocError);
+        }
+    }
+    *current = Some(Program {
+        number,
+        line,
+        blocks: BlockList::empty(alloc),
+    });
+    Ok(())
+}
+
+/// Puts a block behind those of the program that is being read.
+pub(crate) fn add_block(
+    current: &mut Option<Program>,
+    line: u32,
+    block: SaidBlock,
+) -> Result<(), AllocError>
+    ensures ok { OnOk result (current.new ≡ with_block (block_at line block) current.old) }
+    ensures as_before { OnErr result (current.new ≡ current.old) }
+{
+    let SaidBlock {
+        sequence,
+        in_range: _,
+        body,
+    } = block;
+    if let Some(program) = current {
+        program.blocks.push(Block {
+            line,
+            sequence,
+            body,
+        })?;
+    }
+    Ok(())
+}
