@@ -1,0 +1,307 @@
+-- The reader's cut of a line is the words that it spells.
+use Rattle.std.proofs.Common.{◌≡◌, ℕ, zero, suc, ◌+◌, ◌-◌, ◌<◌, ◌≤◌, ◌==◌, Bool, true, false, cond, not, ◌&&◌, ◌||◌, List, [], ◌∷◌, ◌++◌, length, take, drop, map, ◌⊎◌, inl, inr, refl, ap, sym, subst, ◌∙◌, arith, append_assoc}
+use Rattle.std.specs.Char.{is_ascii_digit, is_ascii_uppercase}
+use Rattle.std.specs.List.{list_all, list_any, flat_map, position_or_len, before_first, after_first}
+use Rattle.std.proofs.lemmas.Bool.{true≢false, eqb-true, eq-eqb, or_parts}
+use Rattle.std.proofs.lemmas.Bool.Decides.{nat_tests}
+use Rattle.std.proofs.lemmas.List.{nil_from_length, append-nil}
+use Rattle.std.proofs.Math.Seq.{take-append_seam}
+use Rattle.nc_number.specs.Literals.{is_literal, is_sign, behind_sign, is_point, whole_part, fraction_part}
+use Rattle.nc_text.specs.declared.sign.Sign.{Sign}
+use Rattle.nc_text.specs.declared.piece.Piece.{Piece}
+use Rattle.nc_text.specs.Pieces.{Group, Cut, is_comment, depth_behind, begins_word, add_to_cut, cut_at, bytes_of, value_part, piece_of, pieces_of, value_len, end_of}
+use Rattle.nc_text.specs.Values.{closes, is_variable, is_reference, is_value}
+use Rattle.nc_text.specs.Said.{is_sound}
+use Rattle.tape_relation.specs.Value.{IsValue}
+use Rattle.tape_relation.specs.Words.{word_at, AreWords, IsCut}
+use Rattle.tape_relation.proofs.Values.{both, value_is, is_a_value}
+
+-- The signs of a value begin no word.
+
+abbrev is_plain : ℕ → Bool
+is_plain b = not (is_ascii_uppercase b) && (not (b == 91) && not (b == 93))
+
+-- a cut that goes on behind these signs
+abbrev onto : List Sign → Cut → Cut
+onto value cut = record { lead = value ++ cut.lead; groups = cut.groups }
+
+not_true : (a : Bool) → not a ≡ true → a ≡ false
+not_true true e = absurd cc
+not_true false e = refl
+
+-- the signs are passed without a word
+abbrev Passes : List Sign → List Sign → Type 0
+Passes value rest = cut_at (value ++ rest) 0 ≡ onto value (cut_at rest 0)
+
+pass_one : (sign : Sign) (value rest : List Sign) → is_plain sign.byte ≡ true → Passes value rest → Passes (sign ∷ value) rest
+pass_one sign value rest plain later =
+    let p = both (not (is_ascii_uppercase sign.byte)) (not (sign.byte == 91) && not (sign.byte == 93)) plain in
+    let q = both (not (sign.byte == 91)) (not (sign.byte == 93)) p.1 in
+    rw (not_true (is_ascii_uppercase sign.byte) p.0, not_true (sign.byte == 91) q.0, not_true (sign.byte == 93) q.1) (ap (add_to_cut false sign) later)
+
+pass_plain : (value rest : List Sign) → list_all is_plain (bytes_of value) ≡ true → Passes value rest
+pass_plain [] rest e = refl
+pass_plain (sign ∷ value) rest e = let p = both (is_plain sign.byte) (list_all is_plain (bytes_of value)) e in pass_one sign value rest p.0 (pass_plain value rest p.1)
+
+-- inside brackets
+pass_closing : (value rest : List Sign) (depth : ℕ) → 0 < depth → closes (bytes_of value) depth ≡ true → cut_at (value ++ rest) depth ≡ onto value (cut_at rest 0)
+pass_closing [] rest depth some e = absurd cc
+pass_closing (sign ∷ value) rest depth some e = go (sign.byte == 91) refl (sign.byte == 93) refl (depth == 1) refl (depth == 0) refl e (pass_closing value rest (depth + 1)) (pass_closing value rest (depth - 1)) (pass_closing value rest depth)
+  where
+    nothing_left : (v : List Sign) (d : ℕ) → length (bytes_of v) ≡ 0 → d ≡ 0 → cut_at (v ++ rest) d ≡ onto v (cut_at rest 0)
+    nothing_left [] d e z = ap (cut_at rest) z
+    nothing_left (s ∷ v) d e z = absurd (omega arith)
+
+    go : (u : Bool) → (sign.byte == 91) ≡ u → (v : Bool) → (sign.byte == 93) ≡ v → (one : Bool) → (depth == 1) ≡ one → (zero_depth : Bool) → (depth == 0) ≡ zero_depth
+        → cond (v && one) (length (bytes_of value) == 0) (closes (bytes_of value) (cond u (depth + 1) (cond v (depth - 1) depth))) ≡ true
+        → (0 < depth + 1 → closes (bytes_of value) (depth + 1) ≡ true → cut_at (value ++ rest) (depth + 1) ≡ onto value (cut_at rest 0))
+        → (0 < depth - 1 → closes (bytes_of value) (depth - 1) ≡ true → cut_at (value ++ rest) (depth - 1) ≡ onto value (cut_at rest 0))
+        → (0 < depth → closes (bytes_of value) depth ≡ true → cut_at (value ++ rest) depth ≡ onto value (cut_at rest 0))
+        → add_to_cut (zero_depth && is_ascii_uppercase sign.byte) sign (cut_at (value ++ rest) (cond u (depth + 1) (cond v (depth - 1) depth))) ≡ onto (sign ∷ value) (cut_at rest 0)
+    go u e91 v e93 one e1 true e0 h more less same = let z : depth ≡ 0 = eqb-true depth 0 e0 in absurd (omega arith)
+    go true e91 true e93 one e1 false e0 h more less same = let x : sign.byte ≡ 91 = eqb-true sign.byte 91 e91 in let y : sign.byte ≡ 93 = eqb-true sign.byte 93 e93 in absurd (omega arith)
+    go true e91 false e93 one e1 false e0 h more less same = ap (add_to_cut false sign) (more (omega arith) h)
+    go false e91 true e93 true e1 false e0 h more less same =
+        let d : depth ≡ 1 = eqb-true depth 1 e1 in
+        let z : depth - 1 ≡ 0 = omega arith in ap (add_to_cut false sign) (nothing_left value (depth - 1) (eqb-true (length (bytes_of value)) 0 h) z)
+    go false e91 true e93 false e1 false e0 h more less same = ap (add_to_cut false sign) (less (several depth some e1) h)
+      where
+        several : (d : ℕ) → 0 < d → (d == 1) ≡ false → 0 < d - 1
+        several d some off = grind arith
+    go false e91 false e93 one e1 false e0 h more less same = ap (add_to_cut false sign) (same some h)
+
+pass_bracket : (sign : Sign) (value rest : List Sign) → sign.byte ≡ 91 → closes (bytes_of value) 1 ≡ true → Passes (sign ∷ value) rest
+pass_bracket sign value rest e h =
+    let P : ℕ → Type 0 = λ b. add_to_cut (begins_word 0 b) sign (cut_at (value ++ rest) (depth_behind 0 b)) ≡ onto (sign ∷ value) (cut_at rest 0) in
+    let here : add_to_cut false sign (cut_at (value ++ rest) 1) ≡ onto (sign ∷ value) (cut_at rest 0) = ap (add_to_cut false sign) (pass_closing value rest 1 (omega arith) h) in
+    subst P (sym e) here
+
+digit_plain : (b : ℕ) → is_ascii_digit b ≡ true → is_plain b ≡ true
+digit_plain b digit = grind (arith, nat_tests)
+
+digits_plain : (text : List ℕ) → list_all is_ascii_digit text ≡ true → list_all is_plain text ≡ true
+digits_plain [] e = refl
+digits_plain (b ∷ text) e = let p = both (is_ascii_digit b) (list_all is_ascii_digit text) e in rw (digit_plain b p.0) (digits_plain text p.1)
+
+pass_variable : (value rest : List Sign) → is_variable (bytes_of value) ≡ true → Passes value rest
+pass_variable [] rest e = absurd cc
+pass_variable (sign ∷ value) rest e = go (sign.byte == 91) refl e
+  where
+    go : (t : Bool) → (sign.byte == 91) ≡ t → cond t (closes (bytes_of value) 1) (list_all is_ascii_digit (bytes_of (sign ∷ value))) ≡ true → Passes (sign ∷ value) rest
+    go true is h = pass_bracket sign value rest (eqb-true sign.byte 91 is) h
+    go false is h = pass_plain (sign ∷ value) rest (digits_plain (bytes_of (sign ∷ value)) h)
+
+pass_reference : (value rest : List Sign) → is_reference (bytes_of value) ≡ true → Passes value rest
+pass_reference [] rest e = absurd cc
+pass_reference (sign ∷ value) rest e = go (sign.byte == 35) refl e
+  where
+    go : (t : Bool) → (sign.byte == 35) ≡ t → cond t (is_variable (bytes_of value)) (sign.byte == 91 && closes (bytes_of value) 1) ≡ true → Passes (sign ∷ value) rest
+    go true is h =
+        let P : ℕ → Type 0 = λ b. is_plain b ≡ true in
+        pass_one sign value rest (subst P (sym (eqb-true sign.byte 35 is)) refl) (pass_variable value rest h)
+    go false is h = let p = both (sign.byte == 91) (closes (bytes_of value) 1) h in pass_bracket sign value rest (eqb-true sign.byte 91 p.0) p.1
+
+sign_plain : (b : ℕ) → is_sign b ≡ true → is_plain b ≡ true
+sign_plain b is = grind (arith, nat_tests)
+
+pass_signed : (value rest : List Sign) → is_reference (behind_sign (bytes_of value)) ≡ true → Passes value rest
+pass_signed [] rest e = absurd cc
+pass_signed (sign ∷ value) rest e = go (is_sign sign.byte) refl e
+  where
+    go : (t : Bool) → is_sign sign.byte ≡ t → is_reference (cond t (bytes_of value) (bytes_of (sign ∷ value))) ≡ true → Passes (sign ∷ value) rest
+    go true is h = pass_one sign value rest (sign_plain sign.byte is) (pass_reference value rest h)
+    go false is h = pass_reference (sign ∷ value) rest h
+
+-- What is made of digits and a point.
+
+point_plain : (b : ℕ) → is_point b ≡ true → is_plain b ≡ true
+point_plain b is = grind (arith, nat_tests)
+
+parts_plain : (text : List ℕ) → list_all is_ascii_digit (before_first is_point text) ≡ true → list_all is_ascii_digit (after_first is_point text) ≡ true → list_all is_plain text ≡ true
+parts_plain [] p q = refl
+parts_plain (b ∷ text) p q = go (position_or_len is_point text) (is_point b) refl p q (parts_plain text)
+  where
+    go : (n : ℕ) (t : Bool) → is_point b ≡ t → list_all is_ascii_digit (take (cond (not t) (1 + n) 0) (b ∷ text)) ≡ true → list_all is_ascii_digit (drop (cond (not t) (1 + n) 0 + 1) (b ∷ text)) ≡ true
+        → (list_all is_ascii_digit (take n text) ≡ true → list_all is_ascii_digit (drop (n + 1) text) ≡ true → list_all is_plain text ≡ true) → list_all is_plain (b ∷ text) ≡ true
+    go n true is front back later = rw (point_plain b is) (digits_plain text back)
+    go n false is front back later =
+        let one : 1 + n ≡ suc n = omega arith in
+        let two : suc n + 1 ≡ suc (n + 1) = omega arith in
+        let f : list_all is_ascii_digit (b ∷ take n text) ≡ true = rw one at front in
+        let g : list_all is_ascii_digit (drop (suc n + 1) (b ∷ text)) ≡ true = rw one at back in
+        let h : list_all is_ascii_digit (drop (n + 1) text) ≡ true = rw two at g in
+        let p = both (is_ascii_digit b) (list_all is_ascii_digit (take n text)) f in rw (digit_plain b p.0) (later p.1 h)
+
+unsigned_plain : (text : List ℕ) → list_all is_plain (behind_sign text) ≡ true → list_all is_plain text ≡ true
+unsigned_plain [] e = refl
+unsigned_plain (b ∷ text) e = go (is_sign b) refl e
+  where
+    go : (t : Bool) → is_sign b ≡ t → list_all is_plain (cond t text (b ∷ text)) ≡ true → list_all is_plain (b ∷ text) ≡ true
+    go true is h = rw (sign_plain b is) h
+    go false is h = h
+
+literal_plain : (text : List ℕ) → is_literal text ≡ true → list_all is_plain text ≡ true
+literal_plain text e =
+    let p = both (list_all is_ascii_digit (whole_part text) && list_all is_ascii_digit (fraction_part text)) _ e in
+    let q = both (list_all is_ascii_digit (whole_part text)) (list_all is_ascii_digit (fraction_part text)) p.0 in unsigned_plain text (parts_plain (behind_sign text) q.0 q.1)
+
+pub pass_value : (value rest : List Sign) → is_value (bytes_of value) ≡ true → Passes value rest
+pass_value value rest e = go (is_literal (bytes_of value)) refl e
+  where
+    go : (t : Bool) → is_literal (bytes_of value) ≡ t → (t || is_reference (behind_sign (bytes_of value))) ≡ true → Passes value rest
+    go true is h = pass_plain value rest (literal_plain (bytes_of value) is)
+    go false is h = pass_signed value rest h
+
+-- Comments and letters.
+
+pass_comments : (comments rest : List Sign) → list_all is_comment comments ≡ true → Passes comments rest
+pass_comments [] rest e = refl
+pass_comments (sign ∷ comments) rest e =
+    let p = both (is_comment sign) (list_all is_comment comments) e in
+    let P : ℕ → Type 0 = λ b. is_plain b ≡ true in
+    pass_one sign comments rest (subst P (sym (eqb-true sign.byte 40 p.0)) refl) (pass_comments comments rest p.1)
+
+-- a letter opens and closes nothing
+letter_depth : (b : ℕ) → is_ascii_uppercase b ≡ true → depth_behind 0 b ≡ 0
+letter_depth b letter = grind (arith, nat_tests)
+
+at_letter : (letter : Sign) (rest : List Sign) → is_ascii_uppercase letter.byte ≡ true → cut_at (letter ∷ rest) 0 ≡ add_to_cut true letter (cut_at rest 0)
+at_letter letter rest is = rw (letter_depth letter.byte is, is) refl
+
+-- what stands before the first comment is the value
+before_comments : (value comments : List Sign) → list_any is_comment value ≡ false → list_all is_comment comments ≡ true → position_or_len is_comment (value ++ comments) ≡ length value
+before_comments [] [] none all = refl
+before_comments [] (sign ∷ comments) none all = rw (both (is_comment sign) (list_all is_comment comments) all).0 refl
+before_comments (sign ∷ value) comments none all =
+    let p = or_parts (is_comment sign) (list_any is_comment value) none in
+    let later = before_comments value comments p.1 all in rw p.0 (let z : 1 + position_or_len is_comment (value ++ comments) ≡ length (sign ∷ value) = omega arith in z)
+
+value_before : (value comments : List Sign) → list_any is_comment value ≡ false → list_all is_comment comments ≡ true → value_part (value ++ comments) ≡ value
+value_before value comments none all = ap (λ (n : ℕ). take n (value ++ comments)) (before_comments value comments none all) ∙ take-append_seam value comments
+
+drop_seam : (value comments : List Sign) → drop (length value) (value ++ comments) ≡ comments
+drop_seam [] comments = refl
+drop_seam (sign ∷ value) comments = drop_seam value comments
+
+abbrev piece_with : Sign → List Sign → List Sign → Piece
+piece_with letter value part = record { letter = letter.byte; start = letter.place + 1; end = end_of (letter.place + 1) part; text = bytes_of part; whole = list_all is_comment (drop (length part) value) }
+
+piece_is : (letter : Sign) (value comments : List Sign) → list_any is_comment value ≡ false → list_all is_comment comments ≡ true → piece_of (record { letter = letter; value = value ++ comments }) ≡ word_at letter value
+piece_is letter value comments none all =
+    ap (piece_with letter (value ++ comments)) (value_before value comments none all)
+    ∙ ap (λ (whole : Bool). record { letter = letter.byte; start = letter.place + 1; end = end_of (letter.place + 1) value; text = bytes_of value; whole = whole }) (ap (list_all is_comment) (drop_seam value comments) ∙ all)
+
+-- From the grammar to the cut.
+
+record Spelled (signs : List Sign) (words : List Piece) : Type 0 where
+  lead_is : (cut_at signs 0).lead ≡ []
+  words_are : map piece_of (cut_at signs 0).groups ≡ words
+  whole : list_all is_sound words ≡ true
+
+spelled : (words : List Piece) (signs : List Sign) → AreWords signs words → Spelled signs words
+spelled [] signs are = record { lead_is = ap (λ (ss : List Sign). (cut_at ss 0).lead) are; words_are = ap (λ (ss : List Sign). map piece_of (cut_at ss 0).groups) are; whole = refl }
+spelled (word ∷ words) signs (letter, value, comments, others, is, up, val, none, all, word-is, rest) =
+    let s = spelled words others rest in
+    let sound : is_value (bytes_of value) ≡ true = is_a_value (bytes_of value) val in
+    let cut : cut_at signs 0 ≡ add_to_cut true letter (onto value (onto comments (cut_at others 0))) =
+    ap (λ (ss : List Sign). cut_at ss 0) is ∙ at_letter letter (value ++ (comments ++ others)) up
+    ∙ ap (add_to_cut true letter) (pass_value value (comments ++ others) sound ∙ ap (onto value) (pass_comments comments others all))
+    in
+    let group : value ++ (comments ++ (cut_at others 0).lead) ≡ value ++ comments = ap (λ (ss : List Sign). value ++ (comments ++ ss)) s.lead_is ∙ ap (λ (ss : List Sign). value ++ ss) (append-nil comments) in
+    let first : piece_of (record { letter = letter; value = value ++ (comments ++ (cut_at others 0).lead) }) ≡ word = ap (λ (ss : List Sign). piece_of (record { letter = letter; value = ss })) group ∙ piece_is letter value comments none all ∙ sym word-is in
+    let P : Piece → Type 0 = λ w. is_sound w ≡ true in
+    let good : is_sound word ≡ true = subst P (sym word-is) sound in record {
+      lead_is = ap (λ (c : Cut). c.lead) cut;
+      words_are = ap (λ (c : Cut). map piece_of c.groups) cut ∙ ap (λ (w : Piece). w ∷ map piece_of (cut_at others 0).groups) first ∙ ap (λ (ws : List Piece). word ∷ ws) s.words_are;
+      whole = rw good s.whole;
+    }
+
+-- From the cut to the grammar.
+
+abbrev flat : List Group → List Sign
+flat [] = []
+flat (group ∷ groups) = group.letter ∷ (group.value ++ flat groups)
+
+-- each group begins at a letter
+abbrev Letters : List Group → Type 0
+Letters [] = Unit {0}
+Letters (group ∷ groups) = (is_ascii_uppercase group.letter.byte ≡ true) × Letters groups
+
+cut_letters : (signs : List Sign) (depth : ℕ) → Letters (cut_at signs depth).groups
+cut_letters [] depth = tt
+cut_letters (sign ∷ signs) depth = go (begins_word depth sign.byte) refl (cut_letters signs (depth_behind depth sign.byte))
+  where
+    go : (t : Bool) → begins_word depth sign.byte ≡ t → Letters (cut_at signs (depth_behind depth sign.byte)).groups → Letters (add_to_cut t sign (cut_at signs (depth_behind depth sign.byte))).groups
+    go true e later = ((both (depth == 0) (is_ascii_uppercase sign.byte) e).1, later)
+    go false e later = later
+
+added_flat : (t : Bool) (sign : Sign) (signs : List Sign) (cut : Cut) → signs ≡ cut.lead ++ flat cut.groups → sign ∷ signs ≡ (add_to_cut t sign cut).lead ++ flat (add_to_cut t sign cut).groups
+added_flat true sign signs cut e = ap (λ (ss : List Sign). sign ∷ ss) e
+added_flat false sign signs cut e = ap (λ (ss : List Sign). sign ∷ ss) e
+
+cut_flat : (signs : List Sign) (depth : ℕ) → signs ≡ (cut_at signs depth).lead ++ flat (cut_at signs depth).groups
+cut_flat [] depth = refl
+cut_flat (sign ∷ signs) depth = added_flat (begins_word depth sign.byte) sign signs (cut_at signs (depth_behind depth sign.byte)) (cut_flat signs (depth_behind depth sign.byte))
+
+split_at : (n : ℕ) (value : List Sign) → value ≡ take n value ++ drop n value
+split_at zero value = refl
+split_at (suc n) [] = refl
+split_at (suc n) (sign ∷ value) = ap (λ (ss : List Sign). sign ∷ ss) (split_at n value)
+
+no_comment : (value : List Sign) → list_any is_comment (value_part value) ≡ false
+no_comment [] = refl
+no_comment (sign ∷ value) = go (position_or_len is_comment value) (is_comment sign) refl (no_comment value)
+  where
+    go : (n : ℕ) (t : Bool) → is_comment sign ≡ t → list_any is_comment (take n value) ≡ false → list_any is_comment (take (cond (not t) (1 + n) 0) (sign ∷ value)) ≡ false
+    go n true e later = refl
+    go n false e later = let one : 1 + n ≡ suc n = omega arith in rw one (rw e later)
+
+take_len : (n : ℕ) (value : List Sign) → drop (length (take n value)) value ≡ drop n value
+take_len zero value = refl
+take_len (suc n) [] = refl
+take_len (suc n) (sign ∷ value) = take_len n value
+
+spells : (groups : List Group) → Letters groups → list_all is_sound (map piece_of groups) ≡ true → AreWords (flat groups) (map piece_of groups)
+spells [] letters sound = refl
+spells (group ∷ groups) letters sound =
+    let p = both (is_sound (piece_of group)) (list_all is_sound (map piece_of groups)) sound in
+    let q = both (piece_of group).whole (is_value (piece_of group).text) p.0 in
+    let part : List Sign = value_part group.value in
+    let n : ℕ = position_or_len is_comment group.value in
+    let comments : List Sign = drop (length part) group.value in
+    let value : group.value ≡ part ++ comments = split_at n group.value ∙ ap (λ (ss : List Sign). part ++ ss) (sym (take_len n group.value)) in
+    let all : flat (group ∷ groups) ≡ group.letter ∷ (part ++ (comments ++ flat groups)) = ap (λ (ss : List Sign). group.letter ∷ (ss ++ flat groups)) value ∙ ap (λ (ss : List Sign). group.letter ∷ ss) (append_assoc part comments (flat groups)) in (
+      group.letter,
+      part,
+      comments,
+      flat groups,
+      all,
+      letters.0,
+      value_is (bytes_of part) q.1,
+      no_comment group.value,
+      q.0,
+      ap (λ (whole : Bool). record { letter = group.letter.byte; start = group.letter.place + 1; end = end_of (group.letter.place + 1) part; text = bytes_of part; whole = whole }) q.0,
+      spells groups letters.1 p.1,
+    )
+
+-- the length of what stands before the first letter
+lead_len : (signs : List Sign) (depth : ℕ) → value_len signs depth ≡ length (cut_at signs depth).lead
+lead_len [] depth = refl
+lead_len (sign ∷ signs) depth = go (begins_word depth sign.byte) (lead_len signs (depth_behind depth sign.byte))
+  where
+    go : (t : Bool) → value_len signs (depth_behind depth sign.byte) ≡ length (cut_at signs (depth_behind depth sign.byte)).lead
+        → cond t 0 (1 + value_len signs (depth_behind depth sign.byte)) ≡ length (add_to_cut t sign (cut_at signs (depth_behind depth sign.byte))).lead
+    go true later = refl
+    go false later = omega arith
+
+pub words_cut : (signs : List Sign) (words : List Piece) → AreWords signs words → IsCut signs words
+words_cut signs words are = let s = spelled words signs are in record { at_letter = lead_len signs 0 ∙ ap length s.lead_is; words_are = s.words_are; whole = s.whole }
+
+pub cut_words : (signs : List Sign) (words : List Piece) → IsCut signs words → AreWords signs words
+cut_words signs words is =
+    let lead : (cut_at signs 0).lead ≡ [] = nil_from_length (cut_at signs 0).lead (sym (lead_len signs 0) ∙ is.at_letter) in
+    let all : flat (cut_at signs 0).groups ≡ signs = sym (cut_flat signs 0 ∙ ap (λ (ss : List Sign). ss ++ flat (cut_at signs 0).groups) lead) in
+    let P : List Piece → Type 0 = λ ws. list_all is_sound ws ≡ true in
+    let Q : List Piece → Type 0 = AreWords signs in
+    let R : List Sign → Type 0 = λ ss. AreWords ss (pieces_of signs) in
+    subst Q is.words_are (subst R all (spells (cut_at signs 0).groups (cut_letters signs 0) (subst P (sym is.words_are) is.whole)))

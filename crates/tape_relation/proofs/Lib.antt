@@ -1,0 +1,11 @@
+pub mod Values
+pub mod Cuts
+pub mod LinesOf
+pub mod Fronts
+pub mod LeastNumber
+pub mod Places
+pub mod Steps
+pub mod FirstFault
+pub mod Ends
+pub mod OneAnswer
+pub mod Agrees

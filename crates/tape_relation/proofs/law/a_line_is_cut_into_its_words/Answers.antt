@@ -1,0 +1,5 @@
+use Rattle.tape_relation.proofs.Cuts.{words_cut, cut_words}
+use Rattle.tape_relation.proofs.law.a_line_is_cut_into_its_words.Goals as goal
+
+pub returns : goal.returns
+returns c = λ signs words. (cut_words signs words, words_cut signs words)

@@ -1,0 +1,53 @@
+-- The parts of a tape's text: lines before the first that begins with `%`, the lines of the programs, and the lines from the
+-- next on that begins with `%`.
+use Rattle.std.specs.Prelude.{◌≡◌, ℕ, ◌+◌, ◌<◌, Bool, true, false, List, [], ◌∷◌, ◌++◌, length, All, if◌then◌else◌}
+use Rattle.std.specs.List.{list_any, flat_map}
+use Rattle.nc_text.specs.Lines.{Line, IsOneLine, is_percent}
+
+-- a line as it stands in the text, with its line feed
+abbrev pub written : Line → List ℕ
+written line = line.bytes ++ (if line.ended then 10 ∷ [] else [])
+
+-- the bytes of these lines
+abbrev pub size : List Line → ℕ
+size lines = length (flat_map written lines)
+
+-- each line has its line feed; the last has it, or it holds a byte
+abbrev pub AreEnded : List Line → Type 0
+AreEnded [] = Unit {0}
+AreEnded (line ∷ []) = line.ended ≡ false → 0 < length line.bytes
+AreEnded (line ∷ next ∷ lines) = (line.ended ≡ true) × AreEnded (next ∷ lines)
+
+-- a text is these lines, one behind the other, and no line feed stands in one
+pub record AreLines (text : List ℕ) (lines : List Line) : Type 0 where
+  pub text_is : text ≡ flat_map written lines
+  pub one_line : All (λ line. IsOneLine line.bytes) lines
+  pub ended : AreEnded lines
+
+abbrev pub begins_percent : Line → Bool
+begins_percent line = is_percent line.bytes
+
+abbrev pub has_percent : List Line → Bool
+has_percent lines = list_any begins_percent lines
+
+-- the lines before the first that begins with `%`: the leader of a text
+abbrev pub before_percent : List Line → List Line
+before_percent [] = []
+before_percent (line ∷ lines) = if begins_percent line then [] else line ∷ before_percent lines
+
+-- the lines behind the first that begins with `%`
+abbrev pub behind_percent : List Line → List Line
+behind_percent [] = []
+behind_percent (line ∷ lines) = if begins_percent line then lines else behind_percent lines
+
+-- the lines of the programs
+abbrev pub body_of : List Line → List Line
+body_of lines = before_percent (behind_percent lines)
+
+-- a second line begins with `%`
+abbrev pub is_closed : List Line → Bool
+is_closed lines = has_percent (behind_percent lines)
+
+-- the number of the first line that begins with `%`, or 1
+abbrev pub opening_line : List Line → ℕ
+opening_line lines = if has_percent lines then length (before_percent lines) + 1 else 1

@@ -1,0 +1,57 @@
+-- The tape of a text, and the one fault of a text that is no tape, without any reader.
+use Rattle.std.specs.Prelude.{◌≡◌, ℕ, ◌+◌, ◌<◌, ◌⊎◌, true, false, List, [], ◌∷◌, ◌++◌, length}
+use Rattle.std.specs.List.{list_any}
+use Rattle.nc_text.specs.declared.fault.TextFault.{TextFault}
+use Rattle.nc_text.specs.declared.refusal.Refusal.{Refusal}
+use Rattle.nc_text.specs.declared.refusal.Refusal.TheVariants.{NoProgramNumber, NoEnd}
+use Rattle.nc_text.specs.declared.tape.Program.{Program}
+use Rattle.nc_text.specs.Refusals.{refusal_number}
+use Rattle.nc_text.specs.Lines.{Line}
+use Rattle.tape_relation.specs.Parts.{AreLines, before_percent, body_of, is_closed, opening_line}
+use Rattle.tape_relation.specs.LineAlone.{says_something}
+use Rattle.tape_relation.specs.Conditions.{IsLeast, NoneHolds}
+use Rattle.tape_relation.specs.Programs.{ArePrograms}
+
+abbrev pub fault_at : Refusal → ℕ → TextFault
+fault_at refusal line = record { number = refusal_number refusal; line = line }
+
+-- The least line at which a condition holds, and there the least number. The lines stand behind the front.
+pub record IsFirstFault (skips : ℕ) (front lines : List Line) (fault : TextFault) : Type 0 where
+  pub before : List Line
+  pub line : Line
+  pub behind : List Line
+  pub refusal : Refusal
+  pub lines_are : lines ≡ before ++ line ∷ behind
+  pub least : IsLeast skips (front ++ before) line refusal
+  pub none_before : NoneHolds skips front before
+  pub fault_is : fault ≡ fault_at refusal (length (front ++ before) + 1)
+
+-- the tape has no block and no O number: told of its first line that begins with `%`
+abbrev pub LacksProgram : ℕ → List Line → TextFault → Type 0
+LacksProgram skips lines fault = (list_any (says_something skips) (body_of lines) ≡ false) × (fault ≡ fault_at NoProgramNumber (opening_line lines))
+
+-- the tape has one, and no second line begins with `%`: told of the last line
+abbrev pub LacksEnd : ℕ → List Line → TextFault → Type 0
+LacksEnd skips lines fault = (list_any (says_something skips) (body_of lines) ≡ true) × (is_closed lines ≡ false) × (fault ≡ fault_at NoEnd (length lines))
+
+-- the fault of a text; that it lacks a program or its end counts only where nothing else is wrong
+abbrev pub IsFaultOf : ℕ → List Line → TextFault → Type 0
+IsFaultOf skips lines fault = IsFirstFault skips [] lines fault ⊎ (NoneHolds skips [] lines × (LacksProgram skips lines fault ⊎ LacksEnd skips lines fault))
+
+-- no condition holds, the closing line is there, and the lines of the body are lines that say nothing and then the programs
+pub record IsTapeOf (skips : ℕ) (lines : List Line) (tape : List Program) : Type 0 where
+  pub none_holds : NoneHolds skips [] lines
+  pub closed : is_closed lines ≡ true
+  pub some : 0 < length tape
+  pub quiet : List Line
+  pub others : List Line
+  pub body_is : body_of lines ≡ quiet ++ others
+  pub quiet_is : list_any (says_something skips) quiet ≡ false
+  pub programs : ArePrograms skips (length (before_percent lines) + 1 + length quiet) others tape
+
+-- the tape, or the fault, of the lines of a text
+abbrev pub IsTape : ℕ → List ℕ → List Program → Type 0
+IsTape skips text tape = (lines : List Line) × AreLines text lines × IsTapeOf skips lines tape
+
+abbrev pub IsFault : ℕ → List ℕ → TextFault → Type 0
+IsFault skips text fault = (lines : List Line) × AreLines text lines × IsFaultOf skips lines fault

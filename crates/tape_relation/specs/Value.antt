@@ -1,0 +1,31 @@
+-- What may stand behind an address letter, as a grammar: no depth is counted and no bracket is matched with another.
+use Rattle.std.specs.Prelude.{◌≡◌, ℕ, ◌+◌, ◌≤◌, ◌<◌, ◌==◌, ◌⊎◌, true, List, [], ◌∷◌, ◌++◌, length, if◌then◌else◌}
+use Rattle.std.specs.Char.{is_ascii_digit}
+use Rattle.std.specs.List.{list_all}
+use Rattle.nc_number.specs.Literals.{is_literal}
+
+-- how often b stands in a text
+abbrev pub times : ℕ → List ℕ → ℕ
+times b [] = 0
+times b (c ∷ text) = if c == b then 1 + times b text else times b text
+
+-- no bracket closes that is not open, and none is left open
+pub record IsBalanced (text : List ℕ) : Type 0 where
+  pub same : times 91 text ≡ times 93 text
+  pub open_first : (front back : List ℕ) → text ≡ front ++ back → times 93 front ≤ times 91 front
+
+-- a text in one pair of square brackets
+abbrev pub IsBracketed : List ℕ → Type 0
+IsBracketed text = (inner : List ℕ) × (text ≡ 91 ∷ (inner ++ 93 ∷ [])) × IsBalanced inner
+
+-- `#` and digits, or `#` and an expression in brackets
+abbrev pub IsVariable : List ℕ → Type 0
+IsVariable text = (name : List ℕ) × (text ≡ 35 ∷ name) × (((0 < length name) × (list_all is_ascii_digit name ≡ true)) ⊎ IsBracketed name)
+
+-- a sign, or none
+abbrev pub IsSign : List ℕ → Type 0
+IsSign text = (text ≡ []) ⊎ ((text ≡ 43 ∷ []) ⊎ (text ≡ 45 ∷ []))
+
+-- a literal, or a variable or an expression in brackets, with or without a sign
+abbrev pub IsValue : List ℕ → Type 0
+IsValue text = (is_literal text ≡ true) ⊎ ((sign : List ℕ) × (rest : List ℕ) × (text ≡ sign ++ rest) × IsSign sign × (IsVariable rest ⊎ IsBracketed rest))
