@@ -1,15 +1,17 @@
 -- What a fuse makes of the calls that it passes on, and of those that it fails.
-use Rattle.std.proofs.Common.{◌≡◌, ◌⊎◌, inl, inr, ⊎_elim, ℕ, ◌+◌, ◌^◌, ◌<◌, max, List, refl, sym, arith, subst, Result}
+use Rattle.std.proofs.Common.{◌≡◌, ◌⊎◌, inl, inr, ⊎_elim, ℕ, ◌+◌, ◌-◌, ◌^◌, ◌≤◌, ◌<◌, max, List, length, Bool, true, false, refl, sym, ap, arith, subst, Result}
+use Rattle.std.specs.Prelude.{◌==◌, not}
 use Rattle.disk_model.specs.Device.{Torn, Tears, Looks, Elapses, HasCause, next}
-use Rattle.disk_model.specs.Memory.{Memory, CrashLeaves, CrashLeft, memory_state}
-use Rattle.disk_model.specs.Fuse.{Fuse, fuse_state}
+use Rattle.disk_model.specs.Calls.{Measures, Fetches, Writes, Syncs}
+use Rattle.disk_model.specs.Memory.{Memory, CrashLeaves, CrashLeft, MemoryAllows, memory_state, after_write}
+use Rattle.disk_model.specs.Fuse.{Fuse, FuseAllows, after_stop, fuse_after_write, fuse_state}
 use Rattle.disk_model.proofs.Written.{torn_not}
 
 -- a fuse round this disk that has failed no call yet
 abbrev pub whole : Memory → ℕ → ℕ → Fuse
 whole inner passes reach = record { inner = inner; passes = passes; burnt = 0; reach = reach }
 
-module _ (old new : Memory) (p q r : ℕ) where
+module _ (old new : Memory) (p q r : ℕ) (less : p - 1 ≤ q) where
   at_calls : old.calls + 0 ≡ old.calls
   at_calls = omega arith
 
@@ -26,12 +28,18 @@ module _ (old new : Memory) (p q r : ℕ) where
     before = λ t c le since. ⊎_elim (λ earlier. inl earlier) (λ now. inr (subst (λ (t : ℕ). Since t c) (sym at_calls) now)) (passed.before t c (omega (arith, le)) since);
   }
 
+  allows : ((calls end : ℕ) → MemoryAllows old calls end → MemoryAllows new calls end) → new.calls ≡ next old.calls → (calls end : ℕ) → FuseAllows (whole old p r) calls end → FuseAllows (whole new q r) calls end
+  allows more counted calls end allowed =
+      let small = allowed.inner.plan.counted in
+      record { inner = more calls end allowed.inner; passed = omega (arith, less, counted, small, allowed.passed); unburnt = λ used. refl }
+
   pub passed_looks : Looks (memory_state old) (memory_state new) → Looks (fuse_state (whole old p r)) (fuse_state (whole new q r))
   passed_looks passed = record {
     time = time (λ b c. c ≡ b) passed.time;
     same = passed.same;
     counted = λ bytes is. omega (arith, passed.counted bytes is);
     reach = λ bytes is. omega (arith, passed.reach bytes is);
+    allows = allows passed.allows (passed.counted old.bytes refl);
   }
 
   pub passed_tears : (at n : ℕ) → Tears at n (memory_state old) (memory_state new) → Tears at n (fuse_state (whole old p r)) (fuse_state (whole new q r))
@@ -41,17 +49,18 @@ module _ (old new : Memory) (p q r : ℕ) where
     untold = passed.untold;
     counted = λ bytes is. omega (arith, passed.counted bytes is);
     reach = λ bytes is. omega (arith, passed.reach bytes is);
+    allows = allows passed.allows (passed.counted old.bytes refl);
   }
 
   pub passed_cause : {T E : Type 0} (result : Result T E) → HasCause (memory_state old) (memory_state new) result → HasCause (fuse_state (whole old p r)) (fuse_state (whole new q r)) result
   passed_cause result passed = record { later = omega (arith, passed.later); failed = λ err. omega (arith, passed.failed err) }
 
 -- A call that is failed reaches nothing.
-abbrev pub stopped : Fuse → ℕ → Fuse
-stopped f reach = record f { burnt = next f.burnt; reach = reach }
+module _ (f : Fuse) (fits : f.burnt < 2 ^ 64) (out : f.passes ≡ 0) (reach : ℕ) where
+  abbrev stopped : Fuse
+  stopped = record (after_stop f) { reach = reach }
 
-module _ (f : Fuse) (fits : f.burnt < 2 ^ 64) (reach : ℕ) where
-  stopped_time : (step : List ℕ → List ℕ → Type 0) → ((c : List ℕ) → step c c) → Elapses step (fuse_state f) (fuse_state (stopped f reach))
+  stopped_time : (step : List ℕ → List ℕ → Type 0) → ((c : List ℕ) → step c c) → Elapses step (fuse_state f) (fuse_state stopped)
   stopped_time step still = record {
     later = omega (arith, fits);
     moves = omega (arith, fits);
@@ -60,39 +69,69 @@ module _ (f : Fuse) (fits : f.burnt < 2 ^ 64) (reach : ℕ) where
     before = λ t c le since. inl since;
   }
 
-  pub stopped_cause : {T E : Type 0} (result : Result T E) → HasCause (fuse_state f) (fuse_state (stopped f reach)) result
-  stopped_cause result = record { later = omega (arith, fits); failed = λ err. omega (arith, fits) }
+  stopped_allows : (calls end : ℕ) → FuseAllows f calls end → FuseAllows stopped calls end
+  stopped_allows calls end allows = record { inner = allows.inner; passed = allows.passed; unburnt = λ used. absurd (omega (arith, used, out, allows.passed)) }
 
-pub stopped_looks : (f : Fuse) → f.burnt < 2 ^ 64 → Looks (fuse_state f) (fuse_state (stopped f f.reach))
-stopped_looks f fits = record {
-  time = stopped_time f fits f.reach (λ b c. c ≡ b) (λ c. refl);
+pub stopped_looks : (f : Fuse) → f.burnt < 2 ^ 64 → f.passes ≡ 0 → Looks (fuse_state f) (fuse_state (after_stop f))
+stopped_looks f fits out = record {
+  time = stopped_time f fits out f.reach (λ b c. c ≡ b) (λ c. refl);
   same = refl;
   counted = λ bytes is. omega arith;
   reach = λ bytes is. refl;
+  allows = stopped_allows f fits out f.reach;
 }
 
-pub stopped_tears : (f : Fuse) (at n : ℕ) → f.burnt < 2 ^ 64 → Tears at n (fuse_state f) (fuse_state (stopped f (max f.reach (at + n))))
-stopped_tears f at n fits = record {
-  time = stopped_time f fits (max f.reach (at + n)) (Torn at n) (torn_not at n);
+pub stopped_tears : (f : Fuse) (at n : ℕ) → f.burnt < 2 ^ 64 → f.passes ≡ 0 → Tears at n (fuse_state f) (fuse_state (record (after_stop f) { reach = max f.reach (at + n) }))
+stopped_tears f at n fits out = record {
+  time = stopped_time f fits out (max f.reach (at + n)) (Torn at n) (torn_not at n);
   told = λ old is. (old, is, torn_not at n old);
   untold = λ none. none;
   counted = λ bytes is. omega arith;
   reach = λ bytes is. omega arith;
+  allows = stopped_allows f fits out (max f.reach (at + n));
 }
 
+-- A call that is passed on by a fuse that has failed none.
+module _ (f : Fuse) (n : Memory) (p : ℕ) (less : f.passes - 1 ≤ p) (none : f.burnt ≡ 0) where
+  on_looks : Looks (memory_state f.inner) (memory_state n) → Looks (fuse_state f) (fuse_state (record f { passes = p; inner = n }))
+  on_looks passed = subst (λ (b : ℕ). Looks (fuse_state (record f { burnt = b })) (fuse_state (record f { burnt = b; passes = p; inner = n }))) (sym none) (passed_looks f.inner n f.passes p f.reach less passed)
+
+  on_tears : (at len : ℕ) → Tears at len (memory_state f.inner) (memory_state n) → Tears at len (fuse_state f) (fuse_state (record f { passes = p; inner = n }))
+  on_tears at len passed = subst (λ (b : ℕ). Tears at len (fuse_state (record f { burnt = b })) (fuse_state (record f { burnt = b; passes = p; inner = n }))) (sym none) (passed_tears f.inner n f.passes p f.reach less at len passed)
+
+  on_cause : {T E : Type 0} (result : Result T E) → HasCause (memory_state f.inner) (memory_state n) result → HasCause (fuse_state f) (fuse_state (record f { passes = p; inner = n })) result
+  on_cause result passed = subst (λ (b : ℕ). HasCause (fuse_state (record f { burnt = b })) (fuse_state (record f { burnt = b; passes = p; inner = n })) result) (sym none) (passed_cause f.inner n f.passes p f.reach less result passed)
+
 -- The same, where the fuse is told by equations: f before the call, i once it has taken it.
-module _ (f i : Fuse) (n : Memory) (p : ℕ) (none : f.burnt ≡ 0) (is : i ≡ record f { passes = p }) where
-  pub carried_looks : Looks (memory_state i.inner) (memory_state n) → Looks (fuse_state f) (fuse_state (record i { inner = n }))
-  carried_looks =
-      subst (λ (k : Fuse). Looks (memory_state k.inner) (memory_state n) → Looks (fuse_state f) (fuse_state (record k { inner = n }))) (sym is)
-      (λ passed. subst (λ (b : ℕ). Looks (fuse_state (record f { burnt = b })) (fuse_state (record f { burnt = b; passes = p; inner = n }))) (sym none) (passed_looks f.inner n f.passes p f.reach passed))
+module _ (f i : Fuse) (n : Memory) (none : f.burnt ≡ 0) (is : i ≡ record f { passes = f.passes - 1 }) where
+  less : f.passes - 1 ≤ f.passes - 1
+  less = omega arith
 
-  pub carried_tears : (at len : ℕ) → Tears at len (memory_state i.inner) (memory_state n) → Tears at len (fuse_state f) (fuse_state (record i { inner = n }))
-  carried_tears at len =
-      subst (λ (k : Fuse). Tears at len (memory_state k.inner) (memory_state n) → Tears at len (fuse_state f) (fuse_state (record k { inner = n }))) (sym is)
-      (λ passed. subst (λ (b : ℕ). Tears at len (fuse_state (record f { burnt = b })) (fuse_state (record f { burnt = b; passes = p; inner = n }))) (sym none) (passed_tears f.inner n f.passes p f.reach at len passed))
+  pub carried_measures : {E : Type 0} (result : Result ℕ E) → Measures (memory_state i.inner) (memory_state n) result → Measures (fuse_state f) (fuse_state (record i { inner = n })) result
+  carried_measures result =
+      subst (λ (k : Fuse). Measures (memory_state k.inner) (memory_state n) result → Measures (fuse_state f) (fuse_state (record k { inner = n })) result) (sym is)
+      (λ does. record { size = does.size; small = does.small; looks = on_looks f n (f.passes - 1) less none does.looks; cause = on_cause f n (f.passes - 1) less none result does.cause })
 
-  pub carried_cause : {T E : Type 0} (result : Result T E) → HasCause (memory_state i.inner) (memory_state n) result → HasCause (fuse_state f) (fuse_state (record i { inner = n })) result
-  carried_cause result =
-      subst (λ (k : Fuse). HasCause (memory_state k.inner) (memory_state n) result → HasCause (fuse_state f) (fuse_state (record k { inner = n })) result) (sym is)
-      (λ passed. subst (λ (b : ℕ). HasCause (fuse_state (record f { burnt = b })) (fuse_state (record f { burnt = b; passes = p; inner = n })) result) (sym none) (passed_cause f.inner n f.passes p f.reach result passed))
+  pub carried_fetches : {E : Type 0} (at : ℕ) (before after : List ℕ) (result : Result ℕ E) → Fetches at before after (memory_state i.inner) (memory_state n) result → Fetches at before after (fuse_state f) (fuse_state (record i { inner = n })) result
+  carried_fetches at before after result =
+      subst (λ (k : Fuse). Fetches at before after (memory_state k.inner) (memory_state n) result → Fetches at before after (fuse_state f) (fuse_state (record k { inner = n })) result) (sym is)
+      (λ does. record { within = does.within; count = does.count; got = does.got; looks = on_looks f n (f.passes - 1) less none does.looks; cause = on_cause f n (f.passes - 1) less none result does.cause })
+
+  pub carried_writes : {T E : Type 0} (at : ℕ) (bytes : List ℕ) (result : Result T E) → Writes at bytes (memory_state i.inner) (memory_state n) result → Writes at bytes (fuse_state f) (fuse_state (record i { inner = n })) result
+  carried_writes at bytes result =
+      subst (λ (k : Fuse). Writes at bytes (memory_state k.inner) (memory_state n) result → Writes at bytes (fuse_state f) (fuse_state (record k { inner = n })) result) (sym is)
+      (λ does. record { written = does.written; small = does.small; tears = on_tears f n (f.passes - 1) less none at (length bytes) does.tears; cause = on_cause f n (f.passes - 1) less none result does.cause })
+
+  pub carried_syncs : {T E : Type 0} (result : Result T E) → Syncs (memory_state i.inner) (memory_state n) result → Syncs (fuse_state f) (fuse_state (record i { inner = n })) result
+  carried_syncs result =
+      subst (λ (k : Fuse). Syncs (memory_state k.inner) (memory_state n) result → Syncs (fuse_state f) (fuse_state (record k { inner = n })) result) (sym is)
+      (λ does. record { settled = does.settled; looks = on_looks f n (f.passes - 1) less none does.looks; cause = on_cause f n (f.passes - 1) less none result does.cause })
+
+  pub carried_model : (at : ℕ) (bytes : List ℕ) → true ≡ not (f.passes == 0) → n ≡ after_write i.inner at bytes → record i { inner = n } ≡ fuse_after_write f at bytes
+  carried_model at bytes passes =
+      subst (λ (k : Fuse). n ≡ after_write k.inner at bytes → record k { inner = n } ≡ fuse_after_write f at bytes) (sym is)
+      (λ same. rw (not_out (f.passes == 0) passes) (ap (λ (m : Memory). record f { passes = f.passes - 1; inner = m }) same))
+    where
+      not_out : (b : Bool) → true ≡ not b → b ≡ false
+      not_out false e = refl
+      not_out true e = absurd (cc)

@@ -9,4 +9,5 @@ memory_coherent m = record {
   counts_now = λ t c le now. inl now;
   only_now = λ c since. elim since [ inl now ↦ now | inr past ↦ absurd (omega (arith, past.1)) ];
   as_read = λ bytes is. let same : bytes ≡ m.bytes = cc in inr same;
+  enough = λ bytes calls end told allows used asked. allows.none_yet used asked;
 }

@@ -1,4 +1,4 @@
--- What a disk holds, what its calls do to it, and what a crash may leave of it.
+-- What a disk holds, and what a crash may leave of it.
 use Rattle.std.specs.Prelude.{◌≡◌, ◌⊎◌, ℕ, ◌+◌, ◌-◌, ◌^◌, ◌≤◌, ◌<◌, min, max, List, ◌++◌, length, take, drop, slice_index, replicate, Option, Some, None, Result, IsErr}
 
 -- All that can be said of a disk at one moment.
@@ -10,6 +10,7 @@ pub record DiskState : Type 1 where
   pub calls : ℕ  -- how many calls the disk has had
   pub reach : ℕ  -- the greatest end that a write was asked for
   pub faults : ℕ  -- how many calls have failed
+  pub allows : ℕ → ℕ → Type 0  -- up to so many calls, and to this end of what writes are asked for, none fails
 
 -- the disk tells its content, and a read gives these bytes
 abbrev pub Reads : DiskState → List ℕ → Type 0
@@ -44,7 +45,8 @@ pub record Elapses (step : List ℕ → List ℕ → Type 0) (old new : DiskStat
   pub moves : next old.clock ≤ new.clock
   pub covered : (c : List ℕ) → old.image c → new.image_since old.clock c
   pub inside : (c : List ℕ) → new.image_since old.clock c → (b : List ℕ) × old.image b × step b c
-  pub before : (t : ℕ) (c : List ℕ) → t ≤ old.clock → new.image_since t c → old.image_since t c ⊎ new.image_since old.clock c
+  pub before : (t : ℕ) (c : List ℕ) → t ≤ old.clock → new.image_since t c
+      → old.image_since t c ⊎ new.image_since old.clock c
 
 -- A call that writes nothing.
 pub record Looks (old new : DiskState) : Type 0 where
@@ -52,6 +54,7 @@ pub record Looks (old new : DiskState) : Type 0 where
   pub same : new.reads ≡ old.reads
   pub counted : (bytes : List ℕ) → Reads old bytes → new.calls ≡ next old.calls
   pub reach : (bytes : List ℕ) → Reads old bytes → new.reach ≡ old.reach
+  pub allows : (calls end : ℕ) → old.allows calls end → new.allows calls end
 
 -- A write of n bytes, done or failed.
 pub record Tears (at n : ℕ) (old new : DiskState) : Type 0 where
@@ -60,6 +63,7 @@ pub record Tears (at n : ℕ) (old new : DiskState) : Type 0 where
   pub untold : old.reads ≡ None → new.reads ≡ None
   pub counted : (bytes : List ℕ) → Reads old bytes → new.calls ≡ next old.calls
   pub reach : (bytes : List ℕ) → Reads old bytes → new.reach ≡ max old.reach (at + n)
+  pub allows : (calls end : ℕ) → old.allows calls end → new.allows calls end
 
 -- the count of faults never falls, and an error comes only where it rose
 pub record HasCause {T E : Type 0} (old new : DiskState) (result : Result T E) : Type 0 where
@@ -70,8 +74,14 @@ pub record HasCause {T E : Type 0} (old new : DiskState) (result : Result T E) :
 abbrev pub Only : List ℕ → (List ℕ → Type 0) → Type 0
 Only bytes image = (c : List ℕ) → image c → c ≡ bytes
 
--- The three facts of a disk agree with one another.
+-- a crash leaves what a read gives
+abbrev pub IsSettled : DiskState → Type 0
+IsSettled disk = (bytes : List ℕ) → Reads disk bytes → Only bytes disk.image
+
+-- The facts of a disk agree with one another, and where it allows what it was used for it has had no fault.
 pub record IsCoherent (disk : DiskState) : Type 0 where
   pub counts_now : (t : ℕ) (c : List ℕ) → t ≤ disk.clock → disk.image c → disk.image_since t c
   pub only_now : (c : List ℕ) → disk.image_since disk.clock c → disk.image c
   pub as_read : (bytes : List ℕ) → Reads disk bytes → disk.image bytes
+  pub enough : (bytes : List ℕ) (calls end : ℕ) → Reads disk bytes → disk.allows calls end
+      → disk.calls ≤ calls → disk.reach ≤ end → disk.faults ≡ 0

@@ -1,3 +1,4 @@
+pub mod Calls
 pub mod Coherent
 pub mod Device
 pub mod Fuse

@@ -1,8 +1,8 @@
 -- What a disk in memory holds.
-use Rattle.std.specs.Prelude.{◌≡◌, ◌⊎◌, ℕ, ◌+◌, ◌^◌, ◌≤◌, ◌<◌, ◌==◌, ◌||◌, nat_le, nat_lt, Bool, List, [], length, slice_index, Some}
+use Rattle.std.specs.Prelude.{◌≡◌, ◌⊎◌, ℕ, ◌+◌, ◌-◌, ◌^◌, ◌≤◌, ◌<◌, ◌==◌, ◌||◌, nat_le, nat_lt, Bool, false, List, [], ◌∷◌, ◌++◌, length, max, slice_index, Some, if◌then◌else◌}
 use Rattle.std.specs.List.{list_any}
 use Rattle.disk_model.specs.declared.stretch.Stretch.{Stretch}
-use Rattle.disk_model.specs.Device.{DiskState}
+use Rattle.disk_model.specs.Device.{DiskState, next, written_over}
 use Rattle.disk_model.specs.Image.{IsOutside, IsImage, greatest_end}
 
 pub record Memory : Type 0 where
@@ -23,6 +23,10 @@ pub record Memory : Type 0 where
 abbrev pub next_fails : Memory → Bool
 next_fails m = nat_le m.call_room m.calls || list_any (λ n. n == m.calls + 1) m.failing
 
+-- a write up to this end writes nothing: the record is full, or the end lies past the room
+abbrev pub refuses_write : Memory → ℕ → Bool
+refuses_write m end = nat_le m.call_room m.calls || nat_lt m.room end
+
 -- it is a write up to this end, which fails besides past the room
 abbrev pub write_fails : Memory → ℕ → Bool
 write_fails m end = next_fails m || nat_lt m.room end
@@ -35,6 +39,17 @@ CrashLeaves m c = IsImage m.synced m.written c ⊎ (c ≡ m.bytes)
 abbrev pub CrashLeft : Memory → ℕ → List ℕ → Type 0
 CrashLeft m t c = (t < m.synced_at) × (t < m.calls) × IsImage m.earlier_synced m.earlier_written c
 
+-- the record has room for so many calls, none of them is to fail, and the disk has room up to this end
+pub record HasPlan (m : Memory) (calls end : ℕ) : Type 0 where
+  pub recorded : calls ≤ m.call_room
+  pub counted : calls < 2 ^ 64 - 1
+  pub unlisted : (k : ℕ) → k < calls → list_any (λ n. n == k + 1) m.failing ≡ false
+  pub within : end ≤ m.room
+
+pub record MemoryAllows (m : Memory) (calls end : ℕ) : Type 0 where
+  pub plan : HasPlan m calls end
+  pub none_yet : m.calls ≤ calls → m.reach ≤ end → m.faults ≡ 0
+
 abbrev pub memory_state : Memory → DiskState
 memory_state m = record {
   reads = Some m.bytes;
@@ -44,16 +59,19 @@ memory_state m = record {
   calls = m.calls;
   reach = m.reach;
   faults = m.faults;
+  allows = MemoryAllows m;
 }
 
 -- what is true of every disk in memory
 pub record IsKept (m : Memory) : Type 0 where
   pub image : IsImage m.synced m.written m.bytes
+  pub earlier : IsImage m.earlier_synced m.earlier_written m.synced
   pub settled : m.synced_at ≤ m.calls
   pub bytes_fit : length m.bytes ≤ m.room
   pub ends_fit : greatest_end (length m.synced) m.written ≤ m.room
   pub recorded : length m.written ≤ m.calls
   pub small : m.room < 2 ^ 62
+  pub record_fits : m.call_room < 2 ^ 64
   pub calls_fit : m.calls < 2 ^ 64
   pub faults_fit : m.faults < 2 ^ 64
 
@@ -69,7 +87,7 @@ fresh bytes room call_room failing = record {
   bytes = bytes;
   synced = bytes;
   written = [];
-  earlier_synced = [];
+  earlier_synced = bytes;
   earlier_written = [];
   synced_at = 0;
   room = room;
@@ -80,13 +98,45 @@ fresh bytes room call_room failing = record {
   faults = 0;
 }
 
--- the same disk after a crash that left these bytes
-abbrev pub crashed : Memory → List ℕ → Memory
-crashed m bytes = record m {
-  bytes = bytes;
-  synced = bytes;
+-- all that was written is on the disk
+abbrev pub after_settling : Memory → Memory
+after_settling m = record m {
+  synced = m.bytes;
   written = [];
   earlier_synced = m.synced;
   earlier_written = m.written;
   synced_at = m.calls;
 }
+
+-- the same disk after a crash that left these bytes
+abbrev pub crashed : Memory → List ℕ → Memory
+crashed m bytes = after_settling (record m { bytes = bytes })
+
+-- a call that writes nothing is counted, and a fault where it fails
+abbrev pub after_look : Memory → Memory
+after_look m = record m { calls = next m.calls; faults = (if next_fails m then next m.faults else m.faults) }
+
+-- a sync that is to fail puts nothing on the disk
+abbrev pub after_sync : Memory → Memory
+after_sync m = if next_fails m then after_look m else after_settling (after_look m)
+
+-- a write up to this end is after_request for
+abbrev pub after_request : Memory → ℕ → Memory
+after_request m end = record m { calls = next m.calls; reach = max m.reach end }
+
+-- a fault is counted
+abbrev pub with_fault : Memory → Memory
+with_fault m = record m { faults = next m.faults }
+
+-- it is noted where a write is made
+abbrev pub with_mark : Memory → ℕ → ℕ → Memory
+with_mark m at len = record m { written = m.written ++ (record { at = at; len = len }) ∷ [] }
+
+-- a write: one that is refused writes nothing, and one that is to fail counts as written
+abbrev pub after_write : Memory → ℕ → List ℕ → Memory
+after_write m at bytes =
+    if refuses_write m (at + length bytes) then with_fault (after_request m (at + length bytes))
+    else if next_fails m then with_fault (with_mark (after_request m (at + length bytes)) at (length bytes))
+    else record (with_mark (after_request m (at + length bytes)) at (length bytes)) {
+      bytes = written_over m.bytes at bytes;
+    }

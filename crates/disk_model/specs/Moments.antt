@@ -1,5 +1,5 @@
 -- What a run of calls did, for the layers above.
-use Rattle.std.specs.Prelude.{◌≡◌, ◌⊎◌, ℕ, ◌+◌, ◌≤◌, max, List}
+use Rattle.std.specs.Prelude.{◌≡◌, ◌⊎◌, ℕ, ◌+◌, ◌≤◌, max, List, None}
 use Rattle.disk_model.specs.Device.{DiskState, Reads}
 
 -- A crash at any moment of the run leaves an image that has P.
@@ -15,8 +15,17 @@ pub record Unwritten (old new : DiskState) : Type 0 where
   pub now : (c : List ℕ) → new.image c → old.image c
   pub same : new.reads ≡ old.reads
 
--- The run made so many calls at most, and asked for no write past this end; a disk that tells its content still does.
+-- The run made so many calls at most, and asked for no write past this end; a disk that tells its content still does, and
+-- one that tells none tells none. What the disk allows it still allows.
 pub record Uses (count end : ℕ) (old new : DiskState) : Type 0 where
   pub calls : (bytes : List ℕ) → Reads old bytes → new.calls ≤ old.calls + count
   pub reach : (bytes : List ℕ) → Reads old bytes → new.reach ≤ max old.reach end
   pub told : (bytes : List ℕ) → Reads old bytes → (c : List ℕ) × Reads new c
+  pub untold : old.reads ≡ None → new.reads ≡ None
+  pub allows : (calls end : ℕ) → old.allows calls end → new.allows calls end
+
+-- The run made so many calls at most and wrote nothing, and its faults count.
+pub record Peeks (count : ℕ) (old new : DiskState) : Type 0 where
+  pub later : old.faults ≤ new.faults
+  pub unwritten : Unwritten old new
+  pub uses : Uses count 0 old new

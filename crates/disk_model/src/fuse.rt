@@ -1,6 +1,7 @@
 // A disk that stops.
-ghost use Rattle.std.specs.Prelude.{◌≡◌, ◌+◌, ◌-◌, ◌^◌, ◌≤◌, ◌<◌, ◌++◌, ◌==◌, List, ℕ, length, take, drop, min, max, IfOk, OnOk, is_err, not, IsTrue};
-ghost use Rattle.disk_model.specs.Device.{Reads, written_over, next, Looks, Tears, HasCause, Only};
+ghost use Rattle.std.specs.Prelude.{◌≡◌, ◌+◌, ◌-◌, ◌^◌, ◌<◌, ◌==◌, length, is_err, not, IsTrue};
+ghost use Rattle.disk_model.specs.Device.{next};
+ghost use Rattle.disk_model.specs.Calls.{Measures, Fetches, Writes, Syncs};
 
 use crate::{Disk, Failed, MemoryDisk};
 use std::marker::Model;
@@ -28,7 +29,7 @@ impl Model for FuseDisk {
 }
 
 impl FuseDisk {
-    ghost use Rattle.disk_model.specs.Fuse.{Fuse, fuse_state};
+    ghost use Rattle.disk_model.specs.Fuse.{Fuse, after_stop};
 
     pub fn new(inner: MemoryDisk, passes: u64) -> FuseDisk
         ensures { result ≡ record { inner = inner; passes = passes; burnt = 0; reach = 0 } }
@@ -52,7 +53,7 @@ impl FuseDisk {
         ensures passes { result ≡ not (self.old.passes == 0) }
         ensures passed { IsTrue result → self.new ≡ record self.old { passes = self.old.passes - 1 } }
         ensures whole { IsTrue result → self.old.burnt ≡ 0 }
-        ensures stopped { IsTrue (not result) → self.new ≡ record self.old { burnt = next self.old.burnt } }
+        ensures stopped { IsTrue (not result) → self.new ≡ after_stop self.old }
         ensures fits { self.old.burnt < 2 ^ 64 }
     {
         if self.passes == 0 {
@@ -65,7 +66,7 @@ impl FuseDisk {
 }
 
 impl Disk for FuseDisk {
-    ghost use Rattle.disk_model.specs.Fuse.{fuse_state, fuse_coherent, fuse_fails, fuse_write_fails};
+    ghost use Rattle.disk_model.specs.Fuse.{fuse_state, fuse_coherent, fuse_fails, fuse_write_fails, fuse_after_look, fuse_after_sync, fuse_after_write};
 
     ghost state = { fuse_state };
 
@@ -76,11 +77,9 @@ impl Disk for FuseDisk {
     }
 
     fn len(&mut self) -> Result<u64, Failed>
-        ensures exact { is_err result ≡ fuse_fails self.old }
-        ensures length { IfOk result (λ n. (bytes : List ℕ) → Reads (fuse_state self.old) bytes → n ≡ length bytes) }
-        ensures small { IfOk result (λ n. n < 2 ^ 62) }
-        ensures looks { Looks (fuse_state self.old) (fuse_state self.new) }
-        ensures cause { HasCause (fuse_state self.old) (fuse_state self.new) result }
+        ensures fails { is_err result ≡ fuse_fails self.old }
+        ensures model { self.new ≡ fuse_after_look self.old }
+        ensures does { Measures (fuse_state self.old) (fuse_state self.new) result }
     {
         if !self.passes_on() {
             return Err(Failed);
@@ -89,12 +88,9 @@ impl Disk for FuseDisk {
     }
 
     fn read_at(&mut self, at: u64, into: &mut [u8]) -> Result<usize, Failed>
-        ensures exact { is_err result ≡ fuse_fails self.old }
-        ensures within { IfOk result (λ n. n ≤ length into.old) }
-        ensures count { IfOk result (λ n. (bytes : List ℕ) → Reads (fuse_state self.old) bytes → n ≡ min (length into.old) (length bytes - at)) }
-        ensures got { IfOk result (λ n. (bytes : List ℕ) → Reads (fuse_state self.old) bytes → into.new ≡ take n (drop at bytes) ++ drop n into.old) }
-        ensures looks { Looks (fuse_state self.old) (fuse_state self.new) }
-        ensures cause { HasCause (fuse_state self.old) (fuse_state self.new) result }
+        ensures fails { is_err result ≡ fuse_fails self.old }
+        ensures model { self.new ≡ fuse_after_look self.old }
+        ensures does { Fetches at into.old into.new (fuse_state self.old) (fuse_state self.new) result }
     {
         if !self.passes_on() {
             return Err(Failed);
@@ -103,11 +99,9 @@ impl Disk for FuseDisk {
     }
 
     fn write_at(&mut self, at: u64, bytes: &[u8]) -> Result<(), Failed>
-        ensures exact { is_err result ≡ fuse_write_fails self.old (at + length bytes.now) }
-        ensures written { OnOk result ((old : List ℕ) → Reads (fuse_state self.old) old → Reads (fuse_state self.new) (written_over old at bytes.now)) }
-        ensures small { OnOk result (at + length bytes.now < 2 ^ 62) }
-        ensures tears { Tears at (length bytes.now) (fuse_state self.old) (fuse_state self.new) }
-        ensures cause { HasCause (fuse_state self.old) (fuse_state self.new) result }
+        ensures fails { is_err result ≡ fuse_write_fails self.old (at + length bytes.now) }
+        ensures model { self.new ≡ fuse_after_write self.old at bytes.now }
+        ensures does { Writes at bytes.now (fuse_state self.old) (fuse_state self.new) result }
     {
         if !self.passes_on() {
             self.reach = self.reach.max(at as u128 + bytes.len() as u128);
@@ -117,10 +111,9 @@ impl Disk for FuseDisk {
     }
 
     fn sync(&mut self) -> Result<(), Failed>
-        ensures exact { is_err result ≡ fuse_fails self.old }
-        ensures durable { OnOk result ((bytes : List ℕ) → Reads (fuse_state self.new) bytes → Only bytes (fuse_state self.new).image) }
-        ensures looks { Looks (fuse_state self.old) (fuse_state self.new) }
-        ensures cause { HasCause (fuse_state self.old) (fuse_state self.new) result }
+        ensures fails { is_err result ≡ fuse_fails self.old }
+        ensures model { self.new ≡ fuse_after_sync self.old }
+        ensures does { Syncs (fuse_state self.old) (fuse_state self.new) result }
     {
         if !self.passes_on() {
             return Err(Failed);

@@ -14,8 +14,8 @@ mod stretch;
 #[cfg(test)]
 mod tests;
 
-pub use device::{Disk, Failed, NoMemory};
+pub use device::{Disk, Failed};
 pub use fuse::FuseDisk;
-pub use laws::images_are_torn_writes;
+pub use laws::{a_new_disk_allows_its_room, images_are_torn_writes};
 pub use memory::{Crash, MemoryDisk};
 pub use stretch::Stretch;

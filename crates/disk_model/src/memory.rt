@@ -1,11 +1,12 @@
 // A disk in memory, whose calls can be made to fail, and which can crash.
-ghost use Rattle.std.specs.Prelude.{◌≡◌, ◌⊎◌, ◌+◌, ◌-◌, ◌^◌, ◌≤◌, ◌<◌, ◌++◌, ◌==◌, [], ◌∷◌, List, ℕ, length, take, drop, min, IfOk, OnOk, OnErr, IfErr, IsOk, is_err, vec_capacity, replicate, max, nat_lt, nat_le};
+ghost use Rattle.std.specs.Prelude.{◌≡◌, ◌⊎◌, slice_index, ◌+◌, ◌-◌, ◌^◌, ◌≤◌, ◌<◌, ◌++◌, ◌==◌, [], ◌∷◌, List, ℕ, length, take, drop, min, IfOk, OnOk, OnErr, IfErr, IsOk, is_err, vec_capacity, replicate, max, nat_lt, nat_le};
 ghost use Rattle.std.specs.List.{list_any};
 ghost use Rattle.disk_model.specs.Device.{DiskState, Reads, next, written_over, Looks, Tears, HasCause, Only, IsCoherent};
 ghost use Rattle.disk_model.specs.Image.{IsImage, greatest_end};
 ghost use Rattle.disk_model.specs.Memory.{IsFilled};
 
-use crate::{Disk, Failed, NoMemory, Stretch};
+use crate::{Disk, Failed, Stretch};
+use nc_number::NoMemory;
 use std::alloc::Global;
 use std::marker::Model;
 use std::mem;
@@ -115,8 +116,9 @@ impl MemoryDisk {
         ensures { IfOk result (λ d. d ≡ fresh bytes.items room calls failing.now) }
     {
         let mut present = Epoch::with_room(alloc, room, calls)?;
-        let earlier = Epoch::with_room(alloc, room, calls)?;
+        let mut earlier = Epoch::with_room(alloc, room, calls)?;
         present.synced.extend_from_slice(&bytes)?;
+        earlier.synced.extend_from_slice(&bytes)?;
         Ok(MemoryDisk {
             bytes,
             present,
@@ -186,7 +188,7 @@ fn is_listed(failing: &[u64], number: u64) -> bool
 }
 
 impl MemoryDisk {
-    ghost use Rattle.disk_model.specs.Memory.{IsKept, memory_state, next_fails};
+    ghost use Rattle.disk_model.specs.Memory.{IsKept, memory_state, next_fails, after_look, after_settling};
 
     fn next_call_fails(&self) -> bool
         ensures fails { result ≡ next_fails self.now }
@@ -197,10 +199,9 @@ impl MemoryDisk {
 
     // Counts a call that writes nothing, and says whether it succeeds.
     fn look(&mut self) -> Result<(), Failed>
-        ensures exact { is_err result ≡ next_fails self.old }
-        ensures ok { OnOk result (self.new ≡ record self.old { calls = self.old.calls + 1 }) }
-        ensures err { OnErr result (self.new ≡ record self.old { calls = next self.old.calls; faults = next self.old.faults }) }
-        ensures looks { Looks (memory_state self.old) (memory_state self.new) }
+        ensures fails { is_err result ≡ next_fails self.old }
+        ensures model { self.new ≡ after_look self.old }
+        ensures cause { HasCause (memory_state self.old) (memory_state self.new) result }
         ensures kept { IsKept self.old }
     {
         let fails = self.next_call_fails();
@@ -212,43 +213,66 @@ impl MemoryDisk {
         Ok(())
     }
 
-    // All that was written is on the disk.
+    // All that was written is on the disk. Only what was written since the sync before is copied.
     fn settle(&mut self)
-        ensures { self.new ≡ record self.old {
-          synced = self.old.bytes;
-          written = [];
-          earlier_synced = self.old.synced;
-          earlier_written = self.old.written;
-          synced_at = self.old.calls;
-        } }
+        ensures { self.new ≡ after_settling self.old }
     {
-        mem::swap(&mut self.present, &mut self.earlier);
-        self.present.synced.clear();
-        self.present.synced.extend_from_slice(&self.bytes).unwrap();
-        self.present.written.clear();
+        let Epoch { synced, written } = &mut self.earlier;
+        copy_written(synced, &self.present.synced, written);
+        written.clear();
+        copy_written(&mut self.present.synced, &self.bytes, &self.present.written);
+        mem::swap(&mut self.present.written, &mut self.earlier.written);
         self.synced_at = self.calls;
     }
 }
 
-impl MemoryDisk {
-    ghost use Rattle.disk_model.specs.Memory.{IsKept, next_fails};
+// Makes the content what it has become: in the stretches that were written, and behind its end.
+fn copy_written(content: &mut Vec<u8>, from: &[u8], written: &[Stretch])
+    requires image { IsImage content.old.items written.now from.now }
+    requires room { length from.now ≤ vec_capacity content.old }
+    ensures items { content.new.items ≡ from.now }
+    ensures capacity { vec_capacity content.old ≤ vec_capacity content.new }
+{
+    for stretch in written {
+        copy_stretch(content, from, stretch.at, stretch.len);
+    }
+    let (_, behind) = from.split_at(content.len());
+    content.extend_from_slice(behind).unwrap();
+}
 
-    // Counts a write up to this end, and says whether the record is full and whether the call fails.
+// Copies a stretch, as far as the content goes.
+fn copy_stretch(content: &mut [u8], from: &[u8], at: usize, len: usize)
+    requires { length content.old ≤ length from.now }
+    ensures size { length content.new ≡ length content.old }
+    ensures inside { (i : ℕ) → at ≤ i → i < at + len → i < length content.old
+        → slice_index content.new i ≡ slice_index from.now i }
+    ensures outside { (i : ℕ) → (i < at) ⊎ (at + len ≤ i) → slice_index content.new i ≡ slice_index content.old i }
+{
+    let end = at.saturating_add(len).min(content.len());
+    if at < end {
+        content[at..end].copy_from_slice(&from[at..end]);
+    }
+}
+
+impl MemoryDisk {
+    ghost use Rattle.disk_model.specs.Memory.{IsKept, next_fails, refuses_write, after_request, with_fault, with_mark};
+
+    // Counts a write up to this end, and says whether it writes nothing, and whether the call fails by its number.
     fn count_write(&mut self, end: u128) -> (bool, bool)
-        ensures full { result.0 ≡ nat_le self.old.call_room self.old.calls }
+        ensures refused { result.0 ≡ refuses_write self.old end }
         ensures fails { result.1 ≡ next_fails self.old }
-        ensures new { self.new ≡ record self.old { calls = next self.old.calls; reach = max self.old.reach end } }
+        ensures model { self.new ≡ after_request self.old end }
         ensures kept { IsKept self.old }
     {
-        let full = self.call_room as u64 <= self.calls;
+        let refused = self.call_room as u64 <= self.calls || (self.room as u128) < end;
         let fails = self.next_call_fails();
         self.calls = self.calls.saturating_add(1);
         self.reach = self.reach.max(end);
-        (full, fails)
+        (refused, fails)
     }
 
     fn count_fault(&mut self)
-        ensures { self.new ≡ record self.old { faults = next self.old.faults } }
+        ensures { self.new ≡ with_fault self.old }
     {
         self.faults = self.faults.saturating_add(1);
     }
@@ -258,7 +282,7 @@ impl MemoryDisk {
         requires within { at + len ≤ self.old.room }
         requires counted { length self.old.written < self.old.calls }
         requires recorded { length self.old.written < self.old.call_room }
-        ensures { self.new ≡ record self.old { written = self.old.written ++ (record { at = at; len = len }) ∷ [] } }
+        ensures { self.new ≡ with_mark self.old at len }
     {
         self.present.written.push_reserved(Stretch { at, len });
     }
@@ -297,7 +321,8 @@ impl MemoryDisk {
         ensures same { self.new ≡ record self.old { bytes = self.new.bytes } }
         ensures kept { pick ≡ Crash.Kept → self.new.bytes ≡ self.old.bytes }
         ensures lost { pick ≡ Crash.Lost → self.new.bytes ≡ self.old.synced }
-        ensures filled { (with : ℕ) → pick ≡ Crash.Fill with → IsFilled with self.old.synced self.old.written self.new.bytes }
+        ensures filled { (with : ℕ) → pick ≡ Crash.Fill with
+            → IsFilled with self.old.synced self.old.written self.new.bytes }
     {
         match pick {
             Crash::Kept => {}
@@ -340,9 +365,9 @@ fn fill_inside(content: &mut [u8], at: usize, len: usize, with: u8)
 }
 
 impl Disk for MemoryDisk {
-    ghost use Rattle.std.specs.Prelude.{◌≡◌, ◌+◌, ◌-◌, ◌^◌, ◌≤◌, ◌<◌, ◌++◌, List, ℕ, length, take, drop, min, IfOk, OnOk, is_err};
-    ghost use Rattle.disk_model.specs.Device.{Reads, written_over, Looks, Tears, HasCause, Only};
-    ghost use Rattle.disk_model.specs.Memory.{memory_state, next_fails, write_fails};
+    ghost use Rattle.std.specs.Prelude.{◌≡◌, ◌+◌, length, is_err};
+    ghost use Rattle.disk_model.specs.Calls.{Measures, Fetches, Writes, Syncs};
+    ghost use Rattle.disk_model.specs.Memory.{memory_state, next_fails, write_fails, after_look, after_sync, after_write};
     ghost use Rattle.disk_model.specs.Coherent.{memory_coherent};
 
     ghost state = { memory_state };
@@ -354,38 +379,31 @@ impl Disk for MemoryDisk {
     }
 
     fn len(&mut self) -> Result<u64, Failed>
-        ensures exact { is_err result ≡ next_fails self.old }
-        ensures length { IfOk result (λ n. (bytes : List ℕ) → Reads (memory_state self.old) bytes → n ≡ length bytes) }
-        ensures small { IfOk result (λ n. n < 2 ^ 62) }
-        ensures looks { Looks (memory_state self.old) (memory_state self.new) }
-        ensures cause { HasCause (memory_state self.old) (memory_state self.new) result }
+        ensures fails { is_err result ≡ next_fails self.old }
+        ensures model { self.new ≡ after_look self.old }
+        ensures does { Measures (memory_state self.old) (memory_state self.new) result }
     {
         self.look()?;
         Ok(self.bytes.len() as u64)
     }
 
     fn read_at(&mut self, at: u64, into: &mut [u8]) -> Result<usize, Failed>
-        ensures exact { is_err result ≡ next_fails self.old }
-        ensures within { IfOk result (λ n. n ≤ length into.old) }
-        ensures count { IfOk result (λ n. (bytes : List ℕ) → Reads (memory_state self.old) bytes → n ≡ min (length into.old) (length bytes - at)) }
-        ensures got { IfOk result (λ n. (bytes : List ℕ) → Reads (memory_state self.old) bytes → into.new ≡ take n (drop at bytes) ++ drop n into.old) }
-        ensures looks { Looks (memory_state self.old) (memory_state self.new) }
-        ensures cause { HasCause (memory_state self.old) (memory_state self.new) result }
+        ensures fails { is_err result ≡ next_fails self.old }
+        ensures model { self.new ≡ after_look self.old }
+        ensures does { Fetches at into.old into.new (memory_state self.old) (memory_state self.new) result }
     {
         self.look()?;
         Ok(read_into(&self.bytes, at, into))
     }
 
     fn write_at(&mut self, at: u64, bytes: &[u8]) -> Result<(), Failed>
-        ensures exact { is_err result ≡ write_fails self.old (at + length bytes.now) }
-        ensures written { OnOk result ((old : List ℕ) → Reads (memory_state self.old) old → Reads (memory_state self.new) (written_over old at bytes.now)) }
-        ensures small { OnOk result (at + length bytes.now < 2 ^ 62) }
-        ensures tears { Tears at (length bytes.now) (memory_state self.old) (memory_state self.new) }
-        ensures cause { HasCause (memory_state self.old) (memory_state self.new) result }
+        ensures fails { is_err result ≡ write_fails self.old (at + length bytes.now) }
+        ensures model { self.new ≡ after_write self.old at bytes.now }
+        ensures does { Writes at bytes.now (memory_state self.old) (memory_state self.new) result }
     {
         let end = at as u128 + bytes.len() as u128;
-        let (full, fails) = self.count_write(end);
-        if full || (self.room as u128) < end {
+        let (refused, fails) = self.count_write(end);
+        if refused {
             self.count_fault();
             return Err(Failed);
         }
@@ -399,10 +417,9 @@ impl Disk for MemoryDisk {
     }
 
     fn sync(&mut self) -> Result<(), Failed>
-        ensures exact { is_err result ≡ next_fails self.old }
-        ensures durable { OnOk result ((bytes : List ℕ) → Reads (memory_state self.new) bytes → Only bytes (memory_state self.new).image) }
-        ensures looks { Looks (memory_state self.old) (memory_state self.new) }
-        ensures cause { HasCause (memory_state self.old) (memory_state self.new) result }
+        ensures fails { is_err result ≡ next_fails self.old }
+        ensures model { self.new ≡ after_sync self.old }
+        ensures does { Syncs (memory_state self.old) (memory_state self.new) result }
     {
         self.look()?;
         self.settle();

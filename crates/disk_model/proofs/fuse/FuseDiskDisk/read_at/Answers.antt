@@ -1,23 +1,8 @@
-use Rattle.std.proofs.Common.{◌≡◌, refl, sym, subst, ◌∙◌, ◌-◌}
-use Rattle.disk_model.specs.Device.{Looks}
-use Rattle.disk_model.specs.Fuse.{Fuse, fuse_state}
-use Rattle.disk_model.proofs.Fused.{stopped, stopped_looks, carried_looks, carried_cause}
+use Rattle.std.proofs.Common.{refl, ◌∙◌}
+use Rattle.disk_model.proofs.Fused.{carried_fetches}
 use Rattle.disk_model.proofs.fuse.FuseDiskDisk.read_at.Goals as goal
 
-pub returns-then-not-passes_on-clause-looks : goal.returns-then-not-passes_on-clause-looks
-returns-then-not-passes_on-clause-looks c =
-    let f = c.args.self.now in
-    let is : c.passes_on.new.self ≡ stopped f f.reach = c.if-not-passes_on.ensures.stopped refl in
-    subst (λ (k : Fuse). Looks (fuse_state f) (fuse_state k)) (sym is) (stopped_looks f c.passes_on.ensures.fits)
-
-pub returns-clause-looks : goal.returns-clause-looks
-returns-clause-looks c =
-    let f = c.args.self.now in
+pub returns-clause-does : goal.returns-clause-does
+returns-clause-does c =
     let e = c.if-not-passes_on.ensures in
-    carried_looks f _ c.read_at.new.self (f.passes - 1) (e.whole refl) (c.self.view_is ∙ e.passed refl) c.read_at.ensures.looks
-
-pub returns-clause-cause : goal.returns-clause-cause
-returns-clause-cause c =
-    let f = c.args.self.now in
-    let e = c.if-not-passes_on.ensures in
-    carried_cause f _ c.read_at.new.self (f.passes - 1) (e.whole refl) (c.self.view_is ∙ e.passed refl) c.read_at.result c.read_at.ensures.cause
+    carried_fetches c.args.self.now _ c.read_at.new.self (e.whole refl) (c.self.view_is ∙ e.passed refl) c.args.at c.args.into.now c.read_at.new.into c.read_at.result c.read_at.ensures.does

@@ -1,0 +1,32 @@
+-- What each call of a disk does, from its state before to its state after.
+use Rattle.std.specs.Prelude.{◌≡◌, ℕ, ◌+◌, ◌-◌, ◌^◌, ◌≤◌, ◌<◌, min, List, ◌++◌, length, take, drop, Result, IfOk, OnOk}
+use Rattle.disk_model.specs.Device.{DiskState, Reads, written_over, Looks, Tears, HasCause, IsSettled}
+
+-- it answers the number of bytes
+pub record Measures {E : Type 0} (old new : DiskState) (result : Result ℕ E) : Type 0 where
+  pub size : IfOk result (λ n. (bytes : List ℕ) → Reads old bytes → n ≡ length bytes)
+  pub small : IfOk result (λ n. n < 2 ^ 62)
+  pub looks : Looks old new
+  pub cause : HasCause old new result
+
+-- it puts the bytes from an offset on into a slice, as many as there are, and answers how many
+pub record Fetches {E : Type 0} (at : ℕ) (before after : List ℕ) (old new : DiskState) (result : Result ℕ E)
+    : Type 0 where
+  pub within : IfOk result (λ n. n ≤ length before)
+  pub count : IfOk result (λ n. (bytes : List ℕ) → Reads old bytes → n ≡ min (length before) (length bytes - at))
+  pub got : IfOk result (λ n. (bytes : List ℕ) → Reads old bytes → after ≡ take n (drop at bytes) ++ drop n before)
+  pub looks : Looks old new
+  pub cause : HasCause old new result
+
+-- it writes the bytes at an offset, over what is there and past the end
+pub record Writes {T E : Type 0} (at : ℕ) (bytes : List ℕ) (old new : DiskState) (result : Result T E) : Type 0 where
+  pub written : OnOk result ((before : List ℕ) → Reads old before → Reads new (written_over before at bytes))
+  pub small : OnOk result (at + length bytes < 2 ^ 62)
+  pub tears : Tears at (length bytes) old new
+  pub cause : HasCause old new result
+
+-- it puts on the disk what was written
+pub record Syncs {T E : Type 0} (old new : DiskState) (result : Result T E) : Type 0 where
+  pub settled : OnOk result (IsSettled new)
+  pub looks : Looks old new
+  pub cause : HasCause old new result
