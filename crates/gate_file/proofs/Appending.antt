@@ -4,7 +4,7 @@ use Rattle.disk_model.specs.Device.{DiskState, Torn, Tears, Looks, Reads, Only, 
 use Rattle.disk_model.specs.Moments.{LeavesOnly}
 use Rattle.gate_file.specs.Chain.{entry, IsBeforeOrAfter}
 use Rattle.gate_file.specs.Gate.{Keeps}
-use Rattle.gate_file.proofs.Moments.{begun, goes_on}
+use Rattle.disk_model.proofs.Runs.{begun, goes_on}
 use Rattle.gate_file.proofs.Staged.{torn_behind, torn_gate, with_gate, written_behind, written_gate, opened, opened_place}
 
 module _ (bodies : List (List ℕ)) (body staged : List ℕ) (end : ℕ) (first : DiskState) (short : length body < 2 ^ 32) (is : staged ≡ entry body ++ 0 ∷ []) (keeps : Keeps bodies first end) where

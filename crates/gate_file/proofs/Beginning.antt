@@ -1,21 +1,14 @@
 -- How a file is begun.
-use Rattle.std.proofs.Common.{◌≡◌, inl, inr, ⊎_elim, ℕ, ◌-◌, ◌≤◌, ◌<◌, min, List, [], ◌∷◌, ◌++◌, length, take, drop, get_or, ◌∙◌, ap, arith}
+use Rattle.std.proofs.Common.{◌≡◌, inl, inr, ℕ, ◌-◌, ◌≤◌, ◌<◌, min, List, [], ◌∷◌, ◌++◌, length, take, drop, get_or, ◌∙◌, ap, arith}
 use Rattle.std.proofs.lemmas.List.{drop_all}
 use Rattle.disk_model.specs.Device.{DiskState, Reads, Only, written_over}
-use Rattle.disk_model.specs.Moments.{LeavesOnly}
+use Rattle.disk_model.specs.Moments.{LeavesOnly, Unwritten}
+use Rattle.disk_model.proofs.Runs.{joined}
 use Rattle.gate_file.specs.Chain.{IsNoRun, IsRunThere, IsShut, IsBeforeOrAfter}
 use Rattle.gate_file.specs.Gate.{Keeps}
 use Rattle.gate_file.specs.First.{StandsFirst, IsBeginning}
 use Rattle.gate_file.specs.declared.create.FirstGate.{FirstGate}
 use Rattle.gate_file.specs.declared.create.FirstGate.TheVariants.{Missing, Shut}
-
--- a run, and then another
-pub joined : (P Q R : List ℕ → Type 0) (a b c : DiskState) → LeavesOnly P a b → LeavesOnly Q b c → ((x : List ℕ) → P x → R x) → ((x : List ℕ) → Q x → R x) → LeavesOnly R a c
-joined P Q R a b c first second from_p from_q = record {
-  later = omega (arith, first.later, second.later);
-  each = λ x since. ⊎_elim (λ earlier. from_p x (first.each x earlier)) (λ q. from_q x q) (second.before a.clock x first.later since);
-  before = λ t x le since. ⊎_elim (λ earlier. ⊎_elim (λ old. inl old) (λ p. inr (from_p x p)) (first.before t x le earlier)) (λ q. inr (from_q x q)) (second.before t x (omega (arith, le, first.later)) since);
-}
 
 -- one shut gate, written over at most one byte
 pub one_gate : (bytes : List ℕ) → length bytes ≤ 1 → written_over bytes 0 (0 ∷ []) ≡ 0 ∷ []
@@ -37,15 +30,22 @@ not_there Missing bytes short there = absurd (omega (arith, there.0))
 not_there Shut bytes shut there = there.1 shut
 
 -- the images of a beginning: those of its first part, and those of its append
-pub from_old : (image : List ℕ → Type 0) (body c : List ℕ) → image c → IsBeginning image body c
+from_old : (image : List ℕ → Type 0) (body c : List ℕ) → image c → IsBeginning image body c
 from_old image body c old = inl old
 
-pub from_none : (image : List ℕ → Type 0) (body c : List ℕ) → IsNoRun c → IsBeginning image body c
+from_none : (image : List ℕ → Type 0) (body c : List ℕ) → IsNoRun c → IsBeginning image body c
 from_none image body c none = inr (inl none)
 
-pub from_append : (image : List ℕ → Type 0) (body c : List ℕ) → IsBeforeOrAfter [] body c → IsBeginning image body c
+from_append : (image : List ℕ → Type 0) (body c : List ℕ) → IsBeforeOrAfter [] body c → IsBeginning image body c
 from_append image body c (inl (rest, same, (behind, shut))) = inr (inl (inr (behind, same ∙ shut)))
 from_append image body c (inr spelled) = inr (inr spelled)
+
+-- a beginning, as far as its gate is shut, and with its append
+pub moments_shut : (body : List ℕ) (a b c : DiskState) → Unwritten a b → LeavesOnly IsNoRun b c → LeavesOnly (IsBeginning a.image body) a c
+moments_shut body a b c first second = joined a.image IsNoRun (IsBeginning a.image body) a b c first.moments second (from_old a.image body) (from_none a.image body)
+
+pub moments_added : (body : List ℕ) (a b c : DiskState) → LeavesOnly (IsBeginning a.image body) a b → LeavesOnly (IsBeforeOrAfter [] body) b c → LeavesOnly (IsBeginning a.image body) a c
+moments_added body a b c so_far added = joined (IsBeginning a.image body) (IsBeforeOrAfter [] body) (IsBeginning a.image body) a b c so_far added (λ x begun. begun) (from_append a.image body)
 
 -- the first byte, as it is read
 pub first_read : (bytes into : List ℕ) (n : ℕ) → 1 < length bytes → n ≡ min 1 (length bytes - 0) → into ≡ take n (drop 0 bytes) ++ drop n (0 ∷ []) → get_or into 0 0 ≡ get_or bytes 0 0

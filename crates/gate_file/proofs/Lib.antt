@@ -1,9 +1,12 @@
 pub mod Appending
 pub mod Beginning
+pub mod Bodies
 pub mod Chains
+pub mod Ends
 pub mod Heads
-pub mod Moments
 pub mod Prefixes
 pub mod Reading
+pub mod Refusals
 pub mod Staged
 pub mod Unique
+pub mod Windows

@@ -27,7 +27,7 @@ one_entry body other file rest more is also =
       sym (drop_at body rest (length other) size) ∙ ap (drop (length other)) same ∙ drop_at other more (length other) refl,
     )
 
-length-file : (body file rest : List ℕ) → IsEntry body file rest → length file ≡ length body + length rest + 5
+pub length-file : (body file rest : List ℕ) → IsEntry body file rest → length file ≡ length body + length rest + 5
 length-file body file rest is = omega (arith, ap length is.bytes, length-append (entry body) rest, length-entry body)
 
 -- no entry with a gate behind it begins here

@@ -56,3 +56,8 @@ pub record IsCutAt (at : ℕ) (file : List ℕ) : Type 0 where
 -- the file spells these bodies, or these and one more
 abbrev pub IsBeforeOrAfter : List (List ℕ) → List ℕ → List ℕ → Type 0
 IsBeforeOrAfter bodies body file = Spells bodies file ⊎ Spells (bodies ++ body ∷ []) file
+
+-- where the shut gate stands behind these bodies: each takes a gate, four bytes of length, and its own
+abbrev pub ends_at : List (List ℕ) → ℕ
+ends_at [] = 0
+ends_at (body ∷ bodies) = 5 + length body + ends_at bodies

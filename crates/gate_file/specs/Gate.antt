@@ -27,6 +27,7 @@ pub record OpeningUses (bytes : List ℕ) (old new : DiskState) : Type 0 where
   pub opens : Opens bodies bytes rest
   pub calls : new.calls ≤ old.calls + 4 * (length bodies + 1) + 4
   pub reach : new.reach ≤ old.reach
+  pub allows : (calls end : ℕ) → old.allows calls end → new.allows calls end
 
 -- the disk in an answer that gives it back either way
 abbrev pub disk_of : {D : Type 0} → Result (Gate D) (D × GateFault) → D

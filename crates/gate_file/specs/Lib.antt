@@ -1,4 +1,7 @@
+pub mod Bodies
 pub mod Chain
+pub mod Creation
 pub mod First
 pub mod Gate
+pub mod Opening
 pub mod Run

@@ -1,10 +1,11 @@
 // How a file of gates is begun.
-ghost use Rattle.std.specs.Prelude.{◌≡◌, ◌⊎◌, ◌+◌, ◌^◌, ◌≤◌, ◌<◌, ◌++◌, [], ◌∷◌, List, ℕ, length, true, OnOk, IfOk, IfErr, vec_capacity};
-ghost use Rattle.disk_model.specs.Device.{DiskState, Reads, HasCause, Rose, Only};
-ghost use Rattle.disk_model.specs.Moments.{LeavesOnly, Unwritten, Uses};
-ghost use Rattle.gate_file.specs.Chain.{entry, IsNoRun, IsRunThere, IsShut, Spells};
+ghost use Rattle.std.specs.Prelude.{◌≡◌, ◌+◌, ◌^◌, ◌≤◌, ◌<◌, ◌++◌, [], ◌∷◌, List, ℕ, length, OnOk, IfOk, IfErr};
+ghost use Rattle.disk_model.specs.Device.{Reads, HasCause, IsSettled, Only};
+ghost use Rattle.disk_model.specs.Moments.{LeavesOnly, Peeks, Uses};
+ghost use Rattle.gate_file.specs.Chain.{entry, IsNoRun};
+ghost use Rattle.gate_file.specs.Creation.{Begins, RefusesBeginning};
 ghost use Rattle.gate_file.specs.Gate.{Keeps};
-ghost use Rattle.gate_file.specs.First.{StandsFirst, IsBeginning};
+ghost use Rattle.gate_file.specs.First.{StandsFirst};
 
 use crate::GateFault;
 use crate::gate::add_staged;
@@ -20,18 +21,8 @@ pub(crate) enum FirstGate {
 
 // Begins a file on the disk, with this staged entry as its first body.
 pub(crate) fn begin<D: Disk>(disk: &mut D, staged: &[u8]) -> Result<(), GateFault>
-    ensures small { OnOk result (length staged.now < 2 ^ 62) }
-    ensures kept { OnOk result ((bytes body : List ℕ) → Reads (D.state disk.old) bytes → length body < 2 ^ 32 → staged.now ≡ entry body ++ 0 ∷ []
-        → Keeps (body ∷ []) (D.state disk.new) (5 + length body)) }
-    ensures vacant { OnOk result ((bytes : List ℕ) → Reads (D.state disk.old) bytes → IsRunThere bytes → ⊥) }
-    ensures run_there { IfErr result (λ fault. fault ≡ GateFault.RunThere → (bytes : List ℕ) → Reads (D.state disk.old) bytes → IsRunThere bytes) }
-    ensures untouched { IfErr result (λ fault. fault ≡ GateFault.RunThere → (D.state disk.new).reads ≡ (D.state disk.old).reads) }
-    ensures disk_fault { IfErr result (λ fault. fault ≡ GateFault.DiskFault → Rose (D.state disk.old).faults (D.state disk.new).faults) }
-    ensures only { IfErr result (λ fault. (fault ≡ GateFault.DiskFault) ⊎ (fault ≡ GateFault.RunThere)) }
-    ensures later { (D.state disk.old).faults ≤ (D.state disk.new).faults }
-    ensures any_moment { (bytes body : List ℕ) → Reads (D.state disk.old) bytes → length body < 2 ^ 32 → staged.now ≡ entry body ++ 0 ∷ []
-        → LeavesOnly (IsBeginning (D.state disk.old).image body) (D.state disk.old) (D.state disk.new) }
-    ensures uses { Uses 12 (1 + length staged.now) (D.state disk.old) (D.state disk.new) }
+    ensures { (body : List ℕ) → length body < 2 ^ 32 → staged.now ≡ entry body ++ 0 ∷ []
+        → Begins body (D.state disk.old) (D.state disk.new) result }
 {
     let first = look_first(disk)?;
     shut_first(disk, first)?;
@@ -42,13 +33,9 @@ pub(crate) fn begin<D: Disk>(disk: &mut D, staged: &[u8]) -> Result<(), GateFaul
 // Looks whether a run is there.
 fn look_first<D: Disk>(disk: &mut D) -> Result<FirstGate, GateFault>
     ensures first { IfOk result (λ first. (bytes : List ℕ) → Reads (D.state disk.old) bytes → StandsFirst first bytes) }
-    ensures durable { OnOk result ((bytes : List ℕ) → Reads (D.state disk.new) bytes → Only bytes (D.state disk.new).image) }
-    ensures run_there { IfErr result (λ fault. fault ≡ GateFault.RunThere → (bytes : List ℕ) → Reads (D.state disk.old) bytes → IsRunThere bytes) }
-    ensures disk_fault { IfErr result (λ fault. fault ≡ GateFault.DiskFault → Rose (D.state disk.old).faults (D.state disk.new).faults) }
-    ensures only { IfErr result (λ fault. (fault ≡ GateFault.DiskFault) ⊎ (fault ≡ GateFault.RunThere)) }
-    ensures later { (D.state disk.old).faults ≤ (D.state disk.new).faults }
-    ensures unwritten { Unwritten (D.state disk.old) (D.state disk.new) }
-    ensures uses { Uses 3 0 (D.state disk.old) (D.state disk.new) }
+    ensures settled { OnOk result (IsSettled (D.state disk.new)) }
+    ensures refused { IfErr result (λ fault. RefusesBeginning fault (D.state disk.old) (D.state disk.new)) }
+    ensures peeks { Peeks 3 (D.state disk.old) (D.state disk.new) }
 {
     disk.sync()?;
     if disk.len()? <= 1 {
@@ -64,9 +51,11 @@ fn look_first<D: Disk>(disk: &mut D) -> Result<FirstGate, GateFault>
 
 // Sees to it that a shut gate stands first, on the disk.
 fn shut_first<D: Disk>(disk: &mut D, first: FirstGate) -> Result<(), Failed>
-    ensures shut { OnOk result ((bytes : List ℕ) → Reads (D.state disk.old) bytes → Only bytes (D.state disk.old).image → StandsFirst first bytes
+    ensures shut { OnOk result ((bytes : List ℕ) → Reads (D.state disk.old) bytes
+        → Only bytes (D.state disk.old).image → StandsFirst first bytes
         → Keeps [] (D.state disk.new) 0) }
-    ensures any_moment { (bytes : List ℕ) → Reads (D.state disk.old) bytes → Only bytes (D.state disk.old).image → StandsFirst first bytes
+    ensures any_moment { (bytes : List ℕ) → Reads (D.state disk.old) bytes
+        → Only bytes (D.state disk.old).image → StandsFirst first bytes
         → LeavesOnly IsNoRun (D.state disk.old) (D.state disk.new) }
     ensures cause { HasCause (D.state disk.old) (D.state disk.new) result }
     ensures uses { Uses 2 1 (D.state disk.old) (D.state disk.new) }

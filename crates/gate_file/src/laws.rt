@@ -1,7 +1,7 @@
 // What holds of files of gates, and of many appends, whatever made them.
 ghost use Rattle.std.specs.Prelude.{◌≡◌, ◌+◌, ◌≤◌, ◌<◌, ◌++◌, [], ◌∷◌, List, ℕ};
 ghost use Rattle.disk_model.specs.Moments.{LeavesOnly};
-ghost use Rattle.gate_file.specs.Chain.{Spells, IsNoRun, IsCutAt, IsBeforeOrAfter};
+ghost use Rattle.gate_file.specs.Chain.{Spells, IsNoRun, IsCutAt, IsBeforeOrAfter, ends_at};
 ghost use Rattle.gate_file.specs.Gate.{Keeps};
 ghost use Rattle.gate_file.specs.Run.{after};
 
@@ -9,7 +9,8 @@ use disk_model::Disk;
 
 /// A file stands for one thing: no run, or one list of bodies, or an entry that is cut short at one offset.
 pub fn a_file_stands_for_one_thing()
-    ensures bodies { (file : List ℕ) (bodies others : List (List ℕ)) → Spells bodies file → Spells others file → bodies ≡ others }
+    ensures bodies { (file : List ℕ) (bodies others : List (List ℕ)) → Spells bodies file → Spells others file
+        → bodies ≡ others }
     ensures no_run { (file : List ℕ) (bodies : List (List ℕ)) → IsNoRun file → Spells bodies file → bodies ≡ [] }
     ensures cut { (file : List ℕ) (at other : ℕ) → IsCutAt at file → IsCutAt other file → at ≡ other }
     ensures never_cut { (file : List ℕ) (bodies : List (List ℕ)) (at : ℕ) → Spells bodies file → IsCutAt at file → ⊥ }
@@ -27,4 +28,9 @@ pub fn appends_leave_prefixes<D: Disk>()
         → LeavesOnly (IsBeforeOrAfter bodies (body k)) (D.state (disk k)) (D.state (disk (k + 1))))
         → (j : ℕ) → j ≤ n → (c : List ℕ) → (D.state (disk (n + 1))).image_since (D.state (disk j)).clock c
         → (m : ℕ) × (j ≤ m) × (m ≤ n + 1) × Spells (after first body m) c }
+{}
+
+/// A file of gates ends where its bodies put it.
+pub fn a_file_ends_behind_its_bodies<D: Disk>()
+    ensures { (disk : D) (bodies : List (List ℕ)) (end : ℕ) → Keeps bodies (D.state disk) end → end ≡ ends_at bodies }
 {}

@@ -18,4 +18,6 @@ mod tests;
 pub use body_list::BodyList;
 pub use fault::{DiskFault, GateFault};
 pub use gate::{GateFile, LONGEST_BODY};
-pub use laws::{a_file_stands_for_one_thing, appends_leave_prefixes};
+pub use laws::{
+    a_file_ends_behind_its_bodies, a_file_stands_for_one_thing, appends_leave_prefixes,
+};

@@ -1,17 +1,21 @@
 // How a file of gates is read.
-ghost use Rattle.std.specs.Prelude.{◌≡◌, ◌⊎◌, ◌+◌, ◌-◌, ◌*◌, ◌^◌, ◌≤◌, ◌<◌, ◌++◌, [], ◌∷◌, List, ℕ, length, take, drop, true, OnOk, IfOk, IfErr, IfSome, None};
-ghost use Rattle.disk_model.specs.Device.{DiskState, Reads, HasCause, Rose, Only};
-ghost use Rattle.disk_model.specs.Moments.{Unwritten, Uses};
-ghost use Rattle.gate_file.specs.Chain.{entry, Opens, IsEntry, IsNoRun, IsShut, IsCutShort, IsCutAt};
+ghost use Rattle.std.specs.Prelude.{◌≡◌, ◌+◌, ◌-◌, ◌*◌, ◌^◌, ◌≤◌, ◌<◌, ◌++◌, [], ◌∷◌, List, ℕ, length, take, drop, min, OnOk, OnErr, IfOk, IfErr, IfSome, vec_capacity};
+ghost use Rattle.disk_model.specs.Device.{Reads, Rose, IsSettled};
+ghost use Rattle.disk_model.specs.Moments.{Peeks};
+ghost use Rattle.gate_file.specs.Chain.{Opens, IsShut, IsEntry};
 ghost use Rattle.gate_file.specs.First.{IsHead};
-ghost use Rattle.gate_file.specs.Gate.{Keeps, OpeningUses};
+ghost use Rattle.gate_file.specs.Opening.{IsBefore, IsSeen, ReadsOn, RefusesOpening, RefusesReading, RefusesEntry, Finds, found_in};
 
+use crate::gate::BATCH_ROOM;
 use crate::{BodyList, GateFault};
-use disk_model::{Disk, Failed};
-use std::alloc::Global;
+use disk_model::Disk;
+use std::alloc::{AllocError, Global};
 
 /// How many bytes stand beside a body: its length before it, and the gate behind it.
 pub(crate) const FRAME: u64 = 5;
+
+/// How many bytes of a file are read at once.
+const WINDOW: usize = 65_536;
 
 // What stands at a gate.
 #[derive(Clone, Copy, Debug, PartialEq, Eq)]
@@ -19,21 +23,48 @@ pub(crate) enum Head {
     Shut,
     // The gate is open, and a body of so many bytes is to follow.
     Open(u32),
-    // The file ends before the length does.
+    // The bytes end before the length does.
     Cut,
 }
 
+// What stands behind an open gate, and the room of one whole batch.
+pub(crate) struct Contents {
+    pub(crate) end: u64,
+    pub(crate) bodies: BodyList,
+    pub(crate) room: Vec<u8>,
+}
+
+// All bodies up to the first shut gate.
+pub(crate) fn read_all<D: Disk>(alloc: Global, disk: &mut D) -> Result<Contents, GateFault>
+    ensures finds { Finds (D.state disk.old) (D.state disk.new) (found_in result) }
+    ensures small { IfOk result (λ found. found.end < 2 ^ 62) }
+    ensures room { IfOk result (λ found. 8390 ≤ vec_capacity found.room) }
+{
+    let room = Vec::with_capacity(alloc, BATCH_ROOM)?;
+    let mut window = empty_window(alloc)?;
+    let len = start_reading(disk)?;
+    let mut bodies = BodyList::empty(alloc);
+    let end = read_bodies(alloc, disk, len, &mut window, &mut bodies)?;
+    if end == 0 {
+        return Err(GateFault::NoRun);
+    }
+    Ok(Contents { end, bodies, room })
+}
+
+fn empty_window(alloc: Global) -> Result<Vec<u8>, AllocError>
+    ensures { IfOk result (λ window. 5 ≤ length window.items) }
+{
+    let window = vec![in alloc; 0u8; WINDOW]?;
+    Ok(window)
+}
+
 // The length of a file that may hold a run, with all of it on the disk.
-pub(crate) fn start_reading<D: Disk>(disk: &mut D) -> Result<u64, GateFault>
-    ensures length { IfOk result (λ len. (bytes : List ℕ) → Reads (D.state disk.old) bytes → len ≡ length bytes) }
+fn start_reading<D: Disk>(disk: &mut D) -> Result<u64, GateFault>
+    ensures size { IfOk result (λ len. (bytes : List ℕ) → Reads (D.state disk.old) bytes → len ≡ length bytes) }
     ensures small { IfOk result (λ len. (1 < len) × (len < 2 ^ 62)) }
-    ensures durable { OnOk result ((bytes : List ℕ) → Reads (D.state disk.new) bytes → Only bytes (D.state disk.new).image) }
-    ensures no_run { IfErr result (λ fault. fault ≡ GateFault.NoRun → (bytes : List ℕ) → Reads (D.state disk.old) bytes → length bytes ≤ 1) }
-    ensures disk_fault { IfErr result (λ fault. fault ≡ GateFault.DiskFault → Rose (D.state disk.old).faults (D.state disk.new).faults) }
-    ensures only { IfErr result (λ fault. (fault ≡ GateFault.DiskFault) ⊎ (fault ≡ GateFault.NoRun)) }
-    ensures later { (D.state disk.old).faults ≤ (D.state disk.new).faults }
-    ensures unwritten { Unwritten (D.state disk.old) (D.state disk.new) }
-    ensures uses { Uses 2 0 (D.state disk.old) (D.state disk.new) }
+    ensures settled { OnOk result (IsSettled (D.state disk.new)) }
+    ensures refused { IfErr result (λ fault. RefusesOpening fault (D.state disk.old) (D.state disk.new)) }
+    ensures peeks { Peeks 2 (D.state disk.old) (D.state disk.new) }
 {
     disk.sync()?;
     let len = disk.len()?;
@@ -43,19 +74,127 @@ pub(crate) fn start_reading<D: Disk>(disk: &mut D) -> Result<u64, GateFault>
     Ok(len)
 }
 
-// Reads the gate at an offset, and the length behind it.
-fn read_head<D: Disk>(disk: &mut D, at: u64) -> Result<Head, Failed>
-    ensures head { IfOk result (λ head. (bytes : List ℕ) → Reads (D.state disk.old) bytes → IsHead head (take 5 (drop at bytes))) }
-    ensures cause { HasCause (D.state disk.old) (D.state disk.new) result }
-    ensures unwritten { Unwritten (D.state disk.old) (D.state disk.new) }
-    ensures uses { Uses 1 0 (D.state disk.old) (D.state disk.new) }
+// Reads bodies up to the first shut gate, and answers its offset.
+fn read_bodies<D: Disk>(
+    alloc: Global,
+    disk: &mut D,
+    len: u64,
+    window: &mut [u8],
+    bodies: &mut BodyList,
+) -> Result<u64, GateFault>
+    requires empty { bodies.old ≡ [] }
+    requires size { (1 < len) × (len < 2 ^ 62) }
+    requires window { 5 ≤ length window.old }
+    ensures shut { IfOk result (λ at. (bytes : List ℕ) → IsBefore 0 len [] (D.state disk.old) bytes
+        → ReadsOn at None bodies.new bytes) }
+    ensures place { IfOk result (λ at. (at < len) × (bodies.new ≡ [] → at ≡ 0)) }
+    ensures opens { (bytes : List ℕ) → IsBefore 0 len [] (D.state disk.old) bytes → (rest : List ℕ)
+        × Opens bodies.new bytes rest }
+    ensures refused { IfErr result (λ fault. RefusesReading 0 len [] fault (D.state disk.old) (D.state disk.new)) }
+    ensures peeks { Peeks (2 * length bodies.new + 2) (D.state disk.old) (D.state disk.new) }
 {
-    let mut head = [0; 5];
-    let count = disk.read_at(at, &mut head)?;
-    Ok(head_of(&head[..count]))
+    let mut at = 0;
+    while let Some(next) = read_on(alloc, disk, at, len, window, bodies)? {
+        at = next;
+    }
+    Ok(at)
 }
 
+// Reads on from the gate at an offset: the entries that lie whole in a window, or one that is longer. It answers where the next
+// gate stands, or none where the gate at the offset is shut.
+fn read_on<D: Disk>(
+    alloc: Global,
+    disk: &mut D,
+    at: u64,
+    len: u64,
+    window: &mut [u8],
+    bodies: &mut BodyList,
+) -> Result<Option<u64>, GateFault>
+    requires within { (at < len) × (1 < len) × (len < 2 ^ 62) }
+    requires window { 5 ≤ length window.old }
+    ensures reads { IfOk result (λ next. (bytes : List ℕ)
+        → IsBefore at len bodies.old (D.state disk.old) bytes → ReadsOn at next bodies.new bytes) }
+    ensures moved { IfOk result (λ found. IfSome found (λ next. (at < next) × (next < len)
+        × (length bodies.old < length bodies.new))) }
+    ensures opens { (bytes : List ℕ) → IsBefore at len bodies.old (D.state disk.old) bytes → (rest : List ℕ)
+        × Opens bodies.new bytes rest }
+    ensures grown { length bodies.old ≤ length bodies.new }
+    ensures refused { IfErr result (λ fault. RefusesReading at len bodies.old fault
+        (D.state disk.old) (D.state disk.new)) }
+    ensures peeks { Peeks 2 (D.state disk.old) (D.state disk.new) }
+{
+    let count = disk.read_at(at, window)?;
+    let seen = front(window, count, len - at);
+    let taken = take_entries(seen, bodies)?;
+    if taken > 0 {
+        return Ok(Some(at + taken as u64));
+    }
+    match read_entry(alloc, disk, at, len, seen)? {
+        Some(body) => {
+            let next = at + FRAME + body.len() as u64;
+            bodies.add(&body)?;
+            Ok(Some(next))
+        }
+        None => Ok(None),
+    }
+}
+
+// The first bytes of a window: as many as were read, and no more than are left of the file.
+fn front(window: &[u8], count: usize, left: u64) -> &[u8]
+    requires { count ≤ length window.now }
+    ensures { result.now ≡ take (min count left) window.now }
+{
+    let count = if (count as u64) < left {
+        count
+    } else {
+        left as usize
+    };
+    let (front, _) = window.split_at(count);
+    front
+}
+
+// Takes the entries that lie whole in these bytes, each with the gate behind it, and answers where the next gate stands.
+fn take_entries(seen: &[u8], bodies: &mut BodyList) -> Result<usize, AllocError>
+    ensures reads { IfOk result (λ n. (file behind : List ℕ) → Opens bodies.old file (seen.now ++ behind)
+        → Opens bodies.new file (drop n seen.now ++ behind)) }
+    ensures moved { IfOk result (λ n. 0 < n → (n < length seen.now) × (length bodies.old < length bodies.new)) }
+    ensures opens { (file behind : List ℕ) → Opens bodies.old file (seen.now ++ behind) → (rest : List ℕ)
+        × Opens bodies.new file rest }
+    ensures grown { length bodies.old ≤ length bodies.new }
+{
+    bodies.make_room(seen.len())?;
+    let mut rest = seen;
+    while let Some((body, behind)) = entry_in(rest) {
+        bodies.add(body)?;
+        rest = behind;
+    }
+    Ok(seen.len() - rest.len())
+}
+
+// The body that stands whole in these bytes behind an open gate, and what stands behind it: the next gate at least.
+fn entry_in(bytes: &[u8]) -> Option<(&[u8], &[u8])>
+    ensures { IfSome result (λ found. IsEntry found.0.now bytes.now found.1.now × (0 < length found.1.now)) }
+{
+    let Head::Open(size) = head_of(bytes) else {
+        return None;
+    };
+    let (_, rest) = bytes.split_at(FRAME as usize);
+    if rest.len() <= size as usize {
+        return None;
+    }
+    Some(rest.split_at(size as usize))
+}
+
+// What the first bytes at a gate say.
 fn head_of(bytes: &[u8]) -> Head
+    ensures { IsHead result (take 5 bytes.now) }
+{
+    let (front, _) = bytes.split_at(bytes.len().min(5));
+    head_in(front)
+}
+
+// What five bytes at a gate say, or fewer where the file ends.
+fn head_in(bytes: &[u8]) -> Head
     requires { length bytes.now ≤ 5 }
     ensures { IsHead result bytes.now }
 {
@@ -66,86 +205,25 @@ fn head_of(bytes: &[u8]) -> Head
     }
 }
 
-// What stands behind an open gate.
-pub(crate) struct Contents {
-    pub(crate) end: u64,
-    pub(crate) bodies: BodyList,
-}
-
-// All bodies up to the first shut gate.
-pub(crate) fn read_all<D: Disk>(alloc: Global, disk: &mut D) -> Result<Contents, GateFault>
-    ensures kept { IfOk result (λ found. (bytes : List ℕ) → Reads (D.state disk.old) bytes → Keeps found.bodies (D.state disk.new) found.end) }
-    ensures bodies { IfOk result (λ found. (found.bodies ≡ [] → ⊥) × (found.end < 2 ^ 62)) }
-    ensures no_run { IfErr result (λ fault. fault ≡ GateFault.NoRun → (bytes : List ℕ) → Reads (D.state disk.old) bytes → IsNoRun bytes) }
-    ensures cut { IfErr result (λ fault. (at : ℕ) → fault ≡ GateFault.Cut at → (bytes : List ℕ) → Reads (D.state disk.old) bytes → IsCutAt at bytes) }
-    ensures disk_fault { IfErr result (λ fault. fault ≡ GateFault.DiskFault → Rose (D.state disk.old).faults (D.state disk.new).faults) }
-    ensures never { IfErr result (λ fault. fault ≡ GateFault.RunThere → ⊥) }
-    ensures later { (D.state disk.old).faults ≤ (D.state disk.new).faults }
-    ensures unwritten { Unwritten (D.state disk.old) (D.state disk.new) }
-    ensures uses { (bytes : List ℕ) → Reads (D.state disk.old) bytes → OpeningUses bytes (D.state disk.old) (D.state disk.new) }
-    ensures uses_ok { IfOk result (λ found. Uses (4 * (length found.bodies + 1) + 4) 0 (D.state disk.old) (D.state disk.new)) }
-{
-    let len = start_reading(disk)?;
-    let mut bodies = BodyList::empty(alloc);
-    let end = read_bodies(alloc, disk, len, &mut bodies)?;
-    if end == 0 {
-        return Err(GateFault::NoRun);
-    }
-    Ok(Contents { end, bodies })
-}
-
-// Reads bodies up to the first shut gate, and answers its offset.
-fn read_bodies<D: Disk>(
-    alloc: Global,
-    disk: &mut D,
-    len: u64,
-    bodies: &mut BodyList,
-) -> Result<u64, GateFault>
-    requires empty { bodies.old ≡ [] }
-    requires begins { 1 < len }
-    requires small { len < 2 ^ 62 }
-    ensures shut { IfOk result (λ at. (bytes : List ℕ) → Reads (D.state disk.old) bytes → len ≡ length bytes
-        → Opens bodies.new bytes (drop at bytes) × IsShut (drop at bytes)) }
-    ensures within { IfOk result (λ at. at < len) }
-    ensures none { IfOk result (λ at. bodies.new ≡ [] → at ≡ 0) }
-    ensures some { IfOk result (λ at. 5 * length bodies.new ≤ at) }
-    ensures cut { IfErr result (λ fault. (at : ℕ) → fault ≡ GateFault.Cut at → (bytes : List ℕ) → Reads (D.state disk.old) bytes → len ≡ length bytes → IsCutAt at bytes) }
-    ensures opens { (bytes : List ℕ) → Reads (D.state disk.old) bytes → len ≡ length bytes → (rest : List ℕ) × Opens bodies.new bytes rest }
-    ensures disk_fault { IfErr result (λ fault. fault ≡ GateFault.DiskFault → Rose (D.state disk.old).faults (D.state disk.new).faults) }
-    ensures never { IfErr result (λ fault. (fault ≡ GateFault.RunThere → ⊥) × (fault ≡ GateFault.NoRun → ⊥)) }
-    ensures later { (D.state disk.old).faults ≤ (D.state disk.new).faults }
-    ensures unwritten { Unwritten (D.state disk.old) (D.state disk.new) }
-    ensures uses { Uses (2 * length bodies.new + 2) 0 (D.state disk.old) (D.state disk.new) }
-{
-    let mut at = 0;
-    while let Some(body) = read_entry(alloc, disk, at, len)? {
-        at += FRAME + body.len() as u64;
-        bodies.add(body)?;
-    }
-    Ok(at)
-}
-
-// The body behind the gate at an offset, or none where the gate is shut.
+// The body behind the gate at an offset, whose first bytes were seen, or none where the gate is shut.
 fn read_entry<D: Disk>(
     alloc: Global,
     disk: &mut D,
     at: u64,
     len: u64,
+    seen: &[u8],
 ) -> Result<Option<Vec<u8>>, GateFault>
-    requires within { at < len }
-    requires small { len < 2 ^ 62 }
-    ensures shut { IfOk result (λ found. found ≡ None → (bytes : List ℕ) → Reads (D.state disk.old) bytes → IsShut (drop at bytes)) }
-    ensures fits { IfOk result (λ found. IfSome found (λ body. at + 5 + length body.items < len)) }
-    ensures entry { IfOk result (λ found. IfSome found (λ body. (bytes : List ℕ) → Reads (D.state disk.old) bytes → len ≡ length bytes
+    requires within { (at < len) × (len < 2 ^ 62) }
+    ensures shut { IfOk result (λ found. found ≡ None → (bytes : List ℕ)
+        → IsSeen seen.now at len (D.state disk.old) bytes → IsShut (drop at bytes)) }
+    ensures entry { IfOk result (λ found. IfSome found (λ body. (bytes : List ℕ)
+        → IsSeen seen.now at len (D.state disk.old) bytes
         → IsEntry body.items (drop at bytes) (drop (at + 5 + length body.items) bytes))) }
-    ensures cut { IfErr result (λ fault. (o : ℕ) → fault ≡ GateFault.Cut o → (bytes : List ℕ) → Reads (D.state disk.old) bytes → len ≡ length bytes → (o ≡ at) × IsCutShort (drop at bytes)) }
-    ensures disk_fault { IfErr result (λ fault. fault ≡ GateFault.DiskFault → Rose (D.state disk.old).faults (D.state disk.new).faults) }
-    ensures never { IfErr result (λ fault. (fault ≡ GateFault.RunThere → ⊥) × (fault ≡ GateFault.NoRun → ⊥)) }
-    ensures later { (D.state disk.old).faults ≤ (D.state disk.new).faults }
-    ensures unwritten { Unwritten (D.state disk.old) (D.state disk.new) }
-    ensures uses { Uses 2 0 (D.state disk.old) (D.state disk.new) }
+    ensures fits { IfOk result (λ found. IfSome found (λ body. at + 5 + length body.items < len)) }
+    ensures refused { IfErr result (λ fault. RefusesEntry seen.now at len fault (D.state disk.old) (D.state disk.new)) }
+    ensures peeks { Peeks 1 (D.state disk.old) (D.state disk.new) }
 {
-    let size = match read_head(disk, at)? {
+    let size = match head_of(seen) {
         Head::Shut => return Ok(None),
         Head::Cut => return Err(GateFault::Cut(at)),
         Head::Open(size) => size,
@@ -166,15 +244,16 @@ fn read_body<D: Disk>(
     at: u64,
     size: usize,
 ) -> Result<Vec<u8>, GateFault>
-    requires small { at + 5 < 2 ^ 64 }
+    requires { at + 5 < 2 ^ 64 }
     ensures size { IfOk result (λ body. length body.items ≡ size) }
-    ensures body { IfOk result (λ body. (bytes : List ℕ) → Reads (D.state disk.old) bytes → body.items ≡ take size (drop (at + 5) bytes)) }
-    ensures cut { IfErr result (λ fault. (o : ℕ) → fault ≡ GateFault.Cut o → (bytes : List ℕ) → Reads (D.state disk.old) bytes → length bytes - (at + 5) < size) }
-    ensures disk_fault { IfErr result (λ fault. fault ≡ GateFault.DiskFault → Rose (D.state disk.old).faults (D.state disk.new).faults) }
+    ensures body { IfOk result (λ body. (bytes : List ℕ) → Reads (D.state disk.old) bytes
+        → body.items ≡ take size (drop (at + 5) bytes)) }
+    ensures cut { IfErr result (λ fault. (o : ℕ) → fault ≡ GateFault.Cut o → (bytes : List ℕ)
+        → Reads (D.state disk.old) bytes → length bytes - (at + 5) < size) }
+    ensures disk_fault { IfErr result (λ fault. fault ≡ GateFault.DiskFault
+        → Rose (D.state disk.old).faults (D.state disk.new).faults) }
     ensures never { IfErr result (λ fault. (fault ≡ GateFault.RunThere → ⊥) × (fault ≡ GateFault.NoRun → ⊥)) }
-    ensures later { (D.state disk.old).faults ≤ (D.state disk.new).faults }
-    ensures unwritten { Unwritten (D.state disk.old) (D.state disk.new) }
-    ensures uses { Uses 1 0 (D.state disk.old) (D.state disk.new) }
+    ensures peeks { Peeks 1 (D.state disk.old) (D.state disk.new) }
 {
     let mut body = vec![in alloc; 0u8; size]?;
     let count = disk.read_at(at + FRAME, &mut body)?;

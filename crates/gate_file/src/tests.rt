@@ -13,7 +13,7 @@ const FILE: [u8; 38] = [
 fn opened(alloc: Global, bytes: &[u8]) -> Result<Result<usize, GateFault>, Fail> {
     let disk = MemoryDisk::of_bytes(alloc, bytes.to_vec(alloc)?, 100, &[])?;
     match GateFile::open_file(alloc, disk) {
-        Ok((_file, bodies)) => Ok(Ok(bodies.as_slice().len())),
+        Ok((_file, bodies)) => Ok(Ok(bodies.len())),
         Err((_disk, fault)) => Ok(Err(fault)),
     }
 }
@@ -72,10 +72,11 @@ fn the_bodies_are_those_of_the_file(rt: HostRuntime) -> Result<(), Fail> {
         &[1, 2, 1, 0],
         &[1, 1, 1, 1, 0, 0, 0, 1],
     ];
-    assert_eq!(rt; bodies.as_slice().len(), 4);
-    for (body, want) in bodies.as_slice().iter().zip(&wanted) {
-        assert_eq!(rt; body.as_slice(), *want);
+    assert_eq!(rt; bodies.len(), 4);
+    for (index, want) in wanted.iter().enumerate() {
+        assert_eq!(rt; bodies.get(index), Some(*want));
     }
+    assert_eq!(rt; bodies.get(4), None);
     assert_eq!(rt; file.into_disk().faults(), 0);
     Ok(())
 }
@@ -106,13 +107,13 @@ fn a_stop_between_two_calls_leaves_the_bodies_with_the_new_one_or_without(
     rt: HostRuntime,
 ) -> Result<(), Fail> {
     let alloc = rt.alloc();
-    // The opening makes 11 calls, and then come the write, the sync, the write of the gate, and the sync.
+    // The opening makes 4 calls, and then come the write, the sync, the write of the gate, and the sync.
     let rows = [
-        (11, [4, 4, 4]),
-        (12, [4, 4, 4]),
-        (13, [4, 4, 4]),
-        (14, [5, 4, 5]),
-        (15, [5, 5, 5]),
+        (4, [4, 4, 4]),
+        (5, [4, 4, 4]),
+        (6, [4, 4, 4]),
+        (7, [5, 4, 5]),
+        (8, [5, 5, 5]),
     ];
     for (passes, wanted) in &rows {
         for (pick, want) in PICKS.iter().zip(wanted) {
@@ -134,18 +135,77 @@ fn a_stop_inside_a_call_leaves_the_bodies_with_the_new_one_or_without(
     rt: HostRuntime,
 ) -> Result<(), Fail> {
     let alloc = rt.alloc();
+    // The calls are a write at 38, a sync, a write of one byte at 37, and a sync.
+    let body = [0, 7, 7, 7, 7, 7, 7, 7, 7, 7];
+    let gate = [7, 0, 0, 0, 4, 1, 1, 1, 0, 0];
     let rows = [
-        (12, [4, 4, 4]),
-        (13, [4, 4, 4]),
-        (14, [4, 4, 5]),
-        (15, [5, 4, 5]),
+        (5, [4, 4, 4], body),
+        (6, [4, 4, 4], body),
+        (7, [4, 4, 5], gate),
+        (8, [5, 4, 5], gate),
     ];
-    for (call, wanted) in &rows {
+    for (call, wanted, filled) in &rows {
+        let failing = [*call];
         for (pick, want) in PICKS.iter().zip(wanted) {
-            let failing = [*call];
             let disk = MemoryDisk::of_bytes(alloc, FILE.to_vec(alloc)?, 100, &failing)?;
             let left = append_on(alloc, disk)?.crash(*pick);
             assert_eq!(rt; opened(alloc, left.bytes())?, Ok(*want), "{call} {pick:?}");
+        }
+        let disk = MemoryDisk::of_bytes(alloc, FILE.to_vec(alloc)?, 100, &failing)?;
+        let left = append_on(alloc, disk)?.crash(Crash::Fill(7));
+        let bytes = left.bytes();
+        assert!(rt; bytes.len() == 47);
+        assert_eq!(rt; &bytes[37..], filled.as_slice(), "{call}");
+    }
+    Ok(())
+}
+
+// What a crash leaves of a beginning on these bytes whose call of this number fails.
+fn left_of_a_beginning(
+    alloc: Global,
+    bytes: &[u8],
+    call: u64,
+    pick: Crash,
+) -> Result<Result<usize, GateFault>, Fail> {
+    let disk = MemoryDisk::of_bytes(alloc, bytes.to_vec(alloc)?, 100, &[call])?;
+    let disk = match GateFile::create(alloc, disk, &[0x41]) {
+        Ok(file) => file.into_disk(),
+        Err((disk, _fault)) => disk,
+    };
+    opened(alloc, disk.crash(pick).bytes())
+}
+
+#[test]
+fn a_stop_inside_a_beginning_leaves_no_run_or_the_one_body(rt: HostRuntime) -> Result<(), Fail> {
+    let alloc = rt.alloc();
+    let none: [usize; 3] = [0, 0, 0];
+    let shut: &[u8] = &[0, 0xFF, 0xFF];
+    // How many bodies stand there, and 0 for no run.
+    let rows: [(&[u8], u64, [usize; 3]); 14] = [
+        (&[], 2, none),
+        (&[], 3, none),
+        (&[], 4, none),
+        (&[], 5, none),
+        (&[], 6, none),
+        (&[], 7, [0, 0, 1]),
+        (&[], 8, [1, 0, 1]),
+        (shut, 3, none),
+        (shut, 4, none),
+        (shut, 5, none),
+        (shut, 6, [0, 0, 1]),
+        (shut, 7, [1, 0, 1]),
+        (&FILE, 1, [4, 4, 4]),
+        (&FILE, 3, [4, 4, 4]),
+    ];
+    for (bytes, call, wanted) in &rows {
+        for (pick, want) in PICKS.iter().zip(wanted) {
+            let due = if *want == 0 {
+                Err(GateFault::NoRun)
+            } else {
+                Ok(*want)
+            };
+            let left = left_of_a_beginning(alloc, bytes, *call, *pick)?;
+            assert_eq!(rt; left, due, "{call} {pick:?}");
         }
     }
     Ok(())
@@ -171,5 +231,35 @@ fn a_file_is_begun_where_no_run_is_and_over_none(rt: HostRuntime) -> Result<(), 
     assert_eq!(rt; begun(alloc, &[0, 0xFF, 0xFF])?, None);
     assert_eq!(rt; begun(alloc, &FILE)?, Some(GateFault::RunThere));
     assert_eq!(rt; begun(alloc, &[7, 0])?, Some(GateFault::RunThere));
+    Ok(())
+}
+
+#[test]
+fn bodies_of_every_length_are_read_through_the_window(rt: HostRuntime) -> Result<(), Fail> {
+    let alloc = rt.alloc();
+    // Bodies that end just before, at and behind the end of a window of 65,536 bytes, and one longer than two.
+    let sizes = [65_526, 65_530, 65_531, 65_532, 140_000, 0, 1];
+    for size in sizes {
+        let disk = MemoryDisk::new(alloc, 300_000, 100, &[])?;
+        let long = vec![in alloc; 0x41u8; size]?;
+        assert!(rt; long.len() < 200_000);
+        let Ok(file) = GateFile::create(alloc, disk, &long) else {
+            panic!(&rt; "a new disk takes a file");
+        };
+        let mut file = file;
+        for body in [&[1u8, 2], &[3u8, 4]] {
+            if file.is_live() {
+                assert!(rt; file.append(body).is_ok());
+            }
+        }
+        let disk = file.into_disk();
+        let Ok((_file, bodies)) = GateFile::open_file(alloc, disk) else {
+            panic!(&rt; "the file is whole");
+        };
+        assert!(rt; bodies.len() == 3);
+        assert_eq!(rt; bodies.body(0).len(), size);
+        assert_eq!(rt; bodies.body(1), [1, 2].as_slice());
+        assert_eq!(rt; bodies.body(2), [3, 4].as_slice());
+    }
     Ok(())
 }

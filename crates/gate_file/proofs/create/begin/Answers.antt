@@ -1,49 +1,79 @@
-use Rattle.std.proofs.Common.{[], ◌∙◌}
-use Rattle.gate_file.specs.Chain.{IsNoRun, IsBeforeOrAfter}
-use Rattle.gate_file.specs.First.{IsBeginning}
-use Rattle.gate_file.proofs.Beginning.{joined, not_there, from_old, from_none, from_append}
+use Rattle.std.proofs.Common.{rules, ◌≡◌, ◌+◌, [], ◌∷◌, length, ap, ◌∙◌, arith, length-append}
+use Rattle.std.proofs.lemmas.Result.{err_from_is_err_and}
+use Rattle.gate_file.specs.Chain.{entry}
+use Rattle.disk_model.proofs.Runs.{uses_add, uses_widened}
+use Rattle.gate_file.proofs.Chains.{length-entry}
+use Rattle.gate_file.proofs.Beginning.{not_there, moments_shut, moments_added}
 use Rattle.gate_file.proofs.create.begin.Goals as goal
 
-pub returns-in_err-shut_first-clause-any_moment : goal.returns-in_err-shut_first-clause-any_moment
-returns-in_err-shut_first-clause-any_moment g c = λ bytes body reads short is.
+pub returns-in_err-shut_first : goal.returns-in_err-shut_first
+returns-in_err-shut_first g c =
     let d = g.D.Disk.state in
-    let reads_1 = c.look_first.ensures.unwritten.same ∙ reads in
-    let only_1 = c.in_ok-first.ensures.durable bytes reads_1 in
-    let stands = c.in_ok-first.ensures.first bytes reads in
-    let P = IsBeginning (d c.args.disk.now).image body in
-    let front = joined (d c.args.disk.now).image IsNoRun P (d c.args.disk.now) (d c.look_first.new.disk) (d c.shut_first.new.disk) c.look_first.ensures.unwritten.moments (c.shut_first.ensures.any_moment bytes reads_1 only_1 stands)
-    (from_old (d c.args.disk.now).image body) (from_none (d c.args.disk.now).image body) in
-    front
+    let p = err_from_is_err_and c.from_residual-in_err-shut_first.result c.from_residual-in_err-shut_first.ensures.1 in
+    let peeks = c.look_first.ensures.peeks in
+    let shut = c.shut_first.ensures in
+    rw (p.1, p.2) (λ body short is. record {
+      kept = search rules;
+      vacant = search rules;
+      refused = let rose = c.in_err-shut_first.ensures.cause.failed (search rules) in omega (arith, rose, peeks.later);
+      later = omega (arith, peeks.later, shut.cause.later);
+      any_moment = λ bytes reads.
+          let here = peeks.unwritten.same ∙ reads in
+          let none = shut.any_moment bytes here (c.in_ok-first.ensures.settled bytes here) (c.in_ok-first.ensures.first bytes reads) in
+          moments_shut body (d c.args.disk.now) (d c.look_first.new.disk) (d c.shut_first.new.disk) peeks.unwritten none;
+      uses =
+          let both = uses_add 3 2 0 1 (d c.args.disk.now) (d c.look_first.new.disk) (d c.shut_first.new.disk) peeks.uses shut.uses in
+          uses_widened 5 12 1 (length body + 6) (d c.args.disk.now) (d c.shut_first.new.disk) both (omega arith) (omega arith);
+    })
 
-pub returns-in_err-add_staged-clause-any_moment : goal.returns-in_err-add_staged-clause-any_moment
-returns-in_err-add_staged-clause-any_moment g c = λ bytes body reads short is.
+pub returns-in_err-add_staged : goal.returns-in_err-add_staged
+returns-in_err-add_staged g c =
     let d = g.D.Disk.state in
-    let reads_1 = c.look_first.ensures.unwritten.same ∙ reads in
-    let only_1 = c.in_ok-first.ensures.durable bytes reads_1 in
-    let stands = c.in_ok-first.ensures.first bytes reads in
-    let P = IsBeginning (d c.args.disk.now).image body in
-    let front = joined (d c.args.disk.now).image IsNoRun P (d c.args.disk.now) (d c.look_first.new.disk) (d c.shut_first.new.disk) c.look_first.ensures.unwritten.moments (c.shut_first.ensures.any_moment bytes reads_1 only_1 stands)
-    (from_old (d c.args.disk.now).image body) (from_none (d c.args.disk.now).image body) in
-    let keeps = c.in_ok-shut_first.ensures.shut bytes reads_1 only_1 stands in
-    joined P (IsBeforeOrAfter [] body) P (d c.args.disk.now) (d c.shut_first.new.disk) (d c.add_staged.new.disk) front (c.add_staged.ensures.any_moment [] body short is keeps) (λ x begun. begun) (from_append (d c.args.disk.now).image body)
+    let p = err_from_is_err_and c.from_residual-in_err-add_staged.result c.from_residual-in_err-add_staged.ensures.1 in
+    let peeks = c.look_first.ensures.peeks in
+    let shut = c.shut_first.ensures in
+    let added = c.add_staged.ensures in
+    rw (p.1, p.2) (λ body short is. record {
+      kept = search rules;
+      vacant = search rules;
+      refused = let rose = c.in_err-add_staged.ensures.cause.failed (search rules) in omega (arith, rose, peeks.later, shut.cause.later);
+      later = omega (arith, peeks.later, shut.cause.later, added.cause.later);
+      any_moment = λ bytes reads.
+          let here = peeks.unwritten.same ∙ reads in
+          let settled = c.in_ok-first.ensures.settled bytes here in
+          let stands = c.in_ok-first.ensures.first bytes reads in
+          let none = moments_shut body (d c.args.disk.now) (d c.look_first.new.disk) (d c.shut_first.new.disk) peeks.unwritten (shut.any_moment bytes here settled stands) in
+          moments_added body (d c.args.disk.now) (d c.shut_first.new.disk) (d c.add_staged.new.disk) none (added.any_moment [] body short is (c.in_ok-shut_first.ensures.shut bytes here settled stands));
+      uses =
+          let long : length c.args.staged.now ≡ length body + 5 = omega (arith, ap length is, length-append (entry body) (0 ∷ []), length-entry body) in
+          let both = uses_add 3 2 0 1 (d c.args.disk.now) (d c.look_first.new.disk) (d c.shut_first.new.disk) peeks.uses shut.uses in
+          let all = uses_add 5 4 1 (1 + length c.args.staged.now) (d c.args.disk.now) (d c.shut_first.new.disk) (d c.add_staged.new.disk) both added.uses in
+          uses_widened 9 12 _ (length body + 6) (d c.args.disk.now) (d c.add_staged.new.disk) all (omega arith) (omega (arith, long));
+    })
 
-pub returns-clause-any_moment : goal.returns-clause-any_moment
-returns-clause-any_moment g c = λ bytes body reads short is.
+pub returns : goal.returns
+returns g c = λ body short is.
     let d = g.D.Disk.state in
-    let reads_1 = c.look_first.ensures.unwritten.same ∙ reads in
-    let only_1 = c.in_ok-first.ensures.durable bytes reads_1 in
-    let stands = c.in_ok-first.ensures.first bytes reads in
-    let P = IsBeginning (d c.args.disk.now).image body in
-    let front = joined (d c.args.disk.now).image IsNoRun P (d c.args.disk.now) (d c.look_first.new.disk) (d c.shut_first.new.disk) c.look_first.ensures.unwritten.moments (c.shut_first.ensures.any_moment bytes reads_1 only_1 stands)
-    (from_old (d c.args.disk.now).image body) (from_none (d c.args.disk.now).image body) in
-    let keeps = c.in_ok-shut_first.ensures.shut bytes reads_1 only_1 stands in
-    joined P (IsBeforeOrAfter [] body) P (d c.args.disk.now) (d c.shut_first.new.disk) (d c.add_staged.new.disk) front (c.add_staged.ensures.any_moment [] body short is keeps) (λ x begun. begun) (from_append (d c.args.disk.now).image body)
-
-pub returns-clause-kept : goal.returns-clause-kept
-returns-clause-kept g c = λ bytes body reads short is.
-    let reads_1 = c.look_first.ensures.unwritten.same ∙ reads in
-    let keeps = c.in_ok-shut_first.ensures.shut bytes reads_1 (c.in_ok-first.ensures.durable bytes reads_1) (c.in_ok-first.ensures.first bytes reads) in
-    c.in_ok-add_staged.ensures.acknowledged [] body short is keeps
-
-pub returns-clause-vacant : goal.returns-clause-vacant
-returns-clause-vacant g c = λ bytes reads there. not_there c.in_ok-first.first bytes (c.in_ok-first.ensures.first bytes reads) there
+    let peeks = c.look_first.ensures.peeks in
+    let shut = c.shut_first.ensures in
+    let added = c.add_staged.ensures in
+    record {
+      kept = λ bytes reads.
+          let here = peeks.unwritten.same ∙ reads in
+          let keeps = c.in_ok-shut_first.ensures.shut bytes here (c.in_ok-first.ensures.settled bytes here) (c.in_ok-first.ensures.first bytes reads) in
+          c.in_ok-add_staged.ensures.acknowledged [] body short is keeps;
+      vacant = λ bytes reads there. not_there c.in_ok-first.first bytes (c.in_ok-first.ensures.first bytes reads) there;
+      refused = search rules;
+      later = omega (arith, peeks.later, shut.cause.later, added.cause.later);
+      any_moment = λ bytes reads.
+          let here = peeks.unwritten.same ∙ reads in
+          let settled = c.in_ok-first.ensures.settled bytes here in
+          let stands = c.in_ok-first.ensures.first bytes reads in
+          let none = moments_shut body (d c.args.disk.now) (d c.look_first.new.disk) (d c.shut_first.new.disk) peeks.unwritten (shut.any_moment bytes here settled stands) in
+          moments_added body (d c.args.disk.now) (d c.shut_first.new.disk) (d c.add_staged.new.disk) none (added.any_moment [] body short is (c.in_ok-shut_first.ensures.shut bytes here settled stands));
+      uses =
+          let long : length c.args.staged.now ≡ length body + 5 = omega (arith, ap length is, length-append (entry body) (0 ∷ []), length-entry body) in
+          let both = uses_add 3 2 0 1 (d c.args.disk.now) (d c.look_first.new.disk) (d c.shut_first.new.disk) peeks.uses shut.uses in
+          let all = uses_add 5 4 1 (1 + length c.args.staged.now) (d c.args.disk.now) (d c.shut_first.new.disk) (d c.add_staged.new.disk) both added.uses in
+          uses_widened 9 12 _ (length body + 6) (d c.args.disk.now) (d c.add_staged.new.disk) all (omega arith) (omega (arith, long));
+    }

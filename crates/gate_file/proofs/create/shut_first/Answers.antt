@@ -9,7 +9,7 @@ pub returns-in_ok-sync-in-Missing-clause-shut : goal.returns-in_ok-sync-in-Missi
 returns-in_ok-sync-in-Missing-clause-shut g c = λ bytes reads only stands.
     let short : length bytes ≤ 1 = subst (λ (f : FirstGate). StandsFirst f bytes) c.in-Missing.is stands in
     let now : Reads (g.D.Disk.state c.sync.new.self) (0 ∷ []) = c.sync.ensures.looks.same ∙ c.in_ok-write_at-in-Missing.ensures.written bytes reads ∙ ap (λ (l : List ℕ). Some l) (one_gate bytes short) in
-    keeps_shut (g.D.Disk.state c.sync.new.self) (0 ∷ []) now (c.in_ok-sync-in-Missing.ensures.durable (0 ∷ []) now) ([], refl)
+    keeps_shut (g.D.Disk.state c.sync.new.self) (0 ∷ []) now (c.in_ok-sync-in-Missing.ensures.settled (0 ∷ []) now) ([], refl)
 
 pub returns-in-Shut-clause-shut : goal.returns-in-Shut-clause-shut
 returns-in-Shut-clause-shut g c = λ bytes reads only stands.

@@ -1,0 +1,81 @@
+-- How entries are taken from a window of a file.
+use Rattle.std.proofs.Common.{◌≡◌, ℕ, ◌+◌, ◌-◌, ◌≤◌, ◌<◌, min, List, [], ◌∷◌, ◌++◌, length, take, drop, inl, inr, sym, ◌∙◌, ap, subst, arith, append_assoc, length-append, length-drop, take-append-drop}
+use Rattle.std.proofs.lemmas.Bool.{cases_lt}
+use Rattle.std.proofs.lemmas.List.{take_at, drop_at, take_all, take-take, length-take, drop-append-le, drop-drop}
+use Rattle.gate_file.specs.Chain.{entry, IsEntry, Opens}
+use Rattle.gate_file.proofs.Chains.{opens_push, length-entry}
+
+pub take_front : (xs : List ℕ) → take (min (length xs) 5) xs ≡ take 5 xs
+take_front xs = elim (cases_lt (length xs) 5) [
+  | inl short ↦ let n : min (length xs) 5 ≡ length xs = omega arith in ap (λ (k : ℕ). take k xs) n ∙ take_all (length xs) xs (omega arith) ∙ sym (take_all 5 xs (omega arith))
+  | inr long ↦ let n : min (length xs) 5 ≡ 5 = omega arith in ap (λ (k : ℕ). take k xs) n
+]
+
+-- what stands whole in a window stands whole in the file
+pub entry_before : (body file rest behind : List ℕ) → IsEntry body file rest → IsEntry body (file ++ behind) (rest ++ behind)
+entry_before body file rest behind is = record {
+  gate = is.gate;
+  is_open = is.is_open;
+  short = is.short;
+  bytes = ap (λ (l : List ℕ). l ++ behind) is.bytes ∙ ap (λ (l : List ℕ). is.gate ∷ l) (append_assoc (entry body) rest behind);
+}
+
+pub taken_more : (bodies more : List (List ℕ)) (file body window rest behind : List ℕ) → more ≡ bodies ++ body ∷ [] → Opens bodies file (window ++ behind) → IsEntry body window rest → Opens more file (rest ++ behind)
+taken_more bodies more file body window rest behind is opens found =
+    subst (λ (l : List (List ℕ)). Opens l file (rest ++ behind)) (sym is) (opens_push bodies file (window ++ behind) (rest ++ behind) body opens (entry_before body window rest behind found))
+
+-- what is left of the window behind an entry
+pub behind_entry : (body rest behind seen : List ℕ) → IsEntry body rest behind → length rest ≤ length seen → rest ≡ drop (length seen - length rest) seen → (length behind + length body + 5 ≡ length rest) × (behind ≡ drop (length seen - length behind) seen)
+behind_entry body rest behind seen is within rest_is =
+    let begin : List ℕ = is.gate ∷ entry body in
+    let size : length begin ≡ length body + 5 = omega (arith, length-entry body) in
+    let long : length behind + length body + 5 ≡ length rest = omega (arith, ap length is.bytes, length-append begin behind, size) in
+    let place : length seen - length rest + (length body + 5) ≡ length seen - length behind = omega (arith, long, within) in (
+      long,
+      sym (drop_at begin behind (length body + 5) size) ∙ ap (drop (length body + 5)) (sym is.bytes ∙ rest_is) ∙ drop-drop (length body + 5) (length seen - length rest) seen ∙ ap (λ (n : ℕ). drop n seen) place,
+    )
+
+-- A file from an offset on begins with what was seen of it.
+pub record Seen (bytes seen : List ℕ) (at : ℕ) : Type 0 where
+  pub behind : List ℕ
+  pub split : drop at bytes ≡ seen ++ behind
+  pub front : take 5 seen ≡ take 5 (drop at bytes)
+
+-- a window that was filled from an offset on
+module _ (bytes old window seen : List ℕ) (at len count : ℕ) (size : len ≡ length bytes) (within : at < len) (counted : count ≡ min (length old) (length bytes - at))
+    (got : window ≡ take count (drop at bytes) ++ drop count old) (is : seen ≡ take (min count (len - at)) window) where
+  most : min count (len - at) ≡ count
+  most = omega (arith, size, counted)
+
+  filled : length (take count (drop at bytes)) ≡ count
+  filled = omega (arith, length-take count (drop at bytes), length-drop at bytes, counted)
+
+  seen_is : seen ≡ take count (drop at bytes)
+  seen_is = is ∙ ap (λ (n : ℕ). take n window) most ∙ ap (take count) got ∙ take_at (take count (drop at bytes)) (drop count old) count filled
+
+  pub seen_of : 5 ≤ length old → Seen bytes seen at
+  seen_of room = record {
+    behind = drop count (drop at bytes);
+    split = sym (take-append-drop count (drop at bytes)) ∙ ap (λ (l : List ℕ). l ++ drop count (drop at bytes)) (sym seen_is);
+    front = ap (take 5) seen_is ∙ elim (cases_lt count 5) [
+      | inl short ↦
+          let whole : length (drop at bytes) ≤ count = omega (arith, length-drop at bytes, counted) in
+          ap (take 5) (take_all count (drop at bytes) whole)
+      | inr long ↦ take-take 5 count (drop at bytes) long
+    ];
+  }
+
+-- what was taken of the window was taken of the file
+pub taken_on : (bodies : List (List ℕ)) (bytes seen : List ℕ) (at n : ℕ) (s : Seen bytes seen at) → n ≤ length seen → Opens bodies bytes (drop n seen ++ s.behind) → Opens bodies bytes (drop (at + n) bytes)
+taken_on bodies bytes seen at n s inside opens =
+    let place : drop n seen ++ s.behind ≡ drop (at + n) bytes = sym (drop-append-le n seen s.behind inside) ∙ ap (drop n) (sym s.split) ∙ drop-drop n at bytes in
+    subst (Opens bodies bytes) place opens
+
+pub opens_window : (bodies : List (List ℕ)) (bytes seen : List ℕ) (at : ℕ) (s : Seen bytes seen at) → Opens bodies bytes (drop at bytes) → Opens bodies bytes (seen ++ s.behind)
+opens_window bodies bytes seen at s opens = subst (Opens bodies bytes) s.split opens
+
+pub none_taken : (bodies : List (List ℕ)) (bytes seen : List ℕ) (at n : ℕ) (s : Seen bytes seen at) → n ≤ 0 → Opens bodies bytes (drop n seen ++ s.behind) → Opens bodies bytes (drop at bytes)
+none_taken bodies bytes seen at n s none opens =
+    let zero : n ≡ 0 = omega (arith, none) in
+    let all : Opens bodies bytes (seen ++ s.behind) = subst (λ (k : ℕ). Opens bodies bytes (drop k seen ++ s.behind)) zero opens in
+    subst (Opens bodies bytes) (sym s.split) all

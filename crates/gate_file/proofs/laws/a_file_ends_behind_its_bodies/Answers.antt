@@ -1,0 +1,5 @@
+use Rattle.gate_file.proofs.Ends.{keeps_end}
+use Rattle.gate_file.proofs.laws.a_file_ends_behind_its_bodies.Goals as goal
+
+pub returns : goal.returns
+returns g c = λ disk bodies end keeps. keeps_end bodies (g.D.Disk.state disk) end keeps

@@ -1,0 +1,10 @@
+use Rattle.std.proofs.Common.{rules, ◌≡◌, ℕ, min, length, take, ap, subst, ◌∙◌}
+use Rattle.gate_file.specs.First.{IsHead}
+use Rattle.gate_file.proofs.Windows.{take_front}
+use Rattle.gate_file.proofs.open.head_of.Goals as goal
+
+pub returns : goal.returns
+returns c =
+    let bytes = c.args.bytes.now in
+    let n : c.min.result ≡ min (length bytes) 5 = search rules in
+    subst (IsHead c.head_in.result) (c.split_at.ensures.front ∙ ap (λ (k : ℕ). take k bytes) n ∙ take_front bytes) c.head_in.ensures

@@ -1,0 +1,33 @@
+-- How a file of gates is begun.
+use Rattle.std.specs.Prelude.{ℕ, ◌+◌, ◌≤◌, List, [], ◌∷◌, length, Result, Ok, Err, OnOk, IfErr}
+use Rattle.disk_model.specs.Device.{DiskState, Reads, Rose, IsSettled}
+use Rattle.disk_model.specs.Moments.{LeavesOnly, Unwritten, Uses}
+use Rattle.gate_file.specs.declared.fault.GateFault.{GateFault}
+use Rattle.gate_file.specs.declared.fault.GateFault.TheVariants.{DiskFault, NoRun, RunThere, Cut, NoMemory}
+use Rattle.gate_file.specs.Chain.{IsRunThere}
+use Rattle.gate_file.specs.Gate.{Keeps}
+use Rattle.gate_file.specs.First.{IsBeginning}
+
+-- why a file is not begun, and what the disk is then: where no call of it failed it is as it was
+abbrev pub RefusesBeginning : GateFault → DiskState → DiskState → Type 0
+RefusesBeginning DiskFault old new = Rose old.faults new.faults
+RefusesBeginning RunThere old new =
+    Unwritten old new × IsSettled new × ((bytes : List ℕ) → Reads old bytes → IsRunThere bytes)
+RefusesBeginning NoMemory old new = Unwritten old new
+RefusesBeginning NoRun old new = ⊥
+RefusesBeginning (Cut at) old new = ⊥
+
+-- What a call that begins a file with this body promises.
+pub record Begins {A : Type 0} (body : List ℕ) (old new : DiskState) (result : Result A GateFault) : Type 0 where
+  pub kept : OnOk result ((bytes : List ℕ) → Reads old bytes → Keeps (body ∷ []) new (5 + length body))
+  pub vacant : OnOk result ((bytes : List ℕ) → Reads old bytes → IsRunThere bytes → ⊥)
+  pub refused : IfErr result (λ fault. RefusesBeginning fault old new)
+  pub later : old.faults ≤ new.faults
+  -- a crash at any moment of the call leaves an image from before it, or no run, or the one body
+  pub any_moment : (bytes : List ℕ) → Reads old bytes → LeavesOnly (IsBeginning old.image body) old new
+  pub uses : Uses 12 (length body + 6) old new
+
+-- an answer whose error gives the disk back, without it
+abbrev pub without_disk : {A D : Type 0} → Result A (D × GateFault) → Result A GateFault
+without_disk (Ok answer) = Ok answer
+without_disk (Err fault) = Err fault.1
