@@ -14,7 +14,8 @@ use Rattle.nc_number.specs.declared.path.Path.TheVariants.{One, Two}
 use Rattle.run_records.specs.declared.entry.Entry.{Entry}
 use Rattle.run_records.specs.declared.entry.EntryKind.{EntryKind}
 use Rattle.run_records.specs.declared.entry.EntryKind.TheVariants.{Did, Arrived, Met, Ended, Alarmed}
-use Rattle.run_records.specs.Spelling.{kind_number, stamp_bytes, entry_bytes, AreStamps, IsEntry}
+use Rattle.run_records.specs.Spelling.{kind_number, stamp_bytes, entry_bytes, IsEntry}
+use Rattle.run_records.specs.Stamps.{AreStamps, AreFew}
 use Rattle.run_records.specs.Causes.{cause_of, has_bad_path, has_bad_kind, has_too_many_stamps, is_cut_short}
 
 pub length-stamp_bytes : (stamps : List ℕ) → length (stamp_bytes stamps) ≡ 4 * length stamps
@@ -176,3 +177,6 @@ put_back p q stamps old into is = ap (drop (3 + 4 * length stamps)) is ∙ drop_
 pub are_push : (stamps : List ℕ) (stamp : ℕ) → AreStamps stamps → stamp < 2 ^ 32 → AreStamps (stamps ++ stamp ∷ [])
 are_push [] stamp are fits = (fits, tt)
 are_push (s ∷ stamps) stamp are fits = (are.0, are_push stamps stamp are.1 fits)
+
+pub few_push : (stamps : List ℕ) (stamp : ℕ) → AreFew stamps → length stamps < 32 → stamp < 2 ^ 32 → AreFew (stamps ++ stamp ∷ [])
+few_push stamps stamp are room fits = (omega (arith, length-append stamps (stamp ∷ [])), are_push stamps stamp are.1 fits)

@@ -1,5 +1,18 @@
 -- Why bytes begin with no record.
 use Rattle.std.specs.Prelude.{ℕ, ◌+◌, ◌*◌, ◌==◌, ◌||◌, ◌&&◌, not, nat_lt, Bool, List, length, slice_index, Option, Some, None, if◌then◌else◌}
+use Rattle.run_records.specs.declared.bad_record.BadRecord.{BadRecord}
+use Rattle.run_records.specs.declared.bad_record.BadRecord.TheVariants.{NoPath, NoKind, TooManyStamps, WrongLength, WrongCount, NotLegal, NoHeader, TooManyRecords, RefusedTapes}
+
+abbrev pub cause_number : BadRecord → ℕ
+cause_number NoPath = 1
+cause_number NoKind = 2
+cause_number TooManyStamps = 3
+cause_number WrongLength = 4
+cause_number WrongCount = 5
+cause_number NotLegal = 6
+cause_number NoHeader = 7
+cause_number TooManyRecords = 8
+cause_number RefusedTapes = 9
 
 -- the byte is there, and is no path
 abbrev pub has_bad_path : List ℕ → Bool
@@ -18,6 +31,10 @@ abbrev pub is_cut_short : List ℕ → Bool
 is_cut_short bytes = nat_lt (length bytes) 3 || nat_lt (length bytes) (3 + 4 * slice_index bytes 2)
 
 -- the least cause that holds of the bytes that are there
-abbrev pub cause_of : List ℕ → Option ℕ
+abbrev pub cause_of : List ℕ → Option BadRecord
 cause_of bytes =
-    if has_bad_path bytes then Some 1 else if has_bad_kind bytes then Some 2 else if has_too_many_stamps bytes then Some 3 else if is_cut_short bytes then Some 4 else None
+    if has_bad_path bytes then Some NoPath
+    else if has_bad_kind bytes then Some NoKind
+    else if has_too_many_stamps bytes then Some TooManyStamps
+    else if is_cut_short bytes then Some WrongLength
+    else None

@@ -1,10 +1,11 @@
 -- How a record is spelled: path, kind, number of stamps, and each stamp in four bytes, the high one first.
-use Rattle.std.specs.Prelude.{ℕ, ◌^◌, ◌≤◌, ◌<◌, List, [], ◌∷◌, ◌++◌, length}
+use Rattle.std.specs.Prelude.{ℕ, ◌≤◌, List, [], ◌∷◌, ◌++◌, length}
 use Rattle.byteorder.specs.Endian.{big_bytes}
 use Rattle.nc_number.specs.Path.{number_of}
 use Rattle.run_records.specs.declared.entry.EntryKind.{EntryKind}
 use Rattle.run_records.specs.declared.entry.EntryKind.TheVariants.{Did, Arrived, Met, Ended, Alarmed}
 use Rattle.run_records.specs.declared.entry.Entry.{Entry}
+use Rattle.run_records.specs.Stamps.{AreStamps}
 
 abbrev pub kind_number : EntryKind → ℕ
 kind_number Did = 1
@@ -19,10 +20,6 @@ stamp_bytes (stamp ∷ stamps) = big_bytes 4 stamp ++ stamp_bytes stamps
 
 abbrev pub entry_bytes : Entry → List ℕ
 entry_bytes entry = number_of entry.path ∷ kind_number entry.kind ∷ length entry.stamps ∷ stamp_bytes entry.stamps
-
-abbrev pub AreStamps : List ℕ → Type 0
-AreStamps [] = Unit {0}
-AreStamps (stamp ∷ stamps) = (stamp < 2 ^ 32) × AreStamps stamps
 
 -- what is true of every record
 pub record IsEntry (entry : Entry) : Type 0 where

@@ -1,7 +1,7 @@
 // A record, and its bytes.
 ghost use Rattle.std.specs.Prelude.{◌≡◌, ◌+◌, ◌*◌, ◌≤◌, ◌++◌, ◌∷◌, ℕ, List, length, take, drop};
 ghost use Rattle.nc_number.specs.Path.{number_of};
-ghost use Rattle.run_records.specs.Spelling.{kind_number, stamp_bytes, entry_bytes};
+ghost use Rattle.run_records.specs.Spelling.{kind_number, stamp_bytes, entry_bytes, IsEntry};
 
 use crate::StampList;
 use byteorder::{BigEndian, ByteOrder};
@@ -53,6 +53,7 @@ pub fn put_entry(entry: &Entry, into: &mut [u8]) -> usize
     ensures rest { drop result into.new ≡ drop result into.old }
     ensures size { result ≡ length (entry_bytes entry.now) }
     ensures fits { result ≤ 131 }
+    ensures entry { IsEntry entry.now }
 {
     let stamps = entry.stamps.as_slice();
     put_head(entry.path, entry.kind, stamps.len() as u8, into);

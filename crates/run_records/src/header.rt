@@ -4,14 +4,13 @@ ghost use Rattle.run_records.specs.declared.header.Header.{Header};
 ghost use Rattle.run_records.specs.declared.header.HeaderFault.TheVariants.{NoMemory as Memory};
 ghost use Rattle.run_records.specs.Headers.{text_bytes, header_mark, header_bytes, IsShort};
 
-use crate::ByteList;
 use byteorder::{BigEndian, ByteOrder};
-use nc_number::NoMemory;
+use nc_number::{ByteList, NoMemory};
 use std::alloc::{AllocError, Global};
 use thiserror::Error;
 
 /// `TWIN`, and version 1.
-const MARK: [u8; 6] = [84, 87, 73, 78, 0, 1];
+const MARK: [u8; 6] = [b'T', b'W', b'I', b'N', 0, 1];
 
 /// What a run is made with: the texts of the settings and of the two tapes.
 #[derive(Debug, Drop)]
@@ -24,7 +23,7 @@ pub struct Header {
 /// Why bytes are no header.
 #[derive(Clone, Copy, Debug, PartialEq, Eq, Error)]
 pub enum HeaderFault {
-    /// They spell none: cause 7.
+    /// They spell none: `BadRecord::NoHeader`.
     #[error("bad header")]
     Bad,
     /// There is no memory left.
@@ -66,7 +65,8 @@ fn put_text(into: &mut Vec<u8>, text: &[u8]) -> Result<(), NoMemory>
 /// Reads a header that these bytes spell, all of them.
 pub fn take_header(alloc: Global, bytes: &[u8]) -> Result<Header, HeaderFault>
     ensures header { IfOk result (λ header. bytes.now ≡ header_bytes header) }
-    ensures bad { IfErr result (λ fault. fault ≡ HeaderFault.Bad → (header : Header) → IsShort header → bytes.now ≡ header_bytes header → ⊥) }
+    ensures bad { IfErr result (λ fault. fault ≡ HeaderFault.Bad → (header : Header) → IsShort header
+        → bytes.now ≡ header_bytes header → ⊥) }
 {
     let Some((settings, left, right)) = texts_of(bytes) else {
         return Err(HeaderFault::Bad);
@@ -80,7 +80,8 @@ pub fn take_header(alloc: Global, bytes: &[u8]) -> Result<Header, HeaderFault>
 
 // The three texts of a header.
 fn texts_of(bytes: &[u8]) -> Option<(&[u8], &[u8], &[u8])>
-    ensures some { IfSome result (λ texts. bytes.now ≡ header_mark ++ text_bytes texts.0.now ++ text_bytes texts.1.now ++ text_bytes texts.2.now) }
+    ensures some { IfSome result (λ texts. bytes.now ≡ header_mark
+        ++ text_bytes texts.0.now ++ text_bytes texts.1.now ++ text_bytes texts.2.now) }
     ensures none { IfNone result ((header : Header) → IsShort header → bytes.now ≡ header_bytes header → ⊥) }
 {
     let Some(rest) = behind_mark(bytes) else {
@@ -106,15 +107,17 @@ fn behind_mark(bytes: &[u8]) -> Option<&[u8]>
     ensures none { IfNone result ((rest : List ℕ) → bytes.now ≡ header_mark ++ rest → ⊥) }
 {
     match bytes {
-        [84, 87, 73, 78, 0, 1, rest @ ..] => Some(rest),
+        [b'T', b'W', b'I', b'N', 0, 1, rest @ ..] => Some(rest),
         _ => None,
     }
 }
 
 // A text and what stands behind it.
 fn text_at(bytes: &[u8]) -> Option<(&[u8], &[u8])>
-    ensures some { IfSome result (λ found. (bytes.now ≡ text_bytes found.0.now ++ found.1.now) × (length found.0.now < 2 ^ 32)) }
-    ensures none { IfNone result ((text rest : List ℕ) → length text < 2 ^ 32 → bytes.now ≡ text_bytes text ++ rest → ⊥) }
+    ensures some { IfSome result (λ found. (bytes.now ≡ text_bytes found.0.now ++ found.1.now)
+        × (length found.0.now < 2 ^ 32)) }
+    ensures none { IfNone result ((text rest : List ℕ) → length text < 2 ^ 32
+        → bytes.now ≡ text_bytes text ++ rest → ⊥) }
 {
     if bytes.len() < 4 {
         return None;

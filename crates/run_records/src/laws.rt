@@ -8,12 +8,14 @@ ghost use Rattle.run_records.specs.Causes.{cause_of};
 
 /// A record has one spelling, which is no beginning of another record's, and whatever follows it, there is no cause why it is none.
 pub fn an_entry_has_one_spelling()
-    ensures one { (entry other : Entry) (rest more : List ℕ) → IsEntry entry → IsEntry other → entry_bytes entry ++ rest ≡ entry_bytes other ++ more
+    ensures one { (entry other : Entry) (rest more : List ℕ) → IsEntry entry → IsEntry other
+        → entry_bytes entry ++ rest ≡ entry_bytes other ++ more
         → (entry ≡ other) × (rest ≡ more) }
     ensures read_again { (entry : Entry) (rest : List ℕ) → IsEntry entry → cause_of (entry_bytes entry ++ rest) ≡ None }
 {}
 
 /// A header has one spelling.
 pub fn a_header_has_one_spelling()
-    ensures { (header other : Header) → IsShort header → IsShort other → header_bytes header ≡ header_bytes other → header ≡ other }
+    ensures { (header other : Header) → IsShort header → IsShort other
+        → header_bytes header ≡ header_bytes other → header ≡ other }
 {}

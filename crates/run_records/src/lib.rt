@@ -5,6 +5,7 @@
 //! again whatever follows it.
 #![tactic(auto)]
 
+mod bad_record;
 mod entry;
 mod header;
 mod laws;
@@ -13,9 +14,10 @@ mod reading;
 #[cfg(test)]
 mod tests;
 
+pub use bad_record::BadRecord;
 pub use entry::{Entry, EntryKind, put_entry};
 pub use header::{Header, HeaderFault, put_header, take_header};
 pub use laws::{a_header_has_one_spelling, an_entry_has_one_spelling};
-pub use lists::{ByteList, EntryList, StampList};
-pub use nc_number::NoMemory;
+pub use lists::{EntryList, StampList};
+pub use nc_number::{ByteList, NoMemory};
 pub use reading::take_entry;

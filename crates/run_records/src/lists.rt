@@ -1,5 +1,6 @@
 // The lists that records and headers are made of.
 ghost use Rattle.std.specs.Prelude.{◌≡◌, ◌+◌, ◌^◌, ◌≤◌, ◌<◌, ◌++◌, [], ◌∷◌, List, ℕ, length, OnOk, OnErr, vec_capacity};
+ghost use Rattle.run_records.specs.Stamps.{AreStamps};
 
 use crate::Entry;
 use arrayvec::ArrayVec;
@@ -22,6 +23,10 @@ impl Model for StampList {
     ghost Value = { List ℕ };
 
     ghost view = { λ l. l.stamps.items };
+
+    ghost use Rattle.run_records.specs.Stamps.{AreFew};
+
+    ghost invariant = { λ l. AreFew l.stamps.items };
 }
 
 impl StampList {
@@ -38,6 +43,7 @@ impl StampList {
     pub fn as_slice(&self) -> &[u32]
         ensures stamps { result.now ≡ self.now }
         ensures fits { length self.now ≤ 32 }
+        ensures are { AreStamps self.now }
     {
         self.stamps.as_slice()
     }
@@ -48,43 +54,6 @@ impl StampList {
         ensures { self.new ≡ self.old ++ stamp ∷ [] }
     {
         self.stamps.push(stamp);
-    }
-}
-
-/// Bytes of a text.
-#[derive(Debug, Drop)]
-pub struct ByteList {
-    bytes: Vec<u8>,
-}
-
-impl Model for ByteList {
-    ghost use Rattle.std.specs.Prelude.{List, ℕ};
-
-    ghost Value = { List ℕ };
-
-    ghost view = { λ l. l.bytes.items };
-}
-
-impl ByteList {
-    /// The list of these bytes.
-    pub fn of(bytes: Vec<u8>) -> ByteList
-        ensures { result ≡ bytes.items }
-    {
-        ByteList { bytes }
-    }
-
-    /// The bytes.
-    pub fn as_slice(&self) -> &[u8]
-        ensures { result.now ≡ self.now }
-    {
-        &self.bytes
-    }
-
-    /// Gives the bytes back.
-    pub fn into_bytes(self) -> Vec<u8>
-        ensures { result.items ≡ self }
-    {
-        self.bytes
     }
 }
 

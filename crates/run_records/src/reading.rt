@@ -1,18 +1,19 @@
 // A record, read from its bytes.
 ghost use Rattle.std.specs.Prelude.{◌≡◌, ◌+◌, ◌*◌, ◌≤◌, ◌++◌, ℕ, List, length, take, drop, Some, None, Ok, IfOk, IfErr, IfSome, IsSome, ◌↔◌, ◌⊎◌};
 ghost use Rattle.nc_number.specs.Path.{number_of};
-ghost use Rattle.run_records.specs.Spelling.{kind_number, stamp_bytes, entry_bytes, AreStamps, IsEntry};
+ghost use Rattle.run_records.specs.Spelling.{kind_number, stamp_bytes, entry_bytes, IsEntry};
+ghost use Rattle.run_records.specs.Stamps.{AreStamps};
 ghost use Rattle.run_records.specs.Causes.{cause_of};
 
 use crate::lists::MOST_STAMPS;
-use crate::{Entry, EntryKind, StampList};
+use crate::{BadRecord, Entry, EntryKind, StampList};
 use byteorder::{BigEndian, ByteOrder};
 use nc_number::Path;
 
 /// Reads the record that the bytes begin with, and answers it and how many bytes it has. It takes no memory. Where there is none,
-/// the error is the least cause that holds of the bytes that are there: 1, the path is none; 2, the kind is none; 3, there are more
-/// than 32 stamps; 4, the bytes end before the record does.
-pub fn take_entry(bytes: &[u8]) -> Result<(Entry, usize), u8>
+/// the error is the least cause that holds of the bytes that are there: `NoPath`, `NoKind`, `TooManyStamps`, or `WrongLength` where
+/// the bytes end before the record does.
+pub fn take_entry(bytes: &[u8]) -> Result<(Entry, usize), BadRecord>
     ensures whole { IfOk result (λ found. cause_of bytes.now ≡ None) }
     ensures bytes { IfOk result (λ found. bytes.now ≡ entry_bytes found.0 ++ drop found.1 bytes.now) }
     ensures size { IfOk result (λ found. found.1 ≡ length (entry_bytes found.0)) }
@@ -20,41 +21,30 @@ pub fn take_entry(bytes: &[u8]) -> Result<(Entry, usize), u8>
     ensures cause { IfErr result (λ cause. cause_of bytes.now ≡ Some cause) }
 {
     let [first, rest @ ..] = bytes else {
-        return Err(4);
+        return Err(BadRecord::WrongLength);
     };
-    let Some(path) = path_of(*first) else {
-        return Err(1);
+    let Some(path) = Path::of_number(*first) else {
+        return Err(BadRecord::NoPath);
     };
     let [second, rest @ ..] = rest else {
-        return Err(4);
+        return Err(BadRecord::WrongLength);
     };
     let Some(kind) = kind_of(*second) else {
-        return Err(2);
+        return Err(BadRecord::NoKind);
     };
     let [count, rest @ ..] = rest else {
-        return Err(4);
+        return Err(BadRecord::WrongLength);
     };
     let count = *count as usize;
     if count > MOST_STAMPS {
-        return Err(3);
+        return Err(BadRecord::TooManyStamps);
     }
     if rest.len() < 4 * count {
-        return Err(4);
+        return Err(BadRecord::WrongLength);
     }
     let (front, _) = rest.split_at(4 * count);
     let stamps = take_stamps(front, count);
     Ok((Entry { path, kind, stamps }, 3 + 4 * count))
-}
-
-fn path_of(byte: u8) -> Option<Path>
-    ensures some { IfSome result (λ path. number_of path ≡ byte) }
-    ensures none { IsSome result ↔ ((byte ≡ 1) ⊎ (byte ≡ 2)) }
-{
-    match byte {
-        1 => Some(Path::One),
-        2 => Some(Path::Two),
-        _ => None,
-    }
 }
 
 fn kind_of(byte: u8) -> Option<EntryKind>

@@ -1,6 +1,6 @@
 use crate::{
-    ByteList, Entry, EntryKind, EntryList, Header, HeaderFault, StampList, put_entry, put_header,
-    take_entry, take_header,
+    BadRecord, ByteList, Entry, EntryKind, EntryList, Header, HeaderFault, StampList, put_entry,
+    put_header, take_entry, take_header,
 };
 use nc_number::Path;
 use std::alloc::Global;
@@ -30,17 +30,21 @@ fn a_record_is_put_and_taken_whatever_follows(rt: HostRuntime) -> Result<(), Fai
 
 #[test]
 fn a_record_that_is_none_has_its_least_cause(rt: HostRuntime) -> Result<(), Fail> {
-    let rows: [(&[u8], u8); 10] = [
-        (&[3, 1, 0], 1),
-        (&[1, 6, 0], 2),
-        (&[1, 0, 0], 2),
-        (&[1, 1, 33, 0, 0, 0, 0], 3),
-        (&[1, 1], 4),
-        (&[], 4),
-        (&[3], 1),
-        (&[0, 9], 1),
-        (&[2, 5, 1, 0, 0, 0], 4),
-        (&[1, 6], 2),
+    // A record of 33 whole stamps.
+    let mut whole = [0; 135];
+    whole[..3].copy_from_slice(&[1, 1, 33]);
+    let rows: [(&[u8], BadRecord); 11] = [
+        (&[3, 1, 0], BadRecord::NoPath),
+        (&[1, 6, 0], BadRecord::NoKind),
+        (&[1, 0, 0], BadRecord::NoKind),
+        (&[1, 1, 33, 0, 0, 0, 0], BadRecord::TooManyStamps),
+        (&whole, BadRecord::TooManyStamps),
+        (&[1, 1], BadRecord::WrongLength),
+        (&[], BadRecord::WrongLength),
+        (&[3], BadRecord::NoPath),
+        (&[0, 9], BadRecord::NoPath),
+        (&[2, 5, 1, 0, 0, 0], BadRecord::WrongLength),
+        (&[1, 6], BadRecord::NoKind),
     ];
     for (bytes, cause) in &rows {
         assert_eq!(rt; take_entry(bytes).err(), Some(*cause));

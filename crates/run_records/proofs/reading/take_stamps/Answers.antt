@@ -1,5 +1,5 @@
 use Rattle.std.proofs.Common.{◌≤◌, ◌∷◌, [], length, ℕ, get_or, ◌<◌, List, subst, sym, ap, arith, length-append}
-use Rattle.run_records.specs.Spelling.{AreStamps}
+use Rattle.run_records.specs.Stamps.{AreStamps}
 use Rattle.run_records.proofs.Stamps.{stamp_read, fits_back, are_push}
 use Rattle.run_records.proofs.reading.take_stamps.Goals as goal
 

@@ -1,5 +1,6 @@
 use Rattle.std.proofs.Common.{◌≡◌, ◌<◌, ◌+◌, ◌*◌, ◌++◌, ℕ, length, get_or}
-use Rattle.run_records.specs.Spelling.{stamp_bytes, AreStamps}
+use Rattle.run_records.specs.Spelling.{stamp_bytes}
+use Rattle.run_records.specs.Stamps.{AreStamps}
 use Rattle.run_records.proofs.reading.take_stamps.Given as goal
 
 abbrev pub invariant-loop-round : goal.invariant-loop-round
