@@ -1,13 +1,5 @@
-pub mod Building
+pub mod Commanded
 pub mod GivenWords
 pub mod Numbers
-pub mod Parsed
 pub mod PlainWords
-pub mod Readings
-pub mod Steps
-pub mod Stories
-pub mod Subcommands
-pub mod TopWords
-pub mod Uses
-pub mod Walks
-pub mod WordKinds
+pub mod TakingWords

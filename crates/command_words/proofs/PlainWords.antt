@@ -1,32 +1,24 @@
 -- Words that are names, and where `--` and `--blocks` stand among them.
 use Rattle.std.proofs.Common.{◌≡◌, Bool, true, false, List, [], ◌∷◌, ◌++◌, Option, Some, refl, sym, ap, ◌∙◌, codes}
-use Rattle.clap.specs.Walk.{Text}
 use Rattle.command_words.specs.Listed.{AreNames, IsName, Given, given, is_option, with_limit, with_name}
-use Rattle.command_words.proofs.Readings.{dashes_are_option, given_dashes, given_limit, given_name, given_nothing, waits_for_name}
-use Rattle.command_words.proofs.WordKinds.{WordKind, dashes, kind_of_word, limit, long, name, short}
+use Rattle.command_words.specs.Table.{Text}
+use Rattle.command_words.proofs.GivenWords.{given_dashes, given_limit, given_nothing, name_then, waits_for_name}
 
 abbrev pub just : List Text → List Text → Option Given
 just words limits = Some (record { names = words; limits = limits })
-
-name_then : (limited : Bool) (word : Text) (rest : List Text) → WordKind limited word → is_option word ≡ false → given limited (word ∷ rest) ≡ with_name word (given limited rest)
-name_then limited word rest (dashes e) plain = absurd (let bad : true ≡ false = sym (dashes_are_option word e) ∙ plain in cc)
-name_then limited word rest (name goes a b) plain = given_name limited word rest goes.no_dashes a b
-name_then limited word rest (limit e is read a b) plain = absurd (let bad : true ≡ false = sym b ∙ plain in cc)
-name_then limited word rest (long long_name text e read other a b) plain = absurd (let bad : true ≡ false = sym b ∙ plain in cc)
-name_then limited word rest (short flags first e no_long are char some a b) plain = absurd (let bad : true ≡ false = sym b ∙ plain in cc)
 
 -- names before any words come before their names
 names_before : (limited : Bool) (before rest names limits : List Text) → AreNames before → given limited rest ≡ just names limits
     → given limited (before ++ rest) ≡ just (before ++ names) limits
 names_before limited [] rest names limits plain e = e
 names_before limited (word ∷ before) rest names limits plain e =
-    name_then limited word (before ++ rest) (kind_of_word limited word plain.0.0) plain.0.1
+    name_then limited word (before ++ rest) plain.0.1
     ∙ ap (with_name word) (names_before limited before rest names limits plain.1 e)
 
 pub names_alone : (limited : Bool) (words : List Text) → AreNames words → given limited words ≡ just words []
 names_alone limited [] plain = given_nothing limited
 names_alone limited (word ∷ words) plain =
-    name_then limited word words (kind_of_word limited word plain.0.0) plain.0.1 ∙ ap (with_name word) (names_alone limited words plain.1)
+    name_then limited word words plain.0.1 ∙ ap (with_name word) (names_alone limited words plain.1)
 
 pub behind_dashes : (limited : Bool) (before after : List Text) → AreNames before → given limited (before ++ codes "--" ∷ after) ≡ just (before ++ after) []
 behind_dashes limited before after plain = names_before limited before (codes "--" ∷ after) after [] plain (given_dashes limited (codes "--") after refl)

@@ -1,4 +1,4 @@
-pub mod CommandWords
-pub mod Grammar
 pub mod Listed
 pub mod Number
+pub mod Reading
+pub mod Table

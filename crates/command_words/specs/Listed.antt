@@ -2,16 +2,15 @@ use Rattle.std.specs.Prelude.{◌≡◌, ℕ, Bool, true, false, ◌&&◌, ◌==
 use Rattle.std.specs.List.{after_first, before_first, list_any, slice_index}
 use Rattle.std.specs.Str.{IsUtf8, bytes_eq}
 use Rattle.command_words.specs.Number.{number_of}
+use Rattle.command_words.specs.Table.{Listing, Text, row_of}
 use Rattle.command_words.specs.declared.command.Command.{Command}
-use Rattle.command_words.specs.declared.command.Command.TheVariants.{Verify, Run, Resume, Moves, State, Make}
+use Rattle.command_words.specs.declared.command.Command.TheVariants as command
+use Rattle.command_words.specs.declared.table.Task.{Task}
+use Rattle.command_words.specs.declared.table.Task.TheVariants as task
 
--- The commands of the program, word by word, without a word of `clap`.
+-- The grammar of the command line, word by word, over the list of commands.
 
--- a word, or a part of one: its bytes
-abbrev pub Text : Type 0
-Text = List ℕ
-
--- what stands behind a subcommand: names, and the texts of `--blocks`
+-- what stands behind a command's name: names, and the texts of `--blocks`
 pub record Given : Type 0 where
   pub names : List Text
   pub limits : List Text
@@ -43,20 +42,22 @@ option_name word = before_first (λ b. b == 61) word
 abbrev pub option_text : Text → Option Text
 option_text word = if list_any (λ b. b == 61) word then Some (after_first (λ b. b == 61) word) else None
 
+abbrev pub takes_as_limit : Bool → Text → Bool
+takes_as_limit limited word = limited && bytes_eq (option_name word) (codes "--blocks")
+
 -- the text of `--blocks` is attached to it, or is the next word
 abbrev pub limit_given : Option Text → Option Given → Option Given → Option Given
 limit_given (Some text) here next = with_limit text here
 limit_given None here next = next
 
--- The words behind a subcommand, `limited` where it takes `--blocks`. Behind `--` every word is a
--- name. Before it a word that begins with `-` is `--blocks` or is refused, except for `-` itself.
+-- The words behind a command's name, `limited` where it takes `--blocks`. Behind `--` every word is a name as it is, a
+-- second `--` too. Before it a word that begins with `-` is `--blocks` or is refused, except for `-` itself.
 unfoldable mutual
   pub given : Bool → List Text → Option Given
   given limited [] = Some (record { names = []; limits = [] })
   given limited (word ∷ rest) =
       if bytes_eq word (codes "--") then Some (record { names = rest; limits = [] })
-      else (if limited && bytes_eq (option_name word) (codes "--blocks")
-      then limit_given (option_text word) (given limited rest) (limit_then limited rest)
+      else (if takes_as_limit limited word then limit_given (option_text word) (given limited rest) (limit_then limited rest)
       else (if is_option word then None else with_name word (given limited rest)))
 
   -- a `--blocks` that waits for its text
@@ -70,37 +71,27 @@ only_limit [] = Some 100000
 only_limit (text ∷ []) = number_of 1 1000000 text
 only_limit (text ∷ other ∷ more) = None
 
-abbrev pub verify_listed : List Text → List Text → Option Command
-verify_listed (left ∷ right ∷ settings ∷ []) [] = Some (Verify left right settings)
-verify_listed _ _ = None
+-- the command that a task makes of its words and of the most blocks to run
+abbrev pub command_with : Task → List Text → ℕ → Option Command
+command_with task.Verify (left ∷ right ∷ settings ∷ []) blocks = Some (command.Verify left right settings)
+command_with task.Run (left ∷ right ∷ settings ∷ []) blocks = Some (command.Run left right settings blocks)
+command_with task.Resume [] blocks = Some (command.Resume blocks)
+command_with task.Moves [] blocks = Some command.Moves
+command_with task.State [] blocks = Some command.State
+command_with task.Make (number ∷ []) blocks = option_map command.Make (number_of 0 999999 number)
+command_with _ _ _ = None
 
-abbrev pub run_listed : List Text → List Text → Option Command
-run_listed (left ∷ right ∷ settings ∷ []) limits = option_map (Run left right settings) (only_limit limits)
-run_listed _ limits = None
+-- a row takes as many words as it has names for
+abbrev pub command_given : Listing → Given → Option Command
+command_given row all =
+    if length all.names == length row.words
+    then option_and_then (command_with row.task all.names) (only_limit all.limits)
+    else None
 
-abbrev pub resume_listed : List Text → List Text → Option Command
-resume_listed [] limits = option_map Resume (only_limit limits)
-resume_listed (name ∷ names) limits = None
+abbrev pub command_behind : List Text → Listing → Option Command
+command_behind rest row = option_and_then (command_given row) (given row.takes_blocks rest)
 
--- a command that is given nothing
-abbrev pub alone : Command → List Text → List Text → Option Command
-alone command [] [] = Some command
-alone command _ _ = None
-
-abbrev pub make_listed : List Text → List Text → Option Command
-make_listed (text ∷ []) [] = option_map Make (number_of 0 999999 text)
-make_listed _ _ = None
-
-abbrev pub behind : Bool → List Text → (List Text → List Text → Option Command) → Option Command
-behind limited rest command = option_and_then (λ all. command all.names all.limits) (given limited rest)
-
--- the command of the words
+-- the command of the words: the first names the row, and the row says how the others are read
 unfoldable pub listed_command : List Text → Option Command
 listed_command [] = None
-listed_command (name ∷ rest) =
-    if bytes_eq name (codes "verify") then behind false rest verify_listed
-    else (if bytes_eq name (codes "run") then behind true rest run_listed
-    else (if bytes_eq name (codes "resume") then behind true rest resume_listed
-    else (if bytes_eq name (codes "moves") then behind false rest (alone Moves)
-    else (if bytes_eq name (codes "state") then behind false rest (alone State)
-    else (if bytes_eq name (codes "make") then behind false rest make_listed else None)))))
+listed_command (name ∷ rest) = option_and_then (command_behind rest) (row_of name)

@@ -1,17 +1,15 @@
 //! Laws of the command words, each the contract of a function that does nothing.
-ghost use Rattle.std.specs.Prelude.{◌≡◌, ℕ, Bool, true, List, [], ◌∷◌, ◌++◌, All, Some, codes, IsUtf8};
-ghost use Rattle.command_words.specs.CommandWords.{command_of};
-ghost use Rattle.command_words.specs.Listed.{AreNames, IsName, given, listed_command};
+ghost use Rattle.std.specs.Prelude.{◌≡◌, ℕ, Bool, true, List, [], ◌∷◌, ◌++◌, Some, codes};
+ghost use Rattle.command_words.specs.Listed.{AreNames, IsName, given};
+ghost use Rattle.command_words.specs.Table.{Listing, listings, names_stand_once};
 
-/// The command that `clap` reads in any words, which are texts, is the listed one: the first word
-/// names a subcommand, and the words behind it are as many names as it takes and at most one
-/// `--blocks` where it takes one.
-pub fn law_of_commands()
-    ensures { (words : List (List ℕ)) → All IsUtf8 words → command_of words ≡ listed_command words }
+/// No two commands have the same name.
+pub fn law_of_rows()
+    ensures { names_stand_once listings ≡ true }
 {}
 
-/// Behind a subcommand, words that do not begin with `-` are names, and so is `-` itself; behind
-/// `--` every word is a name.
+/// Behind a command's name, words that do not begin with `-` are names, and so is `-` itself; behind `--` every word is a
+/// name.
 pub fn law_of_names()
     ensures names { (limited : Bool) (words : List (List ℕ)) → AreNames words
         → given limited words ≡ Some (record { names = words; limits = [] }) }

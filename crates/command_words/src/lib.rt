@@ -1,21 +1,22 @@
 //! The words of the command line.
 //!
-//! What the program understands is one `clap` command with one level of subcommands: `verify`,
-//! `run`, `resume`, `moves`, `state` and `make`, with the option `--blocks` behind `run` and
-//! `resume`. `read_words` gives the command exactly as that `clap` command reads the words, and the
-//! laws beside it say which words these are without naming `clap`.
+//! The commands of the program stand in one list of rows: a command's name, what its words are called, whether it takes
+//! `--blocks`, and what it asks for. `read_words` reads any words by these rows, exactly as the grammar in `specs/` says
+//! that they are read, so a further command is a row and the arm that makes it.
 #![tactic(auto)]
 
 mod command;
 mod fault;
-mod grammar;
+mod given;
 mod laws;
 mod number;
 mod reading;
+mod table;
 #[cfg(test)]
 mod tests;
 
 pub use command::{Command, Name};
 pub use fault::WordsFault;
-pub use laws::{law_of_commands, law_of_limits, law_of_names};
+pub use laws::{law_of_limits, law_of_names, law_of_rows};
 pub use reading::read_words;
+pub use table::{Row, Task, rows};

@@ -64,6 +64,8 @@ run -- l r s --blocks 5 -> usage
 run -- l --blocks 5 -> run [l] [--blocks] [5] 100000
 run l r -- --blocks=5 -> run [l] [r] [--blocks=5] 100000
 run --blocks -- l r s -> usage
+run -- -- -- -- -> run [--] [--] [--] 100000
+run --blocks=5 -- -- --blocks -h -> run [--] [--blocks] [-h] 5
 run l r s --blocks -5 -> usage
 run l r s --blocks=-5 -> usage
 run l r s --blocks - -> usage
@@ -95,6 +97,9 @@ make 999999 -> make 999999
 make 1000000 -> usage
 make 00000007 -> usage
 make -7 -> usage
+make -- 7 -> make 7
+make -- -7 -> usage
+make -- -- -> usage
 make -> usage
 make 7 --blocks 5 -> usage
 help -> usage

@@ -1,0 +1,9 @@
+pub mod Building
+pub mod Readings
+pub mod Steps
+pub mod Stories
+pub mod Subcommands
+pub mod TopWords
+pub mod Uses
+pub mod Walks
+pub mod WordKinds

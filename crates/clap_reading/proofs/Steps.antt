@@ -1,0 +1,253 @@
+-- One word at a time: what `clap` makes of each behind a subcommand.
+use Rattle.std.proofs.Common.{◌≡◌, ℕ, zero, suc, ◌+◌, ◌<◌, Bool, true, false, List, [], ◌∷◌, ◌++◌, map, length, min, Option, Some, None, refl, ap, ◌∙◌, arith, codes}
+use Rattle.std.proofs.Math.Bool.{and-false}
+use Rattle.std.specs.List.{slice_get}
+use Rattle.std.specs.Str.{bytes_eq, chars}
+use Rattle.clap.specs.Kinds.{Kinds, or_else}
+use Rattle.clap.specs.Lexer.{long_of, short_of, usize_max}
+use Rattle.clap.specs.Faults.{bundle_fault, flags_fault, repeat_fault, settle_fault, step_fault, turn_fault, use_fault, word_fault}
+use Rattle.clap.specs.Simple.{Shape, filled, new_shape}
+use Rattle.clap.specs.Walk.{Held, Row, Rule, Text, Waiting, Walk, action_of, arg_by_id, arg_by_index, arg_by_long, arg_by_short, idle, is_append, is_empty, most_values, option, positional, settled_rows, subcommand_met, takes_several, takes_values, used, walked, with_values, without, word_met}
+use Rattle.clap.specs.declared.builder.value_parser.Reading.TheVariants.{AsWritten}
+use Rattle.clap.specs.declared.parser.matches.ValueSource.TheVariants.{CommandLine}
+use Rattle.clap_reading.specs.Grammar.{limit_rule}
+use Rattle.clap_reading.proofs.Uses.{Used, has_row-uses, row_of_use, used-uses, value_in}
+
+-- a subcommand that is built
+abbrev pub leaf : Text → List Rule → Shape
+leaf name rules = record (new_shape name) {
+  rules = rules;
+  disable_help_flag = true;
+  disable_help_subcommand = true;
+  is_built = true;
+}
+
+-- lists of kinds
+
+pub or_else-none : (a : Kinds) → or_else a [] ≡ a
+or_else-none [] = refl
+or_else-none (k ∷ ks) = refl
+
+pub first_some : (a b : Kinds) → is_empty a ≡ false → is_empty (or_else a b) ≡ false
+first_some [] b some = cc
+first_some (k ∷ ks) b some = some
+
+-- an argument that takes one text, once
+pub record IsOnce (a : Rule) : Type 0 where
+  pub takes : (text : Text) (rows : List Row) → used a (text ∷ []) rows ≡ with_values a.id AsWritten CommandLine (text ∷ []) (without a.id rows)
+  pub faults : (text : Text) (rows : List Row) → use_fault false a (text ∷ []) rows ≡ repeat_fault false a.id rows
+  pub needs : (rows : List Row) → is_empty (use_fault false a [] rows) ≡ false
+  pub valued : takes_values a ≡ true
+  pub several : takes_several a ≡ false
+  pub single : is_append (action_of a) ≡ false
+  pub most : most_values a ≡ 1
+  pub closed : a.trailing_var_arg ≡ false
+
+-- where the walk stands between two words: the uses that are settled, and the last one, which is not
+abbrev pub pending_text : Option Used → Option (Text × List Text)
+pending_text None = None
+pending_text (Some one) = Some (one.0, one.1 ∷ [])
+
+abbrev pub held_at : List Used → Option Used → Held
+held_at done last = record { rows = map row_of_use done; pending = pending_text last; skip = 0 }
+
+abbrev pub at_rest : List Used → Option Used → ℕ → Bool → Walk
+at_rest done last position trailing =
+    record { held = held_at done last; waiting = idle; position = position; is_trailing = trailing; stopped = None }
+
+abbrev pub all_uses : List Used → Option Used → List Used
+all_uses done None = done
+all_uses done (Some one) = done ++ one ∷ []
+
+pub record SettlesOne (c : List Rule) (done : List Used) (one : Used) : Type 0 where
+  pub rule : Rule
+  pub found : arg_by_id c one.0 ≡ Some rule
+  pub same : rule.id ≡ one.0
+  pub once : IsOnce rule
+  pub fresh : value_in one.0 done ≡ None
+
+abbrev pub Settles : List Rule → List Used → Option Used → Type 0
+Settles c done None = Unit {0}
+Settles c done (Some one) = SettlesOne c done one
+
+abbrev pub rows_at_rest : List Rule → List Used → Option Used → List Row
+rows_at_rest c done last = settled_rows c (pending_text last) (map row_of_use done)
+
+no_row : (id : Text) (done : List Used) → value_in id done ≡ None → repeat_fault false id (map row_of_use done) ≡ []
+no_row id done none = rw (has_row-uses id done, none) refl
+
+pub used_once : (a : Rule) (once : IsOnce a) (id text : Text) (done : List Used) → a.id ≡ id → value_in id done ≡ None
+    → used a (text ∷ []) (map row_of_use done) ≡ map row_of_use (done ++ (id, text) ∷ [])
+used_once a once id text done same none =
+    once.takes text (map row_of_use done) ∙ rw same (used-uses id text done none)
+
+pub fault_once : (a : Rule) (once : IsOnce a) (id text : Text) (done : List Used) → a.id ≡ id → value_in id done ≡ None
+    → use_fault false a (text ∷ []) (map row_of_use done) ≡ []
+fault_once a once id text done same none = once.faults text (map row_of_use done) ∙ rw same (no_row id done none)
+
+pub fault_twice : (a : Rule) (once : IsOnce a) (id text earlier : Text) (done : List Used) → a.id ≡ id → value_in id done ≡ Some earlier
+    → is_empty (use_fault false a (text ∷ []) (map row_of_use done)) ≡ false
+fault_twice a once id text earlier done same some =
+    ap is_empty (once.faults text (map row_of_use done) ∙ ap (λ i. repeat_fault false i (map row_of_use done)) same)
+    ∙ rw (has_row-uses id done, some) refl
+
+pub settled_at_rest : (c : List Rule) (done : List Used) (last : Option Used) → Settles c done last → rows_at_rest c done last ≡ map row_of_use (all_uses done last)
+settled_at_rest c done None settles = refl
+settled_at_rest c done (Some one) settles = rw settles.found (used_once settles.rule settles.once one.0 one.1 done settles.same settles.fresh)
+
+pub settles_freely : (c : List Rule) (done : List Used) (last : Option Used) → Settles c done last → settle_fault c false (held_at done last) ≡ []
+settles_freely c done None settles = refl
+settles_freely c done (Some one) settles = rw settles.found (fault_once settles.rule settles.once one.0 one.1 done settles.same settles.fresh)
+
+-- a word that may be a name
+pub record IsNameWord (word : Text) : Type 0 where
+  pub no_dashes : bytes_eq word (codes "--") ≡ false
+  pub no_long : long_of word ≡ None
+  pub no_short : short_of word ≡ None
+
+abbrev pub GoesToPositional : Bool → Text → Type 0
+GoesToPositional true word = Unit {0}
+GoesToPositional false word = IsNameWord word
+
+-- a name, at a position that takes one
+
+pub name_turn : (name : Text) (c : List Rule) (done : List Used) (last : Option Used) (position : ℕ) (trailing : Bool) (word : Text) → GoesToPositional trailing word
+    → (a : Rule) → arg_by_index c position ≡ Some a → takes_several a ≡ false
+    → turn_fault (leaf name c) [] (at_rest done last position trailing) word ≡ settle_fault c false (held_at done last)
+name_turn name c done last position true word goes a found several = rw (found, several, and-false) refl
+name_turn name c done last position false word goes a found several =
+    rw (goes.no_dashes, goes.no_long, goes.no_short, found, several, and-false) refl
+
+pub name_walks : (c : List Rule) (done : List Used) (last : Option Used) (position : ℕ) (trailing : Bool) (word : Text) → GoesToPositional trailing word
+    → (a : Rule) → arg_by_index c position ≡ Some a → IsOnce a → (uses : List Used) → rows_at_rest c done last ≡ map row_of_use uses
+    → min (position + 1) usize_max ≡ position + 1
+    → walked c [] (at_rest done last position trailing) word ≡ at_rest uses (Some (a.id, word)) (position + 1) trailing
+unfolding walked
+name_walks c done last position true word goes a found once uses rows far =
+    rw (found, once.several, once.single, and-false, rows, far) refl
+name_walks c done last position false word goes a found once uses rows far =
+    rw (goes.no_dashes, goes.no_long, goes.no_short, found, once.several, once.single, once.closed, and-false, rows, far) refl
+
+-- a name where no more is wanted
+
+pub stray_turn : (name : Text) (c : List Rule) (done : List Used) (last : Option Used) (position : ℕ) (trailing : Bool) (word : Text) → GoesToPositional trailing word
+    → arg_by_index c position ≡ None → is_empty (turn_fault (leaf name c) [] (at_rest done last position trailing) word) ≡ false
+stray_turn name c done last position true word goes none = rw none refl
+stray_turn name c done last position false word goes none = rw (goes.no_dashes, goes.no_long, goes.no_short, none) refl
+
+-- `--`
+
+pub dashes_turn : (name : Text) (c : List Rule) (done : List Used) (last : Option Used) (position : ℕ) (word : Text) → bytes_eq word (codes "--") ≡ true
+    → turn_fault (leaf name c) [] (at_rest done last position false) word ≡ []
+dashes_turn name c done last position word dashes = rw dashes refl
+
+pub dashes_walk : (c : List Rule) (done : List Used) (last : Option Used) (position : ℕ) (word : Text) → bytes_eq word (codes "--") ≡ true
+    → walked c [] (at_rest done last position false) word ≡ at_rest done last position true
+unfolding walked
+dashes_walk c done last position word dashes = rw dashes refl
+
+-- `--blocks` and an attached text
+
+abbrev pub limit_at : Rule
+limit_at = filled limit_rule
+
+pub attached_turn : (name : Text) (c : List Rule) (done : List Used) (last : Option Used) (position : ℕ) (word text : Text) → bytes_eq word (codes "--") ≡ false
+    → long_of word ≡ Some (codes "blocks", Some text) → arg_by_long c (codes "blocks") ≡ Some limit_at
+    → turn_fault (leaf name c) [] (at_rest done last position false) word
+    ≡ or_else (or_else (settle_fault c false (held_at done last)) (use_fault false limit_at (text ∷ []) (rows_at_rest c done last))) []
+attached_turn name c done last position word text no_dashes long found = rw (no_dashes, long, found) refl
+
+pub attached_walk : (c : List Rule) (done : List Used) (last : Option Used) (position : ℕ) (word text : Text) → bytes_eq word (codes "--") ≡ false
+    → long_of word ≡ Some (codes "blocks", Some text) → arg_by_long c (codes "blocks") ≡ Some limit_at
+    → (uses : List Used) → used limit_at (text ∷ []) (rows_at_rest c done last) ≡ map row_of_use uses
+    → walked c [] (at_rest done last position false) word ≡ at_rest uses None position false
+unfolding walked
+attached_walk c done last position word text no_dashes long found uses rows = rw (no_dashes, long, found, rows) refl
+
+-- `--blocks` alone, which waits for its text
+
+abbrev pub held_waiting : List Used → Held
+held_waiting uses = record { rows = map row_of_use uses; pending = Some (codes "blocks", []); skip = 0 }
+
+abbrev pub at_limit : List Used → ℕ → Walk
+at_limit uses position =
+    record { held = held_waiting uses; waiting = option (codes "blocks"); position = position; is_trailing = false; stopped = None }
+
+pub limit_turn : (name : Text) (c : List Rule) (done : List Used) (last : Option Used) (position : ℕ) (word : Text) → bytes_eq word (codes "--") ≡ false
+    → long_of word ≡ Some (codes "blocks", None) → arg_by_long c (codes "blocks") ≡ Some limit_at
+    → turn_fault (leaf name c) [] (at_rest done last position false) word ≡ or_else (settle_fault c false (held_at done last)) []
+limit_turn name c done last position word no_dashes long found = rw (no_dashes, long, found) refl
+
+pub limit_walk : (c : List Rule) (done : List Used) (last : Option Used) (position : ℕ) (word : Text) → bytes_eq word (codes "--") ≡ false
+    → long_of word ≡ Some (codes "blocks", None) → arg_by_long c (codes "blocks") ≡ Some limit_at
+    → (uses : List Used) → rows_at_rest c done last ≡ map row_of_use uses
+    → walked c [] (at_rest done last position false) word ≡ at_limit uses position
+unfolding walked
+limit_walk c done last position word no_dashes long found uses rows = rw (no_dashes, long, found, rows) refl
+
+pub text_turn : (name : Text) (c : List Rule) (uses : List Used) (position : ℕ) (word : Text) → IsNameWord word
+    → turn_fault (leaf name c) [] (at_limit uses position) word ≡ []
+text_turn name c uses position word goes = rw (goes.no_dashes, goes.no_long, goes.no_short) refl
+
+pub text_walk : (c : List Rule) (uses : List Used) (position : ℕ) (word : Text) → IsNameWord word
+    → arg_by_id c (codes "blocks") ≡ Some limit_at
+    → walked c [] (at_limit uses position) word ≡ at_rest uses (Some (codes "blocks", word)) position false
+unfolding walked
+text_walk c uses position word goes found = rw (goes.no_dashes, goes.no_long, goes.no_short, found) refl
+
+-- `--` where a text is waited for
+abbrev pub at_limit_trailing : List Used → ℕ → Walk
+at_limit_trailing uses position = record (at_limit uses position) { is_trailing = true }
+
+pub waiting_dashes_turn : (name : Text) (c : List Rule) (uses : List Used) (position : ℕ) (word : Text) → bytes_eq word (codes "--") ≡ true
+    → turn_fault (leaf name c) [] (at_limit uses position) word ≡ []
+waiting_dashes_turn name c uses position word dashes = rw dashes refl
+
+pub waiting_dashes_walk : (c : List Rule) (uses : List Used) (position : ℕ) (word : Text) → bytes_eq word (codes "--") ≡ true
+    → walked c [] (at_limit uses position) word ≡ at_limit_trailing uses position
+unfolding walked
+waiting_dashes_walk c uses position word dashes = rw dashes refl
+
+-- Any walk that goes on, and a word that is no name
+
+abbrev pub going : Held → Waiting → ℕ → Bool → Walk
+going held waiting position trailing = record { held = held; waiting = waiting; position = position; is_trailing = trailing; stopped = None }
+
+pub no_subcommand : (waiting : Waiting) (word : Text) → subcommand_met [] waiting word ≡ None
+no_subcommand idle word = refl
+no_subcommand (option id) word = refl
+no_subcommand positional word = refl
+
+flags_fail : (c : List Rule) (held : Held) (flags : Text) (first n k : ℕ) → slice_get (chars flags) 0 ≡ Some first → ((x : ℕ) → arg_by_short c x ≡ None) → k ≡ 0
+    → is_empty (flags_fault c false (suc n) flags k held) ≡ false
+unfolding flags_fault
+flags_fail c held flags first n zero char none e = rw (char, none first) refl
+flags_fail c held flags first n (suc k) char none e = absurd (omega arith)
+
+pub bundle_fails : (c : List Rule) (held : Held) (flags : Text) (first : ℕ) → slice_get (chars flags) 0 ≡ Some first → held.skip ≡ 0 → 0 < length flags
+    → ((x : ℕ) → arg_by_short c x ≡ None) → is_empty (bundle_fault c false flags held) ≡ false
+bundle_fails c held [] first char skip some none = absurd (omega arith)
+bundle_fails c held (flag ∷ flags) first char skip some none =
+    flags_fail c (record held { skip = 0 }) (flag ∷ flags) first (length flags) held.skip char none skip
+
+-- an option that the subcommand does not have
+pub unknown_turn : (name : Text) (c : List Rule) (held : Held) (waiting : Waiting) (position : ℕ) (word option_name : Text) (text : Option Text) → bytes_eq word (codes "--") ≡ false
+    → long_of word ≡ Some (option_name, text) → arg_by_long c option_name ≡ None
+    → is_empty (turn_fault (leaf name c) [] (going held waiting position false) word) ≡ false
+unknown_turn name c held idle position word option_name text no_dashes long found = rw (no_dashes, long, found) refl
+unknown_turn name c held (option id) position word option_name text no_dashes long found = rw (no_dashes, long, found) refl
+unknown_turn name c held positional position word option_name text no_dashes long found = rw (no_dashes, long, found) refl
+
+pub short_turn : (name : Text) (c : List Rule) (held : Held) (waiting : Waiting) (position : ℕ) (word flags : Text) (first : ℕ) → bytes_eq word (codes "--") ≡ false
+    → long_of word ≡ None → short_of word ≡ Some flags → slice_get (chars flags) 0 ≡ Some first → held.skip ≡ 0 → 0 < length flags
+    → ((x : ℕ) → arg_by_short c x ≡ None)
+    → is_empty (turn_fault (leaf name c) [] (going held waiting position false) word) ≡ false
+short_turn name c held waiting position word flags first no_dashes long short char skip some none =
+    first_some (word_fault (leaf name c) [] false waiting word held)
+    (step_fault (leaf name c) position (word_met c [] false waiting position word held).0 (word_met c [] false waiting position word held).1)
+    (rw (no_subcommand waiting word, no_dashes, long, short) (bundle_fails c held flags first char skip some none))
+
+pub dashes_going : (c : List Rule) (held : Held) (position : ℕ) (word : Text) → bytes_eq word (codes "--") ≡ true
+    → walked c [] (going held idle position false) word ≡ going held idle position true
+unfolding walked
+dashes_going c held position word dashes = rw dashes refl

@@ -1,0 +1,2 @@
+pub mod ClapReading
+pub mod Grammar

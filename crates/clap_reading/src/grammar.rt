@@ -1,0 +1,68 @@
+ghost use Rattle.std.specs.Prelude.{◌≡◌, IfOk, false};
+ghost use Rattle.clap.specs.Words.{rule_of};
+ghost use Rattle.clap_reading.specs.Grammar.{IsRead, app_of_row, bare_app, limit_rule, name_rule, program_app, with_names};
+ghost use Rattle.command_words.specs.Table.{row_seen};
+
+use clap::{Arg, Command};
+use command_words::{Row, rows};
+use std::alloc::{AllocError, Global};
+
+/// The program's command: a subcommand for each row is wanted, and neither help nor a version is offered.
+pub fn program<'a>(alloc: Global) -> Result<Command<'a>, AllocError>
+    ensures { IfOk result (IsRead program_app) }
+{
+    let mut program = bare(alloc);
+    let rows = rows();
+    for row in rows {
+        program = program.subcommand(subcommand(alloc, row)?)?;
+    }
+    Ok(program)
+}
+
+fn bare<'a>(alloc: Global) -> Command<'a>
+    ensures { IsRead bare_app result }
+{
+    Command::new(alloc, "twin_lathe")
+        .disable_help_flag(true)
+        .disable_help_subcommand(true)
+        .subcommand_required(true)
+}
+
+/// The subcommand of a row.
+fn subcommand<'a>(alloc: Global, row: &Row) -> Result<Command<'a>, AllocError>
+    ensures { IfOk result (IsRead (app_of_row (row_seen row.now))) }
+{
+    let named = named(alloc, row)?;
+    if row.takes_blocks {
+        named.arg(limit(alloc))
+    } else {
+        Ok(named)
+    }
+}
+
+/// A command that wants the words of a row.
+fn named<'a>(alloc: Global, row: &Row) -> Result<Command<'a>, AllocError>
+    ensures { IfOk result (IsRead (with_names (row_seen row.now))) }
+{
+    let mut command = Command::new(alloc, row.name);
+    for id in row.words {
+        command = command.arg(wanted(alloc, id))?;
+    }
+    Ok(command)
+}
+
+/// A word that must be there.
+fn wanted<'a>(alloc: Global, id: &'a str) -> Arg<'a>
+    ensures rule { rule_of result ≡ name_rule id.entry.now }
+    ensures local { result.global ≡ false }
+{
+    Arg::new(alloc, id).required(true)
+}
+
+/// The option `--blocks`.
+fn limit<'a>(alloc: Global) -> Arg<'a>
+    ensures rule { rule_of result ≡ limit_rule }
+    ensures local { result.global ≡ false }
+{
+    Arg::new(alloc, "blocks").long("blocks")
+}

@@ -1,0 +1,7 @@
+use Rattle.std.proofs.Common.{refl}
+use Rattle.command_words.specs.Table.{listings}
+use Rattle.command_words.proofs.table.rows.Goals as goal
+
+pub returns : goal.returns
+unfolding listings
+returns c = refl
