@@ -77,7 +77,7 @@ end_text : text_of end_lines ≡ codes "M30\n%\n"
 unfolding end_lines text_of
 end_text = refl
 
-made_tape_is : (path : Path) (number : ℕ)
+pub made_tape_is : (path : Path) (number : ℕ)
     → made_tape path number ≡ text_of (head_lines ++ flat_map (round_lines path number) rounds ++ end_lines)
 unfolding made_tape made_lines
 made_tape_is path number = refl

@@ -1,8 +1,11 @@
 //! Laws of the made pairs, each the contract of a function that does nothing.
-ghost use Rattle.std.specs.Prelude.{◌≡◌, ◌≢◌, ℕ, ◌+◌, ◌≤◌, [], ◌∷◌, ◌++◌, codes, filter, length, map};
+ghost use Rattle.std.specs.Prelude.{◌≡◌, ◌≢◌, ℕ, ◌+◌, ◌<◌, ◌≤◌, ◌^◌, [], ◌∷◌, ◌++◌, codes, filter, length, map};
 ghost use Rattle.std.specs.Str.Lines.{lines};
 ghost use Rattle.tape_maker.specs.declared.path.Path.{Path};
+ghost use Rattle.tape_maker.specs.declared.path.Path.TheVariants.{One, Two};
 ghost use Rattle.tape_maker.specs.MadeTape.{begins_with_m, cut_depth, cut_diameter, made_lines, made_tape, rounds, wait_code, wait_line};
+
+use crate::tape::LONGEST_TAPE;
 
 /// A made tape reads as the lines of its definition, and these are 5,006: four at the head, a hundred
 /// for each of the fifty rounds, two at the end. All but the two `%` and the program's number are
@@ -21,6 +24,13 @@ pub fn law_of_waits()
     ensures lowest { (number round : ℕ) → 100 ≤ wait_code number round }
     ensures highest { (number round : ℕ) → wait_code number round ≤ 197 }
     ensures turns { (number round : ℕ) → wait_code number (round + 1) ≢ wait_code number round }
+{}
+
+/// A made tape has at most 74,389 bytes. So both tapes of a pair, with empty settings, fit a run's header, whose eighteen
+/// bytes and three texts are fewer than 2^32 together.
+pub fn law_of_sizes()
+    ensures longest { (path : Path) (number : ℕ) → length (made_tape path number) ≤ LONGEST_TAPE }
+    ensures header { (number : ℕ) → 18 + (length (made_tape One number) + length (made_tape Two number)) < 2 ^ 32 }
 {}
 
 /// Cuts stay between diameters of 10 mm and 99 mm, and within 79 mm before the zero of Z.

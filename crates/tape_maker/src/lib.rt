@@ -10,6 +10,6 @@ mod laws;
 mod path;
 mod tape;
 
-pub use laws::{law_of_cuts, law_of_lines, law_of_waits};
+pub use laws::{law_of_cuts, law_of_lines, law_of_sizes, law_of_waits};
 pub use path::Path;
-pub use tape::{NoMemory, make_tapes};
+pub use tape::{LONGEST_TAPE, NoMemory, make_tapes};

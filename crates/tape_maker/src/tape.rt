@@ -1,4 +1,4 @@
-ghost use Rattle.std.specs.Prelude.{◌≡◌, ◌++◌, IfOk, OnOk};
+ghost use Rattle.std.specs.Prelude.{◌≡◌, ◌≤◌, ◌++◌, IfOk, OnOk, length};
 ghost use Rattle.std.specs.Fmt.{decimal};
 ghost use Rattle.tape_maker.specs.MadeTape.{cut_depth, cut_diameter, cut_line, ended, made_tape, round_lines, text_of, variable_line, wait_line};
 
@@ -23,15 +23,21 @@ const ROUNDS: u32 = 50;
 
 const CUTS: u32 = 98;
 
+/// No made tape has more bytes.
+pub const LONGEST_TAPE: usize = 74_389;
+
 /// The tapes of path 1 and path 2 that the number stands for.
 ///
 /// Every number has its pair; the number turns the places of the cuts and the codes of the waits.
 /// Lengths are in whole millimetres, diameters from 10 to 99 and depths from 0 to 79. The waits are
 /// of M100 to M197, which are waiting codes of a control with the usual settings, and `M30` ends the
 /// program. The one error is want of memory.
+#[tactic(auto, using(crate::proofs::Sizes::made_length))]
 pub fn make_tapes(alloc: Global, number: u32) -> Result<(Vec<u8>, Vec<u8>), NoMemory>
     ensures first { IfOk result (λ tapes. tapes.0.items ≡ made_tape Path.One number) }
     ensures second { IfOk result (λ tapes. tapes.1.items ≡ made_tape Path.Two number) }
+    ensures short { IfOk result (λ tapes. (length tapes.0.items ≤ LONGEST_TAPE)
+        × (length tapes.1.items ≤ LONGEST_TAPE)) }
 {
     let first = tape(alloc, Path::One, number)?;
     let second = tape(alloc, Path::Two, number)?;

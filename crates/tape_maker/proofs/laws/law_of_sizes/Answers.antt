@@ -1,0 +1,10 @@
+use Rattle.std.proofs.Common.{arith}
+use Rattle.tape_maker.specs.declared.path.Path.TheVariants.{One, Two}
+use Rattle.tape_maker.proofs.Sizes.{made_length}
+use Rattle.tape_maker.proofs.laws.law_of_sizes.Goals as goal
+
+pub returns-clause-longest : goal.returns-clause-longest
+returns-clause-longest c = made_length
+
+pub returns-clause-header : goal.returns-clause-header
+returns-clause-header c number = omega (arith, made_length One number, made_length Two number)
