@@ -2,15 +2,16 @@
 use Rattle.std.proofs.Common.{◌≡◌, ℕ, ◌≤◌, ◌<◌, ◌⊎◌, inl, inr, Option, Some, None, Ok, List, [], ◌∷◌, length, refl, sym, subst, ap, ◌∙◌, slice_get, zero, suc, IsSomeAnd, arith}
 use Rattle.nc_number.specs.declared.path.Path.TheVariants.{One, Two}
 use Rattle.nc_outside.specs.Faults.{Rose}
-use Rattle.nc_outside.specs.Files.{Files, file_named}
-use Rattle.nc_text.specs.declared.straight_tape.StraightBlock.{StraightBlock}
-use Rattle.nc_text.specs.StraightTape.{straight}
+use Rattle.nc_outside.specs.Files.{Files, ShelfState, file_named}
+use Rattle.nc_outside.specs.Written.{SinkState}
+use Rattle.straight_tape.specs.declared.tape.StraightBlock.{StraightBlock}
+use Rattle.straight_tape.specs.Tape.{straight}
 use Rattle.lathe_top.specs.declared.refusal.Refusal.{Refusal}
 use Rattle.lathe_top.specs.declared.refusal.Refusal.TheVariants.{Usage, ShelfFault, NoFile, TooLong, NotBuilt, WaitMismatch, NoMemory}
 use Rattle.lathe_top.specs.declared.labels.Difference.{Difference}
 use Rattle.lathe_top.specs.declared.labels.Labelled.{Labelled}
 use Rattle.lathe_top.specs.Tape.{AgreeOnLabels, AreApart, IsFirstDifference, labels_of, bare}
-use Rattle.lathe_top.specs.Answer.{TapeNames, IsTape, IsDue, reports, refuses, Writes, whole, cut, out_of_memory, IsAnswered, HasCause, NamesCause, TextsCause, IsReportOf, WithBoth, command_of, status_of, longest_tape}
+use Rattle.lathe_top.specs.Answer.{TapeNames, IsTape, TopState, IsDue, reports, refuses, WritingEnds, whole, cut, out_of_memory, IsAnswered, CommandCause, HasCause, NamesCause, TextsCause, IsReportOf, WithBoth, command_of, status_of, longest_tape}
 use Rattle.lathe_top.specs.Causes.{IsNoTape, IsUnbuilt, IsStatus, done, refused, usage, shelf_fault, sink_fault, no_memory, no_tape, not_built}
 
 refusal_status : (refusal : Refusal) → IsStatus (status_of refusal)
@@ -22,29 +23,28 @@ refusal_status (NotBuilt path line) = not_built
 refusal_status (WaitMismatch difference) = refused
 refusal_status NoMemory = no_memory
 
-due_status : {words : List (List ℕ)} {told : Option Files} {before now : ℕ} (status : ℕ) (text : List ℕ) → IsDue words told before now status text → IsStatus status
+due_status : {words : List (List ℕ)} {old new : ShelfState} (status : ℕ) (text : List ℕ) → IsDue words old new status text → IsStatus status
 due_status status text (reports r) = done
 due_status status text (refuses refusal h) = refusal_status refusal
 
-written_status : {before now : ℕ} {old new : Option (List ℕ)} {text : List ℕ} {status : ℕ} (result : ℕ) → IsStatus status → Writes before now old new text status result → IsStatus result
+written_status : {old new : SinkState} {text : List ℕ} {status : ℕ} (result : ℕ) → IsStatus status → WritingEnds old new text status result → IsStatus result
 written_status result is (whole a) = is
 written_status result is (cut rose n a) = sink_fault
 written_status result is out_of_memory = no_memory
 
 -- no other status comes
-pub every_status : {words : List (List ℕ)} {told : Option Files} {shelf_before shelf_now sink_before sink_now : ℕ} {old new : Option (List ℕ)} (result : ℕ)
-    → IsAnswered words told shelf_before shelf_now sink_before sink_now old new result → IsStatus result
+pub every_status : {words : List (List ℕ)} {before after : TopState} (result : ℕ) → IsAnswered words before after result → IsStatus result
 every_status result a = written_status result (due_status a.status a.text a.due) a.written
 
 -- a refusal of a command, at the names that it has
-pub at_names : (words : List (List ℕ)) (told : Option Files) (before now : ℕ) (names : TapeNames) (r : Refusal) → command_of words ≡ Some names
-    → HasCause words told before now r → NamesCause told before now names r
-at_names words told before now names r e h = by_refusal r h
+pub at_names : (words : List (List ℕ)) (old new : ShelfState) (names : TapeNames) (r : Refusal) → command_of words ≡ Some names
+    → HasCause words old new r → NamesCause old new names r
+at_names words old new names r e h = by_refusal r h
   where
-    moved : (q : Refusal) → (other : TapeNames) → command_of words ≡ Some other → NamesCause told before now other q → NamesCause told before now names q
-    moved q other f k = let same : other ≡ names = cc in let P : TapeNames → Type 0 = λ v. NamesCause told before now v q in subst P same k
+    moved : (q : Refusal) → (other : TapeNames) → command_of words ≡ Some other → NamesCause old new other q → NamesCause old new names q
+    moved q other f k = let same : other ≡ names = cc in let P : TapeNames → Type 0 = λ v. NamesCause old new v q in subst P same k
 
-    by_refusal : (q : Refusal) → HasCause words told before now q → NamesCause told before now names q
+    by_refusal : (q : Refusal) → HasCause words old new q → NamesCause old new names q
     by_refusal Usage k = cc
     by_refusal ShelfFault k = moved ShelfFault k.0 k.1.0 k.1.1
     by_refusal (NoFile path) k = moved (NoFile path) k.0 k.1.0 k.1.1
@@ -80,21 +80,25 @@ with_both_at files names left right P l r k =
     let R : List ℕ → Type 0 = λ v. P left v in
     subst R two (subst Q one k.2.1.1)
 
+-- a shelf that tells these files
+abbrev pub holding : Files → ShelfState → ShelfState
+holding files shelf = record { files = Some files; faults = shelf.faults }
+
 -- a cause over two files that are there, where the shelf did not fail
-pub texts_cause_at : (files : Files) (before now : ℕ) (names : TapeNames) (left right : List ℕ) (r : Refusal) → (Rose before now → ⊥)
+pub texts_cause_at : (files : Files) (old new : ShelfState) (names : TapeNames) (left right : List ℕ) (r : Refusal) → (Rose old.faults new.faults → ⊥)
     → IsTape (Some files) names.left left → IsTape (Some files) names.right right
-    → NamesCause (Some files) before now names r → TextsCause left right r
-texts_cause_at files before now names left right Usage calm l r k = absurd k
-texts_cause_at files before now names left right ShelfFault calm l r k = absurd (calm k)
-texts_cause_at files before now names left right (NoFile One) calm l r k = absurd (no_tape_held files names.left left l (inl k))
-texts_cause_at files before now names left right (NoFile Two) calm l r k = absurd (no_tape_held files names.right right r (inl k.1.1))
-texts_cause_at files before now names left right (TooLong One) calm l r k = absurd (no_tape_held files names.left left l (inr k))
-texts_cause_at files before now names left right (TooLong Two) calm l r k = absurd (no_tape_held files names.right right r (inr k.1.1))
-texts_cause_at files before now names left right (NotBuilt path line) calm l r k =
+    → NamesCause (holding files old) new names r → TextsCause left right r
+texts_cause_at files old new names left right Usage calm l r k = absurd k
+texts_cause_at files old new names left right ShelfFault calm l r k = absurd (calm k)
+texts_cause_at files old new names left right (NoFile One) calm l r k = absurd (no_tape_held files names.left left l (inl k))
+texts_cause_at files old new names left right (NoFile Two) calm l r k = absurd (no_tape_held files names.right right r (inl k.1.1))
+texts_cause_at files old new names left right (TooLong One) calm l r k = absurd (no_tape_held files names.left left l (inr k))
+texts_cause_at files old new names left right (TooLong Two) calm l r k = absurd (no_tape_held files names.right right r (inr k.1.1))
+texts_cause_at files old new names left right (NotBuilt path line) calm l r k =
     with_both_at files names left right (λ a b. TextsCause a b (NotBuilt path line)) l r k
-texts_cause_at files before now names left right (WaitMismatch d) calm l r k =
+texts_cause_at files old new names left right (WaitMismatch d) calm l r k =
     with_both_at files names left right (λ a b. TextsCause a b (WaitMismatch d)) l r k
-texts_cause_at files before now names left right NoMemory calm l r k = tt
+texts_cause_at files old new names left right NoMemory calm l r k = tt
 
 -- what is wrong with two straight tapes is their labels
 pub labels_cause_at : (left right : List ℕ) (one two : List StraightBlock) (r : Refusal) → straight left ≡ Ok one → straight right ≡ Ok two

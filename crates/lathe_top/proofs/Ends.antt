@@ -3,10 +3,10 @@ use Rattle.std.proofs.Common.{◌≡◌, ℕ, ◌≤◌, min, List, [], ◌∷�
 use Rattle.lathe_top.specs.declared.labels.Label.{Label}
 use Rattle.lathe_top.specs.declared.labels.Label.TheVariants.{Wait, End}
 use Rattle.lathe_top.specs.declared.labels.Labelled.{Labelled}
-use Rattle.nc_text.specs.declared.straight_tape.StraightBlock.{StraightBlock}
-use Rattle.nc_text.specs.declared.straight_tape.StraightBody.{StraightBody}
-use Rattle.nc_text.specs.declared.straight_tape.StraightBody.TheVariants.{Motion, Wait as WaitBody, Last}
-use Rattle.nc_text.specs.StraightShape.{EndsInLast}
+use Rattle.straight_tape.specs.declared.tape.StraightBlock.{StraightBlock}
+use Rattle.straight_tape.specs.declared.tape.StraightBody.{StraightBody}
+use Rattle.straight_tape.specs.declared.tape.StraightBody.TheVariants.{Motion, Wait as WaitBody, Last}
+use Rattle.straight_tape.specs.Shape.{EndsInLast}
 use Rattle.lathe_top.specs.Tape.{IsEnded, ended_by, bare, label_of, labelled_by, labels_of}
 use Rattle.lathe_top.proofs.Going.{IsClosed, ends_by, closed_from_last}
 

@@ -1,12 +1,12 @@
 -- Two closed tapes with the same labels: what their turns keep, and why one of the paths can go on.
 use Rattle.std.proofs.Common.{◌≡◌, ◌≢◌, ℕ, ◌⊎◌, inl, inr, Bool, Option, List, [], ◌∷◌, drop, refl, sym, subst, ℤ}
-use Rattle.nc_text.specs.declared.straight_tape.StraightBlock.{StraightBlock}
-use Rattle.nc_text.specs.declared.straight_tape.StraightBody.{StraightBody}
-use Rattle.nc_text.specs.declared.straight_tape.StraightBody.TheVariants.{Motion, Wait, Last}
+use Rattle.straight_tape.specs.declared.tape.StraightBlock.{StraightBlock}
+use Rattle.straight_tape.specs.declared.tape.StraightBody.{StraightBody}
+use Rattle.straight_tape.specs.declared.tape.StraightBody.TheVariants.{Motion, Wait, Last}
 use Rattle.lathe_top.specs.declared.machine.Standing.{Standing}
 use Rattle.lathe_top.specs.declared.machine.Standing.TheVariants.{Going, AtWait, AtEnd}
 use Rattle.lathe_top.specs.declared.machine.PathState.{PathState}
-use Rattle.nc_text.specs.StraightShape.{EndsInLast}
+use Rattle.straight_tape.specs.Shape.{EndsInLast}
 use Rattle.lathe_top.specs.Tape.{labels_of, bare, AgreeOnLabels}
 
 abbrev pub ends_by : StraightBody → List StraightBlock → Type 0 → Type 0

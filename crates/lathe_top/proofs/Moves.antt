@@ -3,7 +3,7 @@ use Rattle.std.proofs.Common.{◌≡◌, ℕ, ◌+◌, ◌<◌, ◌≤◌, List,
 use Rattle.std.proofs.lemmas.List.{at_drop_more, at_drop_all}
 use Rattle.std.specs.Option.{option_to_list}
 use Rattle.nc_number.specs.declared.path.Path.{Path}
-use Rattle.nc_text.specs.declared.straight_tape.StraightBlock.{StraightBlock}
+use Rattle.straight_tape.specs.declared.tape.StraightBlock.{StraightBlock}
 use Rattle.lathe_top.specs.declared.machine.Machine.{Machine}
 use Rattle.lathe_top.specs.declared.history.Record.{Record}
 use Rattle.lathe_top.specs.declared.reporting.LinedMove.{LinedMove}

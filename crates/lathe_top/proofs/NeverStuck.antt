@@ -2,8 +2,8 @@
 use Rattle.std.proofs.Common.{◌≡◌, inl, inr, None, List, [], ◌∷◌, refl, subst, slice_get}
 use Rattle.nc_number.specs.declared.path.Path.{Path}
 use Rattle.nc_number.specs.declared.path.Path.TheVariants.{One, Two}
-use Rattle.nc_text.specs.declared.straight_tape.StraightBlock.{StraightBlock}
-use Rattle.nc_text.specs.StraightShape.{EndsInLast}
+use Rattle.straight_tape.specs.declared.tape.StraightBlock.{StraightBlock}
+use Rattle.straight_tape.specs.Shape.{EndsInLast}
 use Rattle.lathe_top.specs.declared.machine.Standing.{Standing}
 use Rattle.lathe_top.specs.declared.machine.Standing.TheVariants.{Going}
 use Rattle.lathe_top.specs.declared.machine.PathState.{PathState}

@@ -3,9 +3,9 @@ use Rattle.std.proofs.Common.{◌≡◌, ℕ, Bool, true, false, cond, eqb, Opti
 use Rattle.std.specs.Option.{option_to_list}
 use Rattle.nc_number.specs.declared.path.Path.{Path}
 use Rattle.nc_number.specs.declared.path.Path.TheVariants.{One, Two}
-use Rattle.nc_text.specs.declared.straight_tape.StraightBlock.{StraightBlock}
-use Rattle.nc_text.specs.declared.straight_tape.StraightBody.{StraightBody}
-use Rattle.nc_text.specs.declared.straight_tape.StraightBody.TheVariants.{Motion, Wait, Last}
+use Rattle.straight_tape.specs.declared.tape.StraightBlock.{StraightBlock}
+use Rattle.straight_tape.specs.declared.tape.StraightBody.{StraightBody}
+use Rattle.straight_tape.specs.declared.tape.StraightBody.TheVariants.{Motion, Wait, Last}
 use Rattle.nc_outside.specs.declared.halt.Alarm.{Alarm}
 use Rattle.lathe_top.specs.declared.machine.Standing.{Standing}
 use Rattle.lathe_top.specs.declared.machine.Standing.TheVariants.{Going, AtWait, AtEnd}

@@ -2,13 +2,13 @@
 use Rattle.std.proofs.Common.{◌≡◌, ℕ, ◌<◌, ◌≤◌, ◌⊎◌, inl, inr, None, List, [], ◌∷◌, length, drop, refl, sym, subst, zero, suc, arith}
 use Rattle.nc_number.specs.declared.path.Path.{Path}
 use Rattle.nc_number.specs.declared.path.Path.TheVariants.{One, Two}
-use Rattle.nc_text.specs.declared.straight_tape.StraightBlock.{StraightBlock}
+use Rattle.straight_tape.specs.declared.tape.StraightBlock.{StraightBlock}
 use Rattle.lathe_top.specs.declared.machine.Standing.{Standing}
 use Rattle.lathe_top.specs.declared.machine.Standing.TheVariants.{Going, AtWait, AtEnd}
 use Rattle.lathe_top.specs.declared.machine.PathState.{PathState}
 use Rattle.lathe_top.specs.declared.machine.Machine.{Machine}
 use Rattle.lathe_top.specs.Machine.{IsFinished, opening, turn_of, path_turn_of}
-use Rattle.nc_text.specs.StraightShape.{EndsInLast}
+use Rattle.straight_tape.specs.Shape.{EndsInLast}
 use Rattle.lathe_top.specs.Tape.{AgreeOnLabels}
 use Rattle.lathe_top.proofs.Going.{IsClosed, closed_from_last, Keeps, keeps-swap, one_goes}
 use Rattle.lathe_top.proofs.Turns.{turn_goes, turn_stays, work_of}

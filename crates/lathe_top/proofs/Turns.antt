@@ -3,9 +3,9 @@ use Rattle.std.proofs.Common.{◌≡◌, ℕ, ◌+◌, ◌*◌, ◌<◌, ◌≤�
 use Rattle.std.proofs.lemmas.Bool.{eq-eqb}
 use Rattle.nc_number.specs.declared.path.Path.{Path}
 use Rattle.nc_number.specs.declared.point.Point.{Point}
-use Rattle.nc_text.specs.declared.straight_tape.StraightBlock.{StraightBlock}
-use Rattle.nc_text.specs.declared.straight_tape.StraightBody.{StraightBody}
-use Rattle.nc_text.specs.declared.straight_tape.StraightBody.TheVariants.{Motion, Wait, Last}
+use Rattle.straight_tape.specs.declared.tape.StraightBlock.{StraightBlock}
+use Rattle.straight_tape.specs.declared.tape.StraightBody.{StraightBody}
+use Rattle.straight_tape.specs.declared.tape.StraightBody.TheVariants.{Motion, Wait, Last}
 use Rattle.lathe_top.specs.declared.machine.Standing.{Standing}
 use Rattle.lathe_top.specs.declared.machine.Standing.TheVariants.{Going, AtWait, AtEnd}
 use Rattle.lathe_top.specs.declared.machine.PathState.{PathState}

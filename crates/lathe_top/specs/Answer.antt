@@ -1,14 +1,17 @@
 -- What the program answers to its words, over the files of a shelf.
 use Rattle.std.specs.Prelude.{◌≡◌, ℕ, ◌≤◌, Option, Some, None, Ok, Err, List, [], ◌∷◌, ◌++◌, length, take, codes, decimal, unwrap_or, slice_get, if◌then◌else◌}
 use Rattle.std.specs.Str.{bytes_eq}
-use Rattle.std.specs.Io.KnownBytes.{Appends}
+use Rattle.nc_number.specs.Causes.{cause_name, cause_number}
+use Rattle.nc_number.specs.declared.cause.Cause.{Cause}
+use Rattle.nc_number.specs.declared.cause.Cause.TheVariants as Cause
 use Rattle.nc_number.specs.declared.path.Path.{Path}
 use Rattle.nc_number.specs.declared.path.Path.TheVariants.{One, Two}
 use Rattle.nc_number.specs.Path.{number_of}
 use Rattle.nc_outside.specs.Faults.{Rose}
-use Rattle.nc_outside.specs.Files.{Files, Holds, HoldsMore, Lacks}
-use Rattle.nc_text.specs.declared.straight_tape.StraightBlock.{StraightBlock}
-use Rattle.nc_text.specs.StraightTape.{straight}
+use Rattle.nc_outside.specs.Files.{Files, ShelfState, Holds, HoldsMore, Lacks}
+use Rattle.nc_outside.specs.Written.{SinkState, Writes}
+use Rattle.straight_tape.specs.declared.tape.StraightBlock.{StraightBlock}
+use Rattle.straight_tape.specs.Tape.{straight}
 use Rattle.lathe_top.specs.declared.history.Record.{Record}
 use Rattle.lathe_top.specs.declared.labels.Difference.{Difference}
 use Rattle.lathe_top.specs.declared.refusal.Refusal.{Refusal}
@@ -64,27 +67,35 @@ WithBoth told names P = (left : List ℕ) × (right : List ℕ) × (IsTape told 
 abbrev pub WithFirst : Option Files → TapeNames → Type 0 → Type 0
 WithFirst told names P = (left : List ℕ) × (IsTape told names.left left × P)
 
--- why two names give no report: path 1's file is looked for first, then path 2's, then the texts are read
-abbrev pub NamesCause : Option Files → ℕ → ℕ → TapeNames → Refusal → Type 0
-NamesCause told before now names ShelfFault = Rose before now
-NamesCause told before now names (NoFile One) = Lacks told names.left
-NamesCause told before now names (NoFile Two) = WithFirst told names (Lacks told names.right)
-NamesCause told before now names (TooLong One) = HoldsMore told names.left longest_tape
-NamesCause told before now names (TooLong Two) = WithFirst told names (HoldsMore told names.right longest_tape)
-NamesCause told before now names (NotBuilt path line) = WithBoth told names (λ left right. TextsCause left right (NotBuilt path line))
-NamesCause told before now names (WaitMismatch difference) = WithBoth told names (λ left right. TextsCause left right (WaitMismatch difference))
-NamesCause told before now names NoMemory = Unit {0}
-NamesCause told before now names Usage = ⊥
+-- why two names give no report, over the shelf before and after: path 1's file is looked for first, then path 2's,
+-- then the texts are read
+abbrev pub NamesCause : ShelfState → ShelfState → TapeNames → Refusal → Type 0
+NamesCause old new names ShelfFault = Rose old.faults new.faults
+NamesCause old new names (NoFile One) = Lacks old.files names.left
+NamesCause old new names (NoFile Two) = WithFirst old.files names (Lacks old.files names.right)
+NamesCause old new names (TooLong One) = HoldsMore old.files names.left longest_tape
+NamesCause old new names (TooLong Two) = WithFirst old.files names (HoldsMore old.files names.right longest_tape)
+NamesCause old new names (NotBuilt path line) =
+    WithBoth old.files names (λ left right. TextsCause left right (NotBuilt path line))
+NamesCause old new names (WaitMismatch difference) =
+    WithBoth old.files names (λ left right. TextsCause left right (WaitMismatch difference))
+NamesCause old new names NoMemory = Unit {0}
+NamesCause old new names Usage = ⊥
 
--- why there is no report; `before` and `now` are the shelf's counts of faults
-abbrev pub HasCause : List (List ℕ) → Option Files → ℕ → ℕ → Refusal → Type 0
-HasCause words told before now Usage = command_of words ≡ None
-HasCause words told before now ShelfFault = (names : TapeNames) × ((command_of words ≡ Some names) × NamesCause told before now names ShelfFault)
-HasCause words told before now (NoFile path) = (names : TapeNames) × ((command_of words ≡ Some names) × NamesCause told before now names (NoFile path))
-HasCause words told before now (TooLong path) = (names : TapeNames) × ((command_of words ≡ Some names) × NamesCause told before now names (TooLong path))
-HasCause words told before now (NotBuilt path line) = (names : TapeNames) × ((command_of words ≡ Some names) × NamesCause told before now names (NotBuilt path line))
-HasCause words told before now (WaitMismatch difference) = (names : TapeNames) × ((command_of words ≡ Some names) × NamesCause told before now names (WaitMismatch difference))
-HasCause words told before now NoMemory = Unit {0}
+-- the words are a command over names that give no report
+abbrev pub CommandCause : List (List ℕ) → ShelfState → ShelfState → Refusal → Type 0
+CommandCause words old new refusal =
+    (names : TapeNames) × ((command_of words ≡ Some names) × NamesCause old new names refusal)
+
+-- why there is no report, over the shelf before and after
+abbrev pub HasCause : List (List ℕ) → ShelfState → ShelfState → Refusal → Type 0
+HasCause words old new Usage = command_of words ≡ None
+HasCause words old new ShelfFault = CommandCause words old new ShelfFault
+HasCause words old new (NoFile path) = CommandCause words old new (NoFile path)
+HasCause words old new (TooLong path) = CommandCause words old new (TooLong path)
+HasCause words old new (NotBuilt path line) = CommandCause words old new (NotBuilt path line)
+HasCause words old new (WaitMismatch difference) = CommandCause words old new (WaitMismatch difference)
+HasCause words old new NoMemory = Unit {0}
 
 -- the words name two files of the shelf, and the text is a report of them
 abbrev pub IsReport : List (List ℕ) → Option Files → List ℕ → Type 0
@@ -113,10 +124,14 @@ place_text path line = codes " path " ++ decimal (number_of path) ++ codes " lin
 unfoldable pub not_built_text : Path → ℕ → List ℕ
 not_built_text path line = codes "not built" ++ place_text path line ++ codes "\n"
 
+-- a cause as it is printed: its number and its name
+unfoldable pub cause_text : Cause → List ℕ
+cause_text cause = decimal (cause_number cause) ++ codes " " ++ cause_name cause
+
 -- where the labels of both tapes differ first
 unfoldable pub mismatch_text : Difference → List ℕ
 mismatch_text difference =
-    codes "refused 72 WaitMismatch" ++ place_text One difference.line ++ place_text Two difference.other ++ codes " after " ++ decimal difference.after ++ codes "\n"
+    codes "refused " ++ cause_text Cause.WaitMismatch ++ place_text One difference.line ++ place_text Two difference.other ++ codes " after " ++ decimal difference.after ++ codes "\n"
 
 -- what is written: one line
 unfoldable pub refusal_text : List (List ℕ) → Refusal → List ℕ
@@ -128,20 +143,28 @@ refusal_text words (NotBuilt path line) = not_built_text path line
 refusal_text words (WaitMismatch difference) = mismatch_text difference
 refusal_text words NoMemory = []
 
--- the status and the text that are due: a report, or a refusal for its cause
-pub data IsDue (words : List (List ℕ)) (told : Option Files) (before now : ℕ) : ℕ → List ℕ → Type 0 where
-  reports : {text : List ℕ} → IsReport words told text → IsDue words told before now 0 text
-  refuses : (refusal : Refusal) → HasCause words told before now refusal → IsDue words told before now (status_of refusal) (refusal_text words refusal)
+-- the status and the text that are due, over the shelf before and after: a report, or a refusal for its cause
+pub data IsDue (words : List (List ℕ)) (old new : ShelfState) : ℕ → List ℕ → Type 0 where
+  reports : {text : List ℕ} → IsReport words old.files text → IsDue words old new 0 text
+  refuses : (refusal : Refusal) → HasCause words old new refusal
+      → IsDue words old new (status_of refusal) (refusal_text words refusal)
 
--- what became of a text that was to be written: it stands whole behind what was there; or the sink failed behind a part of it; or memory ran out
-pub data Writes (before now : ℕ) (old new : Option (List ℕ)) (text : List ℕ) (status : ℕ) : ℕ → Type 0 where
-  whole : Appends old new text → Writes before now old new text status status
-  cut : Rose before now → (n : ℕ) → Appends old new (take n text) → Writes before now old new text status 5
-  out_of_memory : Writes before now old new text status 12
+-- how the writing of a text ends: it stands whole behind what was there; or the sink failed behind a part of it; or
+-- memory ran out
+pub data WritingEnds (old new : SinkState) (text : List ℕ) (status : ℕ) : ℕ → Type 0 where
+  whole : Writes old new text → WritingEnds old new text status status
+  cut : Rose old.faults new.faults → (n : ℕ) → Writes old new (take n text) → WritingEnds old new text status 5
+  out_of_memory : WritingEnds old new text status 12
 
--- the program's answer: the text that is due was written, and the status is the one that goes with it, or that of the sink's fault or of want of memory
-pub record IsAnswered (words : List (List ℕ)) (told : Option Files) (shelf_before shelf_now sink_before sink_now : ℕ) (old new : Option (List ℕ)) (result : ℕ) : Type 0 where
+-- What the program works on, at one moment: the shelf of the tapes and the sink of the answer.
+pub record TopState : Type 0 where
+  pub shelf : ShelfState
+  pub sink : SinkState
+
+-- The program's answer: the text that is due was written, and the status is the one that goes with it, or that of the
+-- sink's fault or of want of memory.
+pub record IsAnswered (words : List (List ℕ)) (before after : TopState) (result : ℕ) : Type 0 where
   pub status : ℕ
   pub text : List ℕ
-  pub due : IsDue words told shelf_before shelf_now status text
-  pub written : Writes sink_before sink_now old new text status result
+  pub due : IsDue words before.shelf after.shelf status text
+  pub written : WritingEnds before.sink after.sink text status result

@@ -1,6 +1,6 @@
 use Rattle.std.specs.Prelude.{◌≡◌, Option, Some, None, List, [], ◌∷◌}
 use Rattle.nc_number.specs.declared.path.Path.{Path}
-use Rattle.nc_text.specs.declared.straight_tape.StraightBlock.{StraightBlock}
+use Rattle.straight_tape.specs.declared.tape.StraightBlock.{StraightBlock}
 use Rattle.lathe_top.specs.declared.machine.Machine.{Machine}
 use Rattle.lathe_top.specs.declared.machine.Turn.{Turn}
 use Rattle.lathe_top.specs.declared.machine.Turn.TheVariants.{Did, Arrived, Met, Ended, Waiting, Finished, Alarmed, Halted}

@@ -1,14 +1,16 @@
 use Rattle.std.specs.Prelude.{◌≡◌, ℕ, ◌+◌, ◌-◌, ◌==◌, ℤ, pos, Bool, true, if◌then◌else◌, Option, Some, None, List, length, slice_get, unwrap_or}
+use Rattle.nc_number.specs.Causes.{cause_number}
+use Rattle.nc_number.specs.declared.cause.Cause.{Cause}
+use Rattle.nc_number.specs.declared.cause.Cause.TheVariants as Cause
 use Rattle.nc_number.specs.declared.path.Path.{Path}
 use Rattle.nc_number.specs.declared.path.Path.TheVariants.{One, Two}
 use Rattle.nc_number.specs.declared.point.Point.{Point}
 use Rattle.nc_outside.specs.declared.motion.Move.{Move}
 use Rattle.nc_outside.specs.declared.motion.Move.TheVariants.{Rapid, Feed}
 use Rattle.nc_outside.specs.declared.halt.Alarm.{Alarm}
-use Rattle.nc_text.specs.declared.straight_tape.StraightBlock.{StraightBlock}
-use Rattle.nc_text.specs.declared.straight_tape.StraightBody.{StraightBody}
-use Rattle.nc_text.specs.declared.straight_tape.StraightBody.TheVariants.{Motion, Wait, Last}
-use Rattle.lathe_top.specs.declared.machine.TheConstants.{RAN_OFF, WAIT_DIFFERS}
+use Rattle.straight_tape.specs.declared.tape.StraightBlock.{StraightBlock}
+use Rattle.straight_tape.specs.declared.tape.StraightBody.{StraightBody}
+use Rattle.straight_tape.specs.declared.tape.StraightBody.TheVariants.{Motion, Wait, Last}
 use Rattle.lathe_top.specs.declared.machine.Standing.{Standing}
 use Rattle.lathe_top.specs.declared.machine.Standing.TheVariants.{Going, AtWait, AtEnd}
 use Rattle.lathe_top.specs.declared.machine.PathState.{PathState}
@@ -52,11 +54,11 @@ pub record PathTurn : Type 0 where
   pub me : PathState
   pub other : PathState
 
-abbrev pub alarm_by : Path → ℕ → ℕ → Alarm
-alarm_by path line cause = record { path = path; line = line; cause = cause; value = pos 0 }
+abbrev pub alarm_by : Path → ℕ → Cause → Alarm
+alarm_by path line cause = record { path = path; line = line; cause = cause_number cause; value = pos 0 }
 
 -- an alarm of a path, which moves neither
-abbrev pub alarmed : Path → ℕ → ℕ → PathState → PathState → PathTurn
+abbrev pub alarmed : Path → ℕ → Cause → PathState → PathState → PathTurn
 alarmed path line cause me other = record { turn = Alarmed (alarm_by path line cause); me = me; other = other }
 
 -- a path comes to a wait code: it meets the other path where that waits at the same code, and else waits
@@ -64,7 +66,7 @@ abbrev pub meeting : Path → ℕ → ℕ → PathState → PathState → Standi
 meeting path line code me other (AtWait there) =
     if code == there
     then record { turn = Met code; me = next_of me; other = next_of other }
-    else alarmed path line WAIT_DIFFERS me other
+    else alarmed path line Cause.WaitDiffers me other
 meeting path line code me other Going = record { turn = Arrived code; me = record me { standing = AtWait code }; other = other }
 meeting path line code me other AtEnd = record { turn = Arrived code; me = record me { standing = AtWait code }; other = other }
 
@@ -86,7 +88,7 @@ last_line_of tape = line_or_none (slice_get tape (length tape - 1))
 
 -- the turn of a path that goes on: what its block does, and past the last block an alarm
 abbrev pub block_turn_of : Path → List StraightBlock → Option StraightBlock → PathState → PathState → PathTurn
-block_turn_of path tape None me other = alarmed path (last_line_of tape) RAN_OFF me other
+block_turn_of path tape None me other = alarmed path (last_line_of tape) Cause.RanOff me other
 block_turn_of path tape (Some b) me other = body_turn_of path b.line b.body me other
 
 -- the turn of a path by its standing: a path that waits or has ended does nothing

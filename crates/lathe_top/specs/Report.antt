@@ -6,7 +6,7 @@ use Rattle.nc_number.specs.declared.path.Path.{Path}
 use Rattle.nc_number.specs.declared.path.Path.TheVariants.{One, Two}
 use Rattle.nc_number.specs.Path.{number_of}
 use Rattle.nc_outside.specs.declared.motion.Move.{Move}
-use Rattle.nc_text.specs.declared.straight_tape.StraightBlock.{StraightBlock}
+use Rattle.straight_tape.specs.declared.tape.StraightBlock.{StraightBlock}
 use Rattle.lathe_top.specs.declared.machine.Machine.{Machine}
 use Rattle.lathe_top.specs.declared.machine.Turn.{Turn}
 use Rattle.lathe_top.specs.declared.machine.Turn.TheVariants.{Did, Arrived, Met, Ended, Waiting, Finished, Alarmed, Halted}

@@ -2,9 +2,9 @@
 use Rattle.std.specs.Prelude.{◌≡◌, ℕ, Option, Err, List}
 use Rattle.nc_number.specs.declared.path.Path.{Path}
 use Rattle.nc_outside.specs.Faults.{Rose}
-use Rattle.nc_outside.specs.Files.{Files, HoldsMore, Lacks}
-use Rattle.nc_text.specs.declared.straight_tape.StraightBlock.{StraightBlock}
-use Rattle.nc_text.specs.StraightTape.{straight}
+use Rattle.nc_outside.specs.Files.{Files, ShelfState, HoldsMore, Lacks}
+use Rattle.straight_tape.specs.declared.tape.StraightBlock.{StraightBlock}
+use Rattle.straight_tape.specs.Tape.{straight}
 use Rattle.lathe_top.specs.declared.refusal.Refusal.{Refusal}
 use Rattle.lathe_top.specs.declared.refusal.Refusal.TheVariants.{Usage, ShelfFault, NoFile, TooLong, NotBuilt, WaitMismatch, NoMemory}
 use Rattle.lathe_top.specs.Tape.{IsFirstDifference, labels_of}
@@ -14,15 +14,15 @@ use Rattle.lathe_top.specs.Answer.{TapeNames, IsReportOf, WithBoth, longest_tape
 abbrev pub NamesReport : Option Files → TapeNames → List ℕ → Type 0
 NamesReport told names text = WithBoth told names (λ left right. IsReportOf left right text)
 
--- why a path's file is not had
-abbrev pub FetchCause : Option Files → ℕ → ℕ → List ℕ → Path → Refusal → Type 0
-FetchCause told before now name path ShelfFault = Rose before now
-FetchCause told before now name path (NoFile whose) = (whose ≡ path) × Lacks told name
-FetchCause told before now name path (TooLong whose) = (whose ≡ path) × HoldsMore told name longest_tape
-FetchCause told before now name path NoMemory = Unit {0}
-FetchCause told before now name path Usage = ⊥
-FetchCause told before now name path (NotBuilt whose line) = ⊥
-FetchCause told before now name path (WaitMismatch difference) = ⊥
+-- why a path's file is not had, over the shelf before and after
+abbrev pub FetchCause : ShelfState → ShelfState → List ℕ → Path → Refusal → Type 0
+FetchCause old new name path ShelfFault = Rose old.faults new.faults
+FetchCause old new name path (NoFile whose) = (whose ≡ path) × Lacks old.files name
+FetchCause old new name path (TooLong whose) = (whose ≡ path) × HoldsMore old.files name longest_tape
+FetchCause old new name path NoMemory = Unit {0}
+FetchCause old new name path Usage = ⊥
+FetchCause old new name path (NotBuilt whose line) = ⊥
+FetchCause old new name path (WaitMismatch difference) = ⊥
 
 -- why a path's text is not read
 abbrev pub ReadCause : List ℕ → Path → Refusal → Type 0

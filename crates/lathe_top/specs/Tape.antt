@@ -1,7 +1,7 @@
 use Rattle.std.specs.Prelude.{◌≡◌, ◌≢◌, ℕ, Option, Some, None, List, [], ◌∷◌, map, take, slice_get}
-use Rattle.nc_text.specs.declared.straight_tape.StraightBlock.{StraightBlock}
-use Rattle.nc_text.specs.declared.straight_tape.StraightBody.{StraightBody}
-use Rattle.nc_text.specs.declared.straight_tape.StraightBody.TheVariants.{Motion, Wait, Last}
+use Rattle.straight_tape.specs.declared.tape.StraightBlock.{StraightBlock}
+use Rattle.straight_tape.specs.declared.tape.StraightBody.{StraightBody}
+use Rattle.straight_tape.specs.declared.tape.StraightBody.TheVariants.{Motion, Wait, Last}
 use Rattle.lathe_top.specs.declared.labels.Label.{Label}
 use Rattle.lathe_top.specs.declared.labels.Label.TheVariants.{Wait as WaitLabel, End}
 use Rattle.lathe_top.specs.declared.labels.Labelled.{Labelled}

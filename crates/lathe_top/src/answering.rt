@@ -1,9 +1,9 @@
 //! From the words to a report, or to the reason why there is none.
 ghost use Rattle.std.specs.Prelude.{◌≡◌, ◌<◌, ◌≤◌, ◌^◌, Ok, length, map, IfOk, IfErr, OnOk};
 ghost use Rattle.std.specs.String.{string_bytes};
-ghost use Rattle.nc_outside.specs.Faults.{Rose};
-ghost use Rattle.nc_text.specs.StraightShape.{EndsInLast};
-ghost use Rattle.nc_text.specs.StraightTape.{straight};
+ghost use Rattle.nc_outside.specs.Files.{HoldsOn};
+ghost use Rattle.straight_tape.specs.Shape.{EndsInLast};
+ghost use Rattle.straight_tape.specs.Tape.{straight};
 ghost use Rattle.lathe_top.specs.Tape.{AgreeOnLabels};
 ghost use Rattle.lathe_top.specs.Answer.{HasCause, IsReport, NamesCause, IsReportOf, IsRunReport, IsTape, TextsCause, longest_tape};
 ghost use Rattle.lathe_top.specs.Steps.{AgreementCause, FetchCause, NamesReport, ReadCause};
@@ -15,17 +15,17 @@ use crate::refusal::Refusal;
 use crate::reporting::report;
 use nc_number::{NoMemory, Path};
 use nc_outside::{FetchFault, Shelf};
-use nc_text::{Straight, StraightBlock, StraightFault, read_straight};
 use std::alloc::Global;
+use straight_tape::{Straight, StraightBlock, StraightFault, read_straight};
 
 /// The most bytes that a tape may have.
 const LONGEST_TAPE: usize = 4_194_304;
 
 /// The report of the tapes that the words name, or why there is none.
 pub fn answer<H: Shelf>(alloc: Global, words: &[String], shelf: &mut H) -> Result<Vec<u8>, Refusal>
-    ensures report { IfOk result (λ text. IsReport (map string_bytes words.now) (H.files shelf.old) text.items) }
-    ensures refusal { IfErr result (HasCause (map string_bytes words.now) (H.files shelf.old) (H.faults shelf.old) (H.faults shelf.new)) }
-    ensures later { H.faults shelf.old ≤ H.faults shelf.new }
+    ensures report { IfOk result (λ text. IsReport (map string_bytes words.now) (H.state shelf.old).files text.items) }
+    ensures refusal { IfErr result (HasCause (map string_bytes words.now) (H.state shelf.old) (H.state shelf.new)) }
+    ensures later { (H.state shelf.old).faults ≤ (H.state shelf.new).faults }
 {
     match read_command(words) {
         Some(command) => answer_command(alloc, &command, shelf),
@@ -39,9 +39,11 @@ fn answer_command<H: Shelf>(
     command: &Command<'_>,
     shelf: &mut H,
 ) -> Result<Vec<u8>, Refusal>
-    ensures report { IfOk result (λ text. NamesReport (H.files shelf.old) (record { left = command.now.left.now; right = command.now.right.now }) text.items) }
-    ensures refusal { IfErr result (NamesCause (H.files shelf.old) (H.faults shelf.old) (H.faults shelf.new) (record { left = command.now.left.now; right = command.now.right.now })) }
-    ensures later { H.faults shelf.old ≤ H.faults shelf.new }
+    ensures report { IfOk result (λ text. NamesReport (H.state shelf.old).files
+        (record { left = command.now.left.now; right = command.now.right.now }) text.items) }
+    ensures refusal { IfErr result (NamesCause (H.state shelf.old) (H.state shelf.new)
+        (record { left = command.now.left.now; right = command.now.right.now })) }
+    ensures later { (H.state shelf.old).faults ≤ (H.state shelf.new).faults }
 {
     let left = fetch_tape(alloc, shelf, command.left, Path::One)?;
     let right = fetch_tape(alloc, shelf, command.right, Path::Two)?;
@@ -55,10 +57,10 @@ fn fetch_tape<H: Shelf>(
     name: &str,
     path: Path,
 ) -> Result<Vec<u8>, Refusal>
-    ensures tape { IfOk result (λ bytes. IsTape (H.files shelf.old) name.now bytes.items) }
-    ensures refusal { IfErr result (FetchCause (H.files shelf.old) (H.faults shelf.old) (H.faults shelf.new) name.now path) }
-    ensures files { H.files shelf.new ≡ H.files shelf.old }
-    ensures later { H.faults shelf.old ≤ H.faults shelf.new }
+    ensures tape { IfOk result (λ bytes. IsTape (H.state shelf.old).files name.now bytes.items) }
+    ensures refusal { IfErr result (FetchCause (H.state shelf.old) (H.state shelf.new) name.now path) }
+    ensures files { HoldsOn (H.state shelf.old) (H.state shelf.new) }
+    ensures later { (H.state shelf.old).faults ≤ (H.state shelf.new).faults }
 {
     let mut bytes = Vec::new(alloc);
     match shelf.fetch(name, &mut bytes, LONGEST_TAPE) {

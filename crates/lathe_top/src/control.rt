@@ -1,17 +1,14 @@
 //! The call that the program makes: words in, text and status out.
-ghost use Rattle.std.specs.Prelude.{◌≡◌, ℕ, ◌++◌, List, Some, None, map, OnOk};
+ghost use Rattle.std.specs.Prelude.{◌≡◌, ◌++◌, map, OnOk};
 ghost use Rattle.std.specs.String.{string_bytes};
-ghost use Rattle.nc_outside.specs.Faults.{Rose};
-ghost use Rattle.nc_outside.specs.Files.{Files};
-ghost use Rattle.lathe_top.specs.Tape.{AgreeOnLabels};
-ghost use Rattle.lathe_top.specs.Causes.{AreStraight, Commands, DifferInLabels, Finds, IsOr, IsReported, IsStatus, IsUnbuilt, MissesTape};
-ghost use Rattle.lathe_top.specs.Answer.{IsAnswered, WithBoth, Writes, command_of, mismatch_text, name_of, not_built_text, place_text, refusal_text, status_of};
+ghost use Rattle.lathe_top.specs.Causes.{GetsItsStatus, HasStatusCause, IsStatus};
+ghost use Rattle.lathe_top.specs.Answer.{IsAnswered, TopState, WritingEnds, cause_text, mismatch_text, name_of, not_built_text, place_text, refusal_text, status_of};
 
 use crate::answering::answer;
 use crate::labels::Difference;
-use crate::printing::{push_bytes, push_numbered};
+use crate::printing::{push_bytes, push_number, push_numbered};
 use crate::refusal::Refusal;
-use nc_number::{NoMemory, Path};
+use nc_number::{Cause, NoMemory, Path};
 use nc_outside::{PutFault, Shelf, Sink};
 use std::alloc::Global;
 
@@ -29,32 +26,31 @@ enum Status {
 }
 
 /// Does what the words say with the tapes of the shelf, writes the answer to `out`, and gives the status.
+///
+/// 0: the report was written. 1: the waits of the tapes differ. 2: the words are no command. 4: the shelf failed.
+/// 5: the sink failed. 12: out of memory. 13: a tape is missing or too long. 15: a tape has no straight form.
 pub fn top<H: Shelf, K: Sink>(alloc: Global, words: &[String], shelf: &mut H, out: &mut K) -> u8
-    ensures answered { IsAnswered (map string_bytes words.now) (H.files shelf.old) (H.faults shelf.old) (H.faults shelf.new) (K.faults out.old) (K.faults out.new) (K.written out.old) (K.written out.new) result }
+    ensures answered { IsAnswered (map string_bytes words.now)
+        (record { shelf = H.state shelf.old; sink = K.state out.old })
+        (record { shelf = H.state shelf.new; sink = K.state out.new }) result }
     ensures statuses { IsStatus result }
-
     // What each status says.
-    ensures done { result ≡ 0 → IsReported (map string_bytes words.now) (H.files shelf.old) (K.written out.old) (K.written out.new) }
-    ensures refused { result ≡ 1 → Commands (map string_bytes words.now) (λ names. WithBoth (H.files shelf.old) names (λ left right. AreStraight left right DifferInLabels)) }
-    ensures usage { result ≡ 2 → command_of (map string_bytes words.now) ≡ None }
-    ensures shelf_fault { result ≡ 4 → Rose (H.faults shelf.old) (H.faults shelf.new) }
-    ensures sink_fault { result ≡ 5 → Rose (K.faults out.old) (K.faults out.new) }
-    ensures no_tape { result ≡ 13 → Commands (map string_bytes words.now) (MissesTape (H.files shelf.old)) }
-    ensures not_built { result ≡ 15 → Commands (map string_bytes words.now) (λ names. WithBoth (H.files shelf.old) names IsUnbuilt) }
-
-    // Which status each case gets: that one, or 5 where the sink failed, or 12 for want of memory.
-    ensures usage_due { command_of (map string_bytes words.now) ≡ None → IsOr (K.faults out.old) (K.faults out.new) 2 result }
-    ensures no_tape_due { (files : Files) → H.files shelf.old ≡ Some files → Commands (map string_bytes words.now) (MissesTape (Some files)) → ¬ Rose (H.faults shelf.old) (H.faults shelf.new) → IsOr (K.faults out.old) (K.faults out.new) 13 result }
-    ensures not_built_due { (files : Files) (left right : List ℕ) → H.files shelf.old ≡ Some files → Finds (map string_bytes words.now) files left right → IsUnbuilt left right → ¬ Rose (H.faults shelf.old) (H.faults shelf.new) → IsOr (K.faults out.old) (K.faults out.new) 15 result }
-    ensures refused_due { (files : Files) (left right : List ℕ) → H.files shelf.old ≡ Some files → Finds (map string_bytes words.now) files left right → AreStraight left right (λ one two. ¬ AgreeOnLabels one two) → ¬ Rose (H.faults shelf.old) (H.faults shelf.new) → IsOr (K.faults out.old) (K.faults out.new) 1 result }
-    ensures complete { (files : Files) (left right : List ℕ) → H.files shelf.old ≡ Some files → Finds (map string_bytes words.now) files left right → AreStraight left right AgreeOnLabels → ¬ Rose (H.faults shelf.old) (H.faults shelf.new) → IsOr (K.faults out.old) (K.faults out.new) 0 result }
+    ensures causes { HasStatusCause (map string_bytes words.now)
+        (record { shelf = H.state shelf.old; sink = K.state out.old })
+        (record { shelf = H.state shelf.new; sink = K.state out.new }) result }
+    // Which status each case gets.
+    ensures due { GetsItsStatus (map string_bytes words.now)
+        (record { shelf = H.state shelf.old; sink = K.state out.old })
+        (record { shelf = H.state shelf.new; sink = K.state out.new }) result }
 {
     respond(alloc, words, shelf, out)
 }
 
 /// Writes the answer and gives the status.
 fn respond<H: Shelf, K: Sink>(alloc: Global, words: &[String], shelf: &mut H, out: &mut K) -> u8
-    ensures { IsAnswered (map string_bytes words.now) (H.files shelf.old) (H.faults shelf.old) (H.faults shelf.new) (K.faults out.old) (K.faults out.new) (K.written out.old) (K.written out.new) result }
+    ensures { IsAnswered (map string_bytes words.now)
+        (record { shelf = H.state shelf.old; sink = K.state out.old })
+        (record { shelf = H.state shelf.new; sink = K.state out.new }) result }
 {
     match answer(alloc, words, shelf) {
         Ok(report) => write_text(out, report.as_slice(), Status::Done as u8),
@@ -64,7 +60,8 @@ fn respond<H: Shelf, K: Sink>(alloc: Global, words: &[String], shelf: &mut H, ou
 
 /// Writes a refusal's line.
 fn refuse<K: Sink>(alloc: Global, words: &[String], refusal: Refusal, out: &mut K) -> u8
-    ensures { Writes (K.faults out.old) (K.faults out.new) (K.written out.old) (K.written out.new) (refusal_text (map string_bytes words.now) refusal) (status_of refusal) result }
+    ensures { WritingEnds (K.state out.old) (K.state out.new)
+        (refusal_text (map string_bytes words.now) refusal) (status_of refusal) result }
 {
     let mut text = Vec::new(alloc);
     if push_refusal(&mut text, words, refusal).is_err() {
@@ -75,7 +72,7 @@ fn refuse<K: Sink>(alloc: Global, words: &[String], refusal: Refusal, out: &mut 
 
 /// Writes a text and gives the status that goes with it, or that of what went wrong.
 fn write_text<K: Sink>(out: &mut K, text: &[u8], status: u8) -> u8
-    ensures { Writes (K.faults out.old) (K.faults out.new) (K.written out.old) (K.written out.new) text.now status result }
+    ensures { WritingEnds (K.state out.old) (K.state out.new) text.now status result }
 {
     match out.put(text) {
         Ok(()) => status,
@@ -135,11 +132,22 @@ fn push_not_built(text: &mut Vec<u8>, path: Path, line: u32) -> Result<(), NoMem
 fn push_mismatch(text: &mut Vec<u8>, difference: &Difference) -> Result<(), NoMemory>
     ensures { OnOk result (text.new.items ≡ text.old.items ++ mismatch_text difference.now) }
 {
-    push_bytes(text, b"refused 72 WaitMismatch")?;
+    push_bytes(text, b"refused ")?;
+    push_cause(text, Cause::WaitMismatch)?;
     push_place(text, Path::One, difference.line)?;
     push_place(text, Path::Two, difference.other)?;
     push_numbered(text, b" after ", difference.after as u64)?;
     push_bytes(text, b"\n")
+}
+
+/// Puts the number and the name of a cause.
+#[tactic(auto, unfolding(crate::specs::Answer::cause_text))]
+fn push_cause(text: &mut Vec<u8>, cause: Cause) -> Result<(), NoMemory>
+    ensures { OnOk result (text.new.items ≡ text.old.items ++ cause_text cause) }
+{
+    push_number(text, u64::from(cause.number()))?;
+    push_bytes(text, b" ")?;
+    push_bytes(text, cause.name().as_bytes())
 }
 
 /// Puts a path and a line of its tape.

@@ -3,13 +3,13 @@ ghost use Rattle.std.specs.Prelude.{◌≡◌, ◌<◌, ◌^◌, ◌++◌, OnOk,
 ghost use Rattle.std.specs.Option.{option_to_list};
 ghost use Rattle.lathe_top.specs.Machine.{turn_of};
 ghost use Rattle.lathe_top.specs.History.{record_of, IsWholeRun};
-ghost use Rattle.nc_text.specs.StraightShape.{EndsInLast};
+ghost use Rattle.straight_tape.specs.Shape.{EndsInLast};
 ghost use Rattle.lathe_top.specs.Tape.{AgreeOnLabels};
 
 use crate::machine::{Machine, Turn};
 use nc_number::{NoMemory, Path};
-use nc_text::StraightBlock;
 use std::alloc::Global;
+use straight_tape::StraightBlock;
 
 /// What kind of event a record tells.
 #[derive(Clone, Copy, Debug, PartialEq, Eq)]

@@ -3,8 +3,8 @@ ghost use Rattle.std.specs.Prelude.{◌≡◌, IfOk, IfSome, IfNone};
 ghost use Rattle.lathe_top.specs.Tape.{IsEnded, IsFirstDifference, bare, label_of, labels_of};
 
 use nc_number::NoMemory;
-use nc_text::{StraightBlock, StraightBody};
 use std::alloc::Global;
+use straight_tape::{StraightBlock, StraightBody};
 
 /// What the other path has to agree with.
 #[derive(Clone, Copy, Debug, PartialEq, Eq)]

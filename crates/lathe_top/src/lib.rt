@@ -17,7 +17,7 @@ pub use control::top;
 pub use history::{Record, RecordKind, record_made, run};
 pub use labels::{Difference, Label, Labelled, first_difference};
 pub use law::no_pair_is_stuck;
-pub use machine::{Machine, PathState, RAN_OFF, Standing, Turn, WAIT_DIFFERS};
+pub use machine::{Machine, PathState, Standing, Turn};
 pub use refusal::Refusal;
 pub use reporting::{LinedMove, report};
 

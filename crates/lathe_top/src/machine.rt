@@ -2,15 +2,9 @@
 ghost use Rattle.std.specs.Prelude.{◌≡◌, ◌↔◌, ◌+◌, ◌<◌, ◌^◌, length, IsTrue, slice_get};
 ghost use Rattle.lathe_top.specs.Machine.{DoesTurn, IsFinished, turn_of, path_turn_of, block_turn_of, body_turn_of, meeting, target_of, made_by, next_of, opening, opening_path, last_line_of, raised_by, alarm_by};
 
-use nc_number::{Path, Point, Value};
+use nc_number::{Cause, Path, Point, Value};
 use nc_outside::{Alarm, Move};
-use nc_text::{StraightBlock, StraightBody};
-
-/// The alarm of a path that runs past its last block.
-pub const RAN_OFF: u8 = 63;
-
-/// The alarm of a path that comes to another wait code than the one where the other path waits.
-pub const WAIT_DIFFERS: u8 = 74;
+use straight_tape::{StraightBlock, StraightBody};
 
 /// Whether a path goes on, waits for the other path, or is at its end.
 #[derive(Clone, Copy, Debug, PartialEq, Eq)]
@@ -152,7 +146,7 @@ fn going_turn(path: Path, tape: &[StraightBlock], me: &mut PathState, other: &mu
 {
     match tape.get(me.block) {
         None => Turn::Alarmed {
-            alarm: make_alarm(path, last_line(tape), RAN_OFF),
+            alarm: make_alarm(path, last_line(tape), Cause::RanOff),
         },
         Some(block) => body_turn(path, block, me, other),
     }
@@ -198,7 +192,7 @@ fn arrive(path: Path, line: u32, code: u16, me: &mut PathState, other: &mut Path
             Turn::Met { code }
         }
         Standing::AtWait(_) => Turn::Alarmed {
-            alarm: make_alarm(path, line, WAIT_DIFFERS),
+            alarm: make_alarm(path, line, Cause::WaitDiffers),
         },
         Standing::Going | Standing::AtEnd => {
             me.standing = Standing::AtWait(code);
@@ -235,14 +229,14 @@ fn made(feed: bool, x: Option<i64>, z: Option<i64>, to: Point, f: Value) -> Opti
     })
 }
 
-fn make_alarm(path: Path, line: u32, cause: u8) -> Alarm
+fn make_alarm(path: Path, line: u32, cause: Cause) -> Alarm
     ensures { result ≡ alarm_by path line cause }
 {
     Alarm {
         path,
         line,
-        cause,
-        value: Value::of(0).unwrap(),
+        cause: cause.number(),
+        value: Value::zero(),
     }
 }
 

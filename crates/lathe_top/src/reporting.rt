@@ -2,7 +2,7 @@
 ghost use Rattle.std.specs.Prelude.{◌≡◌, ◌++◌, OnOk, IfOk};
 ghost use Rattle.std.specs.List.{flat_map};
 ghost use Rattle.std.specs.Option.{option_to_list};
-ghost use Rattle.nc_text.specs.StraightShape.{EndsInLast};
+ghost use Rattle.straight_tape.specs.Shape.{EndsInLast};
 ghost use Rattle.lathe_top.specs.Tape.{AgreeOnLabels};
 ghost use Rattle.lathe_top.specs.Report.{line_text, made_by_path, moves_of, path_text, report_of};
 
@@ -12,8 +12,8 @@ use crate::move_text::push_move;
 use crate::printing::{push_bytes, push_number, push_numbered};
 use nc_number::{NoMemory, Path};
 use nc_outside::Move;
-use nc_text::StraightBlock;
 use std::alloc::Global;
+use straight_tape::StraightBlock;
 
 /// A move, and the line of the tape whose block made it.
 #[derive(Clone, Copy, Debug, PartialEq, Eq)]
