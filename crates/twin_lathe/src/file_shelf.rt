@@ -25,9 +25,7 @@ impl<'a, R: Files> FileShelf<'a, R> {
 }
 
 impl<R: Files> Shelf for FileShelf<'_, R> {
-    ghost files = { λ _. None };
-
-    ghost faults = { λ shelf. shelf.faults };
+    ghost state = { λ shelf. record { files = None; faults = shelf.faults } };
 
     fn faults(&self) -> u64 {
         self.faults

@@ -2,28 +2,21 @@
 //! output. The exit status is that of the command.
 #![tactic(auto)]
 
+mod ending;
 mod file_shelf;
 mod std_sink;
 
-use file_shelf::FileShelf;
-use lathe_top::top;
+use ending::Ending;
 use std::alloc::AllocError;
 use std::env;
 use std::io::ErrorKind;
-use std::process::ExitCode;
 use std::rt::Env;
-use std_sink::StdSink;
 
-/// The status of a command that ran out of memory.
-const NO_MEMORY: u8 = 12;
-
-fn main(rt: HostRuntime) -> ExitCode {
-    let Ok(words) = words_given(&rt) else {
-        return ExitCode::from(NO_MEMORY);
-    };
-    let mut shelf = FileShelf::new(&rt);
-    let mut out = StdSink::new(&rt);
-    ExitCode::from(top(rt.alloc(), &words, &mut shelf, &mut out))
+fn main(rt: HostRuntime) -> Ending {
+    match words_given(&rt) {
+        Ok(words) => Ending::of(&rt, rt.alloc(), &words),
+        Err(_) => Ending::without_memory(),
+    }
 }
 
 /// The words behind the program's name. Where one of them is no text they are no command, and none is given.

@@ -22,9 +22,7 @@ impl<'a, R: Print> StdSink<'a, R> {
 }
 
 impl<R: Print> Sink for StdSink<'_, R> {
-    ghost written = { λ _. None };
-
-    ghost faults = { λ sink. sink.faults };
+    ghost state = { λ sink. record { written = None; faults = sink.faults } };
 
     fn faults(&self) -> u64 {
         self.faults
