@@ -3,10 +3,11 @@
 use crate::listing::{auxiliaries, read_in};
 use lathe_top::top;
 use nc_outside::{MemoryShelf, VecSink};
-use nc_text::{Block, Body, Program, Straight, StraightBody, read_straight};
+use nc_text::{Block, Body, Program};
 use std::alloc::{AllocError, Global};
 use std::process::Abort;
 use std::test::Fail;
+use straight_tape::{Straight, StraightBody, read_straight};
 
 const LEFT: &str = "%
 O0001
