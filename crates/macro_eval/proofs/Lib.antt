@@ -1,3 +1,2 @@
 pub mod Compiled
-pub mod Fitting
 pub mod TakenReads

@@ -46,7 +46,8 @@ abbrev pub tree_of_code : List Instr → Tree
 tree_of_code code = first_tree (built code [])
 
 -- the code of a tree puts it on the stack, and goes on
-built_is : (t : Tree) (code : List Instr) (trees : List Tree) → built (code_before t code) trees ≡ built code (t ∷ trees)
+built_is : (t : Tree) (code : List Instr) (trees : List Tree)
+    → built (code_before t code) trees ≡ built code (t ∷ trees)
 built_is (Number z) code trees = refl
 built_is (Variable n) code trees = refl
 built_is (VariableOf e) code trees = built_is e (instr.LookUp ∷ code) trees

@@ -66,18 +66,26 @@ impl Code {
 ///
 /// An expression whose right operands stand 16 deep or deeper inside one another is refused as if
 /// memory ran out; none that the tape can write is.
+#[tactic(auto, using(crate::specs::Postfix::tree_is))]
 pub fn compile(alloc: Global, tree: &Expr) -> Result<Code, NoMemory>
     ensures { IfOk result (λ code. code ≡ tree_of tree.now) }
 {
     if !is_shallow(tree, OPERANDS - 1) {
         return Err(NoMemory);
     }
+    let instrs = postfix(alloc, tree)?;
+    Ok(Code { instrs })
+}
+
+/// The instructions of the code, in just the room that they need.
+fn postfix(alloc: Global, tree: &Expr) -> Result<Vec<Instr>, NoMemory>
+    requires { right_depth (tree_of tree.now) < OPERANDS }
+    ensures { IfOk result (λ instrs. instrs.items ≡ postfix (tree_of tree.now)) }
+{
     let mut written = Vec::new(alloc);
     emit_backwards(&mut written, tree)?;
     written.reverse();
-    // A copy takes just the room that it needs.
-    let instrs = Vec::from_slice(alloc, &written)?;
-    Ok(Code { instrs })
+    Ok(Vec::from_slice(alloc, &written)?)
 }
 
 /// Whether at most `room` right operands of the tree stand inside one another.

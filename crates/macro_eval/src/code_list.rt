@@ -24,7 +24,8 @@ impl Model for CodeList {
 
     ghost Value = { List Tree };
 
-    ghost coded = { coded_list (code_by (List Instr) (coded_list (row instr_type).coded) postfix tree_of_code tree_is) };
+    ghost coded = { coded_list
+        (code_by (List Instr) (coded_list (row instr_type).coded) postfix tree_of_code tree_is) };
 
     ghost view = { λ list. list.codes.items };
 }

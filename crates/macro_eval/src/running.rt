@@ -37,6 +37,7 @@ fn run<'a, S: Scope>(instrs: &[Instr], scope: &S, reads: &'a [Var]) -> (Eval, &'
 ///
 /// Alarms: 1 a result past the range, 2 a division by 0, 3 the root of a negative value, 4 what
 /// must be a whole number is none, 30 a variable that does not exist or can't be read.
+#[tactic(auto, using(crate::proofs::Compiled::run_is_meaning))]
 pub fn evaluate<'a, S: Scope>(code: &Code, scope: &S, reads: &'a [Var]) -> (Eval, &'a [Var])
     ensures { (result.0, result.1.now) ≡ meaning (S.table scope.now) code.now reads.now }
 {
@@ -61,6 +62,7 @@ pub fn count_reads<S: Scope>(code: &Code, scope: &S, reads: &[Var]) -> usize
 
 /// Each variable of an expression takes at most one read, and a read is needed only where fewer
 /// were given than it names variables.
+#[tactic(auto, using(crate::proofs::TakenReads::takes, crate::proofs::TakenReads::needs))]
 pub fn each_variable_takes_one_read_at_most()
     ensures takes { (table : ℕ → Result Look VarFault) (tree : Tree) (reads : List Var)
         → length reads ≤ length (meaning table tree reads).1 + variables tree }

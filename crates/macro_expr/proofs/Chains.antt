@@ -13,36 +13,22 @@ abbrev pub ok_tree : Tree → Result Tree Stop
 ok_tree t = Ok t
 
 module _ (operator : List ℕ → Option (Op × List ℕ)) (operand : List ℕ → Read Tree) where
+  -- a chain ends without an operator
   pub chain_stops : (n : ℕ) (left : Tree) (text : List ℕ) → operator text ≡ None
       → chain operator operand n left text ≡ Ok (left, text)
   unfolding chain
   chain_stops zero left text none = refl
-  chain_stops (suc n) left text none =
-      ap (λ o. joined_by left text o operand (chain operator operand n)) none
+  chain_stops (suc n) left text none = ap (λ o. joined_by left text o operand (chain operator operand n)) none
 
-  pub chain_ends : (left : Tree) (text : List ℕ) → chain operator operand 0 left text ≡ Ok (left, text)
+  -- one operator more
+  pub chain_step : (n m : ℕ) (left : Tree) (text rest : List ℕ) (op : Op) (right : Read Tree) → n ≡ suc m
+      → operator text ≡ Some (op, rest) → operand rest ≡ right
+      → chain operator operand n left text ≡ (right >>= λ x. chain operator operand m (Joined op left x.0) x.1)
   unfolding chain
-  chain_ends left text = refl
-
-  step : (n m : ℕ) (left : Tree) (text rest : List ℕ) (op : Op) → n ≡ suc m → operator text ≡ Some (op, rest)
-      → chain operator operand n left text ≡ joined_by left text (Some (op, rest)) operand (chain operator operand m)
-  unfolding chain
-  step n m left text rest op more some =
+  chain_step n m left text rest op right more some is =
       ap (λ n. chain operator operand n left text) more
       ∙ ap (λ o. joined_by left text o operand (chain operator operand m)) some
-
-  pub chain_fails : (end i : ℕ) (left : Tree) (text rest : List ℕ) (op : Op) (f : Stop) → i < end
-      → operator text ≡ Some (op, rest) → operand rest ≡ Err f → chain operator operand (end - i) left text ≡ Err f
-  chain_fails end i left text rest op f inside some err =
-      step (end - i) (end - (i + 1)) left text rest op (omega arith) some
-      ∙ ap (λ r. r >>= (λ right. chain operator operand (end - (i + 1)) (Joined op left right.0) right.1)) err
-
-  pub chain_goes_on : (end i : ℕ) (left right : Tree) (text rest after : List ℕ) (op : Op) → i < end
-      → operator text ≡ Some (op, rest) → operand rest ≡ Ok (right, after)
-      → chain operator operand (end - i) left text ≡ chain operator operand (end - (i + 1)) (Joined op left right) after
-  chain_goes_on end i left right text rest after op inside some ok =
-      step (end - i) (end - (i + 1)) left text rest op (omega arith) some
-      ∙ ap (λ r. r >>= (λ right. chain operator operand (end - (i + 1)) (Joined op left right.0) right.1)) ok
+      ∙ ap (λ r. r >>= λ x. chain operator operand m (Joined op left x.0) x.1) is
 
   -- a step that fails, seen by the loop
   pub stops_at_fault : (end i : ℕ) (left : Tree) (text rest : List ℕ) (op : Op) (whole : Read Tree) (e : Failing Stop)
@@ -50,35 +36,22 @@ module _ (operator : List ℕ → Option (Op × List ℕ)) (operand : List ℕ �
       → chain operator operand (end - i) left text ≡ whole → Fails e whole
   stops_at_fault end i left text rest op whole failing.NoMemory inside some err kept = tt
   stops_at_fault end i left text rest op whole (failing.Fault f) inside some err kept =
-      sym kept ∙ chain_fails end i left text rest op f inside some err
+      sym kept ∙ chain_step (end - i) (end - (i + 1)) left text rest op (Err f) (omega arith) some err
 
   -- a step that is done, seen by the loop
   pub keeps : (end i : ℕ) (left right new : Tree) (text rest after : List ℕ) (op : Op) (whole : Read Tree)
       → i < end → operator text ≡ Some (op, rest) → operand rest ≡ Ok (right, after)
-      → ok_tree (Joined op left right) ≡ ok_tree new
-      → chain operator operand (end - i) left text ≡ whole
+      → ok_tree (Joined op left right) ≡ ok_tree new → chain operator operand (end - i) left text ≡ whole
       → chain operator operand (end - (i + 1)) new after ≡ whole
   keeps end i left right new text rest after op whole inside some ok made kept =
       let same : Joined op left right ≡ new = cc in
       ap (λ t. chain operator operand (end - (i + 1)) t after) (sym same)
-      ∙ sym (chain_goes_on end i left right text rest after op inside some ok) ∙ kept
+      ∙ sym (chain_step (end - i) (end - (i + 1)) left text rest op (Ok (right, after)) (omega arith) some ok) ∙ kept
 
-  -- without an operator the loop is done
-  pub is_done : (n : ℕ) (left : Tree) (text : List ℕ) (whole : Read Tree) → operator text ≡ None
-      → chain operator operand n left text ≡ whole → whole ≡ Ok (left, text)
-  is_done n left text whole none kept = sym kept ∙ chain_stops n left text none
-
-  -- and where the text is used up
+  -- where the text is used up the loop is done
   pub is_used_up : (end i : ℕ) (left : Tree) (text : List ℕ) (whole : Read Tree) → end ≤ i
       → chain operator operand (end - i) left text ≡ whole → whole ≡ Ok (left, text)
+  unfolding chain
   is_used_up end i left text whole past kept =
       let none : end - i ≡ 0 = omega arith in
-      sym kept ∙ ap (λ n. chain operator operand n left text) none ∙ chain_ends left text
-
-  -- one operator more
-  pub chain_step : (n m : ℕ) (left right : Tree) (text rest after : List ℕ) (op : Op) → n ≡ suc m
-      → operator text ≡ Some (op, rest) → operand rest ≡ Ok (right, after)
-      → chain operator operand n left text ≡ chain operator operand m (Joined op left right) after
-  chain_step n m left right text rest after op more some ok =
-      step n m left text rest op more some
-      ∙ ap (λ r. r >>= (λ right. chain operator operand m (Joined op left right.0) right.1)) ok
+      sym kept ∙ ap (λ n. chain operator operand n left text) none

@@ -8,7 +8,5 @@ pub mod Complete
 pub mod StatementsComplete
 pub mod Sound
 pub mod StatementsSound
-pub mod Shallow
-pub mod Counts
+pub mod Kept
 pub mod Trees
-pub mod Causes

@@ -1,41 +1,31 @@
 -- A statement of the grammar is read as that statement.
-use Rattle.std.proofs.Common.{◌≡◌, ℕ, ◌==◌, Bool, true, false, cond, List, [], ◌++◌, Option, None, Some, Ok, Err, refl, sym, ◌∙◌, ap, append_assoc}
+use Rattle.std.proofs.Common.{◌≡◌, ℕ, ◌==◌, true, false, cond, List, [], ◌++◌, Some, Ok, Err, refl, sym, ◌∙◌, ap, append_assoc}
 use Rattle.std.specs.Prelude.{codes}
 use Rattle.std.specs.Char.{is_ascii_digit}
 use Rattle.std.proofs.lemmas.Bool.{le-ltb}
 use Rattle.std.proofs.lemmas.List.{append-nil}
-use Rattle.macro_expr.specs.declared.stop.Stop.TheVariants as stop
-use Rattle.macro_expr.specs.declared.tree.Op.{Op}
-use Rattle.macro_expr.specs.declared.tree.Rel.{Rel}
-use Rattle.macro_expr.specs.declared.words.Rank.TheVariants.{Product, Sum}
-use Rattle.macro_expr.specs.Tree.{Tree, Named, look, Test, Aim, ToNumber, ToNumberOf, Sentence, Assign, Goto, IfGoto, IfThen, WhileDo, DoOnly, EndLoop}
-use Rattle.macro_expr.specs.Words.{relation_words, loop_words, behind, relation, keyword, loop_of, loop_word, operator, is_number_byte, begins}
 use Rattle.nc_number.specs.Results.{◌>>=◌}
+use Rattle.macro_expr.specs.declared.stop.Stop.TheVariants as stop
+use Rattle.macro_expr.specs.declared.tree.Rel.{Rel}
+use Rattle.macro_expr.specs.Tree.{Tree, Named, look, Test, Aim, ToNumber, ToNumberOf, Sentence, Assign, Goto, IfGoto, IfThen, WhileDo, DoOnly, EndLoop}
+use Rattle.macro_expr.specs.Words.{relation_words, loop_words, behind, relation, keyword, loop_of, loop_word, operator, begins}
 use Rattle.macro_expr.specs.Reading.{Read, word_at, digits_at, bracket_at, variable_at, inside}
 use Rattle.macro_expr.specs.Statements.{expression_at, relation_found, relation_at, condition_at, or_no_condition, test_at, numbered, target_at, loop_at, assignment_at, branch_by, branch_at, if_at, while_at, statement_by, statement_at, whole}
 use Rattle.macro_expr.specs.Grammar.{IsWord, IsWhole, closed, IsVariable, fixed, computed, IsWithin, IsExpression, IsTest, compares, IsTarget, line, line_of, line_in, IsAssignment, assigns, IsStatement, assign, goto, if_goto, if_then, while_do, do_only, end_loop}
-use Rattle.macro_expr.proofs.Heads.{each}
+use Rattle.macro_expr.proofs.Heads.{◌also◌, each}
 use Rattle.macro_expr.proofs.Complete.{NoSum, digits_read, begins_it, behind_bracket, bracket_read, variable_read, within_read}
 
 -- how a relation begins a text
-record Compares (word : List ℕ) (rel : Rel) (rest : List ℕ) : Type 0 where
-  found : relation (word ++ rest) ≡ Some (rel, rest)
-  quiet : NoSum (word ++ rest)
+abbrev Compares : List ℕ → Rel → Type 0
+Compares word rel = (rest : List ℕ) → (relation (word ++ rest) ≡ Some (rel, rest)) × NoSum (word ++ rest)
 
-abbrev ComparesIt : List ℕ → List ℕ → Rel → Type 0
-ComparesIt rest word rel =
-    ◌≡◌ {A = Option (Rel × List ℕ) × Bool × Option (Op × List ℕ) × Option (Op × List ℕ)}
-    (relation (word ++ rest), begins is_number_byte (word ++ rest), operator Product (word ++ rest), operator Sum (word ++ rest))
-    (Some (rel, rest), false, None, None)
-
-compares_of : (word : List ℕ) (rel : Rel) (rest : List ℕ) → IsWord relation_words word rel → Compares word rel rest
+compares_it : (word : List ℕ) (rel : Rel) → IsWord relation_words word rel → Compares word rel
 unfolding relation operator
-compares_of word rel rest is =
-    let c = each relation_words (ComparesIt rest) (refl, (refl, (refl, (refl, (refl, (refl, tt)))))) word rel is in
-    record {
-      found = ap (λ q. q.0) c;
-      quiet = record { product = record { number = ap (λ q. q.1) c; operator = ap (λ q. q.2) c }; operator = ap (λ q. q.3) c };
-    }
+compares_it =
+    each relation_words Compares
+    ((λ _. (refl, (refl, refl, refl))) also (λ _. (refl, (refl, refl, refl))) also (λ _. (refl, (refl, refl, refl)))
+    also (λ _. (refl, (refl, refl, refl))) also (λ _. (refl, (refl, refl, refl))) also (λ _. (refl, (refl, refl, refl)))
+    also tt)
 
 inner_reads : (n : ℕ) (t : List ℕ) (e : Tree) → IsWithin n t e → (rest : List ℕ)
     → inside n (t ++ (codes "]" ++ rest)) ≡ Ok (e, codes "]" ++ rest)
@@ -43,26 +33,31 @@ inner_reads n t e is rest = within_read n t e is (codes "]" ++ rest) (behind_bra
 
 nothing_follows : NoSum []
 unfolding operator
-nothing_follows = record { product = record { number = refl; operator = refl }; operator = refl }
+nothing_follows = (refl, refl, refl)
 
-pub expression_read : (t : List ℕ) (e : Tree) → IsExpression t e → inside 6 t ≡ Ok (e, [])
+expression_read : (t : List ℕ) (e : Tree) → IsExpression t e → inside 6 t ≡ Ok (e, [])
 expression_read t e is = ap (inside 6) (sym (append-nil t)) ∙ within_read 6 t e is [] nothing_follows
 
+-- what stands behind the relation of a condition, and the condition behind its right side
 abbrev pub closing : Tree → Rel → (Tree × List ℕ) → Read Test
-closing left rel right = word_at (codes "]") right.1 >>= λ rest. Ok (record { left = left; rel = rel; right = right.0 }, rest)
+closing left rel right =
+    word_at (codes "]") right.1 >>= λ rest. Ok (record { left = left; rel = rel; right = right.0 }, rest)
 
-pub condition_read : (c : List ℕ) (test : Test) → IsTest c test → (rest : List ℕ) → condition_at (c ++ rest) ≡ Ok (test, rest)
+abbrev pub related : Tree → Rel × List ℕ → Read Test
+related left rel = inside 5 rel.1 >>= closing left rel.0
+
+pub condition_read : (c : List ℕ) (test : Test) → IsTest c test → (rest : List ℕ)
+    → condition_at (c ++ rest) ≡ Ok (test, rest)
 unfolding condition_at relation_at word_at
 condition_read _ _ (compares t word u rel left right is_left is_rel is_right) rest =
     let after_right : List ℕ = codes "]" ++ rest in
-    let c = compares_of word rel (u ++ after_right) is_rel in
+    let c = compares_it word rel is_rel (u ++ after_right) in
     let apart : (t ++ (word ++ (u ++ codes "]"))) ++ rest ≡ t ++ (word ++ (u ++ after_right)) = simp append_assoc in
-    let behind_rel : (Rel × List ℕ) → Read Test = λ r. inside 5 r.1 >>= λ x. closing left r.0 x in
-    let behind_left : (Tree × List ℕ) → Read Test = λ l. relation_found (relation l.1) >>= λ r. inside 5 r.1 >>= λ x. closing l.0 r.0 x in
+    let behind_left : (Tree × List ℕ) → Read Test = λ l. relation_found (relation l.1) >>= related l.0 in
     ap (λ xs. inside 5 xs >>= behind_left) apart
-    ∙ ap (λ r. r >>= behind_left) (within_read 5 t left is_left (word ++ (u ++ after_right)) c.quiet)
-    ∙ ap (λ o. relation_found o >>= behind_rel) c.found
-    ∙ ap (λ r. r >>= (λ x. closing left rel x)) (inner_reads 5 u right is_right rest)
+    ∙ ap (λ r. r >>= behind_left) (within_read 5 t left is_left (word ++ (u ++ after_right)) c.1)
+    ∙ ap (λ o. relation_found o >>= related left) c.0
+    ∙ ap (λ r. r >>= closing left rel) (inner_reads 5 u right is_right rest)
 
 pub test_read : (c : List ℕ) (test : Test) → IsTest c test → (rest : List ℕ) → test_at (c ++ rest) ≡ Ok (test, rest)
 unfolding test_at
@@ -70,7 +65,8 @@ test_read c test is rest = ap or_no_condition (condition_read c test is rest)
 
 as_variable : (t : List ℕ) (v : Named) → IsVariable (IsWithin 5) t v → variable_at (inside 5) t ≡ Ok (v, [])
 as_variable t v is =
-    ap (variable_at (inside 5)) (sym (append-nil t)) ∙ variable_read (inside 5) (IsWithin 5) (inner_reads 5) t v is [] refl
+    ap (variable_at (inside 5)) (sym (append-nil t))
+    ∙ variable_read (inside 5) (IsWithin 5) (inner_reads 5) t v is [] refl
 
 -- a target that is no number
 abbrev pub other_target : List ℕ → Read Aim
@@ -97,17 +93,13 @@ target_read _ _ (line_of _ _ (fixed t n is)) =
 target_read _ _ (line_of _ _ (computed t e is)) =
     ap (λ r. r >>= λ v. Ok (ToNumberOf (look v.0), v.1)) (as_variable _ _ (computed t e is))
 target_read _ _ (line_in _ _ (closed t e is)) =
-    let all = append-nil (codes "[" ++ (t ++ codes "]")) in
     ap (λ r. r >>= λ e. Ok (ToNumberOf e.0, e.1))
-    (ap (bracket_at (inside 5)) (sym all) ∙ bracket_read (inside 5) (IsWithin 5) (inner_reads 5) _ e (closed t e is) [])
-
-pub loop_known : (word : List ℕ) (m : ℕ) → IsWord loop_words word m → loop_of word ≡ Some m
-unfolding loop_of loop_word
-loop_known word m is = each loop_words (λ w m. loop_of w ≡ Some m) (refl, (refl, (refl, tt))) word m is
+    (ap (bracket_at (inside 5)) (sym (append-nil (codes "[" ++ (t ++ codes "]"))))
+    ∙ bracket_read (inside 5) (IsWithin 5) (inner_reads 5) _ e (closed t e is) [])
 
 loop_read : (word : List ℕ) (m : ℕ) → IsWord loop_words word m → loop_at word ≡ Ok (m, [])
 unfolding loop_at loop_of loop_word
-loop_read word m is = each loop_words (λ w m. loop_at w ≡ Ok (m, [])) (refl, (refl, (refl, tt))) word m is
+loop_read = each loop_words (λ w m. loop_at w ≡ Ok (m, [])) (refl also refl also refl also tt)
 
 abbrev pub equals : Named × List ℕ → Read (Named × Tree)
 equals v = word_at (codes "=") v.1 >>= λ rest. inside 6 rest >>= λ e. Ok ((v.0, e.0), e.1)
@@ -122,7 +114,11 @@ starts_as_variable : (t : List ℕ) (v : Named) (e : Tree) → IsAssignment t v 
 starts_as_variable _ _ _ (assigns _ u _ e (fixed t n w) is) = refl
 starts_as_variable _ _ _ (assigns _ u _ e (computed t x w) is) = refl
 
-abbrev pub as_assign : (Named × Tree) × List ℕ → Read Sentence
+-- what stands behind the condition of WHILE
+abbrev pub looping : Test × List ℕ → Read Sentence
+looping test = word_at (codes "DO") test.1 >>= λ rest. loop_at rest >>= λ m. Ok (WhileDo test.0 m.0, m.1)
+
+abbrev as_assign : (Named × Tree) × List ℕ → Read Sentence
 as_assign a = Ok (Assign a.0.0 a.0.1, a.1)
 
 statement_read : (t : List ℕ) (s : Sentence) → IsStatement t s → statement_at t ≡ Ok (s, [])
@@ -138,7 +134,7 @@ statement_read _ _ (if_then c t test v e is_test is) =
     ap (λ r. r >>= (λ x. branch_by x.0 (behind (codes "GOTO") x.1) x.1)) (test_read c test is_test (codes "THEN" ++ t))
     ∙ ap (λ r. r >>= (λ a. Ok (IfThen test a.0.0 a.0.1, a.1))) (assignment_read t v e is)
 statement_read _ _ (while_do c word test m is_test is) =
-    ap (λ r. r >>= (λ x. word_at (codes "DO") x.1 >>= λ rest. loop_at rest >>= λ m. Ok (WhileDo x.0 m.0, m.1))) (test_read c test is_test (codes "DO" ++ word))
+    ap (λ r. r >>= looping) (test_read c test is_test (codes "DO" ++ word))
     ∙ ap (λ r. r >>= (λ m. Ok (WhileDo test m.0, m.1))) (loop_read word m is)
 statement_read _ _ (do_only word m is) = ap (λ r. r >>= (λ m. Ok (DoOnly m.0, m.1))) (loop_read word m is)
 statement_read _ _ (end_loop word m is) = ap (λ r. r >>= (λ m. Ok (EndLoop m.0, m.1))) (loop_read word m is)

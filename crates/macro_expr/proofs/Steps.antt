@@ -1,86 +1,44 @@
--- Steps of a reading: what is read stands at the head of the text by the grammar, and where reading stops its cause stands.
-use Rattle.std.proofs.Common.{◌≡◌, ℕ, List, [], ◌++◌, Option, None, Some, Ok, Err, refl, sym, ◌∙◌, ap, subst, append_assoc}
-use Rattle.std.proofs.lemmas.List.{append-nil}
+-- Steps of a reading: what is read stands at the head of the text by the grammar.
+use Rattle.std.proofs.Common.{◌≡◌, ℕ, List, ◌++◌, Ok, Err, append_assoc}
 use Rattle.macro_expr.specs.declared.stop.Stop.{Stop}
 use Rattle.macro_expr.specs.declared.stop.Stop.TheVariants as stop
-use Rattle.macro_expr.specs.Words.{behind}
 use Rattle.nc_number.specs.Results.{◌>>=◌}
 use Rattle.macro_expr.specs.Reading.{Read, expected, word_at}
-use Rattle.macro_expr.specs.Refusals.{Lacks}
-use Rattle.macro_expr.proofs.Heads.{behind-sound}
+use Rattle.macro_expr.proofs.Heads.{behind_word}
 
-abbrev pub Sound : {A : Type 0} → (List ℕ → A → Type 0) → (Stop → Type 0) → List ℕ → Read A → Type 0
-Sound Is Fails text (Ok found) = (t : List ℕ) × (text ≡ t ++ found.1) × Is t found.0
-Sound Is Fails text (Err s) = Fails s
+-- what is read stands at the head of the text, or reading stops
+pub data Sound {A : Type 0} (Is : List ℕ → A → Type 0) (text : List ℕ) : Read A → Type 0 where
+  found : (t rest : List ℕ) (x : A) → Is t x → text ≡ t ++ rest → Sound Is text (Ok (x, rest))
+  stops : (s : Stop) → Sound Is text (Err s)
+
+-- so of each text
+abbrev pub Reads : {A : Type 0} → (List ℕ → A → Type 0) → (List ℕ → Read A) → Type 0
+Reads Is reader = (text : List ℕ) → Sound Is text (reader text)
 
 -- a step, and what follows it
-pub step : {A B : Type 0} (Is : List ℕ → A → Type 0) (Fails : Stop → Type 0) (G : Read B → Type 0) (text : List ℕ)
-    (r : Read A) (f : A × List ℕ → Read B) → Sound Is Fails text r
-    → ((x : A) (rest t : List ℕ) → text ≡ t ++ rest → Is t x → G (f (x, rest)))
-    → ((s : Stop) → Fails s → G (Err s)) → G (r >>= f)
-step Is Fails G text (Ok found) f sound next fails = next found.0 found.1 sound.0 sound.1 sound.2
-step Is Fails G text (Err s) f sound next fails = fails s sound
+pub step : {A B : Type 0} {Is : List ℕ → A → Type 0} {Is' : List ℕ → B → Type 0} {at text : List ℕ} {r : Read A}
+    (f : A × List ℕ → Read B) → Sound Is at r
+    → ((t rest : List ℕ) (x : A) → Is t x → at ≡ t ++ rest → Sound Is' text (f (x, rest))) → Sound Is' text (r >>= f)
+step f (found t rest x is stands) next = next t rest x is stands
+step f (stops s) next = stops s
 
 -- a word that must stand there
-pub word_step : {B : Type 0} (G : Read B → Type 0) (word text : List ℕ) (f : List ℕ → Read B)
-    → ((rest : List ℕ) → text ≡ word ++ rest → G (f rest)) → G (Err stop.Expression) → G (word_at word text >>= f)
+pub word_step : {B : Type 0} {Is : List ℕ → B → Type 0} {text : List ℕ} (f : List ℕ → Read B) (word at : List ℕ)
+    → ((rest : List ℕ) → at ≡ word ++ rest → Sound Is text (f rest)) → Sound Is text (word_at word at >>= f)
 unfolding word_at
-word_step {B} G word text f next fails = go (behind word text) refl
-  where
-    go : (o : Option (List ℕ)) → behind word text ≡ o → G (expected o >>= f)
-    go None none = fails
-    go (Some rest) some = next rest (behind-sound word text rest some)
-
--- what a part makes behind a front, with an ending
-abbrev pub Extended : {B : Type 0} → (List ℕ → B → Type 0) → List ℕ → List ℕ → Type 0
-Extended {B} Is front t = (ending u : List ℕ) × (y : B) × (u ≡ front ++ (t ++ ending)) × Is u y
-
--- where the part stops, the whole stops
-pub within : {A B : Type 0} (Is : List ℕ → A → Type 0) (Is' : List ℕ → B → Type 0) (Other Other' : Stop → Type 0)
-    → ((s : Stop) → Other s → Other' s) → (front text at : List ℕ) → text ≡ front ++ at
-    → ((t : List ℕ) (x : A) → Is t x → Extended Is' front t) → (s : Stop) → Lacks Is Other at s → Lacks Is' Other' text s
-within Is Is' Other Other' other front text at here extend stop.Expression lacks = tt
-within Is Is' Other Other' other front text at here extend stop.Function u =
-    record {
-      before = front ++ u.before;
-      name = u.name;
-      rest = u.rest;
-      stands = here ∙ ap (λ xs. front ++ xs) u.stands ∙ simp append_assoc;
-      letters = u.letters;
-      some = u.some;
-      ends = u.ends;
-      unknown = u.unknown;
-      place = λ p e is.
-          let c = u.place p e is in
-          let x = extend (u.before ++ (p ++ c.0)) c.1 c.2 in
-          let same : x.1 ≡ (front ++ u.before) ++ (p ++ (c.0 ++ x.0)) = x.3 ∙ simp append_assoc in
-          (c.0 ++ x.0, x.2, subst (λ xs. Is' xs x.2) same x.4);
-    }
-within Is Is' Other Other' other front text at here extend stop.Condition lacks = other stop.Condition lacks
-within Is Is' Other Other' other front text at here extend stop.Loop lacks = other stop.Loop lacks
-within Is Is' Other Other' other front text at here extend stop.Sequence lacks = other stop.Sequence lacks
+word_step {Is} {text} f word at next =
+    behind_word (λ o. Sound Is text (expected o >>= f)) word at next (stops stop.Expression)
 
 -- a part behind a front, and what both make
-pub joins : {A B : Type 0} (Is : List ℕ → A → Type 0) (Is' : List ℕ → B → Type 0) (Other Other' : Stop → Type 0)
-    → ((s : Stop) → Other s → Other' s) → (mk : A → B) (front text at : List ℕ) → text ≡ front ++ at
-    → ((t : List ℕ) (x : A) → Is t x → (u : List ℕ) × (u ≡ front ++ t) × Is' u (mk x))
-    → (r : Read A) → Sound Is (Lacks Is Other at) at r
-    → Sound Is' (Lacks Is' Other' text) text (r >>= λ x. Ok (mk x.0, x.1))
-joins Is Is' Other Other' other mk front text at here make r sound =
-    step Is (Lacks Is Other at) (Sound Is' (Lacks Is' Other' text) text) at r (λ x. Ok (mk x.0, x.1)) sound
-    (λ x rest t stands is.
-    let m = make t x is in
-    let apart : front ++ (t ++ rest) ≡ (front ++ t) ++ rest = simp append_assoc in
-    (m.0, here ∙ ap (λ xs. front ++ xs) stands ∙ apart ∙ ap (λ xs. xs ++ rest) (sym m.1), m.2))
-    (within Is Is' Other Other' other front text at here
-    (λ t x is.
-    let m = make t x is in
-    ([], m.0, mk x, m.1 ∙ ap (λ xs. front ++ xs) (sym (append-nil t)), m.2)))
+pub joins : {A B : Type 0} {Is : List ℕ → A → Type 0} {Is' : List ℕ → B → Type 0} {at text : List ℕ} {r : Read A}
+    (front : List ℕ) (mk : A → B) → ((t : List ℕ) (x : A) → Is t x → Is' (front ++ t) (mk x)) → text ≡ front ++ at
+    → Sound Is at r → Sound Is' text (r >>= λ x. Ok (mk x.0, x.1))
+joins front mk make here (found t rest x is stands) =
+    found (front ++ t) rest (mk x) (make t x is) (simp (here, stands, append_assoc))
+joins front mk make here (stops s) = stops s
 
 -- a part that is the whole
-pub turned : {A : Type 0} (Is Is' : List ℕ → A → Type 0) (Other : Stop → Type 0) (text : List ℕ)
-    → ((t : List ℕ) (x : A) → Is t x → Is' t x) → (r : Read A) → Sound Is (Lacks Is Other text) text r
-    → Sound Is' (Lacks Is' Other text) text r
-turned Is Is' Other text make (Ok found) sound = (sound.0, sound.1, make sound.0 found.0 sound.2)
-turned Is Is' Other text make (Err s) sound =
-    within Is Is' Other Other (λ _ x. x) [] text text refl (λ t x is. ([], t, x, sym (append-nil t), make t x is)) s sound
+pub turned : {A : Type 0} {Is Is' : List ℕ → A → Type 0} {text : List ℕ} {r : Read A}
+    → ((t : List ℕ) (x : A) → Is t x → Is' t x) → Sound Is text r → Sound Is' text r
+turned make (found t rest x is stands) = found t rest x (make t x is) stands
+turned make (stops s) = stops s

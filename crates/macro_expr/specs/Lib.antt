@@ -5,4 +5,3 @@ pub mod Statements
 pub mod Limits
 pub mod Answers
 pub mod Grammar
-pub mod Refusals

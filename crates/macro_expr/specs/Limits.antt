@@ -17,8 +17,8 @@ use Rattle.macro_expr.specs.Words.{run, begins}
 abbrev pub refusal : Cause → ExprFault
 refusal cause = record { number = cause_number cause }
 
--- The text without spaces, tabs and comments, and in upper case. The test says whether it begins inside a comment. A comment
--- that is open at the end leaves its bracket, which is no part of any expression.
+-- The text without spaces, tabs and comments, and in upper case. The test says whether it begins inside a comment.
+-- A comment that is open at the end leaves its bracket, which is no part of any expression.
 abbrev pub cleaned : Bool → List ℕ → List ℕ
 cleaned true [] = codes "("
 cleaned false [] = []

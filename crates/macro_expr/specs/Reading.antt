@@ -28,7 +28,9 @@ word_at word text = expected (behind word text)
 -- the number of a literal, in millionths
 unfoldable pub literal_of : List ℕ → Result ℤ Stop
 literal_of digits =
-    if is_literal digits then (if has_too_many_digits digits then Err stop.Expression else Ok (literal_micro digits)) else Err stop.Expression
+    if is_literal digits
+    then (if has_too_many_digits digits then Err stop.Expression else Ok (literal_micro digits))
+    else Err stop.Expression
 
 unfoldable pub number_at : List ℕ → Read Tree
 number_at text = do
@@ -90,7 +92,8 @@ unfoldable pub signed_at : (List ℕ → Read Tree) → List ℕ → Read Tree
 signed_at inner text = signed_by inner (sign text) text
 
 -- what an operator joins to left; without one left stands alone
-abbrev pub joined_by : Tree → List ℕ → Option (Op × List ℕ) → (List ℕ → Read Tree) → (Tree → List ℕ → Read Tree) → Read Tree
+abbrev pub joined_by : Tree → List ℕ → Option (Op × List ℕ) → (List ℕ → Read Tree) → (Tree → List ℕ → Read Tree)
+    → Read Tree
 joined_by left text None operand next = Ok (left, text)
 joined_by left text (Some found) operand next = do
   right ← operand found.1

@@ -82,7 +82,8 @@ unfoldable pub function_of : List ℕ → Option Fun
 function_of name = all_of (function_word name)
 
 abbrev pub keyword_words : List (List ℕ × Keyword)
-keyword_words = (codes "IF", If) ∷ (codes "WHILE", While) ∷ (codes "GOTO", Goto) ∷ (codes "DO", Do) ∷ (codes "END", End) ∷ []
+keyword_words =
+    (codes "IF", If) ∷ (codes "WHILE", While) ∷ (codes "GOTO", Goto) ∷ (codes "DO", Do) ∷ (codes "END", End) ∷ []
 
 -- the word that begins a statement
 unfoldable pub keyword : List ℕ → Option (Keyword × List ℕ)

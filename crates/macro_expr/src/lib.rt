@@ -10,13 +10,11 @@
 mod limits;
 mod parse;
 mod reading;
-mod refusals;
 mod statements;
 mod stop;
 mod tree;
 mod words;
 
 pub use parse::{no_text_has_two_trees, parse_expr, parse_statement};
-pub use refusals::reading_stops_for_a_cause;
 pub use stop::Stop;
 pub use tree::{Cond, Expr, ExprFault, Fun, Op, Rel, Statement, Target, VarRef};

@@ -97,7 +97,8 @@ pub(crate) fn function_of(name: &[u8]) -> Option<Fun>
 pub(crate) fn leading_keyword(text: &[u8]) -> Option<(Keyword, &[u8])>
     ensures { option_map (λ found. (found.0, found.1.now)) result ≡ keyword text.now }
 {
-    first_word!(text: b"IF" Keyword::If, b"WHILE" Keyword::While, b"GOTO" Keyword::Goto, b"DO" Keyword::Do, b"END" Keyword::End)
+    first_word!(text: b"IF" Keyword::If, b"WHILE" Keyword::While, b"GOTO" Keyword::Goto,
+        b"DO" Keyword::Do, b"END" Keyword::End)
 }
 
 /// The loop number with which the text begins, and what stands behind it.

@@ -1,5 +1,5 @@
 -- Which refusal is answered, by the cases of what is read and which limits are passed.
-use Rattle.std.proofs.Common.{◌≡◌, ◌↔◌, ℕ, ◌==◌, ◌&&◌, Bool, true, false, not, cond, List, Result, Ok, Err, refl, sym, ◌∙◌, ap, subst, eqb-true, eq-eqb}
+use Rattle.std.proofs.Common.{◌≡◌, ◌↔◌, ℕ, ◌==◌, ◌&&◌, Bool, true, false, not, cond, List, Result, Ok, Err, refl, sym, ◌∙◌, ap, eqb-true, eq-eqb}
 use Rattle.std.proofs.lemmas.Bool.{and_parts, and_from, true≢false}
 use Rattle.nc_number.specs.declared.cause.Cause.{Cause}
 use Rattle.nc_number.specs.declared.cause.Cause.TheVariants.{TooManyDigits, TooManyBrackets, TooManyVariables}
@@ -8,10 +8,8 @@ use Rattle.macro_expr.specs.declared.tree.ExprFault.{ExprFault}
 use Rattle.macro_expr.specs.declared.stop.Stop.{Stop}
 use Rattle.macro_expr.specs.declared.stop.Stop.TheVariants as stop
 use Rattle.macro_expr.specs.Limits.{has_long_number, has_deep_brackets, has_many_variables, refusal, cause_beside, answer}
-use Rattle.macro_expr.specs.Grammar.{IsExpression, IsStatement}
-use Rattle.macro_expr.specs.Refusals.{Lacks, Never, OfStatement}
 use Rattle.macro_expr.specs.Statements.{expression_at, statement_at, whole}
-use Rattle.macro_expr.proofs.StatementsSound.{SoundWhole, whole-expression-sound, whole-statement-sound}
+use Rattle.macro_expr.proofs.StatementsSound.{whole-expression-sound, whole-statement-sound}
 use Rattle.macro_limits.specs.Refused.{IsWithinLimits, stops_before_variables, IsRefusedByLimits}
 use Rattle.macro_limits.proofs.Grammar.{expression_limits, statement_limits}
 
@@ -42,7 +40,8 @@ Told n long deep many below =
     (long, not long && deep, (not long && not deep) && (many && not below))
 
 told_stop : (A : Type 0) (stop : Stop) (long deep many : Bool)
-    → Told (cond long (refusal TooManyDigits) (cond deep (refusal TooManyBrackets) (refusal (cause_beside many stop)))).number
+    → Told
+    (cond long (refusal TooManyDigits) (cond deep (refusal TooManyBrackets) (refusal (cause_beside many stop)))).number
     long deep many (stops_before_variables {A = A} (Err stop))
 told_stop A stop true deep many = refl
 told_stop A stop false true many = refl
@@ -113,13 +112,9 @@ refused text read within =
 pub expression_refused : (text : List ℕ)
     → IsRefusedByLimits text (whole (expression_at text)) (answer text (whole (expression_at text)))
 expression_refused text =
-    let Sound = SoundWhole IsExpression (Lacks IsExpression Never text) text in
-    refused text (whole (expression_at text))
-    (λ e is. expression_limits text e (subst Sound is (whole-expression-sound text)))
+    refused text (whole (expression_at text)) (λ e read. expression_limits text e (whole-expression-sound text e read))
 
 pub statement_refused : (text : List ℕ)
     → IsRefusedByLimits text (whole (statement_at text)) (answer text (whole (statement_at text)))
 statement_refused text =
-    let Sound = SoundWhole IsStatement (Lacks IsStatement (OfStatement text) text) text in
-    refused text (whole (statement_at text))
-    (λ s is. statement_limits text s (subst Sound is (whole-statement-sound text)))
+    refused text (whole (statement_at text)) (λ s read. statement_limits text s (whole-statement-sound text s read))

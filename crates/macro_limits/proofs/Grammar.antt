@@ -11,7 +11,7 @@ use Rattle.macro_expr.specs.declared.tree.Op.{Op}
 use Rattle.macro_expr.specs.Tree.{Tree, Named, Test, Sentence}
 use Rattle.macro_expr.specs.Words.{operator_words, sign_words, function_words, relation_words, loop_words}
 use Rattle.macro_expr.specs.Grammar.{IsWord, IsBracketed, closed, IsVariable, fixed, computed, IsPrim, number, variable, bracket, function, IsSigned, plain, signed, IsChain, one, more, IsProduct, IsSum, IsWithin, IsExpression, IsTest, compares, IsTarget, line, line_of, line_in, IsAssignment, assigns, IsStatement, assign, goto, if_goto, if_then, while_do, do_only, end_loop}
-use Rattle.macro_expr.proofs.Heads.{Each, each}
+use Rattle.macro_expr.proofs.Heads.{Each, ◌also◌, each}
 use Rattle.macro_limits.specs.Refused.{IsWithinLimits}
 use Rattle.macro_limits.proofs.Scan.{passes_limit, text_within}
 use Rattle.macro_limits.proofs.Numbers.{Starts, Ends, Passes, Opens, opens_passes, is_plain_word, no_digit, word_ends, open_ends, close_ends, head_digits, number_passes, whole_passes}
@@ -27,8 +27,8 @@ word_is_plain words all word m is = each words (λ w _. is_plain_word w ≡ true
 
 operator_plain : (rank : Rank) (word : List ℕ) (op : Op) → IsWord (operator_words rank) word op
     → is_plain_word word ≡ true
-operator_plain Product = word_is_plain (operator_words Product) (refl, (refl, (refl, (refl, tt))))
-operator_plain Sum = word_is_plain (operator_words Sum) (refl, (refl, (refl, (refl, tt))))
+operator_plain Product = word_is_plain (operator_words Product) (refl also refl also refl also refl also tt)
+operator_plain Sum = word_is_plain (operator_words Sum) (refl also refl also refl also refl also tt)
 
 -- a part behind a plain word
 word_opens : (word t : List ℕ) (opened : ℕ) → opened ≤ 5 → is_plain_word word ≡ true → Passes opened t
@@ -50,7 +50,8 @@ inside_opens t opened few passes rest end =
     let apart : t ++ (93 ∷ rest) ≡ (t ++ codes "]") ++ rest = simp append_assoc in
     let small : opened ≤ 5 = omega (arith, few) in
     subst (λ xs. Ends opened (91 ∷ xs)) apart
-    (open_ends (t ++ (93 ∷ rest)) opened small (passes (93 ∷ rest) (close_ends rest opened few (λ last quiet. end.1 last))))
+    (open_ends (t ++ (93 ∷ rest)) opened small
+    (passes (93 ∷ rest) (close_ends rest opened few (λ last quiet. end.1 last))))
 
 chain_passes : (rank : Rank) (First Operand : List ℕ → Tree → Type 0) (opened : ℕ) → opened ≤ 5
     → AllPass opened First → AllPass opened Operand → AllPass opened (IsChain rank First Operand)
@@ -77,13 +78,14 @@ module _ (Inner : List ℕ → Tree → Type 0) (opened : ℕ) (few : opened ≤
   prim_passes _ _ (bracket t e is) = bracket_passes t e is
   prim_passes _ _ (function name t f e is_word is) =
       opens_passes opened (name ++ t) (word_opens name t opened few
-      (word_is_plain function_words (refl, (refl, (refl, (refl, (refl, tt))))) name f is_word) (bracket_passes t e is))
+      (word_is_plain function_words (refl also refl also refl also refl also refl also tt) name f is_word)
+      (bracket_passes t e is))
 
   signed_passes : AllPass opened (IsSigned Inner)
   signed_passes _ _ (plain t e is) = prim_passes t e is
   signed_passes _ _ (signed word t minus e is_word is) =
       opens_passes opened (word ++ t) (word_opens word t opened few
-      (word_is_plain sign_words (refl, (refl, tt)) word minus is_word) (prim_passes t e is))
+      (word_is_plain sign_words (refl also refl also tt) word minus is_word) (prim_passes t e is))
 
   sum_passes : AllPass opened (IsSum Inner)
   sum_passes =
@@ -117,7 +119,7 @@ behind_word word t is_plain passes = word_opens word t 0 none_open is_plain pass
 test_opens : (t : List ℕ) (test : Test) → IsTest t test → Opens 0 t
 test_opens _ _ (compares t word u rel left right is_left is_word is_right) =
     let is_plain =
-    word_is_plain relation_words (refl, (refl, (refl, (refl, (refl, (refl, tt)))))) word rel is_word in
+    word_is_plain relation_words (refl also refl also refl also refl also refl also refl also tt) word rel is_word in
     let apart : codes "[" ++ ((t ++ (word ++ u)) ++ codes "]") ≡ codes "[" ++ (t ++ (word ++ (u ++ codes "]"))) =
     simp append_assoc in
     let behind = word_opens word u 1 (omega arith) is_plain (in_brackets u right is_right).1 in
@@ -136,11 +138,12 @@ assignment_passes _ _ _ (assigns t u v e is_variable is) =
 
 -- the number of a loop is digits, and few
 abbrev IsShort : List ℕ → ℕ → Type 0
-IsShort word m = ◌≡◌ {A = Bool × Bool} (list_all is_ascii_digit word, nat_lt 8 (length (significant word))) (true, false)
+IsShort word m =
+    ◌≡◌ {A = Bool × Bool} (list_all is_ascii_digit word, nat_lt 8 (length (significant word))) (true, false)
 
 loop_passes : (word : List ℕ) (m : ℕ) → IsWord loop_words word m → Passes 0 word
 loop_passes word m is rest end last quiet =
-    let b = each loop_words IsShort (refl, (refl, (refl, tt))) word m is in
+    let b = each loop_words IsShort (refl also refl also refl also tt) word m is in
     head_digits word rest 0 last none_open (ap (λ q. q.0) b) end.1 (no_digit rest end.0)
     (ap (λ x. cond x (nat_lt 6 (length word)) (nat_lt 8 (length (significant word)))) quiet ∙ ap (λ q. q.1) b)
 

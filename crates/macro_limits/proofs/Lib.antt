@@ -2,3 +2,5 @@ pub mod Scan
 pub mod Numbers
 pub mod Grammar
 pub mod Exact
+pub mod Stopping
+pub mod StatementsStopping

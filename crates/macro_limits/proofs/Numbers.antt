@@ -54,8 +54,8 @@ quiet_byte opened last b text few other further =
     or_from _ _ (le-ltb 5 opened few) (or_from _ _ (ap (λ x. x && not (is_ascii_digit last) && many) other) further)
 
 -- one digit, which begins no number that is too long
-digit_byte : (opened last b : ℕ) (text : List ℕ) → opened ≤ 5 → is_ascii_digit b ≡ true → long_at last (b ∷ text) ≡ false
-    → passes_limit opened b text ≡ false → passes_limit opened last (b ∷ text) ≡ false
+digit_byte : (opened last b : ℕ) (text : List ℕ) → opened ≤ 5 → is_ascii_digit b ≡ true
+    → long_at last (b ∷ text) ≡ false → passes_limit opened b text ≡ false → passes_limit opened last (b ∷ text) ≡ false
 digit_byte opened last b text few digit short further =
     let no_open : (b == 91) ≡ false = grind (arith, nat_tests) in
     let no_close : (b == 93) ≡ false = grind (arith, nat_tests) in
@@ -168,7 +168,8 @@ unsigned_literal t =
     && nat_lt 0 (length (before_first is_point t) + length (after_first is_point t))
 
 abbrev unsigned_long : List ℕ → Bool
-unsigned_long t = nat_lt 8 (length (significant (before_first is_point t))) || nat_lt 6 (length (after_first is_point t))
+unsigned_long t =
+    nat_lt 8 (length (significant (before_first is_point t))) || nat_lt 6 (length (after_first is_point t))
 
 digits_pass : (t : List ℕ) (opened : ℕ) → opened ≤ 5 → list_all is_number_byte t ≡ true → is_literal t ≡ true
     → has_too_many_digits t ≡ false → Passes opened t

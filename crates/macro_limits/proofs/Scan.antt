@@ -1,4 +1,4 @@
--- One walk over a text sees both limits. Of what stands before a byte it keeps the last byte and how many brackets are open.
+-- One walk over a text sees both limits. Of what stands before a byte it keeps the last one and the brackets' number.
 use Rattle.std.proofs.Common.{◌≡◌, ℕ, ◌+◌, ◌-◌, ◌==◌, ◌&&◌, ◌||◌, not, Bool, true, false, cond, List, [], ◌∷◌, ◌++◌, length, slice_index, nat_lt, refl, ◌∙◌, ap, arith, if◌then◌else◌}
 use Rattle.std.specs.Char.{is_ascii_digit}
 use Rattle.std.proofs.lemmas.Bool.{or_parts, or_from, lt-ltb}

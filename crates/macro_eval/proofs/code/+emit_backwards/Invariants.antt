@@ -10,4 +10,5 @@ decreases-emit_backwards l = right_depth (tree_of l.tree.now)
 abbrev pub invariant-loop-part : goal.invariant-loop-part
 invariant-loop-part l =
     (right_depth (tree_of l.part) ≤ right_depth (tree_of l.tree))
-    × (code_before (tree_of l.part) (reverse l.instrs.items) ≡ code_before (tree_of l.tree) (reverse l.initial.instrs.items))
+    × (code_before (tree_of l.part) (reverse l.instrs.items)
+    ≡ code_before (tree_of l.tree) (reverse l.initial.instrs.items))

@@ -5,4 +5,5 @@ use Rattle.macro_eval.proofs.running.run.Given as goal
 abbrev pub invariant-loop-instr : goal.invariant-loop-instr
 invariant-loop-instr g l =
     (fits 16 (drop l.instr-index l.instrs) (length l.stack) ≡ true)
-    × (run (g.S.Scope.table l.scope) (drop l.instr-index l.instrs) l.stack l.left ≡ run (g.S.Scope.table l.scope) l.instrs [] l.fn.reads)
+    × (run (g.S.Scope.table l.scope) (drop l.instr-index l.instrs) l.stack l.left
+    ≡ run (g.S.Scope.table l.scope) l.instrs [] l.fn.reads)

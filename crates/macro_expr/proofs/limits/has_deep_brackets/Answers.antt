@@ -7,4 +7,5 @@ pub returns-in-91 : goal.returns-in-91
 unfolding has_deep_brackets
 returns-in-91 c =
     sym (sym c.loop-b.invariant.1
-    ∙ deep_here c.args.text.now c.loop-b.b-index c.loop-b.opened c.loop-b-test.true c.in-91.is c.if-opened-eq-MOST_BRACKETS.true)
+    ∙ deep_here c.args.text.now c.loop-b.b-index c.loop-b.opened c.loop-b-test.true c.in-91.is
+    c.if-opened-eq-MOST_BRACKETS.true)

@@ -1,10 +1,19 @@
-use Rattle.macro_expr.proofs.Counts.{statement_named}
-use Rattle.macro_expr.proofs.Shallow.{statement_within}
-use Rattle.macro_expr.proofs.Trees.{one_expression, one_statement}
+use Rattle.std.proofs.Common.{◌≡◌, ℕ, List, Result, Ok}
+use Rattle.macro_expr.specs.declared.stop.Stop.{Stop}
+use Rattle.macro_expr.specs.Statements.{expression_at, statement_at, whole}
+use Rattle.macro_expr.proofs.StatementsComplete.{whole_expression_read, whole_statement_read}
 use Rattle.macro_expr.proofs.parse.no_text_has_two_trees.Goals as goal
 
+-- what is read of a text is one tree
+one_tree : {A : Type 0} {Is : List ℕ → A → Type 0} (read : List ℕ → Result A Stop)
+    → ((t : List ℕ) (x : A) → Is t x → read t ≡ Ok x) → (t : List ℕ) (a b : A) → Is t a → Is t b → a ≡ b
+one_tree read reads t a b is_a is_b =
+    let left = reads t a is_a in
+    let right = reads t b is_b in
+    cc
+
 pub returns : goal.returns
-returns c =
-    let x = statement_named in
-    let y = statement_within in
-    record { expressions = one_expression; statements = one_statement }
+returns c = record {
+  expressions = one_tree (λ t. whole (expression_at t)) whole_expression_read;
+  statements = one_tree (λ t. whole (statement_at t)) whole_statement_read;
+}

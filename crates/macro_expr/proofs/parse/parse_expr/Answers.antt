@@ -3,31 +3,26 @@ use Rattle.macro_expr.specs.Tree.{tree_of, right_depth, variables}
 use Rattle.macro_expr.specs.Statements.{expression_at, whole}
 use Rattle.macro_expr.specs.Limits.{cleaned, variable_signs}
 use Rattle.macro_expr.specs.Answers.{HasTree}
-use Rattle.macro_expr.proofs.Counts.{expression_named}
-use Rattle.macro_expr.proofs.Shallow.{expression_within}
+use Rattle.macro_expr.proofs.Kept.{expression_kept}
 use Rattle.macro_expr.proofs.StatementsComplete.{whole_expression_read}
-use Rattle.macro_expr.proofs.Trees.{only, expression_has}
+use Rattle.macro_expr.proofs.StatementsSound.{whole-expression-sound}
+use Rattle.macro_expr.proofs.Trees.{has, only}
 use Rattle.macro_expr.proofs.parse.parse_expr.Goals as goal
 
-pub returns-clause-found : goal.returns-clause-found
-returns-clause-found c =
-    expression_has tree_of (cleaned false c.args.text.now) (HasTree c.args.text.now) (λ e is few. (is, few))
-    c.answer_expression.result c.answer_expression.ensures
-
-pub returns-clause-only : goal.returns-clause-only
-returns-clause-only c = λ tree tree_is.
+pub returns : goal.returns
+returns c =
     let text = cleaned false c.args.text.now in
-    only tree_of text (whole (expression_at text)) c.answer_expression.result c.answer_expression.ensures tree
-    (whole_expression_read text tree tree_is.0) tree_is.1
-
-pub returns-clause-shallow : goal.returns-clause-shallow
-returns-clause-shallow c =
-    let text = cleaned false c.args.text.now in
-    expression_has tree_of text (λ e. right_depth e ≤ 12) (λ e is few. expression_within text e is)
-    c.answer_expression.result c.answer_expression.ensures
-
-pub returns-clause-named : goal.returns-clause-named
-returns-clause-named c =
-    let text = cleaned false c.args.text.now in
-    expression_has tree_of text (λ e. variables e ≤ variable_signs text) (λ e is few. expression_named text e is)
-    c.answer_expression.result c.answer_expression.ensures
+    let read = whole (expression_at text) in
+    let call = c.answer_expression in
+    let is = whole-expression-sound text in
+    record {
+      found = has tree_of text read call.result call.ensures (HasTree c.args.text.now) (λ e was few. (is e was, few));
+      only = λ e has. only tree_of text read call.result call.ensures e (whole_expression_read text e has.0) has.1;
+      exact = call.ensures;
+      shallow =
+          has tree_of text read call.result call.ensures (λ e. right_depth e ≤ 12)
+          (λ e was few. (expression_kept text e (is e was)).deep);
+      named =
+          has tree_of text read call.result call.ensures (λ e. variables e ≤ variable_signs text)
+          (λ e was few. (expression_kept text e (is e was)).named);
+    }

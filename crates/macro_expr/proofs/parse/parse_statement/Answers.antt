@@ -4,37 +4,31 @@ use Rattle.macro_expr.specs.Tree.{sentence_of, right_depth, evaluated, variables
 use Rattle.macro_expr.specs.Statements.{statement_at, whole}
 use Rattle.macro_expr.specs.Limits.{cleaned, variable_signs}
 use Rattle.macro_expr.specs.Answers.{HasSentence}
-use Rattle.macro_expr.proofs.Counts.{statement_named, statement_in_range}
-use Rattle.macro_expr.proofs.Shallow.{statement_within}
+use Rattle.macro_expr.proofs.Kept.{statement_kept}
 use Rattle.macro_expr.proofs.StatementsComplete.{whole_statement_read}
-use Rattle.macro_expr.proofs.Trees.{only, statement_has}
+use Rattle.macro_expr.proofs.StatementsSound.{whole-statement-sound}
+use Rattle.macro_expr.proofs.Trees.{has, only}
 use Rattle.macro_expr.proofs.parse.parse_statement.Goals as goal
 
-pub returns-clause-found : goal.returns-clause-found
-returns-clause-found c =
-    statement_has sentence_of (cleaned false c.args.text.now) (HasSentence c.args.text.now) (λ s is few. (is, few))
-    c.answer_statement.result c.answer_statement.ensures
-
-pub returns-clause-only : goal.returns-clause-only
-returns-clause-only c = λ tree tree_is.
+pub returns : goal.returns
+returns c =
     let text = cleaned false c.args.text.now in
-    only sentence_of text (whole (statement_at text)) c.answer_statement.result c.answer_statement.ensures tree
-    (whole_statement_read text tree tree_is.0) tree_is.1
-
-pub returns-clause-shallow : goal.returns-clause-shallow
-returns-clause-shallow c =
-    let text = cleaned false c.args.text.now in
-    statement_has sentence_of text (λ s. All (λ e. right_depth e ≤ 12) (evaluated s)) (λ s is few. statement_within text s is)
-    c.answer_statement.result c.answer_statement.ensures
-
-pub returns-clause-named : goal.returns-clause-named
-returns-clause-named c =
-    let text = cleaned false c.args.text.now in
-    statement_has sentence_of text (λ s. variables_in (evaluated s) ≤ variable_signs text) (λ s is few. statement_named text s is)
-    c.answer_statement.result c.answer_statement.ensures
-
-pub returns-clause-ranges : goal.returns-clause-ranges
-returns-clause-ranges c =
-    let text = cleaned false c.args.text.now in
-    statement_has sentence_of text IsInRange (λ s is few. statement_in_range text s is)
-    c.answer_statement.result c.answer_statement.ensures
+    let read = whole (statement_at text) in
+    let call = c.answer_statement in
+    let is = whole-statement-sound text in
+    record {
+      found =
+          has sentence_of text read call.result call.ensures (HasSentence c.args.text.now)
+          (λ s was few. (is s was, few));
+      only = λ s has. only sentence_of text read call.result call.ensures s (whole_statement_read text s has.0) has.1;
+      exact = call.ensures;
+      shallow =
+          has sentence_of text read call.result call.ensures (λ s. All (λ e. right_depth e ≤ 12) (evaluated s))
+          (λ s was few. (statement_kept text s (is s was)).0.shallow);
+      named =
+          has sentence_of text read call.result call.ensures (λ s. variables_in (evaluated s) ≤ variable_signs text)
+          (λ s was few. (statement_kept text s (is s was)).0.named);
+      ranges =
+          has sentence_of text read call.result call.ensures IsInRange
+          (λ s was few. (statement_kept text s (is s was)).1);
+    }

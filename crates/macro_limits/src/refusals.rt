@@ -2,9 +2,9 @@ ghost use Rattle.std.specs.Prelude.{◌≡◌, ℕ, List, Err};
 ghost use Rattle.macro_expr.specs.declared.stop.Stop.{Stop};
 ghost use Rattle.macro_expr.specs.Grammar.{IsExpression, IsStatement};
 ghost use Rattle.macro_expr.specs.Statements.{expression_at, statement_at, whole};
-ghost use Rattle.macro_expr.specs.Refusals.{Lacks, Never, OfStatement};
+ghost use Rattle.macro_limits.specs.Refusals.{Lacks, Never, OfStatement};
 
-/// Reading stops for a cause that is told over the grammar alone.
+/// A law: reading stops for a cause that is told over the grammar alone.
 ///
 /// It stops for an unknown function only where letters that name none stand in place of an operand;
 /// for a condition exactly where none stands behind IF or WHILE; for a loop exactly where DO, END,
