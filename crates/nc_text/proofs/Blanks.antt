@@ -57,6 +57,4 @@ pub only_comments : (skips : ℕ) (line : List ℕ) (ended : Bool) → list_all 
 unfolding line_says read_head
 only_comments skips line ended all closed =
     let signs = (signs_of line ended).list in
-    ap (λ (head : List Sign). judged (is_skipped skips (switch_of head)) (are_allowed signs) (signs_of line ended).unclosed (read_head head)) (none_behind signs all)
-    ∙ ap (λ (t : Bool). judged false t (signs_of line ended).unclosed no_block) (comments_allowed signs all)
-    ∙ ap (λ (t : Bool). judged false true t no_block) closed
+    λ i. judged (is_skipped skips (switch_of (none_behind signs all i))) (comments_allowed signs all i) (closed i) (read_head (none_behind signs all i))

@@ -1,10 +1,14 @@
 pub mod Cutting
 pub mod Placing
 pub mod LineEnds
+pub mod Counted
 pub mod Standing
+pub mod Deciding
 pub mod Growing
+pub mod Judged
 pub mod ShapeOfLine
 pub mod Shaping
+pub mod Mapped
 pub mod UpperCase
 pub mod Ignored
 pub mod Blanks

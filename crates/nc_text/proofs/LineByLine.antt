@@ -114,16 +114,17 @@ module _ (skips : ℕ) (f g : ℕ → ℕ) (w : Word → Word) where
   Rows m n (Both x y ∷ rows) = (f (m + 1) ≡ g (n + 1)) × SayAlike skips w x y × Rows (m + 1) (n + 1) rows
   Rows m n (Alone y ∷ rows) = SaysNothing skips y × Rows m (n + 1) rows
 
+  -- what is looked at of what was read, but for its lines and bytes
+  abbrev seen : (ℕ → ℕ) → Before → Before
+  seen h b = record { lines = 0; bytes = 0; percent = h b.percent; blocks = b.blocks; done = map (changed_program h w) b.done; current = option_map (changed_program h w) b.current }
+
   -- behind m lines of c bytes, and behind n lines of d bytes, the same has been read
   record Agree (m n c d : ℕ) (a b : Before) : Type 0 where
     lines_a : a.lines ≡ m
     lines_b : b.lines ≡ n
     bytes_a : a.bytes ≡ c
     bytes_b : b.bytes ≡ d
-    percent : f a.percent ≡ g b.percent
-    blocks : a.blocks ≡ b.blocks
-    done : map (changed_program f w) a.done ≡ map (changed_program g w) b.done
-    current : option_map (changed_program f w) a.current ≡ option_map (changed_program g w) b.current
+    same : seen f a ≡ seen g b
 
   -- both answers look the same
   abbrev pub Looks : Answer → Answer → Type 0
@@ -149,56 +150,37 @@ module _ (skips : ℕ) (f g : ℕ → ℕ) (w : Word → Word) where
 
   next_agree : (m n c d : ℕ) (a b : Before) (agree : Agree m n c d a b) (x y : Line) → Agree (m + 1) (n + 1) (c + line_size x) (d + line_size y) (next a (length x.bytes) x.ended) (next b (length y.bytes) y.ended)
   next_agree m n c d a b agree x y = record {
-    lines_a = ap (λ (k : ℕ). k + 1) agree.lines_a;
-    lines_b = ap (λ (k : ℕ). k + 1) agree.lines_b;
-    bytes_a = ap (λ (k : ℕ). k + line_size x) agree.bytes_a;
-    bytes_b = ap (λ (k : ℕ). k + line_size y) agree.bytes_b;
-    percent = agree.percent;
-    blocks = agree.blocks;
-    done = agree.done;
-    current = agree.current;
+    lines_a = λ i. agree.lines_a i + 1;
+    lines_b = λ i. agree.lines_b i + 1;
+    bytes_a = λ i. agree.bytes_a i + line_size x;
+    bytes_b = λ i. agree.bytes_b i + line_size y;
+    same = agree.same;
   }
 
   alone_agree : (m n c d : ℕ) (a b : Before) (agree : Agree m n c d a b) (y : Line) → Agree m (n + 1) c (d + line_size y) a (next b (length y.bytes) y.ended)
-  alone_agree m n c d a b agree y = record {
-    lines_a = agree.lines_a;
-    lines_b = ap (λ (k : ℕ). k + 1) agree.lines_b;
-    bytes_a = agree.bytes_a;
-    bytes_b = ap (λ (k : ℕ). k + line_size y) agree.bytes_b;
-    percent = agree.percent;
-    blocks = agree.blocks;
-    done = agree.done;
-    current = agree.current;
-  }
+  alone_agree m n c d a b agree y = record { lines_a = agree.lines_a; lines_b = λ i. agree.lines_b i + 1; bytes_a = agree.bytes_a; bytes_b = λ i. agree.bytes_b i + line_size y; same = agree.same }
 
   begun_agree : (m n c d : ℕ) (a b : Before) (agree : Agree m n c d a b) → f m ≡ g n → Agree m n c d (begun a) (begun b)
-  begun_agree m n c d a b agree last = record {
-    lines_a = agree.lines_a;
-    lines_b = agree.lines_b;
-    bytes_a = agree.bytes_a;
-    bytes_b = agree.bytes_b;
-    percent = ap f agree.lines_a ∙ last ∙ sym (ap g agree.lines_b);
-    blocks = agree.blocks;
-    done = agree.done;
-    current = agree.current;
-  }
+  begun_agree m n c d a b agree last =
+      let percent : f a.lines ≡ g b.lines = ap f agree.lines_a ∙ last ∙ sym (ap g agree.lines_b) in
+      record { lines_a = agree.lines_a; lines_b = agree.lines_b; bytes_a = agree.bytes_a; bytes_b = agree.bytes_b; same = λ i. record (agree.same i) { percent = percent i } }
 
   module _ (m n c d : ℕ) (a b : Before) (agree : Agree m n c d a b) where
     none_agree : is_none a.current ≡ is_none b.current
-    none_agree = sym (none_same F a.current) ∙ ap is_none agree.current ∙ none_same G b.current
+    none_agree = sym (none_same F a.current) ∙ (λ i. is_none (agree.same i).current) ∙ none_same G b.current
 
     programs_agree : map F (programs_of a) ≡ map G (programs_of b)
     programs_agree =
-        map-append F a.done (option_to_list a.current) ∙ ap (λ (ps : List Program). ps ++ map F (option_to_list a.current)) agree.done
-        ∙ ap (λ (ps : List Program). map G b.done ++ ps) (list_same F a.current ∙ ap option_to_list agree.current ∙ sym (list_same G b.current))
+        map-append F a.done (option_to_list a.current)
+        ∙ (λ i. (agree.same i).done ++ (list_same F a.current ∙ (λ j. option_to_list (agree.same j).current) ∙ sym (list_same G b.current)) i)
         ∙ sym (map-append G b.done (option_to_list b.current))
 
     finished_agree : Looks (finished a) (finished b)
-    finished_agree = chosen (is_none a.current) (is_none b.current) _ _ _ _ none_agree (refused_same (refusal_number NoProgramNumber) a.percent b.percent agree.percent) (λ some. taped_same (programs_of a) (programs_of b) programs_agree)
+    finished_agree = chosen (is_none a.current) (is_none b.current) _ _ _ _ none_agree (refused_same (refusal_number NoProgramNumber) a.percent b.percent (λ i. (agree.same i).percent)) (λ some. taped_same (programs_of a) (programs_of b) programs_agree)
 
     unfinished_agree : f m ≡ g n → Looks (unfinished a) (unfinished b)
     unfinished_agree last =
-        chosen (is_none a.current) (is_none b.current) _ _ _ _ none_agree (refused_same (refusal_number NoProgramNumber) a.percent b.percent agree.percent)
+        chosen (is_none a.current) (is_none b.current) _ _ _ _ none_agree (refused_same (refusal_number NoProgramNumber) a.percent b.percent (λ i. (agree.same i).percent))
         (λ some. refused_same (refusal_number NoEnd) a.lines b.lines (ap f agree.lines_a ∙ last ∙ sym (ap g agree.lines_b)))
 
     module _ (here : f (m + 1) ≡ g (n + 1)) where
@@ -211,40 +193,33 @@ module _ (skips : ℕ) (f g : ℕ → ℕ) (w : Word → Word) where
       unless_agree (Some r) None x y k l e later = absurd cc
       unless_agree (Some r) (Some s) x y k l e later =
           let same : r ≡ s = cc in
-          refused_same (refusal_number r) (a.lines + 1) (b.lines + 1) number_here ∙ ap (λ (t : Refusal). changed g w (Err (fault_behind b t))) same
+          λ i. refused (refusal_number (same i)) (number_here i)
 
       program_agree : (i j : Option ℕ) → i ≡ j → Agree m n c d (with_said a (said.Program i)) (with_said b (said.Program j))
       program_agree None None e = agree
       program_agree None (Some j) e = absurd cc
       program_agree (Some i) None e = absurd cc
       program_agree (Some i) (Some j) e =
-          let same : i ≡ j = cc in
+          let number : i ≡ j = cc in
           record {
             lines_a = agree.lines_a;
             lines_b = agree.lines_b;
             bytes_a = agree.bytes_a;
             bytes_b = agree.bytes_b;
-            percent = agree.percent;
-            blocks = agree.blocks;
-            done = programs_agree;
-            current = ap (λ (k : ℕ). Some (program_at k i)) number_here ∙ ap (λ (k : ℕ). Some (program_at (g (b.lines + 1)) k)) same;
+            same = λ i. record (agree.same i) { done = programs_agree i; current = Some (program_at (number_here i) (number i)) };
           }
 
       block_agree : (x y : SaidBlock) → changed_said w (said.Block x) ≡ changed_said w (said.Block y) → Agree m n c d (with_said a (said.Block x)) (with_said b (said.Block y))
       block_agree x y e =
-          let same : ◌≡◌ {A = SaidBlock} (record x { body = changed_body w x.body }) (record y { body = changed_body w y.body }) = cc in
-          record {
+          let block : ◌≡◌ {A = SaidBlock} (record x { body = changed_body w x.body }) (record y { body = changed_body w y.body }) = cc in
+          let current =
+          block_put f w (block_at (a.lines + 1) x) a.current ∙ (λ i. with_block (block_at (number_here i) (block i)) (agree.same i).current) ∙ sym (block_put g w (block_at (b.lines + 1) y) b.current)
+          in record {
             lines_a = agree.lines_a;
             lines_b = agree.lines_b;
             bytes_a = agree.bytes_a;
             bytes_b = agree.bytes_b;
-            percent = agree.percent;
-            blocks = ap (λ (k : ℕ). k + 1) agree.blocks;
-            done = agree.done;
-            current =
-                block_put f w (block_at (a.lines + 1) x) a.current ∙ ap (λ (k : ℕ). with_block (block_at k (record x { body = changed_body w x.body })) (option_map F a.current)) number_here
-                ∙ ap (λ (z : SaidBlock). with_block (block_at (g (b.lines + 1)) z) (option_map F a.current)) same
-                ∙ ap (with_block (block_at (g (b.lines + 1)) (record y { body = changed_body w y.body }))) agree.current ∙ sym (block_put g w (block_at (b.lines + 1) y) b.current);
+            same = λ i. record (agree.same i) { blocks = (agree.same i).blocks + 1; current = current i };
           }
 
       said_agree : (s t : Said) → changed_said w s ≡ changed_said w t → Agree m n c d (with_said a s) (with_said b t)
@@ -263,7 +238,8 @@ module _ (skips : ℕ) (f g : ℕ → ℕ) (w : Word → Word) where
       refusal_agree x y s t long reach e =
           let block : is_block s ≡ is_block t = sym (block_same w s) ∙ ap is_block e ∙ block_same w t in
           let range : is_said_in_range s ≡ is_said_in_range t = sym (range_same w s) ∙ ap is_said_in_range e ∙ range_same w t in
-          rw (block, none_agree, long, agree.blocks, reach.0, reach.1, range) refl
+          let blocks : a.blocks ≡ b.blocks = λ i. (agree.same i).blocks in
+          rw (block, none_agree, long, blocks, reach.0, reach.1, range) refl
 
       says_agree : (x y : Line) (p q : Result Said Refusal) (k l : Before → Answer) → changed_says w p ≡ changed_says w q → ltb 512 (length x.bytes) ≡ ltb 512 (length y.bytes)
           → (is_past_end a (length x.bytes) x.ended ≡ false) × (is_past_end b (length y.bytes) y.ended ≡ false)
@@ -276,7 +252,7 @@ module _ (skips : ℕ) (f g : ℕ → ℕ) (w : Word → Word) where
       says_agree x y (Err p) (Ok t) k l e long reach later = absurd cc
       says_agree x y (Err p) (Err q) k l e long reach later =
           let same : p ≡ q = cc in
-          refused_same (refusal_number p) (a.lines + 1) (b.lines + 1) number_here ∙ ap (λ (t : Refusal). changed g w (Err (fault_behind b t))) same
+          λ i. refused (refusal_number (same i)) (number_here i)
 
   -- behind the second `%` line, between both, and before the first
   rests_look_same : (rows : List Row) (m n c d : ℕ) (a b : Before) → Agree m n c d a b → Rows m n rows → c + size_all (firsts rows) ≤ 4194304 → d + size_all (seconds rows) ≤ 4194304 → Looks (in_rest (firsts rows) a) (in_rest (seconds rows) b)
@@ -324,4 +300,4 @@ module _ (skips : ℕ) (f g : ℕ → ℕ) (w : Word → Word) where
   -- the two texts have the same answer, as far as it is looked at
   pub same_answer : (rows : List Row) → f 0 ≡ g 0 → f 1 ≡ g 1 → Rows 0 0 rows → size_all (firsts rows) ≤ 4194304 → size_all (seconds rows) ≤ 4194304 → Looks (in_leader skips (firsts rows) nothing_read) (in_leader skips (seconds rows) nothing_read)
   same_answer rows start first_line alike_rows p q =
-      leaders_look_same first_line rows 0 0 0 0 nothing_read nothing_read (record { lines_a = refl; lines_b = refl; bytes_a = refl; bytes_b = refl; percent = start; blocks = refl; done = refl; current = refl }) alike_rows (omega arith) (omega arith)
+      leaders_look_same first_line rows 0 0 0 0 nothing_read nothing_read (record { lines_a = refl; lines_b = refl; bytes_a = refl; bytes_b = refl; same = λ i. record nothing_read { percent = start i } }) alike_rows (omega arith) (omega arith)

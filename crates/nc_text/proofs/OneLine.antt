@@ -28,15 +28,11 @@ body_unchanged (Statement text) = refl
 
 blocks_unchanged : (blocks : List Block) → map (changed_block same_line same_word) blocks ≡ blocks
 blocks_unchanged [] = refl
-blocks_unchanged (block ∷ blocks) =
-    ap (λ (body : Body). record { line = block.line; sequence = block.sequence; body = body } ∷ map (changed_block same_line same_word) blocks) (body_unchanged block.body)
-    ∙ ap (λ (bs : List Block). block ∷ bs) (blocks_unchanged blocks)
+blocks_unchanged (block ∷ blocks) = λ i. record block { body = body_unchanged block.body i } ∷ blocks_unchanged blocks i
 
 programs_unchanged : (programs : List Program) → map (changed_program same_line same_word) programs ≡ programs
 programs_unchanged [] = refl
-programs_unchanged (program ∷ programs) =
-    ap (λ (blocks : List Block). record { number = program.number; line = program.line; blocks = blocks } ∷ map (changed_program same_line same_word) programs) (blocks_unchanged program.blocks)
-    ∙ ap (λ (ps : List Program). program ∷ ps) (programs_unchanged programs)
+programs_unchanged (program ∷ programs) = λ i. record program { blocks = blocks_unchanged program.blocks i } ∷ programs_unchanged programs i
 
 abbrev taped : List Program → Answer
 taped programs = Ok programs

@@ -10,8 +10,6 @@ use Rattle.nc_number.specs.Literals.{is_literal}
 use Rattle.nc_text.specs.declared.sign.Sign.{Sign}
 use Rattle.nc_text.specs.declared.piece.Piece.{Piece}
 use Rattle.nc_text.specs.declared.tape.Body.TheVariants.{Words}
-use Rattle.nc_text.specs.declared.refusal.Refusal.{Refusal}
-use Rattle.nc_text.specs.declared.refusal.Refusal.TheVariants.{TooManyDigits, BadCharacter, NoNumber, OpenComment}
 use Rattle.nc_text.specs.declared.said.Said.{Said}
 use Rattle.nc_text.specs.declared.said.Said.TheVariants as said
 use Rattle.nc_text.specs.declared.said.SaidBlock.{SaidBlock}
@@ -23,6 +21,8 @@ use Rattle.nc_text.specs.Values.{number_in}
 use Rattle.nc_text.specs.Said.{is_sequence, is_sound, is_long, has_program_letter, sequence_from, is_in_range, word_of, words_of, is_program, program_number, said_by, read_pieces, unreadable, read_words, numbered_text, numbered_sentence, read_numbered, read_statement, read_block, is_skipped, judged, read_head, judged_signs}
 use Rattle.nc_text.specs.Changed.{without_place}
 use Rattle.nc_text.proofs.LineByLine.{changed_said, changed_says}
+use Rattle.nc_text.proofs.Judged.{least}
+use Rattle.nc_text.proofs.Mapped.{either_map, prefix_same, any_same, filter_same}
 
 -- a sign, a word and a reading without places
 abbrev unplaced : Sign → Sign
@@ -36,25 +36,6 @@ bare_piece piece = record piece { start = 0; end = 0 }
 
 abbrev bare_reading : Reading → Reading
 bare_reading reading = record reading { said = changed_said without_place reading.said }
-
--- a test that looks at no place
-prefix_same : {X : Type 0} (h : X → X) (p : X → Bool) → ((x : X) → p (h x) ≡ p x) → (xs : List X) → prefix_len p (map h xs) ≡ prefix_len p xs
-prefix_same h p same [] = refl
-prefix_same h p same (x ∷ xs) = ap (λ (t : Bool). cond t (1 + prefix_len p (map h xs)) 0) (same x) ∙ ap (λ (n : ℕ). cond (p x) (1 + n) 0) (prefix_same h p same xs)
-
-any_same : {X : Type 0} (h : X → X) (p : X → Bool) → ((x : X) → p (h x) ≡ p x) → (xs : List X) → list_any p (map h xs) ≡ list_any p xs
-any_same h p same [] = refl
-any_same h p same (x ∷ xs) = ap (λ (t : Bool). t || list_any p (map h xs)) (same x) ∙ ap (λ (t : Bool). p x || t) (any_same h p same xs)
-
-either_map : {X Y : Type 0} (h : X → Y) (test : Bool) (a b : List X) → cond test (map h a) (map h b) ≡ map h (cond test a b)
-either_map h true a b = refl
-either_map h false a b = refl
-
-filter_same : {X : Type 0} (h : X → X) (p : X → Bool) → ((x : X) → p (h x) ≡ p x) → (xs : List X) → filter p (map h xs) ≡ map h (filter p xs)
-filter_same h p same [] = refl
-filter_same h p same (x ∷ xs) =
-    ap (λ (t : Bool). cond t (h x ∷ filter p (map h xs)) (filter p (map h xs))) (same x) ∙ ap (λ (ys : List _). cond (p x) (h x ∷ ys) ys) (filter_same h p same xs)
-    ∙ either_map h (p x) (x ∷ filter p xs) (filter p xs)
 
 bytes_bare : (signs : List Sign) → bytes_of (bare signs) ≡ bytes_of signs
 bytes_bare signs = map-map (λ (sign : Sign). sign.byte) unplaced signs
@@ -82,19 +63,15 @@ sentence_bare signs = ap bytes_of (filter_same unplaced (λ (sign : Sign). not (
 
 number_bare : (signs : List Sign) → bytes_of (number_part (bare signs)) ≡ bytes_of (number_part signs)
 number_bare signs =
-    ap (λ (n : ℕ). bytes_of (take n (bare signs))) (prefix_same unplaced is_number_sign (λ x. refl) signs) ∙ ap bytes_of (take-map unplaced (prefix_len is_number_sign signs) signs)
-    ∙ bytes_bare (number_part signs)
+    (λ i. bytes_of (take (prefix_same unplaced is_number_sign (λ x. refl) signs i) (bare signs))) ∙ ap bytes_of (take-map unplaced (prefix_len is_number_sign signs) signs) ∙ bytes_bare (number_part signs)
 
 behind_number_bare : (signs : List Sign) → sentence_of (behind_number (bare signs)) ≡ sentence_of (behind_number signs)
 behind_number_bare signs =
-    ap (λ (n : ℕ). sentence_of (drop n (bare signs))) (prefix_same unplaced is_number_sign (λ x. refl) signs) ∙ ap sentence_of (drop-map unplaced (prefix_len is_number_sign signs) signs)
-    ∙ sentence_bare (behind_number signs)
+    (λ i. sentence_of (drop (prefix_same unplaced is_number_sign (λ x. refl) signs i) (bare signs))) ∙ ap sentence_of (drop-map unplaced (prefix_len is_number_sign signs) signs) ∙ sentence_bare (behind_number signs)
 
 numbered_bare : (signs : List Sign) → is_numbered (bare signs) ≡ is_numbered signs
 numbered_bare [] = refl
-numbered_bare (sign ∷ signs) =
-    ap (λ (text : List ℕ). (sign.byte == 78 && is_literal text) && is_statement (sentence_of (behind_number (bare signs)))) (number_bare signs)
-    ∙ ap (λ (text : List ℕ). (sign.byte == 78 && is_literal (bytes_of (number_part signs))) && is_statement text) (behind_number_bare signs)
+numbered_bare (sign ∷ signs) = λ i. (sign.byte == 78 && is_literal (number_bare signs i)) && is_statement (behind_number_bare signs i)
 
 numbered_text_bare : (signs : List Sign) → numbered_text (bare signs) ≡ numbered_text signs
 numbered_text_bare [] = refl
@@ -148,8 +125,7 @@ piece_bare group =
 
 groups_bare : (groups : List Group) → map bare_piece (map piece_of (map bare_group groups)) ≡ map bare_piece (map piece_of groups)
 groups_bare [] = refl
-groups_bare (group ∷ groups) =
-    ap (λ (p : Piece). p ∷ map bare_piece (map piece_of (map bare_group groups))) (piece_bare group) ∙ ap (λ (ps : List Piece). bare_piece (piece_of group) ∷ ps) (groups_bare groups)
+groups_bare (group ∷ groups) = λ i. piece_bare group i ∷ groups_bare groups i
 
 pieces_bare : (signs : List Sign) → map bare_piece (pieces_of (bare signs)) ≡ map bare_piece (pieces_of signs)
 pieces_bare signs = ap (λ (cut : Cut). map bare_piece (map piece_of cut.groups)) (cut_bare signs 0) ∙ groups_bare (cut_at signs 0).groups
@@ -208,22 +184,17 @@ choice false false a b c d e f p q r = r
 read_block_bare : (slash : Bool) (signs : List Sign) → bare_reading (read_block slash (bare signs)) ≡ bare_reading (read_block slash signs)
 unfolding read_block
 read_block_bare slash signs =
-    ap (λ (t : Bool). bare_reading (cond t (read_numbered (bare signs)) (cond (is_statement (sentence_of (bare signs))) (read_statement (bare signs)) (read_words slash (bare signs))))) (numbered_bare signs)
-    ∙ ap (λ (text : List ℕ). bare_reading (cond (is_numbered signs) (read_numbered (bare signs)) (cond (is_statement text) (read_statement (bare signs)) (read_words slash (bare signs))))) (sentence_bare signs)
+    (λ i. bare_reading (cond (numbered_bare signs i) (read_numbered (bare signs)) (cond (is_statement (sentence_bare signs i)) (read_statement (bare signs)) (read_words slash (bare signs)))))
     ∙ choice (is_numbered signs) (is_statement (sentence_of signs)) _ _ _ _ _ _ (read_numbered_bare signs) (read_statement_bare signs) (read_words_bare slash signs)
 
 read_head_bare : (signs : List Sign) → bare_reading (read_head (bare signs)) ≡ bare_reading (read_head signs)
 unfolding read_head
 read_head_bare [] = refl
 read_head_bare (sign ∷ signs) =
-    ap (λ (o : Option ℕ). bare_reading (read_block (is_some o) (behind_comments (behind_switch (bare (sign ∷ signs)))))) (switch_bare (sign ∷ signs))
-    ∙ ap (λ (l : List Sign). bare_reading (read_block (is_some (switch_of (sign ∷ signs))) l)) (ap behind_comments (behind_switch_bare (sign ∷ signs)) ∙ comments_bare (behind_switch (sign ∷ signs)))
-    ∙ read_block_bare (is_some (switch_of (sign ∷ signs))) (behind_comments (behind_switch (sign ∷ signs)))
+    let behind = ap behind_comments (behind_switch_bare (sign ∷ signs)) ∙ comments_bare (behind_switch (sign ∷ signs)) in
+    (λ i. bare_reading (read_block (is_some (switch_bare (sign ∷ signs) i)) (behind i))) ∙ read_block_bare (is_some (switch_of (sign ∷ signs))) (behind_comments (behind_switch (sign ∷ signs)))
 
 -- a line
-abbrev least : Bool → Bool → Bool → Bool → Bool → Said → Result Said Refusal
-least t u v w x what = cond t (Err TooManyDigits) (cond u (Err BadCharacter) (cond v (Err NoNumber) (cond w (Err OpenComment) (cond x (Ok said.Nothing) (Ok what)))))
-
 least_bare : (t u v w x : Bool) (what : Said) → changed_says without_place (least t u v w x what) ≡ least t u v w x (changed_said without_place what)
 least_bare true u v w x what = refl
 least_bare false true v w x what = refl
@@ -240,11 +211,11 @@ signs_bare skips signs unclosed =
     let head = behind_comments signs in
     let skipped = is_skipped skips (switch_of head) in
     let bare_head : behind_comments (bare signs) ≡ bare head = comments_bare signs in
-    judged_bare skipped (are_allowed signs) unclosed (read_head head) ∙ ap (judged skipped (are_allowed signs) unclosed) (sym (read_head_bare head))
+    let allowed = list_all-map (λ (sign : Sign). is_allowed sign.byte) unplaced signs in
+    judged_bare skipped (are_allowed signs) unclosed (read_head head) ∙ (λ i. judged skipped (are_allowed signs) unclosed (sym (read_head_bare head) i))
     ∙ sym (judged_bare skipped (are_allowed signs) unclosed (read_head (bare head)))
-    ∙ ap (λ (o : Option ℕ). changed_says without_place (judged (is_skipped skips o) (are_allowed signs) unclosed (read_head (bare head)))) (sym (switch_bare head))
-    ∙ ap (λ (t : Bool). changed_says without_place (judged (is_skipped skips (switch_of (bare head))) t unclosed (read_head (bare head)))) (sym (list_all-map (λ (sign : Sign). is_allowed sign.byte) unplaced signs))
-    ∙ ap (λ (l : List Sign). changed_says without_place (judged (is_skipped skips (switch_of l)) (are_allowed (bare signs)) unclosed (read_head l))) (sym bare_head)
+    ∙ (λ i. changed_says without_place (judged (is_skipped skips (sym (switch_bare head) i)) (sym allowed i) unclosed (read_head (bare head))))
+    ∙ (λ i. changed_says without_place (judged (is_skipped skips (switch_of (sym bare_head i))) (are_allowed (bare signs)) unclosed (read_head (sym bare_head i))))
 
 bare_from_bytes : (xs ys : List Sign) → bytes_of xs ≡ bytes_of ys → bare xs ≡ bare ys
 bare_from_bytes xs ys e = sym (map-map at_start (λ (sign : Sign). sign.byte) xs) ∙ ap (map at_start) e ∙ map-map at_start (λ (sign : Sign). sign.byte) ys
@@ -256,5 +227,4 @@ bare_from_bytes xs ys e = sym (map-map at_start (λ (sign : Sign). sign.byte) xs
 pub same_text_says : (skips : ℕ) (a b : Scan) → IsSameText a b → changed_says without_place (judged_signs skips a) ≡ changed_says without_place (judged_signs skips b)
 same_text_says skips a b same =
     signs_bare skips a.list a.unclosed
-    ∙ ap (λ (l : List Sign). changed_says without_place (judged_signs skips (record { list = l; unclosed = a.unclosed }))) (bare_from_bytes a.list b.list same.bytes)
-    ∙ ap (λ (u : Bool). changed_says without_place (judged_signs skips (record { list = bare b.list; unclosed = u }))) same.unclosed ∙ sym (signs_bare skips b.list b.unclosed)
+    ∙ (λ i. changed_says without_place (judged_signs skips (record { list = bare_from_bytes a.list b.list same.bytes i; unclosed = same.unclosed i }))) ∙ sym (signs_bare skips b.list b.unclosed)

@@ -6,7 +6,6 @@ use Rattle.std.proofs.lemmas.List.Elements.{All-nil}
 use Rattle.std.proofs.lemmas.List.Folds.{list_all-map}
 use Rattle.nc_text.specs.declared.sign.Sign.{Sign}
 use Rattle.nc_text.specs.declared.refusal.Refusal.{Refusal}
-use Rattle.nc_text.specs.declared.refusal.Refusal.TheVariants.{TooManyDigits, BadCharacter}
 use Rattle.nc_text.specs.declared.said.Said.{Said}
 use Rattle.nc_text.specs.declared.said.Said.TheVariants as said
 use Rattle.nc_text.specs.Signs.{is_allowed, are_allowed, scan_of, signs_of, without_last, without_return}
@@ -20,6 +19,7 @@ use Rattle.nc_text.specs.Edited.{are_whole, with_line, IsLine, IsLastLine, IsSki
 use Rattle.nc_text.specs.Tape.{tape_of}
 use Rattle.nc_text.proofs.Blanks.{only_comments}
 use Rattle.nc_text.proofs.Ignored.{skipped}
+use Rattle.nc_text.proofs.Judged.{judged_ok}
 use Rattle.nc_text.proofs.Packed.{packed, signs_packed}
 use Rattle.nc_text.proofs.LineByLine.{SaysNothing}
 use Rattle.nc_text.proofs.OneLine.{alike_in_place, line_taken_out, last_taken_out}
@@ -49,17 +49,15 @@ percent_bad bs ended =
     sym (list_all-map is_allowed (λ (sign : Sign). sign.byte) (signs_of (37 ∷ bs) ended).list)
     ∙ ap (list_all is_allowed) (IsSameText.bytes (signs_packed (37 ∷ bs) ended) ∙ ap (λ (l : List ℕ). bytes_of (scan_of l false 0).list) text)
 
-bad_or_long : (long : Bool) (rest : Result Said Refusal) (says : Said) → ◌≡◌ {A = Result Said Refusal} (cond long (Err TooManyDigits) (Err BadCharacter)) (Ok says) → ⊥
-bad_or_long true rest says e = absurd cc
-bad_or_long false rest says e = absurd cc
-
 percent_refused : (skips : ℕ) (bs : List ℕ) (ended : Bool) (says : Said) → line_says skips (37 ∷ bs) ended ≡ Ok says → ⊥
 unfolding line_says
 percent_refused skips bs ended says e =
     let scan = signs_of (37 ∷ bs) ended in
     let reading = read_head (behind_comments scan.list) in
     let set = is_skipped skips (switch_of (behind_comments scan.list)) in
-    bad_or_long (reading.long && not set) (Ok says) says (sym (ap (λ (t : Bool). judged set t scan.unclosed reading) (percent_bad bs ended)) ∙ e)
+    let read = judged_ok set (are_allowed scan.list) scan.unclosed reading says e in
+    let bad : true ≡ false = sym read.allowed_is ∙ percent_bad bs ended in
+    absurd cc
 
 -- a line that can be read between the `%` lines begins with no `%`
 not_percent : (skips : ℕ) (line : List ℕ) (ended : Bool) (says : Said) → line_says skips line ended ≡ Ok says → is_percent line ≡ false

@@ -13,8 +13,6 @@ use Rattle.nc_number.specs.Arithmetic.{whole_of}
 use Rattle.nc_number.specs.Literals.{is_literal, word_literal}
 use Rattle.nc_text.specs.declared.sign.Sign.{Sign}
 use Rattle.nc_text.specs.declared.piece.Piece.{Piece}
-use Rattle.nc_text.specs.declared.refusal.Refusal.{Refusal}
-use Rattle.nc_text.specs.declared.refusal.Refusal.TheVariants.{TooManyDigits, BadCharacter, NoNumber, OpenComment}
 use Rattle.nc_text.specs.declared.tape.Word.{Word}
 use Rattle.nc_text.specs.declared.tape.Body.TheVariants.{Words, Statement}
 use Rattle.nc_text.specs.declared.said.Said.{Said}
@@ -28,6 +26,7 @@ use Rattle.nc_text.specs.Values.{is_value, number_in, range_of, in_range}
 use Rattle.nc_text.specs.Said.{is_sequence, is_sound, has_program_letter, stands_alone, sequence_from, word_of, words_of, is_program, program_number, said_by, read_pieces, read_words, read_numbered, read_statement, read_block, read_head, judged, judged_signs, is_skipped, line_says, numbered_text, numbered_sentence, is_in_range}
 use Rattle.nc_text.specs.Shape.{IsWordShape, IsAlone, IsBodyShape, IsSaidShape}
 use Rattle.nc_text.specs.ReadShape.{IsSaid}
+use Rattle.nc_text.proofs.Judged.{judged_ok}
 
 both : (a b : Bool) → (a && b) ≡ true → (a ≡ true) × (b ≡ true)
 both true true e = (refl, refl)
@@ -323,22 +322,20 @@ head_read most (sign ∷ signs) short =
     block_read most (is_some (switch_of (sign ∷ signs))) (behind_comments (behind_switch (sign ∷ signs))) (omega arith)
 
 judged_said : (most : ℕ) (skipped allowed unclosed : Bool) (reading : Reading) (says : Said) → IsRead most reading → judged skipped allowed unclosed reading ≡ Ok says → IsSaid most says
-judged_said most skipped allowed unclosed reading says is = go (reading.long && not skipped) allowed reading.broken refl unclosed skipped
+judged_said most skipped allowed unclosed reading says is e =
+    let read = judged_ok skipped allowed unclosed reading says e in
+    let P : Said → Type 0 = IsSaid most in
+    subst P (sym read.says_is) (go skipped (is read.whole))
   where
-    go : (long allow broken : Bool) → reading.broken ≡ broken → (late off : Bool)
-        → ◌≡◌ {A = Result Said Refusal} (cond long (Err TooManyDigits) (cond (not allow) (Err BadCharacter) (cond broken (Err NoNumber) (cond late (Err OpenComment) (cond off (Ok said.Nothing) (Ok reading.said)))))) (Ok says) → IsSaid most says
-    go true allow broken b late off e = absurd cc
-    go false false broken b late off e = absurd cc
-    go false true true b late off e = absurd cc
-    go false true false b true off e = absurd cc
-    go false true false b false true e = let same : said.Nothing ≡ says = cc in let P : Said → Type 0 = IsSaid most in subst P same tt
-    go false true false b false false e = let same : reading.said ≡ says = cc in let P : Said → Type 0 = IsSaid most in subst P same (is b)
+    go : (test : Bool) → IsSaid most reading.said → IsSaid most (cond test said.Nothing reading.said)
+    go true shape = tt
+    go false shape = shape
 
--- what a line says has the shape of what can be said on a line of its length
-pub line_said : (skips : ℕ) (line : List ℕ) (ended : Bool) (says : Said) → line_says skips line ended ≡ Ok says → IsSaid (length line) says
+-- what a line says has the shape of what can be said on a line of so many bytes
+pub line_said : (most skips : ℕ) (line : List ℕ) (ended : Bool) (says : Said) → length line ≤ most → line_says skips line ended ≡ Ok says → IsSaid most says
 unfolding line_says
-line_said skips line ended says e =
+line_said most skips line ended says short e =
     let scan = signs_of line ended in
     let a = signs_len line ended in
     let b = drop_len (prefix_len is_comment scan.list) scan.list in
-    judged_said (length line) (is_skipped skips (switch_of (behind_comments scan.list))) (are_allowed scan.list) scan.unclosed (read_head (behind_comments scan.list)) says (head_read (length line) (behind_comments scan.list) (omega arith)) e
+    judged_said most (is_skipped skips (switch_of (behind_comments scan.list))) (are_allowed scan.list) scan.unclosed (read_head (behind_comments scan.list)) says (head_read most (behind_comments scan.list) (omega arith)) e

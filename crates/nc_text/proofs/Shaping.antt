@@ -125,21 +125,6 @@ pub block_added : (lines blocks : ℕ) (done new-done : List Program) (current n
 block_added lines blocks done new-done current new-current block is shape d c =
     same_shape (lines + 1) (blocks + 1) done new-done (with_block (block_at (lines + 1) block) current) new-current (block_shaped lines blocks done current (block_at (lines + 1) block) is refl shape) d c
 
--- What a line says fits a wider line.
-
-word_wider : (most more : ℕ) (word : Word) → most ≤ more → IsWordShape most word → IsWordShape more word
-word_wider most more word wide is = let short = is.short in record { letter = is.letter; value = is.value; short = omega arith; sequence = is.sequence; program = is.program }
-
-body_wider : (most more : ℕ) (sequence : Option ℕ) (body : Body) → most ≤ more → IsBodyShape most sequence body → IsBodyShape more sequence body
-body_wider most more sequence (Words words) wide is = (λ i d h. word_wider most more (get_or words i d) wide (is.0 i d h), is.1)
-body_wider most more sequence (Statement text) wide is = let short = is.1 in (is.0, omega arith)
-
-pub wider : (most more : ℕ) (says : Said) → IsSaid most says → most ≤ more → IsSaid more says
-wider most more said.Nothing is wide = tt
-wider most more (said.Program None) is wide = tt
-wider most more (said.Program (Some number)) is wide = is
-wider most more (said.Block block) is wide = record { sequence_is = is.sequence_is; body_is = body_wider most more block.sequence block.body wide is.body_is }
-
 -- The shape of a whole tape.
 
 pub tape_shaped : (lines blocks : ℕ) (done programs : List Program) (program : Program) (current : Option Program) → IsReadShape lines blocks (done ++ option_to_list current) → current ≡ Some program → programs ≡ done ++ program ∷ [] → blocks ≤ 20000

@@ -12,6 +12,7 @@ pub mod ReadShape
 pub mod View
 pub mod Mark
 pub mod Reading
+pub mod Decided
 pub mod FeedView
 pub mod Changed
 pub mod Alike

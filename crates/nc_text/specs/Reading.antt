@@ -1,5 +1,5 @@
 -- A reader stands for the bytes that it was given, whatever pieces they came in.
-use Rattle.std.specs.Prelude.{◌≡◌, ℕ, Bool, true, false, not, ◌&&◌, ◌==◌, List, [], ◌∷◌, ◌++◌, length, take, Option, Some, None, Result, Ok, Err, if◌then◌else◌}
+use Rattle.std.specs.Prelude.{◌≡◌, ℕ, Bool, true, false, not, ◌&&◌, ◌==◌, List, [], ◌∷◌, ◌++◌, length, take, min, Option, Some, None, Result, Ok, Err, if◌then◌else◌}
 use Rattle.nc_number.specs.declared.fault.Failing.{Failing}
 use Rattle.nc_number.specs.declared.fault.Failing.TheVariants.{Fault, NoMemory}
 use Rattle.nc_text.specs.declared.fault.TextFault.{TextFault}
@@ -7,7 +7,8 @@ use Rattle.nc_text.specs.declared.tape.Program.{Program}
 use Rattle.nc_text.specs.declared.stage.Stage.{Stage}
 use Rattle.nc_text.specs.declared.stage.Stage.TheVariants as stages
 use Rattle.nc_text.specs.Lines.{Line, IsOneLine, lines_of, is_percent}
-use Rattle.nc_text.specs.Tape.{Before, Answer, in_leader, in_body, in_rest, tape_of}
+use Rattle.nc_text.specs.Said.{line_says}
+use Rattle.nc_text.specs.Tape.{Before, Answer, after_outer, after_percent, after_said, begun, goes_on, in_leader, in_body, in_rest, tape_of}
 
 -- what a reader keeps: where it stands, the present line and what was read before it
 pub record State : Type 0 where
@@ -15,7 +16,7 @@ pub record State : Type 0 where
   pub stage : Stage
   -- of the present line only what is needed
   pub kept : List ℕ
-  -- how many bytes it has
+  -- how many bytes it has, as they are counted
   pub len : ℕ
   pub before : Before
 
@@ -41,11 +42,15 @@ abbrev pub more_kept : Stage → List ℕ → List ℕ → List ℕ
 more_kept stage [] bytes = kept_of stage bytes
 more_kept stage (b ∷ kept) bytes = if is_body stage && not (b == 37) then bytes else []
 
+-- bytes are counted up to one more than a tape may have
+abbrev pub counted : ℕ → ℕ
+counted len = min len 4194305
+
 -- the line that is being read has these bytes
 pub record IsOpenLine (stage : Stage) (kept : List ℕ) (len : ℕ) (bytes : List ℕ) : Type 0 where
   pub one_line : IsOneLine bytes
   pub kept_is : kept ≡ kept_of stage bytes
-  pub len_is : len ≡ length bytes
+  pub len_is : len ≡ counted (length bytes)
 
 -- what the lines that are left make of it
 abbrev pub continued : ℕ → Stage → List Line → Before → Answer
@@ -54,16 +59,31 @@ continued skips stages.Body lines before = in_body skips lines before
 continued skips stages.Rest lines before = in_rest lines before
 continued skips (stages.Refused fault) lines before = Err fault
 
--- whatever follows: read from the first place, a text is answered as its rest is answered from the later one
+-- what is made of a line of this length, of which this is kept, and of the lines behind it
+abbrev pub line_continued : ℕ → Stage → List ℕ → ℕ → Bool → List Line → Before → Answer
+line_continued skips stages.Leader kept len ended lines before =
+    if is_percent kept then goes_on before (after_percent before len ended) (λ after. in_body skips lines (begun after))
+    else goes_on before (after_outer before len ended) (in_leader skips lines)
+line_continued skips stages.Body kept len ended lines before =
+    if is_percent kept then goes_on before (after_percent before len ended) (in_rest lines)
+    else goes_on before (after_said before len ended (line_says skips kept ended)) (in_body skips lines)
+line_continued skips stages.Rest kept len ended lines before = goes_on before (after_outer before len ended) (in_rest lines)
+line_continued skips (stages.Refused fault) kept len ended lines before = Err fault
+
+-- So much of a text is read that, whatever follows that, what is made of the text from the first place is made of what
+-- follows from the later one. The rest of the text is left.
 abbrev pub LeadsTo : ℕ → Stage → Before → List ℕ → Stage → Before → List ℕ → Type 0
 LeadsTo skips stage before text later-stage later rest =
-    (more : List ℕ) → continued skips stage (lines_of (text ++ more)) before ≡ continued skips later-stage (lines_of (rest ++ more)) later
+    (front : List ℕ) × (text ≡ front ++ rest)
+    × ((more : List ℕ) → continued skips stage (lines_of (front ++ more)) before ≡ continued skips later-stage (lines_of more) later)
 
--- The present line has these bytes, and whatever follows, the answer of the whole text is what is made of that
--- line and of what follows.
+-- The text ends with the present line so far, and whatever follows what stands before that line, the answer of the whole
+-- text is what is made of what follows.
 pub record IsAt (state : State) (bytes : List ℕ) (line : List ℕ) : Type 0 where
   pub is_line : IsOpenLine state.stage state.kept state.len line
-  pub whole : (more : List ℕ) → tape_of state.skips (bytes ++ more) ≡ continued state.skips state.stage (lines_of (line ++ more)) state.before
+  pub front : List ℕ
+  pub bytes_are : bytes ≡ front ++ line
+  pub whole : (more : List ℕ) → tape_of state.skips (front ++ more) ≡ continued state.skips state.stage (lines_of more) state.before
 
 -- A reader with these switches was given these bytes. A refusal stays, whatever follows.
 abbrev pub HasRead : State → ℕ → List ℕ → Type 0

@@ -52,14 +52,7 @@ fn part_len(value: &[Sign]) -> usize
     ensures count { result ≡ position_or_len is_comment value.now }
     ensures within { result ≤ length value.now }
 {
-    let mut at = 0usize;
-    for sign in value {
-        if sign.byte == b'(' {
-            return at;
-        }
-        at += 1;
-    }
-    at
+    value.iter().take_while(|sign| sign.byte != b'(').count()
 }
 
 fn are_comments(signs: &[Sign]) -> bool
@@ -72,7 +65,11 @@ fn are_comments(signs: &[Sign]) -> bool
 pub(crate) fn bytes(alloc: Global, signs: &[Sign]) -> Result<Vec<u8>, AllocError>
     ensures { IfOk result (λ bytes. bytes.items ≡ bytes_of signs.now) }
 {
-    signs.iter().map(|sign| sign.byte).collect(alloc)
+    let mut bytes = Vec::with_capacity(alloc, signs.len())?;
+    for sign in signs {
+        bytes.push(sign.byte)?;
+    }
+    Ok(bytes)
 }
 
 /// The place behind the last sign.
@@ -80,11 +77,10 @@ fn end_of(start: u32, signs: &[Sign]) -> u32
     requires { ArePlaced signs.now }
     ensures { result ≡ end_of start signs.now }
 {
-    let mut end = start;
-    for sign in signs {
-        end = sign.place + 1;
+    match signs {
+        [] => start,
+        [.., last] => last.place + 1,
     }
-    end
 }
 
 /// A letter and what stands behind it, as a word.

@@ -8,6 +8,7 @@ ghost use Rattle.nc_text.specs.Mark.{Grows};
 ghost use Rattle.nc_text.specs.Reading.{continued, refusal_of, LeadsTo, IsOpenLine, HasRead, HasRefused};
 
 use crate::fault::TextFault;
+use crate::line_buffer::LineBuffer;
 use crate::line_feed::cut_at_line_feed;
 use crate::open_line::OpenLine;
 use crate::progress::Progress;
@@ -21,7 +22,7 @@ use std::alloc::Global;
 /// What a reader keeps.
 #[derive(Debug, Drop)]
 pub(crate) struct Feed {
-    pub alloc: Global,
+    pub buffer: LineBuffer,
     pub skips: u16,
     pub line: OpenLine,
     pub progress: Progress,
@@ -34,7 +35,7 @@ impl Feed {
         ensures { HasRead (state_of result) skips [] }
     {
         Feed {
-            alloc,
+            buffer: LineBuffer::new(alloc),
             skips,
             line: OpenLine::empty(alloc, Stage::Leader),
             progress: Progress::new(alloc),
@@ -65,7 +66,7 @@ impl Feed {
         let len = self.line.len;
         self.line.extend(front)?;
         match line_behind(
-            self.alloc,
+            &mut self.buffer,
             self.skips,
             &self.line,
             &mut self.progress,
@@ -97,7 +98,7 @@ impl Feed {
         ensures same { (fault : TextFault) → HasRefused (state_of self) fault → result ≡ Err (Failing.Fault fault) }
     {
         let Feed {
-            alloc,
+            buffer,
             skips,
             line,
             progress,
@@ -106,10 +107,11 @@ impl Feed {
             return conclude(line.stage, progress);
         }
         let mut progress = progress;
+        let mut buffer = buffer;
         let stage = behind_line(
             line.stage,
             &mut progress,
-            alloc,
+            &mut buffer,
             skips,
             line.kept.as_slice(),
             line.len,
@@ -121,7 +123,7 @@ impl Feed {
 
 /// Ends a line, reads the lines behind it, and begins the one behind those.
 fn line_behind(
-    alloc: Global,
+    buffer: &mut LineBuffer,
     skips: u16,
     line: &OpenLine,
     progress: &mut Progress,
@@ -130,20 +132,21 @@ fn line_behind(
     ensures reads { IfOk result (λ next. (bytes : List ℕ)
         → IsOpenLine line.now.stage line.now.kept.items line.now.len bytes →
         (rest : List ℕ) × IsOpenLine next.stage next.kept.items next.len rest
-        × LeadsTo skips line.now.stage (before_of progress.old) (bytes ++ 10 ∷ behind.now) next.stage (before_of progress.new) rest) }
+        × LeadsTo skips line.now.stage (before_of progress.old) (bytes ++ 10 ∷ behind.now)
+        next.stage (before_of progress.new) rest) }
     ensures grows { Grows (before_of progress.old) (before_of progress.new) }
 {
     let stage = behind_line(
         line.stage,
         progress,
-        alloc,
+        buffer,
         skips,
         line.kept.as_slice(),
         line.len,
         true,
     )?;
-    let (stage, rest) = behind_lines(stage, progress, alloc, skips, behind)?;
-    let next = OpenLine::begin(alloc, stage, rest)?;
+    let (stage, rest) = behind_lines(stage, progress, buffer, skips, behind)?;
+    let next = OpenLine::begin(buffer.alloc, stage, rest)?;
     Ok(next)
 }
 

@@ -1,5 +1,5 @@
-ghost use Rattle.std.specs.Prelude.{◌≡◌, ◌≤◌, length, IfOk, IfSome};
-ghost use Rattle.std.specs.List.{prefix_len};
+ghost use Rattle.std.specs.Prelude.{◌≡◌, ◌≤◌, nat_eq, length, IfOk, IfSome};
+ghost use Rattle.std.specs.List.{prefix_len, starts_with};
 ghost use Rattle.nc_text.specs.Pieces.{is_comment};
 ghost use Rattle.nc_text.specs.Front.{behind_comments, is_switch, switch_behind, behind_digit, switch_of, behind_switch, sentence_of, is_statement, is_number_sign};
 
@@ -11,14 +11,7 @@ fn comments_len(signs: &[Sign]) -> usize
     ensures count { result ≡ prefix_len is_comment signs.now }
     ensures within { result ≤ length signs.now }
 {
-    let mut at = 0usize;
-    for sign in signs {
-        if sign.byte != b'(' {
-            return at;
-        }
-        at += 1;
-    }
-    at
+    signs.iter().take_while(|sign| sign.byte == b'(').count()
 }
 
 /// The signs from the first on that is no comment.
@@ -76,23 +69,51 @@ pub(crate) fn front(signs: &[Sign]) -> (Option<u8>, &[Sign])
 pub(crate) fn sentence(alloc: Global, signs: &[Sign]) -> Result<Vec<u8>, AllocError>
     ensures { IfOk result (λ text. text.items ≡ sentence_of signs.now) }
 {
-    signs
-        .iter()
-        .filter(|sign| sign.byte != b'(')
-        .map(|sign| sign.byte)
-        .collect(alloc)
+    let mut text = Vec::with_capacity(alloc, signs.len())?;
+    for sign in signs {
+        if sign.byte != b'(' {
+            text.push(sign.byte)?;
+        }
+    }
+    Ok(text)
 }
 
-/// Whether the text begins as a statement does.
-pub(crate) fn is_statement(text: &[u8]) -> bool
-    ensures { result ≡ is_statement text.now }
+/// Whether the text of the signs, without comments, begins with a word.
+fn begins_with(signs: &[Sign], word: &[u8]) -> bool
+    ensures { result ≡ starts_with nat_eq (sentence_of signs.now) word.now }
 {
-    text.starts_with(b"#")
-        || text.starts_with(b"IF")
-        || text.starts_with(b"WHILE")
-        || text.starts_with(b"GOTO")
-        || text.starts_with(b"DO")
-        || text.starts_with(b"END")
+    let mut rest = word;
+    for sign in signs {
+        let Some((first, others)) = rest.split_first() else {
+            return true;
+        };
+        if sign.byte != b'(' {
+            if *first != sign.byte {
+                return false;
+            }
+            rest = others;
+        }
+    }
+    rest.is_empty()
+}
+
+/// Whether the signs begin as a statement does.
+pub(crate) fn begins_statement(signs: &[Sign]) -> bool
+    ensures { result ≡ is_statement (sentence_of signs.now) }
+{
+    begins_with(signs, b"#")
+        || begins_with(signs, b"IF")
+        || begins_with(signs, b"WHILE")
+        || begins_with(signs, b"GOTO")
+        || begins_with(signs, b"DO")
+        || begins_with(signs, b"END")
+}
+
+/// What a literal is made of.
+fn is_number_sign(byte: u8) -> bool
+    ensures { result ≡ is_number_sign (record { place = 0; byte = byte }) }
+{
+    byte.is_ascii_digit() || byte == b'.' || byte == b'+' || byte == b'-'
 }
 
 /// How many signs of a literal the signs begin with.
@@ -100,13 +121,8 @@ pub(crate) fn number_len(signs: &[Sign]) -> usize
     ensures count { result ≡ prefix_len is_number_sign signs.now }
     ensures within { result ≤ length signs.now }
 {
-    let mut at = 0usize;
-    for sign in signs {
-        let byte = sign.byte;
-        if !(byte.is_ascii_digit() || byte == b'.' || byte == b'+' || byte == b'-') {
-            return at;
-        }
-        at += 1;
-    }
-    at
+    signs
+        .iter()
+        .take_while(|sign| is_number_sign(sign.byte))
+        .count()
 }

@@ -37,7 +37,8 @@ pub fn a_line_that_says_nothing_reads_as_no_line()
         → tape_of skips (with_line front line back) ≡ tape_of skips (with_line front [] back) }
     ensures taken_out { (skips : ℕ) (front line back : List ℕ) → IsLine front line back → 0 < length front
         → line_says skips line true ≡ Ok said.Nothing
-        → tape_of skips (front ++ back) ≡ lowered (length (lines_of front)) (tape_of skips (with_line front line back)) }
+        → tape_of skips (front ++ back)
+        ≡ lowered (length (lines_of front)) (tape_of skips (with_line front line back)) }
     ensures last { (skips : ℕ) (front line : List ℕ) → IsLastLine front line → 0 < length front
         → line_says skips line false ≡ Ok said.Nothing
         → tape_of skips front ≡ lowered (length (lines_of front)) (tape_of skips (front ++ line)) }
@@ -50,7 +51,8 @@ pub fn a_line_of_comments_is_no_block()
         → tape_of skips (with_line front line back) ≡ tape_of skips (with_line front [] back) }
     ensures taken_out { (skips : ℕ) (front line back : List ℕ) → IsLine front line back → 0 < length front
         → HasOnlyComments line true
-        → tape_of skips (front ++ back) ≡ lowered (length (lines_of front)) (tape_of skips (with_line front line back)) }
+        → tape_of skips (front ++ back)
+        ≡ lowered (length (lines_of front)) (tape_of skips (with_line front line back)) }
     ensures last { (skips : ℕ) (front line : List ℕ) → IsLastLine front line → 0 < length front
         → HasOnlyComments line false
         → tape_of skips front ≡ lowered (length (lines_of front)) (tape_of skips (front ++ line)) }
@@ -63,7 +65,8 @@ pub fn a_skipped_block_reads_as_no_line()
         → tape_of skips (with_line front line back) ≡ tape_of skips (with_line front [] back) }
     ensures taken_out { (skips : ℕ) (front line back : List ℕ) → IsLine front line back → 0 < length front
         → IsSkipped skips line true
-        → tape_of skips (front ++ back) ≡ lowered (length (lines_of front)) (tape_of skips (with_line front line back)) }
+        → tape_of skips (front ++ back)
+        ≡ lowered (length (lines_of front)) (tape_of skips (with_line front line back)) }
     ensures last { (skips : ℕ) (front line : List ℕ) → IsLastLine front line → 0 < length front
         → IsSkipped skips line false
         → tape_of skips front ≡ lowered (length (lines_of front)) (tape_of skips (front ++ line)) }
@@ -82,8 +85,10 @@ pub fn a_carriage_return_changes_nothing()
 pub fn a_blank_changes_only_places()
     ensures ended { (skips blank : ℕ) (front left right back : List ℕ) → is_blank blank ≡ true
         → MayHaveBlank left right → IsLine front (left ++ blank ∷ right) back
-        → forget_places (tape_of skips (with_line front (left ++ blank ∷ right) back)) ≡ forget_places (tape_of skips (with_line front (left ++ right) back)) }
+        → forget_places (tape_of skips (with_line front (left ++ blank ∷ right) back))
+        ≡ forget_places (tape_of skips (with_line front (left ++ right) back)) }
     ensures last { (skips blank : ℕ) (front left right : List ℕ) → is_blank blank ≡ true
         → MayHaveBlank left right → IsLastLine front (left ++ blank ∷ right) → 0 < length (left ++ right)
-        → forget_places (tape_of skips (front ++ (left ++ blank ∷ right))) ≡ forget_places (tape_of skips (front ++ (left ++ right))) }
+        → forget_places (tape_of skips (front ++ (left ++ blank ∷ right)))
+        ≡ forget_places (tape_of skips (front ++ (left ++ right))) }
 {}

@@ -11,6 +11,7 @@ mod front;
 mod going_back;
 mod laws;
 mod line;
+mod line_buffer;
 mod line_feed;
 mod mark;
 mod open_line;

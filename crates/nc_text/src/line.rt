@@ -5,7 +5,8 @@ ghost use Rattle.nc_text.specs.Front.{is_numbered, sentence_of};
 ghost use Rattle.nc_text.specs.Said.{read_words, read_numbered, read_statement, read_block, read_head, is_skipped, judged, line_says, IsNumbered, statement_reading};
 
 use crate::cut::{bytes, pieces, value_len};
-use crate::front::{behind_comments, front, is_statement, number_len, sentence};
+use crate::front::{begins_statement, behind_comments, front, number_len, sentence};
+use crate::line_buffer::LineBuffer;
 use crate::refusal::Refusal;
 use crate::said::{Reading, Said, SaidBlock};
 use crate::sign::{Sign, are_allowed, read_signs};
@@ -44,16 +45,15 @@ fn numbered(alloc: Global, signs: &[Sign]) -> Result<Option<(Vec<u8>, Vec<u8>)>,
                 return Ok(None);
             }
             let (number, behind) = others.split_at(number_len(others));
+            if !begins_statement(behind) {
+                return Ok(None);
+            }
             let number = bytes(alloc, number)?;
             if !is_literal(number.as_slice()) {
                 return Ok(None);
             }
             let text = sentence(alloc, behind)?;
-            if is_statement(text.as_slice()) {
-                Ok(Some((number, text)))
-            } else {
-                Ok(None)
-            }
+            Ok(Some((number, text)))
         }
     }
 }
@@ -84,8 +84,8 @@ fn read_block(alloc: Global, slash: bool, signs: &[Sign]) -> Result<Reading, All
         let sequence = number_in(0, 99_999, number.as_slice());
         return Ok(statement(sequence, sequence.is_some(), text, long));
     }
-    let text = sentence(alloc, signs)?;
-    if is_statement(text.as_slice()) {
+    if begins_statement(signs) {
+        let text = sentence(alloc, signs)?;
         return Ok(statement(None, true, text, false));
     }
     read_words(alloc, slash, signs)
@@ -146,7 +146,7 @@ fn read_head(alloc: Global, head: &[Sign]) -> Result<Reading, AllocError>
 /// What a line says, or its least refusal by itself.
 #[tactic(auto, unfolding(crate::specs::Said::line_says))]
 pub(crate) fn read_line(
-    alloc: Global,
+    buffer: &mut LineBuffer,
     skips: u16,
     line: &[u8],
     ended: bool,
@@ -154,15 +154,15 @@ pub(crate) fn read_line(
     requires { length line.now < 2 ^ 32 - 1 }
     ensures { Gives (λ said. said) result (line_says skips line.now ended) }
 {
-    let signs = read_signs(alloc, line, ended)?;
-    let list = signs.list.as_slice();
+    let unclosed = read_signs(&mut buffer.signs, line, ended)?;
+    let list = buffer.signs.as_slice();
     let head = behind_comments(list);
     let (switch, _) = front(head);
-    let reading = read_head(alloc, head)?;
+    let reading = read_head(buffer.alloc, head)?;
     judged(
         is_skipped(skips, switch),
         are_allowed(list),
-        signs.unclosed,
+        unclosed,
         reading,
     )
 }

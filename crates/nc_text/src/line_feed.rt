@@ -3,7 +3,8 @@ ghost use Rattle.nc_text.specs.Lines.{IsOneLine};
 
 /// What stands before the first line feed and what stands behind it, where there is one.
 pub(crate) fn cut_at_line_feed(text: &[u8]) -> Option<(&[u8], &[u8])>
-    ensures cut { MatchOption result (IsOneLine text.now) (λ parts. (text.now ≡ parts.0.now ++ 10 ∷ parts.1.now) × IsOneLine parts.0.now) }
+    ensures cut { MatchOption result (IsOneLine text.now)
+        (λ parts. (text.now ≡ parts.0.now ++ 10 ∷ parts.1.now) × IsOneLine parts.0.now) }
     ensures shorter { IfSome result (λ parts. length parts.1.now < length text.now) }
 {
     for (at, byte) in text.iter().enumerate() {

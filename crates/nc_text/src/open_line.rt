@@ -1,13 +1,16 @@
 ghost use Rattle.std.specs.Prelude.{◌≡◌, ◌≤◌, ◌<◌, ◌+◌, ◌++◌, [], List, ℕ, length, take, IfOk, OnOk, OnErr};
 ghost use Rattle.nc_text.specs.Lines.{IsOneLine};
-ghost use Rattle.nc_text.specs.Reading.{kept_of, more_kept, IsOpenLine};
+ghost use Rattle.nc_text.specs.Reading.{counted, kept_of, more_kept, IsOpenLine};
 
 use crate::stage::{Stage, is_body};
 use nc_number::NoMemory;
 use std::alloc::Global;
 
-/// No line has more bytes than this: a longer one is answered as want of memory.
-const LONGEST: u32 = 4_294_967_294;
+/// The bytes of a line are counted up to one more than a tape may have.
+const COUNTED: u32 = 4_194_305;
+
+/// A line of the programs that is longer than this is answered as want of memory.
+const KEPT: usize = 4_294_967_294;
 
 /// The line that is being read.
 #[derive(Debug, Drop)]
@@ -15,10 +18,11 @@ pub(crate) struct OpenLine {
     pub stage: Stage,
     /// Of its bytes only what is needed: all of a line of the programs, the first byte of any other.
     pub kept: Vec<u8>,
-    /// How many bytes it has.
+    /// How many bytes it has, counted up to one more than a tape may have.
     pub len: u32,
-    ghost kept_short: { length kept.items ≤ len },
-    ghost len_short: { len ≤ 4294967294 },
+    ghost kept_counted: { counted (length kept.items) ≤ len },
+    ghost kept_short: { length kept.items ≤ 4294967294 },
+    ghost len_short: { len ≤ 4194305 },
 }
 
 impl OpenLine {
@@ -48,21 +52,24 @@ impl OpenLine {
     /// Goes on with these bytes.
     pub(crate) fn extend(&mut self, bytes: &[u8]) -> Result<(), NoMemory>
         ensures stage { self.new.stage ≡ self.old.stage }
-        ensures kept { OnOk result (self.new.kept.items ≡ self.old.kept.items ++ more_kept self.old.stage self.old.kept.items bytes.now) }
-        ensures len { OnOk result (self.new.len ≡ self.old.len + length bytes.now) }
+        ensures kept { OnOk result (self.new.kept.items
+            ≡ self.old.kept.items ++ more_kept self.old.stage self.old.kept.items bytes.now) }
+        ensures len { OnOk result (self.new.len ≡ counted (self.old.len + length bytes.now)) }
         ensures as_before { OnErr result ((self.new.kept.items ≡ self.old.kept.items) × (self.new.len ≡ self.old.len)) }
     {
-        let len = longer(self.len, bytes)?;
         let more = more_kept(self.stage, self.kept.as_slice(), bytes);
+        if more.len() > KEPT - self.kept.len() {
+            return Err(NoMemory);
+        }
         self.kept.extend_from_slice(more)?;
-        self.len = len;
+        self.len = longer(self.len, bytes);
         Ok(())
     }
 
     /// Goes back to when so many bytes were kept of a line of this length.
     pub(crate) fn cut_back(&mut self, kept: usize, len: u32)
-        requires short { kept ≤ len }
-        requires fits { len ≤ 4294967294 }
+        requires short { counted kept ≤ len }
+        requires fits { len ≤ 4194305 }
         ensures stage { self.new.stage ≡ self.old.stage }
         ensures kept { self.new.kept.items ≡ take kept self.old.kept.items }
         ensures len { self.new.len ≡ len }
@@ -73,20 +80,31 @@ impl OpenLine {
 }
 
 /// The length of a line that goes on with these bytes.
-pub(crate) fn longer(len: u32, bytes: &[u8]) -> Result<u32, NoMemory>
-    requires { len ≤ 4294967294 }
-    ensures sum { IfOk result (λ sum. sum ≡ len + length bytes.now) }
-    ensures fits { IfOk result (λ sum. sum ≤ 4294967294) }
+pub(crate) fn longer(len: u32, bytes: &[u8]) -> u32
+    requires { len ≤ 4194305 }
+    ensures { result ≡ counted (len + length bytes.now) }
 {
-    let spare = LONGEST - len;
     match u32::try_from(bytes.len()) {
-        Ok(more) if more <= spare => Ok(len + more),
-        _ => Err(NoMemory),
+        Ok(more) if more <= COUNTED - len => len + more,
+        _ => COUNTED,
     }
 }
 
+/// What is kept of a line that lies whole in a text.
+pub(crate) fn kept_whole(stage: Stage, bytes: &[u8]) -> Result<&[u8], NoMemory>
+    ensures value { IfOk result (λ kept. kept.now ≡ kept_of stage bytes.now) }
+    ensures short { IfOk result (λ kept. length kept.now ≤ 4294967294) }
+    ensures within { IfOk result (λ kept. length kept.now ≤ length bytes.now) }
+{
+    let kept = kept_of(stage, bytes);
+    if kept.len() > KEPT {
+        return Err(NoMemory);
+    }
+    Ok(kept)
+}
+
 /// What is kept of these bytes at the beginning of a line.
-pub(crate) fn kept_of(stage: Stage, bytes: &[u8]) -> &[u8]
+fn kept_of(stage: Stage, bytes: &[u8]) -> &[u8]
     ensures value { result.now ≡ kept_of stage bytes.now }
     ensures short { length result.now ≤ length bytes.now }
 {

@@ -151,7 +151,8 @@ impl Progress {
         requires fits { is_past_end (before_of self.old) len ended ≡ false }
         requires few { self.old.blocks < 20000 }
         requires shape { IsSaidShape 512 block.sequence block.body }
-        ensures ok { OnOk result (before_of self.new ≡ next (with_said (before_of self.old) (said.Block block)) len ended) }
+        ensures ok { OnOk result (before_of self.new
+            ≡ next (with_said (before_of self.old) (said.Block block)) len ended) }
         ensures as_before { OnErr result (before_of self.new ≡ before_of self.old) }
     {
         let line = self.lines + 1;
@@ -197,7 +198,7 @@ impl Progress {
         said: Said,
     ) -> Result<(), Failing<Refusal>>
         requires some { 0 < size_of len ended }
-        requires shape { IsSaid len said }
+        requires shape { len ≤ 512 → IsSaid 512 said }
         ensures step { Gives (λ _. before_of self.new) result (after_said (before_of self.old) len ended (Ok said)) }
         ensures grows { Grows (before_of self.old) (before_of self.new) }
     {

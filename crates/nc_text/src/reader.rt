@@ -3,6 +3,7 @@ ghost use Rattle.nc_number.specs.Answers.{Gives};
 ghost use Rattle.nc_text.specs.declared.fault.TextFault.{TextFault};
 ghost use Rattle.nc_text.specs.Tape.{tape_of};
 ghost use Rattle.nc_text.specs.Reading.{HasRead, HasRefused, IsRefused, IfRefused};
+ghost use Rattle.nc_text.specs.Decided.{IsDecided, AnswersFault};
 
 use crate::fault::TextFault;
 use crate::feed::Feed;
@@ -44,13 +45,16 @@ impl Reader {
     }
 
     /// Takes the next piece of the tape. It refuses where a line that has ended decides the answer, whatever
-    /// follows; from then on every call gives the same refusal. Where memory ran out the piece was not taken, and can be
-    /// given again.
+    /// follows; from then on every call gives the same refusal. Where memory ran out the piece was not taken,
+    /// and can be given again.
     pub fn feed(&mut self, piece: &[u8]) -> Result<(), Failing<TextFault>>
         ensures reads { (skips : ℕ) (bytes : List ℕ) → HasRead self.old skips bytes
             → OnOk result (HasRead self.new skips (bytes ++ piece.now)) }
         ensures refuses { (skips : ℕ) (bytes : List ℕ) → HasRead self.old skips bytes
             → IfRefused result (λ fault. IsRefused skips (bytes ++ piece.now) fault) }
+        // What the lines that have ended decide is answered at once, whatever pieces they came in.
+        ensures decided { (skips : ℕ) (bytes : List ℕ) (fault : TextFault) → HasRead self.old skips bytes
+            → IsDecided skips (bytes ++ piece.now) fault → AnswersFault result fault }
         ensures refused { IfRefused result (λ fault. HasRefused self.new fault) }
         // A reader that comes to a refusal says so in the same call.
         ensures at_once { (fault : TextFault) → HasRefused self.new fault → result ≡ Err (Failing.Fault fault) }

@@ -1,22 +1,15 @@
-ghost use Rattle.std.specs.Prelude.{◌≡◌, ◌+◌, ◌-◌, ◌^◌, ◌<◌, ◌≤◌, false, length, IfOk};
+ghost use Rattle.std.specs.Prelude.{◌≡◌, ◌+◌, ◌-◌, ◌^◌, ◌<◌, ◌≤◌, false, length, IfOk, OnOk};
 ghost use Rattle.nc_text.specs.Signs.{is_blank, is_allowed, scan_of, without_return, without_blanks, without_last, signs_of, are_allowed};
 ghost use Rattle.nc_text.specs.Places.{ArePlaced};
 ghost use Rattle.std.specs.List.{suffix_len};
 
-use std::alloc::{AllocError, Global};
+use std::alloc::AllocError;
 
 /// A byte of a line that counts, in upper case, and its place in the line. A comment is its opening bracket.
 #[derive(Clone, Copy, Debug, PartialEq, Eq)]
 pub struct Sign {
     pub place: u32,
     pub byte: u8,
-}
-
-/// What a line has outside spaces and comments, and whether its last comment is open.
-#[derive(Debug, Drop)]
-pub(crate) struct Signs {
-    pub list: Vec<Sign>,
-    pub unclosed: bool,
 }
 
 fn is_blank(byte: u8) -> bool
@@ -67,11 +60,7 @@ fn blanks_at_end(line: &[u8]) -> usize
     ensures count { result ≡ suffix_len is_blank line.now }
     ensures within { result ≤ length line.now }
 {
-    let mut rest = line.len();
-    while rest > 0 && is_blank(line[rest - 1]) {
-        rest -= 1;
-    }
-    line.len() - rest
+    line.iter().rev().take_while(|b| is_blank(**b)).count()
 }
 
 fn without_blanks(line: &[u8]) -> &[u8]
@@ -90,15 +79,16 @@ fn without_semicolon(line: &[u8]) -> &[u8]
     }
 }
 
-/// The bytes of a line that count.
-fn scan(alloc: Global, line: &[u8]) -> Result<Signs, AllocError>
+/// Puts the bytes of a line that count into the list, and answers whether its last comment is open.
+fn scan(list: &mut Vec<Sign>, line: &[u8]) -> Result<bool, AllocError>
     requires { length line.now < 2 ^ 32 - 1 }
-    ensures list { IfOk result (λ signs. signs.list.items ≡ (scan_of line.now false 0).list) }
-    ensures unclosed { IfOk result (λ signs. signs.unclosed ≡ (scan_of line.now false 0).unclosed) }
-    ensures placed { IfOk result (λ signs. ArePlaced signs.list.items) }
-    ensures short { IfOk result (λ signs. length signs.list.items < 2 ^ 32) }
+    ensures list { OnOk result (list.new.items ≡ (scan_of line.now false 0).list) }
+    ensures unclosed { IfOk result (λ unclosed. unclosed ≡ (scan_of line.now false 0).unclosed) }
+    ensures placed { OnOk result (ArePlaced list.new.items) }
+    ensures short { OnOk result (length list.new.items < 2 ^ 32) }
 {
-    let mut list = Vec::new(alloc);
+    list.clear();
+    list.reserve(line.len())?;
     let mut inside = false;
     let mut place = 0u32;
     for byte in line {
@@ -111,23 +101,18 @@ fn scan(alloc: Global, line: &[u8]) -> Result<Signs, AllocError>
         inside = if inside { *byte != b')' } else { *byte == b'(' };
         place += 1;
     }
-    Ok(Signs {
-        list,
-        unclosed: inside,
-    })
+    Ok(inside)
 }
 
-/// What counts of a line.
+/// Puts what counts of a line into the list, and answers whether the line ends inside a comment.
 #[tactic(auto, unfolding(crate::specs::Signs::signs_of))]
-pub(crate) fn read_signs(alloc: Global, line: &[u8], ended: bool) -> Result<Signs, AllocError>
+pub(crate) fn read_signs(list: &mut Vec<Sign>, line: &[u8], ended: bool) -> Result<bool, AllocError>
     requires { length line.now < 2 ^ 32 - 1 }
-    ensures list { IfOk result (λ signs. signs.list.items ≡ (signs_of line.now ended).list) }
-    ensures unclosed { IfOk result (λ signs. signs.unclosed ≡ (signs_of line.now ended).unclosed) }
-    ensures placed { IfOk result (λ signs. ArePlaced signs.list.items) }
-    ensures short { IfOk result (λ signs. length signs.list.items < 2 ^ 32) }
+    ensures list { OnOk result (list.new.items ≡ (signs_of line.now ended).list) }
+    ensures unclosed { IfOk result (λ unclosed. unclosed ≡ (signs_of line.now ended).unclosed) }
+    ensures placed { OnOk result (ArePlaced list.new.items) }
+    ensures short { OnOk result (length list.new.items < 2 ^ 32) }
 {
-    scan(
-        alloc,
-        without_semicolon(without_blanks(without_return(line, ended))),
-    )
+    let content = without_semicolon(without_blanks(without_return(line, ended)));
+    scan(list, content)
 }

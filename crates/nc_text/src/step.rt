@@ -4,20 +4,20 @@ ghost use Rattle.nc_text.specs.Lines.{Line, IsOneLine, is_percent, size_of};
 ghost use Rattle.nc_text.specs.declared.fault.TextFault.{TextFault};
 ghost use Rattle.nc_text.specs.Refusals.{refusal_number};
 ghost use Rattle.nc_text.specs.Said.{line_says};
-ghost use Rattle.nc_text.specs.Tape.{Before, in_leader, in_body, in_rest, after_said};
+ghost use Rattle.nc_text.specs.Tape.{Before, goes_on, in_rest, after_outer, after_percent, after_said};
 ghost use Rattle.nc_text.specs.View.{before_of};
 ghost use Rattle.nc_text.specs.Mark.{Grows};
-ghost use Rattle.nc_text.specs.Reading.{continued, kept_of, LeadsTo};
+ghost use Rattle.nc_text.specs.Reading.{continued, counted, line_continued, LeadsTo};
 
 use crate::fault::TextFault;
 use crate::line::read_line;
+use crate::line_buffer::LineBuffer;
 use crate::line_feed::cut_at_line_feed;
-use crate::open_line::{kept_of, longer};
+use crate::open_line::{kept_whole, longer};
 use crate::progress::Progress;
 use crate::refusal::Refusal;
 use crate::stage::Stage;
 use nc_number::{Failing, NoMemory};
-use std::alloc::Global;
 
 /// A line that begins with `%` begins or ends the tape.
 pub(crate) fn is_percent(bytes: &[u8]) -> bool
@@ -37,14 +37,15 @@ fn fault_at(line: u32, refusal: Refusal) -> TextFault
 }
 
 /// A line before the first `%` line, or that line.
-fn leader_line(progress: &mut Progress, percent: bool, len: u32, ended: bool) -> Stage
+fn leader_line(progress: &mut Progress, kept: &[u8], len: u32, ended: bool) -> Stage
     requires { 0 < size_of len ended }
-    ensures step { (skips : ℕ) (lines : List Line) (bytes : List ℕ) → is_percent bytes ≡ percent → length bytes ≡ len →
-        in_leader skips (record { bytes = bytes; ended = ended } ∷ lines) (before_of progress.old) ≡ continued skips result lines (before_of progress.new) }
+    ensures step { (skips : ℕ) (lines : List Line) →
+        line_continued skips Stage.Leader kept.now len ended lines (before_of progress.old)
+        ≡ continued skips result lines (before_of progress.new) }
     ensures grows { Grows (before_of progress.old) (before_of progress.new) }
 {
     let line = progress.lines + 1;
-    if percent {
+    if is_percent(kept) {
         match progress.pass_percent(len, ended) {
             Ok(()) => {
                 progress.begin();
@@ -63,8 +64,9 @@ fn leader_line(progress: &mut Progress, percent: bool, len: u32, ended: bool) ->
 /// A line behind the second `%` line.
 fn rest_line(progress: &mut Progress, len: u32, ended: bool) -> Stage
     requires { 0 < size_of len ended }
-    ensures step { (skips : ℕ) (lines : List Line) (bytes : List ℕ) → length bytes ≡ len →
-        in_rest (record { bytes = bytes; ended = ended } ∷ lines) (before_of progress.old) ≡ continued skips result lines (before_of progress.new) }
+    ensures step { (lines : List Line) (skips : ℕ) →
+        goes_on (before_of progress.old) (after_outer (before_of progress.old) len ended) (in_rest lines)
+        ≡ continued skips result lines (before_of progress.new) }
     ensures grows { Grows (before_of progress.old) (before_of progress.new) }
 {
     let line = progress.lines + 1;
@@ -77,8 +79,9 @@ fn rest_line(progress: &mut Progress, len: u32, ended: bool) -> Stage
 /// The second `%` line.
 fn last_percent(progress: &mut Progress, len: u32, ended: bool) -> Stage
     requires { 0 < size_of len ended }
-    ensures step { (skips : ℕ) (lines : List Line) (bytes : List ℕ) → is_percent bytes ≡ true → length bytes ≡ len →
-        in_body skips (record { bytes = bytes; ended = ended } ∷ lines) (before_of progress.old) ≡ continued skips result lines (before_of progress.new) }
+    ensures step { (lines : List Line) (skips : ℕ) →
+        goes_on (before_of progress.old) (after_percent (before_of progress.old) len ended) (in_rest lines)
+        ≡ continued skips result lines (before_of progress.new) }
     ensures grows { Grows (before_of progress.old) (before_of progress.new) }
 {
     let line = progress.lines + 1;
@@ -91,7 +94,7 @@ fn last_percent(progress: &mut Progress, len: u32, ended: bool) -> Stage
 /// A line of the programs.
 fn program_line(
     progress: &mut Progress,
-    alloc: Global,
+    buffer: &mut LineBuffer,
     skips: u16,
     bytes: &[u8],
     len: u32,
@@ -99,12 +102,13 @@ fn program_line(
 ) -> Result<(), Failing<Refusal>>
     requires some { 0 < size_of len ended }
     requires short { length bytes.now < 2 ^ 32 - 1 }
-    requires within { length bytes.now ≤ len }
-    ensures step { Gives (λ _. before_of progress.new) result (after_said (before_of progress.old) len ended (line_says skips bytes.now ended)) }
+    requires within { counted (length bytes.now) ≤ len }
+    ensures step { Gives (λ _. before_of progress.new) result
+        (after_said (before_of progress.old) len ended (line_says skips bytes.now ended)) }
     ensures grows { Grows (before_of progress.old) (before_of progress.new) }
 {
-    match read_line(alloc, skips, bytes, ended) {
-        Ok(said) => progress.pass_said(alloc, len, ended, said),
+    match read_line(buffer, skips, bytes, ended) {
+        Ok(said) => progress.pass_said(buffer.alloc, len, ended, said),
         Err(error) => Err(error),
     }
 }
@@ -112,7 +116,7 @@ fn program_line(
 /// A line behind the first `%` line, up to the second.
 fn body_line(
     progress: &mut Progress,
-    alloc: Global,
+    buffer: &mut LineBuffer,
     skips: u16,
     kept: &[u8],
     len: u32,
@@ -120,28 +124,28 @@ fn body_line(
 ) -> Result<Stage, NoMemory>
     requires some { 0 < size_of len ended }
     requires short { length kept.now < 2 ^ 32 - 1 }
-    requires within { length kept.now ≤ len }
-    ensures step { IfOk result (λ stage. (lines : List Line) (bytes : List ℕ)
-        → kept.now ≡ kept_of Stage.Body bytes → length bytes ≡ len →
-        in_body skips (record { bytes = bytes; ended = ended } ∷ lines) (before_of progress.old) ≡ continued skips stage lines (before_of progress.new)) }
+    requires within { counted (length kept.now) ≤ len }
+    ensures step { IfOk result (λ behind. (lines : List Line) →
+        line_continued skips Stage.Body kept.now len ended lines (before_of progress.old)
+        ≡ continued skips behind lines (before_of progress.new)) }
     ensures grows { Grows (before_of progress.old) (before_of progress.new) }
 {
     if is_percent(kept) {
         return Ok(last_percent(progress, len, ended));
     }
     let line = progress.lines + 1;
-    match program_line(progress, alloc, skips, kept, len, ended) {
+    match program_line(progress, buffer, skips, kept, len, ended) {
         Ok(()) => Ok(Stage::Body),
         Err(Failing::Fault(refusal)) => Ok(Stage::Refused(fault_at(line, refusal))),
         Err(Failing::NoMemory) => Err(NoMemory),
     }
 }
 
-/// Where the reader stands behind a line.
+/// Where the reader stands behind a line of this length, of which this is kept.
 pub(crate) fn behind_line(
     stage: Stage,
     progress: &mut Progress,
-    alloc: Global,
+    buffer: &mut LineBuffer,
     skips: u16,
     kept: &[u8],
     len: u32,
@@ -149,16 +153,16 @@ pub(crate) fn behind_line(
 ) -> Result<Stage, NoMemory>
     requires some { 0 < size_of len ended }
     requires short { length kept.now < 2 ^ 32 - 1 }
-    requires within { length kept.now ≤ len }
-    ensures step { IfOk result (λ behind. (lines : List Line) (bytes : List ℕ)
-        → kept.now ≡ kept_of stage bytes → length bytes ≡ len →
-        continued skips stage (record { bytes = bytes; ended = ended } ∷ lines) (before_of progress.old) ≡ continued skips behind lines (before_of progress.new)) }
+    requires within { counted (length kept.now) ≤ len }
+    ensures step { IfOk result (λ behind. (lines : List Line) →
+        line_continued skips stage kept.now len ended lines (before_of progress.old)
+        ≡ continued skips behind lines (before_of progress.new)) }
     ensures grows { Grows (before_of progress.old) (before_of progress.new) }
     ensures same { (fault : TextFault) → stage ≡ Stage.Refused fault → result ≡ Ok (Stage.Refused fault) }
 {
     match stage {
-        Stage::Leader => Ok(leader_line(progress, is_percent(kept), len, ended)),
-        Stage::Body => body_line(progress, alloc, skips, kept, len, ended),
+        Stage::Leader => Ok(leader_line(progress, kept, len, ended)),
+        Stage::Body => body_line(progress, buffer, skips, kept, len, ended),
         Stage::Rest => Ok(rest_line(progress, len, ended)),
         Stage::Refused(fault) => Ok(Stage::Refused(fault)),
     }
@@ -168,24 +172,18 @@ pub(crate) fn behind_line(
 fn behind_whole_line(
     stage: Stage,
     progress: &mut Progress,
-    alloc: Global,
+    buffer: &mut LineBuffer,
     skips: u16,
     bytes: &[u8],
 ) -> Result<Stage, NoMemory>
     ensures step { IfOk result (λ behind. (lines : List Line) →
-        continued skips stage (record { bytes = bytes.now; ended = true } ∷ lines) (before_of progress.old) ≡ continued skips behind lines (before_of progress.new)) }
+        continued skips stage (record { bytes = bytes.now; ended = true } ∷ lines) (before_of progress.old)
+        ≡ continued skips behind lines (before_of progress.new)) }
     ensures grows { Grows (before_of progress.old) (before_of progress.new) }
 {
-    let len = longer(0, bytes)?;
-    behind_line(
-        stage,
-        progress,
-        alloc,
-        skips,
-        kept_of(stage, bytes),
-        len,
-        true,
-    )
+    let kept = kept_whole(stage, bytes)?;
+    let len = longer(0, bytes);
+    behind_line(stage, progress, buffer, skips, kept, len, true)
 }
 
 /// What is left to read of a text: nothing where it is refused.
@@ -203,18 +201,19 @@ fn left_to_read(stage: Stage, text: &[u8]) -> &[u8]
 pub(crate) fn behind_lines<'a>(
     stage: Stage,
     progress: &mut Progress,
-    alloc: Global,
+    buffer: &mut LineBuffer,
     skips: u16,
     text: &'a [u8],
 ) -> Result<(Stage, &'a [u8]), NoMemory>
-    ensures reads { IfOk result (λ behind. LeadsTo skips stage (before_of progress.old) text.now behind.0 (before_of progress.new) behind.1.now) }
+    ensures reads { IfOk result (λ behind. LeadsTo skips stage (before_of progress.old) text.now
+        behind.0 (before_of progress.new) behind.1.now) }
     ensures one_line { IfOk result (λ behind. IsOneLine behind.1.now) }
     ensures grows { Grows (before_of progress.old) (before_of progress.new) }
 {
     let mut stage = stage;
     let mut rest = left_to_read(stage, text);
     while let Some((line, behind)) = cut_at_line_feed(rest) {
-        stage = behind_whole_line(stage, progress, alloc, skips, line)?;
+        stage = behind_whole_line(stage, progress, buffer, skips, line)?;
         rest = left_to_read(stage, behind);
     }
     Ok((stage, rest))

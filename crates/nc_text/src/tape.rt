@@ -121,8 +121,9 @@ pub struct Program {
 
 /// A tape as its programs. The first one is the main program.
 ///
-/// Every tape has the shape `IsTapeShape`: at least one program, numbers from 1 to 9,999, lines that rise from the first O
-/// number to the last block, at most 20,000 blocks, and in each block words with a letter and a whole value, or a statement.
+/// Every tape has the shape `IsTapeShape`: at least one program, numbers from 1 to 9,999, lines that rise from
+/// the first O number to the last block, at most 20,000 blocks, and in each block words with a letter and a
+/// whole value, or a statement.
 #[derive(Debug, Drop)]
 pub struct Tape {
     programs: Vec<Program>,

@@ -96,14 +96,7 @@ fn digits_len(text: &[u8]) -> usize
     ensures count { result ≡ digits_len text.now }
     ensures within { result ≤ length text.now }
 {
-    let mut at = 0usize;
-    for byte in text {
-        if !byte.is_ascii_digit() {
-            return at;
-        }
-        at += 1;
-    }
-    at
+    text.iter().take_while(|b| b.is_ascii_digit()).count()
 }
 
 /// The length of a point and the digits behind it.

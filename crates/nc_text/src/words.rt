@@ -38,36 +38,19 @@ fn sound_len(pieces: &[Piece]) -> usize
     ensures count { result ≡ prefix_len is_sound pieces.now }
     ensures within { result ≤ length pieces.now }
 {
-    let mut at = 0usize;
-    for piece in pieces {
-        if !is_sound(piece) {
-            return at;
-        }
-        at += 1;
-    }
-    at
+    pieces.iter().take_while(|piece| is_sound(piece)).count()
 }
 
 fn any_long(pieces: &[Piece]) -> bool
     ensures { result ≡ list_any is_long pieces.now }
 {
-    for piece in pieces {
-        if is_long(piece) {
-            return true;
-        }
-    }
-    false
+    pieces.iter().any(|piece| is_long(piece))
 }
 
 fn has_program_letter(pieces: &[Piece]) -> bool
     ensures { result ≡ has_program_letter pieces.now }
 {
-    for piece in pieces {
-        if piece.letter == b'O' {
-            return true;
-        }
-    }
-    false
+    pieces.iter().any(|piece| piece.letter == b'O')
 }
 
 /// Nothing but comments stands beside an O word.
@@ -107,12 +90,7 @@ fn is_in_range(piece: &Piece) -> bool
 fn are_in_range(pieces: &[Piece]) -> bool
     ensures { result ≡ list_all is_in_range pieces.now }
 {
-    for piece in pieces {
-        if !is_in_range(piece) {
-            return false;
-        }
-    }
-    true
+    pieces.iter().all(|piece| is_in_range(piece))
 }
 
 fn into_word(piece: Piece) -> Word
@@ -137,11 +115,13 @@ fn into_word(piece: Piece) -> Word
 fn words(alloc: Global, pieces: Vec<Piece>) -> Result<Vec<Word>, AllocError>
     ensures { IfOk result (λ words. words.items ≡ words_of pieces.items) }
 {
-    pieces
-        .into_iter()
-        .filter(|piece| !is_sequence(piece))
-        .map(|piece| into_word(piece))
-        .collect(alloc)
+    let mut words = Vec::with_capacity(alloc, pieces.len())?;
+    for piece in pieces {
+        if !is_sequence(&piece) {
+            words.push(into_word(piece))?;
+        }
+    }
+    Ok(words)
 }
 
 fn is_program(slash: bool, pieces: &[Piece]) -> bool

@@ -1,4 +1,3 @@
-use Rattle.std.proofs.Common.{◌∙◌}
 use Rattle.nc_text.specs.View.{before_of}
 use Rattle.nc_text.proofs.Standing.{no_line, last_line}
 use Rattle.nc_text.proofs.feed.Feed.finish.Goals as goal
@@ -11,5 +10,5 @@ returns-then-line-eq0-clause-exact c =
 pub returns-clause-exact : goal.returns-clause-exact
 returns-clause-exact c =
     let feed = c.args.self in
-    last_line feed.skips feed.line.stage c.in_ok-stage.stage feed.line.kept.items feed.line.len (before_of feed.progress) (before_of c.behind_line.new.progress) c.conclude-2.result c.if-line-eq0.false
-    (λ lines line kept. c.in_ok-stage.ensures.step lines line (c.as_slice.ensures.value ∙ kept)) c.conclude-2.ensures.exact
+    last_line feed.skips feed.line.stage c.in_ok-stage.stage feed.line.kept.items c.as_slice.result.now feed.line.len (before_of feed.progress) (before_of c.behind_line.new.progress) c.conclude-2.result c.if-line-eq0.false
+    c.as_slice.ensures.value c.in_ok-stage.ensures.step c.conclude-2.ensures.exact

@@ -9,4 +9,4 @@ pub returns : goal.returns
 unfolding tape_of
 returns c =
     let line = c.empty.result in
-    nothing_given c.args.skips line.stage line.kept.items line.len (before_of c.new.result) c.empty.ensures.stage c.empty.ensures.kept c.empty.ensures.len (λ more. ap (in_leader c.args.skips (lines_of more)) (sym c.new.ensures))
+    nothing_given c.args.skips line.stage line.kept.items line.len (before_of c.new-2.result) c.empty.ensures.stage c.empty.ensures.kept c.empty.ensures.len (λ more. ap (in_leader c.args.skips (lines_of more)) (sym c.new-2.ensures))
