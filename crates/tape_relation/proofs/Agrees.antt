@@ -1,22 +1,25 @@
 -- The reader's definition and the relation agree.
-use Rattle.std.proofs.Common.{◌≡◌, ℕ, ◌+◌, ◌<◌, Bool, true, false, cond, ◌||◌, List, [], ◌∷◌, ◌++◌, length, Option, Some, None, Result, Ok, Err, ◌⊎◌, inl, inr, refl, ap, sym, subst, ◌∙◌, arith, append_assoc}
-use Rattle.std.specs.List.{list_any}
+use Rattle.std.proofs.Common.{◌≡◌, ℕ, ◌+◌, Bool, true, false, cond, ◌||◌, List, [], ◌∷◌, ◌++◌, length, Ok, Err, ◌⊎◌, inl, inr, refl, ap, sym, subst, ◌∙◌, arith}
+use Rattle.std.specs.List.{list_all, list_any}
+use Rattle.std.proofs.lemmas.List.Folds.{list_all-append}
 use Rattle.std.proofs.lemmas.List.{length-append}
 use Rattle.nc_text.specs.declared.fault.TextFault.{TextFault}
 use Rattle.nc_text.specs.declared.refusal.Refusal.TheVariants.{NoProgramNumber, NoEnd}
 use Rattle.nc_text.specs.declared.tape.Program.{Program}
 use Rattle.nc_text.specs.Lines.{Line, lines_of}
 use Rattle.nc_text.specs.Tape.{Before, Answer, next, begun, not_begun, in_leader, nothing_read, tape_of}
-use Rattle.tape_relation.specs.Parts.{begins_percent, has_percent, before_percent, behind_percent, body_of, is_closed, opening_line, AreLines}
-use Rattle.tape_relation.specs.LineAlone.{says_something}
+use Rattle.tape_relation.specs.Parts.{begins_percent, has_percent, before_percent, behind_percent, body_of, is_closed, opening_line}
+use Rattle.tape_relation.proofs.LineRead.{says_something, says_in_range, SayPrograms}
+use Rattle.tape_relation.proofs.LineSays.{silent_read, silent_found}
+use Rattle.tape_relation.proofs.ProgramsSay.{programs_found}
 use Rattle.tape_relation.specs.Conditions.{NoneHolds}
-use Rattle.tape_relation.specs.Programs.{ArePrograms}
-use Rattle.tape_relation.specs.Relation.{fault_at, IsFirstFault, LacksProgram, LacksEnd, IsFaultOf, IsTapeOf, IsTape, IsFault}
+use Rattle.tape_relation.specs.Relation.{fault_at, IsFaultOf, IsTapeOf, IsTape, IsFault}
 use Rattle.tape_relation.proofs.LinesOf.{own_lines, lines_are}
 use Rattle.tape_relation.proofs.Fronts.{has_last, behind_none, behind_last}
 use Rattle.tape_relation.proofs.Places.{none_behind}
 use Rattle.tape_relation.proofs.FirstFault.{body_end, leader_end, text_comes, Comes}
-use Rattle.tape_relation.proofs.Ends.{IsBehind, ended_by, Begins, SaysNone, starts}
+use Rattle.tape_relation.proofs.LiteralParts.{both}
+use Rattle.tape_relation.proofs.Ends.{ranges, IsBehind, ended_by, Begins, SaysNone, starts}
 use Rattle.tape_relation.proofs.OneAnswer.{one_tape, one_fault, not_both, body_said}
 
 -- the parts of a text that has a `%` line, and what was read up to its programs
@@ -86,7 +89,7 @@ due skips lines answer none e = at_percent (has_percent lines) refl
         let P : Answer → Type 0 = Due skips lines in
         let nothing : list_any (says_something skips) (body_of lines) ≡ false = ap (λ (ls : List Line). list_any (says_something skips) (before_percent ls)) (behind_none lines t) in
         let line : 1 ≡ opening_line lines = rw t refl in
-        let is : IsFaultOf skips lines (fault_at NoProgramNumber 1) = inr (none, inl (nothing, ap (fault_at NoProgramNumber) line)) in
+        let is : IsFaultOf skips lines (fault_at NoProgramNumber 1) = inr (none, inl (silent_found skips (body_of lines) nothing, ap (fault_at NoProgramNumber) line)) in
         subst P (sym (e ∙ no_opening skips lines nothing_read t)) is
     at_percent true t = begin (starts skips (behind_percent lines) front o.there behind (none_behind skips [] front (behind_percent lines) here) o.current_is (ap (list_any (says_something skips)) (behind_last (before_percent lines) o.opening o.leader_is)))
       where
@@ -112,20 +115,25 @@ due skips lines answer none e = at_percent (has_percent lines) refl
             let p = o.percent_is in
             let number : o.there.percent ≡ length (before_percent lines) + 1 = omega arith in
             let line : o.there.percent ≡ opening_line lines = rw t number in
-            let is : IsFaultOf skips lines (fault_at NoProgramNumber o.there.percent) = inr (none, inl (n.body_is, ap (fault_at NoProgramNumber) line)) in
+            let is : IsFaultOf skips lines (fault_at NoProgramNumber o.there.percent) = inr (none, inl (silent_found skips (body_of lines) n.body_is, ap (fault_at NoProgramNumber) line)) in
             subst P (sym (e ∙ o.ends ∙ n.ends)) is
         begin (inl b) = close (is_closed lines) refl
           where
-            programs : ArePrograms skips (length (before_percent lines) + 1 + length b.quiet) b.others b.programs
+            programs : SayPrograms skips (length (before_percent lines) + 1 + length b.quiet) b.others b.programs
             programs =
-                let Q : ℕ → Type 0 = λ k. ArePrograms skips k b.others b.programs in
+                let Q : ℕ → Type 0 = λ k. SayPrograms skips k b.others b.programs in
                 let c = o.count in
                 let start : o.there.lines + length b.quiet ≡ length (before_percent lines) + 1 + length b.quiet = omega arith in subst Q start b.are
+
+            in_range : list_all (says_in_range skips) b.others ≡ true
+            in_range =
+                let all : list_all (says_in_range skips) (b.quiet ++ b.others) ≡ true = ap (list_all (says_in_range skips)) (sym b.body_is) ∙ ranges skips (behind_percent lines) front behind (none_behind skips [] front (behind_percent lines) here) in
+                (both (list_all (says_in_range skips) b.quiet) (list_all (says_in_range skips) b.others) (sym (list_all-append (says_in_range skips) b.quiet b.others) ∙ all)).1
 
             close : (closed : Bool) → is_closed lines ≡ closed → Due skips lines answer
             close true k =
                 let P : Answer → Type 0 = Due skips lines in
-                let is : IsTapeOf skips lines b.programs = record { none_holds = none; closed = k; some = b.some; quiet = b.quiet; others = b.others; body_is = b.body_is; quiet_is = b.quiet_is; programs = programs } in
+                let is : IsTapeOf skips lines b.programs = record { none_holds = none; closed = k; some = b.some; quiet = b.quiet; others = b.others; body_is = b.body_is; quiet_is = silent_found skips b.quiet b.quiet_is; programs = programs_found skips (length (before_percent lines) + 1 + length b.quiet) b.others b.programs in_range programs } in
                 let tape : ended_by (has_percent (behind_percent lines)) (o.there.done ++ b.programs) (o.there.lines + length (behind_percent lines)) ≡ Ok b.programs =
                 ap (λ (z : Bool). ended_by z (o.there.done ++ b.programs) (o.there.lines + length (behind_percent lines))) k ∙ ap (λ (ps : List Program). ended_by true (ps ++ b.programs) 0) o.done_is
                 in
@@ -138,7 +146,7 @@ due skips lines answer none e = at_percent (has_percent lines) refl
                 let first : length front ≡ length (before_percent lines) + 1 = length-append (before_percent lines) (o.opening ∷ []) in
                 let last : o.there.lines + length (behind_percent lines) ≡ length lines = omega arith in
                 let there_is = body_said skips (length (before_percent lines) + 1 + length b.quiet) (body_of lines) b.quiet b.others b.programs b.some b.body_is programs in
-                let is : IsFaultOf skips lines (fault_at NoEnd (o.there.lines + length (behind_percent lines))) = inr (none, inr (there_is, k, ap (fault_at NoEnd) last)) in
+                let is : IsFaultOf skips lines (fault_at NoEnd (o.there.lines + length (behind_percent lines))) = inr (none, inr (λ silent. let bad : true ≡ false = sym there_is ∙ silent_read skips (body_of lines) silent in absurd cc, k, ap (fault_at NoEnd) last)) in
                 let end : ended_by (has_percent (behind_percent lines)) (o.there.done ++ b.programs) (o.there.lines + length (behind_percent lines)) ≡ Err (fault_at NoEnd (o.there.lines + length (behind_percent lines))) =
                 ap (λ (z : Bool). ended_by z (o.there.done ++ b.programs) (o.there.lines + length (behind_percent lines))) k
                 in

@@ -1,20 +1,22 @@
 -- The reader's cut of a line is the words that it spells.
-use Rattle.std.proofs.Common.{◌≡◌, ℕ, zero, suc, ◌+◌, ◌-◌, ◌<◌, ◌≤◌, ◌==◌, Bool, true, false, cond, not, ◌&&◌, ◌||◌, List, [], ◌∷◌, ◌++◌, length, take, drop, map, ◌⊎◌, inl, inr, refl, ap, sym, subst, ◌∙◌, arith, append_assoc}
+use Rattle.std.proofs.Common.{◌≡◌, ℕ, zero, suc, ◌+◌, ◌-◌, ◌<◌, ◌==◌, Bool, true, false, cond, not, ◌&&◌, ◌||◌, List, [], ◌∷◌, ◌++◌, length, take, drop, map, refl, ap, sym, subst, ◌∙◌, arith, append_assoc}
 use Rattle.std.specs.Char.{is_ascii_digit, is_ascii_uppercase}
-use Rattle.std.specs.List.{list_all, list_any, flat_map, position_or_len, before_first, after_first}
-use Rattle.std.proofs.lemmas.Bool.{true≢false, eqb-true, eq-eqb, or_parts}
+use Rattle.std.specs.List.{list_all, list_any, position_or_len}
+use Rattle.std.proofs.lemmas.Bool.{eqb-true, or_parts}
 use Rattle.std.proofs.lemmas.Bool.Decides.{nat_tests}
 use Rattle.std.proofs.lemmas.List.{nil_from_length, append-nil}
 use Rattle.std.proofs.Math.Seq.{take-append_seam}
-use Rattle.nc_number.specs.Literals.{is_literal, is_sign, behind_sign, is_point, whole_part, fraction_part}
+use Rattle.nc_number.specs.Literals.{is_literal, is_sign, behind_sign, is_point}
 use Rattle.nc_text.specs.declared.sign.Sign.{Sign}
 use Rattle.nc_text.specs.declared.piece.Piece.{Piece}
 use Rattle.nc_text.specs.Pieces.{Group, Cut, is_comment, depth_behind, begins_word, add_to_cut, cut_at, bytes_of, value_part, piece_of, pieces_of, value_len, end_of}
 use Rattle.nc_text.specs.Values.{closes, is_variable, is_reference, is_value}
 use Rattle.nc_text.specs.Said.{is_sound}
-use Rattle.tape_relation.specs.Value.{IsValue}
-use Rattle.tape_relation.specs.Words.{word_at, AreWords, IsCut}
-use Rattle.tape_relation.proofs.Values.{both, value_is, is_a_value}
+use Rattle.tape_relation.specs.Words.{IsWord, AreWords}
+use Rattle.tape_relation.specs.Cut.{IsCut}
+use Rattle.tape_relation.proofs.LiteralParts.{both}
+use Rattle.tape_relation.proofs.Values.{value_is, is_a_value}
+use Rattle.tape_relation.proofs.LiteralBytes.{digits_pass, literal_pass}
 
 -- The signs of a value begin no word.
 
@@ -22,7 +24,7 @@ abbrev is_plain : ℕ → Bool
 is_plain b = not (is_ascii_uppercase b) && (not (b == 91) && not (b == 93))
 
 -- a cut that goes on behind these signs
-abbrev onto : List Sign → Cut → Cut
+abbrev pub onto : List Sign → Cut → Cut
 onto value cut = record { lead = value ++ cut.lead; groups = cut.groups }
 
 not_true : (a : Bool) → not a ≡ true → a ≡ false
@@ -79,9 +81,14 @@ pass_bracket sign value rest e h =
 digit_plain : (b : ℕ) → is_ascii_digit b ≡ true → is_plain b ≡ true
 digit_plain b digit = grind (arith, nat_tests)
 
+sign_plain : (b : ℕ) → is_sign b ≡ true → is_plain b ≡ true
+sign_plain b is = grind (arith, nat_tests)
+
+point_plain : (b : ℕ) → is_point b ≡ true → is_plain b ≡ true
+point_plain b is = grind (arith, nat_tests)
+
 digits_plain : (text : List ℕ) → list_all is_ascii_digit text ≡ true → list_all is_plain text ≡ true
-digits_plain [] e = refl
-digits_plain (b ∷ text) e = let p = both (is_ascii_digit b) (list_all is_ascii_digit text) e in rw (digit_plain b p.0) (digits_plain text p.1)
+digits_plain text e = digits_pass is_plain digit_plain point_plain sign_plain text e
 
 pass_variable : (value rest : List Sign) → is_variable (bytes_of value) ≡ true → Passes value rest
 pass_variable [] rest e = absurd cc
@@ -101,9 +108,6 @@ pass_reference (sign ∷ value) rest e = go (sign.byte == 35) refl e
         pass_one sign value rest (subst P (sym (eqb-true sign.byte 35 is)) refl) (pass_variable value rest h)
     go false is h = let p = both (sign.byte == 91) (closes (bytes_of value) 1) h in pass_bracket sign value rest (eqb-true sign.byte 91 p.0) p.1
 
-sign_plain : (b : ℕ) → is_sign b ≡ true → is_plain b ≡ true
-sign_plain b is = grind (arith, nat_tests)
-
 pass_signed : (value rest : List Sign) → is_reference (behind_sign (bytes_of value)) ≡ true → Passes value rest
 pass_signed [] rest e = absurd cc
 pass_signed (sign ∷ value) rest e = go (is_sign sign.byte) refl e
@@ -112,49 +116,18 @@ pass_signed (sign ∷ value) rest e = go (is_sign sign.byte) refl e
     go true is h = pass_one sign value rest (sign_plain sign.byte is) (pass_reference value rest h)
     go false is h = pass_reference (sign ∷ value) rest h
 
--- What is made of digits and a point.
-
-point_plain : (b : ℕ) → is_point b ≡ true → is_plain b ≡ true
-point_plain b is = grind (arith, nat_tests)
-
-parts_plain : (text : List ℕ) → list_all is_ascii_digit (before_first is_point text) ≡ true → list_all is_ascii_digit (after_first is_point text) ≡ true → list_all is_plain text ≡ true
-parts_plain [] p q = refl
-parts_plain (b ∷ text) p q = go (position_or_len is_point text) (is_point b) refl p q (parts_plain text)
-  where
-    go : (n : ℕ) (t : Bool) → is_point b ≡ t → list_all is_ascii_digit (take (cond (not t) (1 + n) 0) (b ∷ text)) ≡ true → list_all is_ascii_digit (drop (cond (not t) (1 + n) 0 + 1) (b ∷ text)) ≡ true
-        → (list_all is_ascii_digit (take n text) ≡ true → list_all is_ascii_digit (drop (n + 1) text) ≡ true → list_all is_plain text ≡ true) → list_all is_plain (b ∷ text) ≡ true
-    go n true is front back later = rw (point_plain b is) (digits_plain text back)
-    go n false is front back later =
-        let one : 1 + n ≡ suc n = omega arith in
-        let two : suc n + 1 ≡ suc (n + 1) = omega arith in
-        let f : list_all is_ascii_digit (b ∷ take n text) ≡ true = rw one at front in
-        let g : list_all is_ascii_digit (drop (suc n + 1) (b ∷ text)) ≡ true = rw one at back in
-        let h : list_all is_ascii_digit (drop (n + 1) text) ≡ true = rw two at g in
-        let p = both (is_ascii_digit b) (list_all is_ascii_digit (take n text)) f in rw (digit_plain b p.0) (later p.1 h)
-
-unsigned_plain : (text : List ℕ) → list_all is_plain (behind_sign text) ≡ true → list_all is_plain text ≡ true
-unsigned_plain [] e = refl
-unsigned_plain (b ∷ text) e = go (is_sign b) refl e
-  where
-    go : (t : Bool) → is_sign b ≡ t → list_all is_plain (cond t text (b ∷ text)) ≡ true → list_all is_plain (b ∷ text) ≡ true
-    go true is h = rw (sign_plain b is) h
-    go false is h = h
-
-literal_plain : (text : List ℕ) → is_literal text ≡ true → list_all is_plain text ≡ true
-literal_plain text e =
-    let p = both (list_all is_ascii_digit (whole_part text) && list_all is_ascii_digit (fraction_part text)) _ e in
-    let q = both (list_all is_ascii_digit (whole_part text)) (list_all is_ascii_digit (fraction_part text)) p.0 in unsigned_plain text (parts_plain (behind_sign text) q.0 q.1)
+-- A value as a whole.
 
 pub pass_value : (value rest : List Sign) → is_value (bytes_of value) ≡ true → Passes value rest
 pass_value value rest e = go (is_literal (bytes_of value)) refl e
   where
     go : (t : Bool) → is_literal (bytes_of value) ≡ t → (t || is_reference (behind_sign (bytes_of value))) ≡ true → Passes value rest
-    go true is h = pass_plain value rest (literal_plain (bytes_of value) is)
+    go true is h = pass_plain value rest (literal_pass is_plain digit_plain point_plain sign_plain (bytes_of value) is)
     go false is h = pass_signed value rest h
 
 -- Comments and letters.
 
-pass_comments : (comments rest : List Sign) → list_all is_comment comments ≡ true → Passes comments rest
+pub pass_comments : (comments rest : List Sign) → list_all is_comment comments ≡ true → Passes comments rest
 pass_comments [] rest e = refl
 pass_comments (sign ∷ comments) rest e =
     let p = both (is_comment sign) (list_all is_comment comments) e in
@@ -165,7 +138,7 @@ pass_comments (sign ∷ comments) rest e =
 letter_depth : (b : ℕ) → is_ascii_uppercase b ≡ true → depth_behind 0 b ≡ 0
 letter_depth b letter = grind (arith, nat_tests)
 
-at_letter : (letter : Sign) (rest : List Sign) → is_ascii_uppercase letter.byte ≡ true → cut_at (letter ∷ rest) 0 ≡ add_to_cut true letter (cut_at rest 0)
+pub at_letter : (letter : Sign) (rest : List Sign) → is_ascii_uppercase letter.byte ≡ true → cut_at (letter ∷ rest) 0 ≡ add_to_cut true letter (cut_at rest 0)
 at_letter letter rest is = rw (letter_depth letter.byte is, is) refl
 
 -- what stands before the first comment is the value
@@ -179,55 +152,92 @@ before_comments (sign ∷ value) comments none all =
 value_before : (value comments : List Sign) → list_any is_comment value ≡ false → list_all is_comment comments ≡ true → value_part (value ++ comments) ≡ value
 value_before value comments none all = ap (λ (n : ℕ). take n (value ++ comments)) (before_comments value comments none all) ∙ take-append_seam value comments
 
-drop_seam : (value comments : List Sign) → drop (length value) (value ++ comments) ≡ comments
+pub drop_seam : (value comments : List Sign) → drop (length value) (value ++ comments) ≡ comments
 drop_seam [] comments = refl
 drop_seam (sign ∷ value) comments = drop_seam value comments
 
 abbrev piece_with : Sign → List Sign → List Sign → Piece
 piece_with letter value part = record { letter = letter.byte; start = letter.place + 1; end = end_of (letter.place + 1) part; text = bytes_of part; whole = list_all is_comment (drop (length part) value) }
 
-piece_is : (letter : Sign) (value comments : List Sign) → list_any is_comment value ≡ false → list_all is_comment comments ≡ true → piece_of (record { letter = letter; value = value ++ comments }) ≡ word_at letter value
+-- a letter and its value as a word
+abbrev word_cut : Sign → List Sign → Piece
+word_cut letter value = record { letter = letter.byte; start = letter.place + 1; end = end_of (letter.place + 1) value; text = bytes_of value; whole = true }
+
+end_last : (place : ℕ) (front : List Sign) (last : Sign) → end_of place (front ++ last ∷ []) ≡ last.place + 1
+end_last place [] last = refl
+end_last place (sign ∷ front) last = end_last (sign.place + 1) front last
+
+word_same : (letter : Sign) (value : List Sign) (word : Piece) → IsWord letter value word → word ≡ word_cut letter value
+word_same letter value word is =
+    let end : is.last.place + 1 ≡ end_of (letter.place + 1) value = sym (ap (end_of (letter.place + 1)) is.value_is ∙ end_last (letter.place + 1) is.front is.last) in
+    is.word_is ∙ ap (λ (n : ℕ). record { letter = letter.byte; start = letter.place + 1; end = n; text = bytes_of value; whole = true }) end
+
+-- a list of signs has a last one
+abbrev HasEnd : List Sign → Type 0
+HasEnd value = (front : List Sign) × (last : Sign) × (value ≡ front ++ last ∷ [])
+
+has_end : (sign : Sign) (value : List Sign) → HasEnd (sign ∷ value)
+has_end sign [] = ([], sign, refl)
+has_end sign (next ∷ value) = let (front, last, is) = has_end next value in (sign ∷ front, last, ap (λ (ss : List Sign). sign ∷ ss) is)
+
+is_word : (letter : Sign) (value : List Sign) → is_value (bytes_of value) ≡ true → IsWord letter value (word_cut letter value)
+is_word letter [] e = absurd cc
+is_word letter (sign ∷ value) e =
+    let (front, last, is) = has_end sign value in
+    let end : end_of (letter.place + 1) (sign ∷ value) ≡ last.place + 1 = ap (end_of (letter.place + 1)) is ∙ end_last (letter.place + 1) front last in record {
+      front = front;
+      last = last;
+      value_is = is;
+      word_is = ap (λ (n : ℕ). record { letter = letter.byte; start = letter.place + 1; end = n; text = bytes_of (sign ∷ value); whole = true }) end;
+    }
+
+pub piece_is : (letter : Sign) (value comments : List Sign) → list_any is_comment value ≡ false → list_all is_comment comments ≡ true → piece_of (record { letter = letter; value = value ++ comments }) ≡ word_cut letter value
 piece_is letter value comments none all =
     ap (piece_with letter (value ++ comments)) (value_before value comments none all)
     ∙ ap (λ (whole : Bool). record { letter = letter.byte; start = letter.place + 1; end = end_of (letter.place + 1) value; text = bytes_of value; whole = whole }) (ap (list_all is_comment) (drop_seam value comments) ∙ all)
 
 -- From the grammar to the cut.
 
-record Spelled (signs : List Sign) (words : List Piece) : Type 0 where
-  lead_is : (cut_at signs 0).lead ≡ []
-  words_are : map piece_of (cut_at signs 0).groups ≡ words
-  whole : list_all is_sound words ≡ true
+-- the words, and then what the rest is cut into
+pub record Spelled (signs tail : List Sign) (words : List Piece) : Type 0 where
+  pub lead_is : (cut_at (signs ++ tail) 0).lead ≡ []
+  pub words_are : map piece_of (cut_at (signs ++ tail) 0).groups ≡ words ++ map piece_of (cut_at tail 0).groups
+  pub whole : list_all is_sound words ≡ true
 
-spelled : (words : List Piece) (signs : List Sign) → AreWords signs words → Spelled signs words
-spelled [] signs are = record { lead_is = ap (λ (ss : List Sign). (cut_at ss 0).lead) are; words_are = ap (λ (ss : List Sign). map piece_of (cut_at ss 0).groups) are; whole = refl }
-spelled (word ∷ words) signs (letter, value, comments, others, is, up, val, none, all, word-is, rest) =
-    let s = spelled words others rest in
+pub spelled : (words : List Piece) (signs tail : List Sign) → AreWords signs words → (cut_at tail 0).lead ≡ [] → Spelled signs tail words
+spelled [] signs tail are none = record { lead_is = ap (λ (ss : List Sign). (cut_at (ss ++ tail) 0).lead) are ∙ none; words_are = ap (λ (ss : List Sign). map piece_of (cut_at (ss ++ tail) 0).groups) are; whole = refl }
+spelled (word ∷ words) signs tail (letter, value, comments, others, is, up, val, none, all, word-is, rest) no_lead =
+    let s = spelled words others tail rest no_lead in
+    let behind : List Sign = others ++ tail in
     let sound : is_value (bytes_of value) ≡ true = is_a_value (bytes_of value) val in
-    let cut : cut_at signs 0 ≡ add_to_cut true letter (onto value (onto comments (cut_at others 0))) =
-    ap (λ (ss : List Sign). cut_at ss 0) is ∙ at_letter letter (value ++ (comments ++ others)) up
-    ∙ ap (add_to_cut true letter) (pass_value value (comments ++ others) sound ∙ ap (onto value) (pass_comments comments others all))
+    let signs-are : signs ++ tail ≡ letter ∷ (value ++ (comments ++ behind)) =
+    ap (λ (ss : List Sign). ss ++ tail) is ∙ ap (λ (ss : List Sign). letter ∷ ss) (append_assoc value (comments ++ others) tail ∙ ap (λ (ss : List Sign). value ++ ss) (append_assoc comments others tail))
     in
-    let group : value ++ (comments ++ (cut_at others 0).lead) ≡ value ++ comments = ap (λ (ss : List Sign). value ++ (comments ++ ss)) s.lead_is ∙ ap (λ (ss : List Sign). value ++ ss) (append-nil comments) in
-    let first : piece_of (record { letter = letter; value = value ++ (comments ++ (cut_at others 0).lead) }) ≡ word = ap (λ (ss : List Sign). piece_of (record { letter = letter; value = ss })) group ∙ piece_is letter value comments none all ∙ sym word-is in
+    let cut : cut_at (signs ++ tail) 0 ≡ add_to_cut true letter (onto value (onto comments (cut_at behind 0))) =
+    ap (λ (ss : List Sign). cut_at ss 0) signs-are ∙ at_letter letter (value ++ (comments ++ behind)) up
+    ∙ ap (add_to_cut true letter) (pass_value value (comments ++ behind) sound ∙ ap (onto value) (pass_comments comments behind all))
+    in
+    let group : value ++ (comments ++ (cut_at behind 0).lead) ≡ value ++ comments = ap (λ (ss : List Sign). value ++ (comments ++ ss)) s.lead_is ∙ ap (λ (ss : List Sign). value ++ ss) (append-nil comments) in
+    let first : piece_of (record { letter = letter; value = value ++ (comments ++ (cut_at behind 0).lead) }) ≡ word = ap (λ (ss : List Sign). piece_of (record { letter = letter; value = ss })) group ∙ piece_is letter value comments none all ∙ sym (word_same letter value word word-is) in
     let P : Piece → Type 0 = λ w. is_sound w ≡ true in
-    let good : is_sound word ≡ true = subst P (sym word-is) sound in record {
+    let good : is_sound word ≡ true = subst P (sym (word_same letter value word word-is)) sound in record {
       lead_is = ap (λ (c : Cut). c.lead) cut;
-      words_are = ap (λ (c : Cut). map piece_of c.groups) cut ∙ ap (λ (w : Piece). w ∷ map piece_of (cut_at others 0).groups) first ∙ ap (λ (ws : List Piece). word ∷ ws) s.words_are;
+      words_are = ap (λ (c : Cut). map piece_of c.groups) cut ∙ ap (λ (w : Piece). w ∷ map piece_of (cut_at behind 0).groups) first ∙ ap (λ (ws : List Piece). word ∷ ws) s.words_are;
       whole = rw good s.whole;
     }
 
 -- From the cut to the grammar.
 
-abbrev flat : List Group → List Sign
+abbrev pub flat : List Group → List Sign
 flat [] = []
 flat (group ∷ groups) = group.letter ∷ (group.value ++ flat groups)
 
 -- each group begins at a letter
-abbrev Letters : List Group → Type 0
+abbrev pub Letters : List Group → Type 0
 Letters [] = Unit {0}
 Letters (group ∷ groups) = (is_ascii_uppercase group.letter.byte ≡ true) × Letters groups
 
-cut_letters : (signs : List Sign) (depth : ℕ) → Letters (cut_at signs depth).groups
+pub cut_letters : (signs : List Sign) (depth : ℕ) → Letters (cut_at signs depth).groups
 cut_letters [] depth = tt
 cut_letters (sign ∷ signs) depth = go (begins_word depth sign.byte) refl (cut_letters signs (depth_behind depth sign.byte))
   where
@@ -239,11 +249,11 @@ added_flat : (t : Bool) (sign : Sign) (signs : List Sign) (cut : Cut) → signs 
 added_flat true sign signs cut e = ap (λ (ss : List Sign). sign ∷ ss) e
 added_flat false sign signs cut e = ap (λ (ss : List Sign). sign ∷ ss) e
 
-cut_flat : (signs : List Sign) (depth : ℕ) → signs ≡ (cut_at signs depth).lead ++ flat (cut_at signs depth).groups
+pub cut_flat : (signs : List Sign) (depth : ℕ) → signs ≡ (cut_at signs depth).lead ++ flat (cut_at signs depth).groups
 cut_flat [] depth = refl
 cut_flat (sign ∷ signs) depth = added_flat (begins_word depth sign.byte) sign signs (cut_at signs (depth_behind depth sign.byte)) (cut_flat signs (depth_behind depth sign.byte))
 
-split_at : (n : ℕ) (value : List Sign) → value ≡ take n value ++ drop n value
+pub split_at : (n : ℕ) (value : List Sign) → value ≡ take n value ++ drop n value
 split_at zero value = refl
 split_at (suc n) [] = refl
 split_at (suc n) (sign ∷ value) = ap (λ (ss : List Sign). sign ∷ ss) (split_at n value)
@@ -261,7 +271,7 @@ take_len zero value = refl
 take_len (suc n) [] = refl
 take_len (suc n) (sign ∷ value) = take_len n value
 
-spells : (groups : List Group) → Letters groups → list_all is_sound (map piece_of groups) ≡ true → AreWords (flat groups) (map piece_of groups)
+pub spells : (groups : List Group) → Letters groups → list_all is_sound (map piece_of groups) ≡ true → AreWords (flat groups) (map piece_of groups)
 spells [] letters sound = refl
 spells (group ∷ groups) letters sound =
     let p = both (is_sound (piece_of group)) (list_all is_sound (map piece_of groups)) sound in
@@ -269,6 +279,7 @@ spells (group ∷ groups) letters sound =
     let part : List Sign = value_part group.value in
     let n : ℕ = position_or_len is_comment group.value in
     let comments : List Sign = drop (length part) group.value in
+    let W : Piece → Type 0 = IsWord group.letter part in
     let value : group.value ≡ part ++ comments = split_at n group.value ∙ ap (λ (ss : List Sign). part ++ ss) (sym (take_len n group.value)) in
     let all : flat (group ∷ groups) ≡ group.letter ∷ (part ++ (comments ++ flat groups)) = ap (λ (ss : List Sign). group.letter ∷ (ss ++ flat groups)) value ∙ ap (λ (ss : List Sign). group.letter ∷ ss) (append_assoc part comments (flat groups)) in (
       group.letter,
@@ -280,12 +291,12 @@ spells (group ∷ groups) letters sound =
       value_is (bytes_of part) q.1,
       no_comment group.value,
       q.0,
-      ap (λ (whole : Bool). record { letter = group.letter.byte; start = group.letter.place + 1; end = end_of (group.letter.place + 1) part; text = bytes_of part; whole = whole }) q.0,
+      subst W (ap (λ (whole : Bool). record { letter = group.letter.byte; start = group.letter.place + 1; end = end_of (group.letter.place + 1) part; text = bytes_of part; whole = whole }) (sym q.0)) (is_word group.letter part q.1),
       spells groups letters.1 p.1,
     )
 
 -- the length of what stands before the first letter
-lead_len : (signs : List Sign) (depth : ℕ) → value_len signs depth ≡ length (cut_at signs depth).lead
+pub lead_len : (signs : List Sign) (depth : ℕ) → value_len signs depth ≡ length (cut_at signs depth).lead
 lead_len [] depth = refl
 lead_len (sign ∷ signs) depth = go (begins_word depth sign.byte) (lead_len signs (depth_behind depth sign.byte))
   where
@@ -295,7 +306,10 @@ lead_len (sign ∷ signs) depth = go (begins_word depth sign.byte) (lead_len sig
     go false later = omega arith
 
 pub words_cut : (signs : List Sign) (words : List Piece) → AreWords signs words → IsCut signs words
-words_cut signs words are = let s = spelled words signs are in record { at_letter = lead_len signs 0 ∙ ap length s.lead_is; words_are = s.words_are; whole = s.whole }
+words_cut signs words are =
+    let s = spelled words signs [] are refl in
+    let signs-are : signs ≡ signs ++ [] = sym (append-nil signs) in
+    record { at_letter = lead_len signs 0 ∙ ap (λ (ss : List Sign). length (cut_at ss 0).lead) signs-are ∙ ap length s.lead_is; words_are = ap pieces_of signs-are ∙ s.words_are ∙ append-nil words; whole = s.whole }
 
 pub cut_words : (signs : List Sign) (words : List Piece) → IsCut signs words → AreWords signs words
 cut_words signs words is =

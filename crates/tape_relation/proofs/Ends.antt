@@ -1,10 +1,9 @@
 -- Lines at which no condition holds are the programs of the relation, or lack a program or their end.
-use Rattle.std.proofs.Common.{◌≡◌, ℕ, suc, ◌+◌, ◌<◌, Bool, true, false, cond, not, ◌&&◌, ◌||◌, List, [], ◌∷◌, ◌++◌, length, Option, Some, None, Result, Ok, Err, ◌⊎◌, inl, inr, refl, ap, sym, subst, ◌∙◌, arith, append_assoc}
-use Rattle.std.specs.Option.{is_none, option_to_list}
+use Rattle.std.proofs.Common.{◌≡◌, ℕ, ◌+◌, ◌<◌, Bool, true, false, ◌&&◌, ◌||◌, List, [], ◌∷◌, ◌++◌, length, Option, Some, None, Ok, Err, ◌⊎◌, inl, inr, refl, ap, sym, subst, ◌∙◌, arith, append_assoc}
+use Rattle.std.specs.Option.{option_to_list}
 use Rattle.std.specs.List.{list_any, list_all}
-use Rattle.std.proofs.lemmas.List.{append-nil, length-append}
+use Rattle.std.proofs.lemmas.List.{append-nil}
 use Rattle.std.proofs.lemmas.List.Folds.{list_any-append}
-use Rattle.nc_text.specs.declared.fault.TextFault.{TextFault}
 use Rattle.nc_text.specs.declared.refusal.Refusal.{Refusal}
 use Rattle.nc_text.specs.declared.refusal.Refusal.TheVariants.{NoProgramNumber, NoEnd, WordRange}
 use Rattle.nc_text.specs.declared.tape.Block.{Block}
@@ -14,15 +13,15 @@ use Rattle.nc_text.specs.declared.said.Said.TheVariants as said
 use Rattle.nc_text.specs.declared.said.SaidBlock.{SaidBlock}
 use Rattle.nc_text.specs.Lines.{Line}
 use Rattle.nc_text.specs.Mark.{with_blocks}
-use Rattle.nc_text.specs.Tape.{Before, Answer, next, with_said, block_at, program_at, finished, unfinished, not_begun, begun, is_said_in_range, is_block, nothing_read}
+use Rattle.nc_text.specs.Tape.{Before, Answer, next, with_said, block_at, program_at, is_said_in_range, is_block}
 use Rattle.tape_relation.specs.Parts.{begins_percent, has_percent, before_percent, behind_percent, is_closed}
-use Rattle.tape_relation.specs.LineAlone.{says, says_block, says_program, is_something, says_something}
+use Rattle.tape_relation.proofs.LineRead.{says, says_program, says_something, says_in_range, blocks_on, SayPrograms}
+use Rattle.tape_relation.proofs.LineSays.{block_found, silent_found, range_found}
 use Rattle.tape_relation.specs.Conditions.{Holds, NoneHolds}
-use Rattle.tape_relation.specs.Programs.{blocks_on, ArePrograms}
 use Rattle.tape_relation.specs.Relation.{fault_at}
-use Rattle.tape_relation.proofs.Fronts.{has_more, has_last, behind_more, behind_last, behind_none}
+use Rattle.tape_relation.proofs.Fronts.{has_more, has_last, behind_more}
 use Rattle.tape_relation.proofs.Places.{none_here, none_behind}
-use Rattle.tape_relation.proofs.FirstFault.{body_end, leader_end}
+use Rattle.tape_relation.proofs.FirstFault.{body_end}
 
 -- the line behind stands between the `%` lines
 pub record IsBehind (front : List Line) : Type 0 where
@@ -51,7 +50,7 @@ module _ (skips : ℕ) where
     programs : List Program
     body_is : before_percent lines ≡ own ++ others
     own_is : list_any (says_program skips) own ≡ false
-    are : ArePrograms skips (before.lines + length own) others programs
+    are : SayPrograms skips (before.lines + length own) others programs
     ends : body_end skips lines before ≡ ended_by (has_percent lines) (before.done ++ (with_blocks program (blocks_on skips before.lines own) ∷ programs)) (before.lines + length lines)
 
   -- the first lines say nothing, and then the programs are these
@@ -62,7 +61,7 @@ module _ (skips : ℕ) where
     pub some : 0 < length programs
     pub body_is : before_percent lines ≡ quiet ++ others
     pub quiet_is : list_any (says_something skips) quiet ≡ false
-    pub are : ArePrograms skips (before.lines + length quiet) others programs
+    pub are : SayPrograms skips (before.lines + length quiet) others programs
     pub ends : body_end skips lines before ≡ ended_by (has_percent lines) (before.done ++ programs) (before.lines + length lines)
 
   -- or there is no program
@@ -81,7 +80,18 @@ module _ (skips : ℕ) where
     where
       go : (b : Bool) → is_said_in_range (says skips line) ≡ b → is_said_in_range (says skips line) ≡ true
       go true e = e
-      go false e = absurd (none WordRange (((has_more front (line ∷ []) is.opened, is.not_closed), other), e))
+      go false e = absurd (none WordRange (((has_more front (line ∷ []) is.opened, is.not_closed), other), range_found skips line e))
+
+  -- each line up to the closing one is in its range
+  pub ranges : (lines front : List Line) → IsBehind front → NoneHolds skips front lines → list_all (says_in_range skips) (before_percent lines) ≡ true
+  ranges [] front is none = refl
+  ranges (line ∷ lines) front is none = go (begins_percent line) refl (λ other. ranges lines (front ++ line ∷ []) (behind_next front line is other) (none_behind skips front (line ∷ []) lines none))
+    where
+      go : (t : Bool) → begins_percent line ≡ t → (begins_percent line ≡ false → list_all (says_in_range skips) (before_percent lines) ≡ true) → list_all (says_in_range skips) (before_percent (line ∷ lines)) ≡ true
+      go true e later = rw e refl
+      go false e later =
+          let here : says_in_range skips line ≡ true = in_range front line is e (none_here skips front lines line none) in
+          rw e (ap (λ (b : Bool). b && list_all (says_in_range skips) (before_percent lines)) here ∙ later e)
 
   rest_is : (line : Line) (lines own others : List Line) → begins_percent line ≡ false → before_percent lines ≡ own ++ others → before_percent (line ∷ lines) ≡ line ∷ (own ++ others)
   rest_is line lines own others other e = rw other (ap (λ (ls : List Line). line ∷ ls) e)
@@ -106,7 +116,7 @@ module _ (skips : ℕ) where
         programs = h.programs;
         body_is = rest_is line lines h.own h.others other h.body_is;
         own_is = rw is h.own_is;
-        are = let P : ℕ → Type 0 = λ k. ArePrograms skips k h.others h.programs in subst P count h.are;
+        are = let P : ℕ → Type 0 = λ k. SayPrograms skips k h.others h.programs in subst P count h.are;
         ends = end_is lines line before said.Nothing (before.done ++ (with_blocks program (blocks_on skips before.lines (line ∷ h.own)) ∷ h.programs)) is other (rw is h.ends);
       }
 
@@ -124,7 +134,7 @@ module _ (skips : ℕ) where
         programs = h.programs;
         body_is = rest_is line lines h.own h.others other h.body_is;
         own_is = rw is h.own_is;
-        are = let P : ℕ → Type 0 = λ k. ArePrograms skips k h.others h.programs in subst P count h.are;
+        are = let P : ℕ → Type 0 = λ k. SayPrograms skips k h.others h.programs in subst P count h.are;
         ends = end_is lines line before (said.Block block) (before.done ++ (with_blocks program (blocks_on skips before.lines (line ∷ h.own)) ∷ h.programs)) is other
             (rw is (h.ends ∙ ended_same (has_percent lines) (before.done ++ (with_blocks (with_blocks program (put ∷ [])) (blocks_on skips (before.lines + 1) h.own) ∷ h.programs)) (before.done ++ (with_blocks program (put ∷ blocks_on skips (before.lines + 1) h.own) ∷ h.programs)) ((before.lines + 1) + length lines) ((before.lines + 1) + length lines)
             (ap (λ (p : Program). before.done ++ (p ∷ h.programs)) more) refl));
@@ -132,10 +142,10 @@ module _ (skips : ℕ) where
 
   -- a program begins at this line
   begun_at : (lines : List Line) (line : Line) (before : Before) (number : ℕ) (own others : List Line) (programs : List Program) → says skips line ≡ said.Program (Some number) → list_any (says_program skips) own ≡ false
-      → ArePrograms skips ((before.lines + 1) + length own) others programs
-      → ArePrograms skips (before.lines + 0) (line ∷ (own ++ others)) (with_blocks (program_at (before.lines + 1) number) (blocks_on skips (before.lines + 1) own) ∷ programs)
+      → SayPrograms skips ((before.lines + 1) + length own) others programs
+      → SayPrograms skips (before.lines + 0) (line ∷ (own ++ others)) (with_blocks (program_at (before.lines + 1) number) (blocks_on skips (before.lines + 1) own) ∷ programs)
   begun_at lines line before number own others programs is own-is are =
-      let P : ℕ → Type 0 = λ k. ArePrograms skips k (line ∷ (own ++ others)) (with_blocks (program_at (before.lines + 1) number) (blocks_on skips (before.lines + 1) own) ∷ programs) in
+      let P : ℕ → Type 0 = λ k. SayPrograms skips k (line ∷ (own ++ others)) (with_blocks (program_at (before.lines + 1) number) (blocks_on skips (before.lines + 1) own) ∷ programs) in
       let start : before.lines ≡ before.lines + 0 = omega arith in subst P start (line, own, others, refl, is, refl, own-is, refl, are)
 
   goes_program : (lines : List Line) (line : Line) (before : Before) (program : Program) (number : ℕ) → says skips line ≡ said.Program (Some number) → begins_percent line ≡ false → before.current ≡ Some program
@@ -202,7 +212,7 @@ module _ (skips : ℕ) where
         some = h.some;
         body_is = rest_is line lines h.quiet h.others other h.body_is;
         quiet_is = rw is h.quiet_is;
-        are = let Q : ℕ → Type 0 = λ k. ArePrograms skips k h.others h.programs in subst Q count h.are;
+        are = let Q : ℕ → Type 0 = λ k. SayPrograms skips k h.others h.programs in subst Q count h.are;
         ends = end_is lines line before said.Nothing (before.done ++ h.programs) is other h.ends;
       })
   begins_nothing lines line before is other (inr n) =
@@ -242,7 +252,7 @@ module _ (skips : ℕ) where
       inl (begins_program lines line before number at t e
       (goes_on lines (front ++ line ∷ []) (after before line) (program_at (before.lines + 1) number) (behind_next front line is t) (none_behind skips front (line ∷ []) lines none) (ap (λ (w : Said). (with_said before w).current) at)))
   starts_first false lines front line before t is none e nothing (said.Block block) at later =
-      absurd (none_here skips front lines line none NoProgramNumber (((has_more front (line ∷ []) is.opened, is.not_closed), t), ap is_block at, nothing))
+      absurd (none_here skips front lines line none NoProgramNumber (((has_more front (line ∷ []) is.opened, is.not_closed), t), block_found skips line (ap is_block at), silent_found skips (behind_percent front) nothing))
 
   pub starts : (lines front : List Line) (before : Before) → IsBehind front → NoneHolds skips front lines → before.current ≡ None → list_any (says_something skips) (behind_percent front) ≡ false → Begins lines before ⊎ SaysNone lines before
   starts [] front before is none e nothing = inr (record { body_is = refl; ends = rw e refl })

@@ -1,8 +1,8 @@
 -- The reader's definition comes to the first fault of the lines, or to what it makes of lines at which no condition holds.
-use Rattle.std.proofs.Common.{◌≡◌, ℕ, ◌+◌, ◌<◌, ◌≤◌, Bool, true, false, cond, not, ◌&&◌, ◌||◌, ltb, List, [], ◌∷◌, ◌++◌, length, filter, Option, Some, None, Result, Ok, Err, ◌⊎◌, inl, inr, refl, ap, sym, subst, ◌∙◌, arith}
+use Rattle.std.proofs.Common.{◌≡◌, ℕ, ◌+◌, ◌≤◌, Bool, true, false, cond, not, ◌||◌, ltb, List, [], ◌∷◌, ◌++◌, length, filter, Option, Some, None, Err, ◌⊎◌, inl, inr, refl, ap, sym, ◌∙◌, arith}
 use Rattle.std.specs.Option.{is_none}
 use Rattle.std.specs.List.{list_any}
-use Rattle.std.proofs.lemmas.Bool.{true≢false, ltb-true, lt-ltb}
+use Rattle.std.proofs.lemmas.Bool.{ltb-true}
 use Rattle.std.proofs.lemmas.List.{length-append}
 use Rattle.std.proofs.lemmas.List.Elements.{filter-append}
 use Rattle.std.proofs.lemmas.List.Folds.{list_any-append}
@@ -16,7 +16,7 @@ use Rattle.nc_text.specs.Refusals.{refusal_number}
 use Rattle.nc_text.specs.Lines.{Line, size_of}
 use Rattle.nc_text.specs.Tape.{Before, Answer, fault_behind, next, with_said, unless_refused, goes_on, after_line, finished, unfinished, not_begun, begun, in_rest, in_body, in_leader, is_said_in_range, is_block, nothing_read}
 use Rattle.tape_relation.specs.Parts.{size, begins_percent, has_percent, behind_percent, is_closed}
-use Rattle.tape_relation.specs.LineAlone.{says, says_block, is_something, says_something}
+use Rattle.tape_relation.proofs.LineRead.{says, says_block, is_something, says_something}
 use Rattle.tape_relation.specs.Conditions.{Counts, Holds, NoneHolds}
 use Rattle.tape_relation.specs.Relation.{IsFirstFault}
 use Rattle.tape_relation.proofs.Fronts.{has_more, has_last, behind_more, behind_last, behind_none, size_last, length_last}

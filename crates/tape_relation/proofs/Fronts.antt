@@ -1,11 +1,11 @@
 -- Lines with one line more behind them.
 use Rattle.std.proofs.Common.{◌≡◌, ℕ, ◌+◌, Bool, true, false, cond, ◌||◌, List, [], ◌∷◌, ◌++◌, length, refl, ap, ◌∙◌, arith}
-use Rattle.std.specs.List.{list_any, flat_map}
+use Rattle.std.specs.List.{flat_map}
 use Rattle.std.proofs.lemmas.List.{length-append}
 use Rattle.std.proofs.lemmas.List.Folds.{list_any-append}
 use Rattle.std.proofs.lemmas.Grind.{flat_map-append}
 use Rattle.nc_text.specs.Lines.{Line, size_of}
-use Rattle.tape_relation.specs.Parts.{written, size, begins_percent, has_percent, before_percent, behind_percent}
+use Rattle.tape_relation.specs.Parts.{written, size, begins_percent, has_percent, behind_percent}
 
 pub has_more : (front more : List Line) → has_percent front ≡ true → has_percent (front ++ more) ≡ true
 has_more front more e = list_any-append begins_percent front more ∙ ap (λ (t : Bool). t || has_percent more) e

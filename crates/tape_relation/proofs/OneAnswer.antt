@@ -1,17 +1,16 @@
 -- The relation gives one answer: one tape, or one fault, and never both.
-use Rattle.std.proofs.Common.{◌≡◌, ℕ, ◌+◌, ◌<◌, ◌≤◌, Bool, true, false, cond, ◌||◌, List, [], ◌∷◌, ◌++◌, length, Option, Some, None, ◌⊎◌, inl, inr, refl, ap, sym, subst, ◌∙◌, arith, append_assoc}
+use Rattle.std.proofs.Common.{◌≡◌, ℕ, ◌+◌, ◌<◌, Bool, true, false, ◌||◌, List, [], ◌∷◌, ◌++◌, length, Some, ◌⊎◌, inl, inr, refl, ap, sym, subst, ◌∙◌, arith}
 use Rattle.std.specs.List.{list_any}
 use Rattle.nc_text.specs.declared.fault.TextFault.{TextFault}
-use Rattle.nc_text.specs.declared.refusal.Refusal.{Refusal}
 use Rattle.nc_text.specs.declared.tape.Program.{Program}
-use Rattle.nc_text.specs.declared.said.Said.{Said}
 use Rattle.nc_text.specs.declared.said.Said.TheVariants as said
 use Rattle.nc_text.specs.Refusals.{refusal_number}
 use Rattle.nc_text.specs.Lines.{Line}
-use Rattle.tape_relation.specs.Parts.{before_percent, body_of, is_closed}
-use Rattle.tape_relation.specs.LineAlone.{says, says_program, says_something, is_program, is_something}
+use Rattle.tape_relation.specs.Parts.{before_percent, body_of}
+use Rattle.tape_relation.proofs.LineRead.{says, says_program, says_something, is_program, is_something, blocks_on, SayPrograms}
+use Rattle.tape_relation.proofs.LineSays.{silent_read}
+use Rattle.tape_relation.proofs.ProgramsSay.{programs_read}
 use Rattle.tape_relation.specs.Conditions.{IsLeast, NoneHolds}
-use Rattle.tape_relation.specs.Programs.{blocks_on, ArePrograms}
 use Rattle.tape_relation.specs.Relation.{fault_at, IsFirstFault, LacksProgram, LacksEnd, IsFaultOf, IsTapeOf}
 use Rattle.std.proofs.lemmas.List.Folds.{list_any-append}
 
@@ -39,18 +38,18 @@ one_cut test (x ∷ a) b (y ∷ c) d e p q r s =
     let later = one_cut test a b c d rest (or_split (test x) (list_any test a) p) (or_split (test y) (list_any test c) q) r s in
     let first = later.0 in (cc, later.1)
 
-programs_start : (skips n : ℕ) (lines : List Line) (programs : List Program) → ArePrograms skips n lines programs → starts_with (says_program skips) lines ≡ true
+programs_start : (skips n : ℕ) (lines : List Line) (programs : List Program) → SayPrograms skips n lines programs → starts_with (says_program skips) lines ≡ true
 programs_start skips n [] programs are = refl
 programs_start skips n (line ∷ lines) [] are = absurd cc
 programs_start skips n (line ∷ lines) (program ∷ programs) are = let is = are.3 in let head : line ≡ are.0 = cc in ap (says_program skips) head ∙ ap is_program are.4
 
-something_starts : (skips n : ℕ) (lines : List Line) (programs : List Program) → ArePrograms skips n lines programs → starts_with (says_something skips) lines ≡ true
+something_starts : (skips n : ℕ) (lines : List Line) (programs : List Program) → SayPrograms skips n lines programs → starts_with (says_something skips) lines ≡ true
 something_starts skips n [] programs are = refl
 something_starts skips n (line ∷ lines) [] are = absurd cc
 something_starts skips n (line ∷ lines) (program ∷ programs) are = let is = are.3 in let head : line ≡ are.0 = cc in ap (says_something skips) head ∙ ap is_something are.4
 
 -- lines have one list of programs
-one_list : (skips n : ℕ) (lines : List Line) (a b : List Program) → ArePrograms skips n lines a → ArePrograms skips n lines b → a ≡ b
+one_list : (skips n : ℕ) (lines : List Line) (a b : List Program) → SayPrograms skips n lines a → SayPrograms skips n lines b → a ≡ b
 one_list skips n lines [] [] p q = refl
 one_list skips n lines [] (y ∷ b) p q = let is = q.3 in absurd cc
 one_list skips n lines (x ∷ a) [] p q = let is = p.3 in absurd cc
@@ -64,17 +63,19 @@ one_list skips n lines (x ∷ a) (y ∷ b) p q =
     let line : x.line ≡ y.line = p.5 ∙ sym q.5 in
     let blocks : x.blocks ≡ y.blocks = p.7 ∙ ap (blocks_on skips (n + 1)) cut.0 ∙ sym q.7 in
     let program : x ≡ y = λ i. record { number = number i; line = line i; blocks = blocks i } in
-    let P : List Line → Type 0 = λ own. ArePrograms skips (n + 1 + length own) q.2 b in
-    let Q : List Line → Type 0 = λ others. ArePrograms skips (n + 1 + length p.1) others b in
+    let P : List Line → Type 0 = λ own. SayPrograms skips (n + 1 + length own) q.2 b in
+    let Q : List Line → Type 0 = λ others. SayPrograms skips (n + 1 + length p.1) others b in
     let rest = one_list skips (n + 1 + length p.1) p.2 a b p.8 (subst Q (sym cut.1) (subst P (sym cut.0) q.8)) in cc
 
 pub one_tape : (skips : ℕ) (lines : List Line) (a b : List Program) → IsTapeOf skips lines a → IsTapeOf skips lines b → a ≡ b
 one_tape skips lines a b p q =
     let start : ℕ = length (before_percent lines) + 1 in
-    let cut = one_cut (says_something skips) p.quiet p.others q.quiet q.others (sym p.body_is ∙ q.body_is) p.quiet_is q.quiet_is (something_starts skips (start + length p.quiet) p.others a p.programs) (something_starts skips (start + length q.quiet) q.others b q.programs) in
-    let P : List Line → Type 0 = λ quiet. ArePrograms skips (start + length quiet) q.others b in
-    let Q : List Line → Type 0 = λ others. ArePrograms skips (start + length p.quiet) others b in
-    one_list skips (start + length p.quiet) p.others a b p.programs (subst Q (sym cut.1) (subst P (sym cut.0) q.programs))
+    let left = programs_read skips (start + length p.quiet) p.others a p.programs in
+    let right = programs_read skips (start + length q.quiet) q.others b q.programs in
+    let cut = one_cut (says_something skips) p.quiet p.others q.quiet q.others (sym p.body_is ∙ q.body_is) (silent_read skips p.quiet p.quiet_is) (silent_read skips q.quiet q.quiet_is) (something_starts skips (start + length p.quiet) p.others a left) (something_starts skips (start + length q.quiet) q.others b right) in
+    let P : List Line → Type 0 = λ quiet. SayPrograms skips (start + length quiet) q.others b in
+    let Q : List Line → Type 0 = λ others. SayPrograms skips (start + length p.quiet) others b in
+    one_list skips (start + length p.quiet) p.others a b left (subst Q (sym cut.1) (subst P (sym cut.0) right))
 
 -- two places in the same lines are the same, or one stands before the other
 abbrev Places : List Line → Line → List Line → Line → Type 0
@@ -111,8 +112,8 @@ first_not_none skips lines fault first none = none first.before first.behind fir
 
 one_end : (skips : ℕ) (lines : List Line) (a b : TextFault) → LacksProgram skips lines a ⊎ LacksEnd skips lines a → LacksProgram skips lines b ⊎ LacksEnd skips lines b → a ≡ b
 one_end skips lines a b (inl p) (inl q) = p.1 ∙ sym q.1
-one_end skips lines a b (inl p) (inr q) = let bad : false ≡ true = sym p.0 ∙ q.0 in absurd cc
-one_end skips lines a b (inr p) (inl q) = let bad : true ≡ false = sym p.0 ∙ q.0 in absurd cc
+one_end skips lines a b (inl p) (inr q) = absurd (q.0 p.0)
+one_end skips lines a b (inr p) (inl q) = absurd (p.0 q.0)
 one_end skips lines a b (inr p) (inr q) = p.2 ∙ sym q.2
 
 pub one_fault : (skips : ℕ) (lines : List Line) (a b : TextFault) → IsFaultOf skips lines a → IsFaultOf skips lines b → a ≡ b
@@ -121,13 +122,13 @@ one_fault skips lines a b (inl p) (inr q) = absurd (first_not_none skips lines a
 one_fault skips lines a b (inr p) (inl q) = absurd (first_not_none skips lines b q p.0)
 one_fault skips lines a b (inr p) (inr q) = one_end skips lines a b p.1 q.1
 
-some_said : (skips n : ℕ) (lines : List Line) (programs : List Program) → 0 < length programs → ArePrograms skips n lines programs → list_any (says_something skips) lines ≡ true
+some_said : (skips n : ℕ) (lines : List Line) (programs : List Program) → 0 < length programs → SayPrograms skips n lines programs → list_any (says_something skips) lines ≡ true
 some_said skips n lines [] some are = absurd (omega arith)
 some_said skips n [] (program ∷ programs) some are = let is = are.3 in absurd cc
 some_said skips n (line ∷ lines) (program ∷ programs) some are =
     let is = are.3 in let head : line ≡ are.0 = cc in let said-is : says_something skips line ≡ true = ap (says_something skips) head ∙ ap is_something are.4 in rw said-is refl
 
-pub body_said : (skips n : ℕ) (lines quiet others : List Line) (programs : List Program) → 0 < length programs → lines ≡ quiet ++ others → ArePrograms skips n others programs → list_any (says_something skips) lines ≡ true
+pub body_said : (skips n : ℕ) (lines quiet others : List Line) (programs : List Program) → 0 < length programs → lines ≡ quiet ++ others → SayPrograms skips n others programs → list_any (says_something skips) lines ≡ true
 body_said skips n lines quiet others programs some is are =
     ap (list_any (says_something skips)) is ∙ list_any-append (says_something skips) quiet others ∙ either (list_any (says_something skips) quiet) (list_any (says_something skips) others) (some_said skips n others programs some are)
   where
@@ -138,6 +139,6 @@ body_said skips n lines quiet others programs some is are =
 pub not_both : (skips : ℕ) (lines : List Line) (tape : List Program) (fault : TextFault) → IsTapeOf skips lines tape → IsFaultOf skips lines fault → ⊥
 not_both skips lines tape fault is (inl first) = first_not_none skips lines fault first is.none_holds
 not_both skips lines tape fault is (inr (none, inl lacks)) =
-    let said_there = body_said skips (length (before_percent lines) + 1 + length is.quiet) (body_of lines) is.quiet is.others tape is.some is.body_is is.programs in
-    let bad : true ≡ false = sym said_there ∙ lacks.0 in absurd cc
+    let said_there = body_said skips (length (before_percent lines) + 1 + length is.quiet) (body_of lines) is.quiet is.others tape is.some is.body_is (programs_read skips (length (before_percent lines) + 1 + length is.quiet) is.others tape is.programs) in
+    let bad : true ≡ false = sym said_there ∙ silent_read skips (body_of lines) lacks.0 in absurd cc
 not_both skips lines tape fault is (inr (none, inr lacks)) = let bad : true ≡ false = sym is.closed ∙ lacks.1 in absurd cc

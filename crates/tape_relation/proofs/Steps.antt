@@ -1,8 +1,8 @@
 -- What a reader asks at a line, and which conditions hold there.
-use Rattle.std.proofs.Common.{◌≡◌, ℕ, ◌+◌, ◌<◌, ◌≤◌, Bool, true, false, cond, not, ◌&&◌, ◌||◌, ltb, leb, List, [], ◌∷◌, ◌++◌, length, filter, Option, Some, None, Result, Ok, Err, refl, ap, sym, subst, ◌∙◌, arith}
+use Rattle.std.proofs.Common.{◌≡◌, ℕ, ◌+◌, ◌<◌, ◌≤◌, Bool, true, false, cond, not, ◌&&◌, ◌||◌, ltb, leb, List, [], ◌∷◌, length, filter, Option, Some, None, Ok, Err, refl, sym, ◌∙◌, arith}
 use Rattle.std.specs.Option.{is_none}
 use Rattle.std.specs.List.{list_any}
-use Rattle.std.proofs.lemmas.Bool.{ltb-true, lt-ltb, le-ltb, leb-true, le-leb}
+use Rattle.std.proofs.lemmas.Bool.{ltb-true, lt-ltb, leb-true, le-leb}
 use Rattle.nc_text.specs.declared.refusal.Refusal.{Refusal}
 use Rattle.nc_text.specs.declared.refusal.Refusal.TheVariants.{TooManyDigits, BadCharacter, NoNumber, OpenComment, NoProgramNumber, NoEnd, LineTooLong, TooManyBlocks, TapeTooLong, WordRange}
 use Rattle.nc_text.specs.declared.said.Said.{Said}
@@ -13,7 +13,10 @@ use Rattle.nc_text.specs.Signs.{are_allowed}
 use Rattle.nc_text.specs.Said.{judged, line_says}
 use Rattle.nc_text.specs.Tape.{Before, is_past_end, is_block, is_said_in_range, next, with_said, unless_refused, after_said, after_line}
 use Rattle.tape_relation.specs.Parts.{size, begins_percent, has_percent, behind_percent, is_closed}
-use Rattle.tape_relation.specs.LineAlone.{scan, reading, is_off, says, says_block, says_something}
+use Rattle.tape_relation.proofs.LineRead.{scan, reading, is_off, says, says_block, says_something}
+use Rattle.tape_relation.proofs.Remarks.{bad_read, bad_found, open_read, open_found}
+use Rattle.tape_relation.proofs.LongNumbers.{long_read, long_found}
+use Rattle.tape_relation.proofs.LineSays.{broken_read, broken_found, block_read, block_found, silent_read, silent_found, blocks_read, blocks_found, range_read, range_found}
 use Rattle.tape_relation.specs.Conditions.{Counts, IsInBody, Holds}
 use Rattle.tape_relation.proofs.Fronts.{has_more, size_last}
 use Rattle.tape_relation.proofs.LeastNumber.{order, first_of, Tells}
@@ -169,37 +172,38 @@ body_tells skips front line before stands inside is = record { told = told; hold
     here = (counts_here skips front line before inside, is)
 
     told : (r : Refusal) → Holds skips front line r → body_test skips before line r ≡ true
-    told TooManyDigits h = both_true (reading line).long (not (is_off skips line)) h.1.0 (not_is (is_off skips line) h.1.1)
-    told BadCharacter h = not_is (are_allowed (scan line).list) h.1
-    told NoNumber h = h.1
-    told OpenComment h = h.1
-    told NoProgramNumber h = both_true (says_block skips line) (is_none before.current) h.1 (inside.none_is ∙ not_is (list_any (says_something skips) (behind_percent front)) h.2)
+    told TooManyDigits h = let p = long_read skips line h.1 in both_true (reading line).long (not (is_off skips line)) p.0 (not_is (is_off skips line) p.1)
+    told BadCharacter h = not_is (are_allowed (scan line).list) (bad_read line h.1)
+    told NoNumber h = broken_read line h.1
+    told OpenComment h = open_read line h.1
+    told NoProgramNumber h = both_true (says_block skips line) (is_none before.current) (block_read skips line h.1) (inside.none_is ∙ not_is (list_any (says_something skips) (behind_percent front)) (silent_read skips (behind_percent front) h.2))
     told NoEnd h = absurd h
     told LineTooLong h = lt-ltb 512 (length line.bytes) h.1
     told TooManyBlocks h =
         let same = inside.blocks_are in
-        let many = h.2 in
-        let full : 20000 ≤ before.blocks = omega arith in both_true (says_block skips line) (leb 20000 before.blocks) h.1 (le-leb 20000 before.blocks full)
+        let many = h.2.2 in
+        let count = blocks_read skips (behind_percent front) h.2.0 h.2.1 in
+        let full : 20000 ≤ before.blocks = omega arith in both_true (says_block skips line) (leb 20000 before.blocks) (block_read skips line h.1) (le-leb 20000 before.blocks full)
     told TapeTooLong h = past_told skips front line before stands h
-    told WordRange h = not_is (is_said_in_range (says skips line)) h.1
+    told WordRange h = not_is (is_said_in_range (says skips line)) (range_read skips line h.1)
 
     holds : (r : Refusal) → body_test skips before line r ≡ true → Holds skips front line r
-    holds TooManyDigits e = let p = true_both (reading line).long (not (is_off skips line)) e in (here, (p.0, is_not (is_off skips line) p.1))
-    holds BadCharacter e = (here, is_not (are_allowed (scan line).list) e)
-    holds NoNumber e = (here, e)
-    holds OpenComment e = (here, e)
-    holds NoProgramNumber e = let p = true_both (says_block skips line) (is_none before.current) e in (here, p.0, is_not (list_any (says_something skips) (behind_percent front)) (sym inside.none_is ∙ p.1))
+    holds TooManyDigits e = let p = true_both (reading line).long (not (is_off skips line)) e in (here, long_found skips line p.0 (is_not (is_off skips line) p.1))
+    holds BadCharacter e = (here, bad_found line (is_not (are_allowed (scan line).list) e))
+    holds NoNumber e = (here, broken_found line e)
+    holds OpenComment e = (here, open_found line e)
+    holds NoProgramNumber e = let p = true_both (says_block skips line) (is_none before.current) e in (here, block_found skips line p.0, silent_found skips (behind_percent front) (is_not (list_any (says_something skips) (behind_percent front)) (sym inside.none_is ∙ p.1)))
     holds NoEnd e = absurd cc
     holds LineTooLong e = (here.0, ltb-true 512 (length line.bytes) e)
     holds TooManyBlocks e =
         let p = true_both (says_block skips line) (leb 20000 before.blocks) e in
         let same = inside.blocks_are in
-        let full : 20000 ≤ before.blocks = leb-true 20000 before.blocks p.1 in (here, p.0, omega arith)
+        let full : 20000 ≤ before.blocks = leb-true 20000 before.blocks p.1 in (here, block_found skips line p.0, (length (filter (says_block skips) (behind_percent front)), blocks_found skips (behind_percent front), omega arith))
     holds TapeTooLong e = past_holds skips front line before stands e
-    holds WordRange e = (here, is_not (is_said_in_range (says skips line)) e)
+    holds WordRange e = (here, range_found skips line (is_not (is_said_in_range (says skips line)) e))
 
 -- the tests of a line with this reading, one after another
-judged_step : (skipped allowed unclosed : Bool) (read : Reading) (before : Before) (len : ℕ) (ended : Bool) (test : Refusal → Bool) (what : Said) → what ≡ cond skipped said.Nothing read.said
+judged_step : (skipped allowed unclosed : Bool) (read : Reading) (before : Before) (len : ℕ) (ended : Bool) (test : Refusal → Bool) (what : Said) → what ≡ cond (skipped || read.broken) said.Nothing read.said
     → test TooManyDigits ≡ (read.long && not skipped) → test BadCharacter ≡ not allowed → test NoNumber ≡ read.broken → test OpenComment ≡ unclosed
     → test NoProgramNumber ≡ (is_block what && is_none before.current) → test NoEnd ≡ false → test LineTooLong ≡ ltb 512 len → test TooManyBlocks ≡ (is_block what && leb 20000 before.blocks)
     → test TapeTooLong ≡ is_past_end before len ended → test WordRange ≡ not (is_said_in_range what)
@@ -212,7 +216,7 @@ judged_step skipped allowed unclosed read before len ended test what said-is t5 
         cond (is_block s && is_none before.current) (Some NoProgramNumber)
         (cond (ltb 512 len) (Some LineTooLong) (cond (is_block s && leb 20000 before.blocks) (Some TooManyBlocks) (cond (is_past_end before len ended) (Some TapeTooLong) (cond (not (is_said_in_range s)) (Some WordRange) None))))
 
-    go : (long allow broken late off : Bool) → what ≡ cond off said.Nothing read.said
+    go : (long allow broken late off : Bool) → what ≡ cond (off || broken) said.Nothing read.said
         → after_said before len ended (cond long (Err TooManyDigits) (cond (not allow) (Err BadCharacter) (cond broken (Err NoNumber) (cond late (Err OpenComment) (cond off (Ok said.Nothing) (Ok read.said))))))
         ≡ unless_refused (cond long (Some TooManyDigits) (cond (not allow) (Some BadCharacter) (cond broken (Some NoNumber) (cond late (Some OpenComment) (rest what))))) (next (with_said before what) len ended)
     go true allow broken late off e = refl

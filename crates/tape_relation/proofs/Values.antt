@@ -1,18 +1,14 @@
 -- What the reader takes for a value is one of the grammar, and the other way round.
-use Rattle.std.proofs.Common.{◌≡◌, ℕ, suc, ◌+◌, ◌-◌, ◌<◌, ◌≤◌, ◌==◌, Bool, true, false, cond, ◌&&◌, ◌||◌, List, [], ◌∷◌, ◌++◌, length, ◌⊎◌, inl, inr, refl, ap, sym, subst, ◌∙◌, arith}
+use Rattle.std.proofs.Common.{◌≡◌, ℕ, ◌+◌, ◌-◌, ◌<◌, ◌==◌, Bool, true, false, cond, ◌&&◌, ◌||◌, List, [], ◌∷◌, ◌++◌, length, ◌⊎◌, inl, inr, refl, ap, sym, subst, ◌∙◌, arith}
 use Rattle.std.specs.Char.{is_ascii_digit}
 use Rattle.std.specs.List.{list_all}
-use Rattle.std.proofs.lemmas.Bool.{true≢false, eqb-true, eq-eqb}
+use Rattle.std.proofs.lemmas.Bool.{eqb-true, eq-eqb}
 use Rattle.std.proofs.lemmas.List.{nil_from_length}
-use Rattle.nc_number.specs.Literals.{is_literal, is_sign, behind_sign}
-use Rattle.nc_text.specs.Pieces.{depth_behind}
+use Rattle.nc_number.specs.Literals.{is_literal, behind_sign}
 use Rattle.nc_text.specs.Values.{closes, is_variable, is_reference, is_value}
-use Rattle.tape_relation.specs.Value.{times, IsBalanced, IsBracketed, IsVariable, IsSign, IsValue}
-
-pub both : (a b : Bool) → (a && b) ≡ true → (a ≡ true) × (b ≡ true)
-both true true e = (refl, refl)
-both true false e = absurd cc
-both false b e = absurd cc
+use Rattle.tape_relation.specs.Numbers.{IsSign}
+use Rattle.tape_relation.specs.Value.{times, IsBracketed, IsVariable, IsValue}
+use Rattle.tape_relation.proofs.LiteralParts.{both, signed, literal_found, literal_read}
 
 times_cons : (k b : ℕ) (text : List ℕ) (t : Bool) → (b == k) ≡ t → times k (b ∷ text) ≡ cond t 1 0 + times k text
 times_cons k b text true e = rw e refl
@@ -147,24 +143,11 @@ reference (b ∷ text) e = go (b == 35) refl e
         let p = both (b == 91) (closes text 1) h in
         let x : b ≡ 91 = eqb-true b 91 p.0 in let P : ℕ → Type 0 = λ k. IsBracketed (k ∷ text) in inr (subst P (sym x) (bracketed text p.1))
 
--- a text is its sign and what stands behind it
-abbrev HasSign : List ℕ → Type 0
-HasSign text = (sign : List ℕ) × (text ≡ sign ++ behind_sign text) × IsSign sign
-
-signed : (text : List ℕ) → HasSign text
-signed [] = ([], refl, inl refl)
-signed (b ∷ text) = go (b == 43) refl (b == 45) refl
-  where
-    go : (t : Bool) → (b == 43) ≡ t → (u : Bool) → (b == 45) ≡ u → HasSign (b ∷ text)
-    go true e u f = (b ∷ [], rw e refl, inr (inl (ap (λ (k : ℕ). k ∷ []) (eqb-true b 43 e))))
-    go false e true f = (b ∷ [], rw (e, f) refl, inr (inr (ap (λ (k : ℕ). k ∷ []) (eqb-true b 45 f))))
-    go false e false f = ([], rw (e, f) refl, inl refl)
-
 pub value_is : (text : List ℕ) → is_value text ≡ true → IsValue text
 value_is text e = go (is_literal text) refl e
   where
     go : (t : Bool) → is_literal text ≡ t → (t || is_reference (behind_sign text)) ≡ true → IsValue text
-    go true is h = inl is
+    go true is h = inl (literal_found text is)
     go false is h = let s = signed text in inr (s.0, behind_sign text, s.1, s.2, reference (behind_sign text) h)
 
 is_variable_name : (name : List ℕ) → ((0 < length name) × (list_all is_ascii_digit name ≡ true)) ⊎ IsBracketed name → is_variable name ≡ true
@@ -190,7 +173,7 @@ or_right true b e = refl
 or_right false b e = e
 
 pub is_a_value : (text : List ℕ) → IsValue text → is_value text ≡ true
-is_a_value text (inl is) = rw is refl
+is_a_value text (inl is) = rw (literal_read text is) refl
 is_a_value text (inr (sign, rest, is, s, r)) =
     let p = is_a_reference rest r in
     let behind : behind_sign text ≡ rest = ap behind_sign is ∙ go s p.1 in or_right (is_literal text) (is_reference (behind_sign text)) (ap is_reference behind ∙ p.0)

@@ -1,12 +1,12 @@
--- The conditions under which a line of a tape is refused. Each looks for itself at all lines before it; none asks for another.
-use Rattle.std.specs.Prelude.{◌≡◌, ℕ, ◌<◌, ◌≤◌, true, false, List, [], ◌∷◌, ◌++◌, length, filter}
-use Rattle.std.specs.List.{list_any}
+-- The conditions under which a line is refused. Each looks for itself at all lines before it; none asks for another.
+use Rattle.std.specs.Prelude.{◌≡◌, ℕ, ◌+◌, ◌<◌, ◌≤◌, ◌⊎◌, true, false, List, [], ◌∷◌, ◌++◌, length, All}
 use Rattle.nc_text.specs.declared.refusal.Refusal.{Refusal}
 use Rattle.nc_text.specs.declared.refusal.Refusal.TheVariants.{TooManyDigits, BadCharacter, NoNumber, OpenComment, NoProgramNumber, NoEnd, LineTooLong, TooManyBlocks, TapeTooLong, WordRange}
 use Rattle.nc_text.specs.Refusals.{refusal_number}
 use Rattle.nc_text.specs.Lines.{Line}
 use Rattle.tape_relation.specs.Parts.{size, begins_percent, has_percent, behind_percent, is_closed}
-use Rattle.tape_relation.specs.LineAlone.{says_block, says_something, HasLongNumber, HasBadCharacter, IsBroken, EndsInComment, IsOutOfRange}
+use Rattle.tape_relation.specs.Characters.{HasBadCharacter, EndsInComment}
+use Rattle.tape_relation.specs.LineAlone.{SaysBlock, SaysSomething, HasLongNumber, IsBroken, IsOutOfRange}
 
 -- in bytes, a line without its line feed
 abbrev pub longest_line : ℕ
@@ -26,23 +26,37 @@ Counts front line = (has_percent (front ++ line ∷ []) ≡ true) × (is_closed 
 abbrev pub IsInBody : List Line → Line → Type 0
 IsInBody front line = Counts front line × (begins_percent line ≡ false)
 
+-- none of these lines says a block or an O number
+abbrev pub SayNothing : ℕ → List Line → Type 0
+SayNothing skips lines = All (λ line. SaysSomething skips line → ⊥) lines
+
+-- so many of these lines say a block
+abbrev pub SayBlocks : ℕ → List Line → ℕ → Type 0
+SayBlocks skips [] n = n ≡ 0
+SayBlocks skips (line ∷ lines) n = (SaysBlock skips line × ((m : ℕ) × (n ≡ m + 1) × SayBlocks skips lines m))
+    ⊎ ((SaysBlock skips line → ⊥) × SayBlocks skips lines n)
+
 -- the refusal's condition holds at this line behind these
 abbrev pub Holds : ℕ → List Line → Line → Refusal → Type 0
 Holds skips front line TooManyDigits = IsInBody front line × HasLongNumber skips line
 Holds skips front line BadCharacter = IsInBody front line × HasBadCharacter line
 Holds skips front line NoNumber = IsInBody front line × IsBroken line
 Holds skips front line OpenComment = IsInBody front line × EndsInComment line
-Holds skips front line NoProgramNumber = IsInBody front line × (says_block skips line ≡ true) × (list_any (says_something skips) (behind_percent front) ≡ false)
+Holds skips front line NoProgramNumber = IsInBody front line × SaysBlock skips line
+    × SayNothing skips (behind_percent front)
 Holds skips front line NoEnd = ⊥
 Holds skips front line LineTooLong = Counts front line × (longest_line < length line.bytes)
-Holds skips front line TooManyBlocks = IsInBody front line × (says_block skips line ≡ true) × (most_blocks ≤ length (filter (says_block skips) (behind_percent front)))
+Holds skips front line TooManyBlocks = IsInBody front line × SaysBlock skips line
+    × ((n : ℕ) × SayBlocks skips (behind_percent front) n × (most_blocks ≤ n))
 Holds skips front line TapeTooLong = (size front ≤ longest_tape) × (longest_tape < size (front ++ line ∷ []))
 Holds skips front line WordRange = IsInBody front line × IsOutOfRange skips line
 
 -- it holds, and none of a lesser number does
 abbrev pub IsLeast : ℕ → List Line → Line → Refusal → Type 0
-IsLeast skips front line refusal = Holds skips front line refusal × ((other : Refusal) → Holds skips front line other → refusal_number refusal ≤ refusal_number other)
+IsLeast skips front line refusal = Holds skips front line refusal
+    × ((other : Refusal) → Holds skips front line other → refusal_number refusal ≤ refusal_number other)
 
 -- none holds at any of these lines, which stand behind the front
 abbrev pub NoneHolds : ℕ → List Line → List Line → Type 0
-NoneHolds skips front lines = (before behind : List Line) (line : Line) (refusal : Refusal) → lines ≡ before ++ line ∷ behind → Holds skips (front ++ before) line refusal → ⊥
+NoneHolds skips front lines = (before behind : List Line) (line : Line) (refusal : Refusal)
+    → lines ≡ before ++ line ∷ behind → Holds skips (front ++ before) line refusal → ⊥

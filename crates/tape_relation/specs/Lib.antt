@@ -1,7 +1,11 @@
+pub mod Numbers
 pub mod Value
+pub mod Characters
 pub mod Words
-pub mod Parts
+pub mod LineGrammar
 pub mod LineAlone
-pub mod Conditions
+pub mod Parts
 pub mod Programs
+pub mod Conditions
 pub mod Relation
+pub mod Cut

@@ -1,8 +1,8 @@
--- The parts of a tape's text: lines before the first that begins with `%`, the lines of the programs, and the lines from the
--- next on that begins with `%`.
-use Rattle.std.specs.Prelude.{◌≡◌, ℕ, ◌+◌, ◌<◌, Bool, true, false, List, [], ◌∷◌, ◌++◌, length, All, if◌then◌else◌}
+-- The parts of a tape's text: lines before the first that begins with `%`, the lines of the programs, and the lines
+-- from the next on that begins with `%`.
+use Rattle.std.specs.Prelude.{◌≡◌, ℕ, ◌+◌, ◌<◌, ◌==◌, Bool, true, false, List, [], ◌∷◌, ◌++◌, length, All, if◌then◌else◌}
 use Rattle.std.specs.List.{list_any, flat_map}
-use Rattle.nc_text.specs.Lines.{Line, IsOneLine, is_percent}
+use Rattle.nc_text.specs.Lines.{Line}
 
 -- a line as it stands in the text, with its line feed
 abbrev pub written : Line → List ℕ
@@ -18,11 +18,18 @@ AreEnded [] = Unit {0}
 AreEnded (line ∷ []) = line.ended ≡ false → 0 < length line.bytes
 AreEnded (line ∷ next ∷ lines) = (line.ended ≡ true) × AreEnded (next ∷ lines)
 
+abbrev pub HasNoFeed : List ℕ → Type 0
+HasNoFeed bytes = All (λ b. (b == 10) ≡ false) bytes
+
 -- a text is these lines, one behind the other, and no line feed stands in one
 pub record AreLines (text : List ℕ) (lines : List Line) : Type 0 where
   pub text_is : text ≡ flat_map written lines
-  pub one_line : All (λ line. IsOneLine line.bytes) lines
+  pub one_line : All (λ line. HasNoFeed line.bytes) lines
   pub ended : AreEnded lines
+
+abbrev pub is_percent : List ℕ → Bool
+is_percent [] = false
+is_percent (b ∷ bytes) = b == 37
 
 abbrev pub begins_percent : Line → Bool
 begins_percent line = is_percent line.bytes

@@ -1,6 +1,5 @@
 -- The tape of a text, and the one fault of a text that is no tape, without any reader.
 use Rattle.std.specs.Prelude.{◌≡◌, ℕ, ◌+◌, ◌<◌, ◌⊎◌, true, false, List, [], ◌∷◌, ◌++◌, length}
-use Rattle.std.specs.List.{list_any}
 use Rattle.nc_text.specs.declared.fault.TextFault.{TextFault}
 use Rattle.nc_text.specs.declared.refusal.Refusal.{Refusal}
 use Rattle.nc_text.specs.declared.refusal.Refusal.TheVariants.{NoProgramNumber, NoEnd}
@@ -8,8 +7,7 @@ use Rattle.nc_text.specs.declared.tape.Program.{Program}
 use Rattle.nc_text.specs.Refusals.{refusal_number}
 use Rattle.nc_text.specs.Lines.{Line}
 use Rattle.tape_relation.specs.Parts.{AreLines, before_percent, body_of, is_closed, opening_line}
-use Rattle.tape_relation.specs.LineAlone.{says_something}
-use Rattle.tape_relation.specs.Conditions.{IsLeast, NoneHolds}
+use Rattle.tape_relation.specs.Conditions.{SayNothing, IsLeast, NoneHolds}
 use Rattle.tape_relation.specs.Programs.{ArePrograms}
 
 abbrev pub fault_at : Refusal → ℕ → TextFault
@@ -28,17 +26,20 @@ pub record IsFirstFault (skips : ℕ) (front lines : List Line) (fault : TextFau
 
 -- the tape has no block and no O number: told of its first line that begins with `%`
 abbrev pub LacksProgram : ℕ → List Line → TextFault → Type 0
-LacksProgram skips lines fault = (list_any (says_something skips) (body_of lines) ≡ false) × (fault ≡ fault_at NoProgramNumber (opening_line lines))
+LacksProgram skips lines fault = SayNothing skips (body_of lines)
+    × (fault ≡ fault_at NoProgramNumber (opening_line lines))
 
 -- the tape has one, and no second line begins with `%`: told of the last line
 abbrev pub LacksEnd : ℕ → List Line → TextFault → Type 0
-LacksEnd skips lines fault = (list_any (says_something skips) (body_of lines) ≡ true) × (is_closed lines ≡ false) × (fault ≡ fault_at NoEnd (length lines))
+LacksEnd skips lines fault = (SayNothing skips (body_of lines) → ⊥) × (is_closed lines ≡ false)
+    × (fault ≡ fault_at NoEnd (length lines))
 
 -- the fault of a text; that it lacks a program or its end counts only where nothing else is wrong
 abbrev pub IsFaultOf : ℕ → List Line → TextFault → Type 0
-IsFaultOf skips lines fault = IsFirstFault skips [] lines fault ⊎ (NoneHolds skips [] lines × (LacksProgram skips lines fault ⊎ LacksEnd skips lines fault))
+IsFaultOf skips lines fault = IsFirstFault skips [] lines fault
+    ⊎ (NoneHolds skips [] lines × (LacksProgram skips lines fault ⊎ LacksEnd skips lines fault))
 
--- no condition holds, the closing line is there, and the lines of the body are lines that say nothing and then the programs
+-- no condition holds, the closing line is there, and the body is lines that say nothing and then the programs
 pub record IsTapeOf (skips : ℕ) (lines : List Line) (tape : List Program) : Type 0 where
   pub none_holds : NoneHolds skips [] lines
   pub closed : is_closed lines ≡ true
@@ -46,7 +47,7 @@ pub record IsTapeOf (skips : ℕ) (lines : List Line) (tape : List Program) : Ty
   pub quiet : List Line
   pub others : List Line
   pub body_is : body_of lines ≡ quiet ++ others
-  pub quiet_is : list_any (says_something skips) quiet ≡ false
+  pub quiet_is : SayNothing skips quiet
   pub programs : ArePrograms skips (length (before_percent lines) + 1 + length quiet) others tape
 
 -- the tape, or the fault, of the lines of a text

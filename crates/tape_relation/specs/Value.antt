@@ -2,7 +2,7 @@
 use Rattle.std.specs.Prelude.{◌≡◌, ℕ, ◌+◌, ◌≤◌, ◌<◌, ◌==◌, ◌⊎◌, true, List, [], ◌∷◌, ◌++◌, length, if◌then◌else◌}
 use Rattle.std.specs.Char.{is_ascii_digit}
 use Rattle.std.specs.List.{list_all}
-use Rattle.nc_number.specs.Literals.{is_literal}
+use Rattle.tape_relation.specs.Numbers.{IsSign, IsLiteral}
 
 -- how often b stands in a text
 abbrev pub times : ℕ → List ℕ → ℕ
@@ -20,12 +20,10 @@ IsBracketed text = (inner : List ℕ) × (text ≡ 91 ∷ (inner ++ 93 ∷ [])) 
 
 -- `#` and digits, or `#` and an expression in brackets
 abbrev pub IsVariable : List ℕ → Type 0
-IsVariable text = (name : List ℕ) × (text ≡ 35 ∷ name) × (((0 < length name) × (list_all is_ascii_digit name ≡ true)) ⊎ IsBracketed name)
-
--- a sign, or none
-abbrev pub IsSign : List ℕ → Type 0
-IsSign text = (text ≡ []) ⊎ ((text ≡ 43 ∷ []) ⊎ (text ≡ 45 ∷ []))
+IsVariable text = (name : List ℕ) × (text ≡ 35 ∷ name)
+    × (((0 < length name) × (list_all is_ascii_digit name ≡ true)) ⊎ IsBracketed name)
 
 -- a literal, or a variable or an expression in brackets, with or without a sign
 abbrev pub IsValue : List ℕ → Type 0
-IsValue text = (is_literal text ≡ true) ⊎ ((sign : List ℕ) × (rest : List ℕ) × (text ≡ sign ++ rest) × IsSign sign × (IsVariable rest ⊎ IsBracketed rest))
+IsValue text = IsLiteral text ⊎ ((sign : List ℕ) × (rest : List ℕ) × (text ≡ sign ++ rest) × IsSign sign
+    × (IsVariable rest ⊎ IsBracketed rest))

@@ -11,7 +11,8 @@ ghost use Rattle.nc_text.specs.Values.{is_value};
 ghost use Rattle.tape_relation.specs.Parts.{AreLines};
 ghost use Rattle.tape_relation.specs.Relation.{IsTape, IsFault};
 ghost use Rattle.tape_relation.specs.Value.{IsValue};
-ghost use Rattle.tape_relation.specs.Words.{AreWords, IsCut};
+ghost use Rattle.tape_relation.specs.Words.{AreWords};
+ghost use Rattle.tape_relation.specs.Cut.{IsCut};
 
 /// A law: a text has the tape, or the fault, that the relation says, and no other.
 pub fn the_reader_reads_the_relation()

@@ -1,0 +1,69 @@
+-- What the reader takes from a line.
+use Rattle.std.proofs.Common.{◌≡◌, ℕ, ◌+◌, Bool, true, false, cond, ◌||◌, List, [], ◌∷◌, ◌++◌, length, Some}
+use Rattle.std.specs.List.{list_any}
+use Rattle.nc_text.specs.declared.said.Said.{Said}
+use Rattle.nc_text.specs.declared.said.Said.TheVariants as said
+use Rattle.nc_text.specs.declared.said.Reading.{Reading}
+use Rattle.nc_text.specs.declared.tape.Block.{Block}
+use Rattle.nc_text.specs.declared.tape.Program.{Program}
+use Rattle.nc_text.specs.Lines.{Line}
+use Rattle.nc_text.specs.Signs.{Scan, signs_of}
+use Rattle.nc_text.specs.Front.{behind_comments}
+use Rattle.nc_text.specs.Said.{line_switch, is_skipped, read_head}
+use Rattle.nc_text.specs.Tape.{is_block, is_said_in_range}
+
+abbrev pub scan : Line → Scan
+scan line = signs_of line.bytes line.ended
+
+abbrev pub reading : Line → Reading
+reading line = read_head (behind_comments (scan line).list)
+
+-- the line's block has a skip sign whose switch is set
+abbrev pub is_off : ℕ → Line → Bool
+is_off skips line = is_skipped skips (line_switch line.bytes line.ended)
+
+-- what the line says; a line that can't be read says nothing
+abbrev pub says : ℕ → Line → Said
+says skips line = cond (is_off skips line || (reading line).broken) said.Nothing (reading line).said
+
+abbrev pub says_block : ℕ → Line → Bool
+says_block skips line = is_block (says skips line)
+
+abbrev pub is_program : Said → Bool
+is_program said.Nothing = false
+is_program (said.Program number) = true
+is_program (said.Block block) = false
+
+-- an O number
+abbrev pub says_program : ℕ → Line → Bool
+says_program skips line = is_program (says skips line)
+
+abbrev pub is_something : Said → Bool
+is_something said.Nothing = false
+is_something (said.Program number) = true
+is_something (said.Block block) = true
+
+-- a block or an O number
+abbrev pub says_something : ℕ → Line → Bool
+says_something skips line = is_something (says skips line)
+
+abbrev pub says_in_range : ℕ → Line → Bool
+says_in_range skips line = is_said_in_range (says skips line)
+
+-- the block of this line, if it says one
+abbrev pub block_on : ℕ → Said → List Block
+block_on line said.Nothing = []
+block_on line (said.Program number) = []
+block_on line (said.Block block) = record { line = line; sequence = block.sequence; body = block.body } ∷ []
+
+-- the blocks of these lines, behind so many
+abbrev pub blocks_on : ℕ → ℕ → List Line → List Block
+blocks_on skips before [] = []
+blocks_on skips before (line ∷ lines) = block_on (before + 1) (says skips line) ++ blocks_on skips (before + 1) lines
+
+-- these lines, behind so many, say the programs
+abbrev pub SayPrograms : ℕ → ℕ → List Line → List Program → Type 0
+SayPrograms skips before lines [] = lines ≡ []
+SayPrograms skips before lines (program ∷ programs) = (head : Line) × (own : List Line) × (others : List Line) × (lines ≡ head ∷ (own ++ others))
+    × (says skips head ≡ said.Program (Some program.number)) × (program.line ≡ before + 1)
+    × (list_any (says_program skips) own ≡ false) × (program.blocks ≡ blocks_on skips (before + 1) own) × SayPrograms skips (before + 1 + length own) others programs
