@@ -1,0 +1,68 @@
+-- Where a jump leads, as a result.
+use Rattle.std.proofs.Common.{◌≡◌, ◌↔◌, ℕ, zero, suc, ◌<◌, [], ◌∷◌, List, length, Option, Some, None, Result, Ok, Err, slice_get, slice_index_or, refl, subst, sym, ◌∙◌, arith}
+use Rattle.nc_number.specs.declared.cause.Cause.{Cause}
+use Rattle.nc_number.specs.declared.cause.Cause.TheVariants.{NoSequence, IntoLoop}
+use Rattle.block_order.specs.declared.fault.OrderFault.{OrderFault}
+use Rattle.block_order.specs.declared.program.ControlBlock.{ControlBlock}
+use Rattle.block_order.specs.declared.program.ControlProgram.{ControlProgram}
+use Rattle.block_order.specs.Order.{seek, IsPermitted, Leads}
+use Rattle.block_order.specs.Faults.{Stage, IsFirst, IsClearBefore}
+use Rattle.block_order.specs.First.{IsFirstOf}
+use Rattle.block_order.specs.declared.tables.ProgramTables.{ProgramTables}
+use Rattle.block_order.specs.declared.tables.TapeTables.{TapeTables}
+use Rattle.block_order.specs.Order.{blocks}
+use Rattle.block_order.specs.ProgramPlaces.{place_of}
+use Rattle.block_order.specs.TapeTable.{IsProgramTables, IsTapeTables}
+use Rattle.block_order.proofs.Programs.{stands, blocks_there, place_within}
+
+same_target : (a b : ℕ) → ◌≡◌ {A = Option ℕ} (Some a) (Some b) → a ≡ b
+same_target a b e = cc
+
+pub leads_then : (bs : List ControlBlock) (block n target : ℕ) → seek bs block n ≡ Some target → IsPermitted bs block target
+    → (t : ℕ) → (◌≡◌ {A = Result ℕ Cause} (Ok target) (Ok t)) ↔ Leads bs block n t
+leads_then bs block n target at may t = (
+  λ e. let same : target ≡ t = cc in subst (Leads bs block n) same (record { found = at; permitted = may }),
+  λ l. let same : target ≡ t = same_target target t (sym at ∙ l.found) in cc,
+)
+
+pub leads_else : (bs : List ControlBlock) (block n target : ℕ) → seek bs block n ≡ Some target → (IsPermitted bs block target → ⊥)
+    → (t : ℕ) → (◌≡◌ {A = Result ℕ Cause} (Err IntoLoop) (Ok t)) ↔ Leads bs block n t
+leads_else bs block n target at never t = (
+  λ e. absurd cc,
+  λ l. let same : t ≡ target = same_target t target (sym l.found ∙ at) in absurd (never (subst (IsPermitted bs block) same l.permitted)),
+)
+
+pub leads_none : (bs : List ControlBlock) (block n : ℕ) → seek bs block n ≡ None
+    → (t : ℕ) → (◌≡◌ {A = Result ℕ Cause} (Err NoSequence) (Ok t)) ↔ Leads bs block n t
+leads_none bs block n none t = (
+  λ e. absurd cc,
+  λ l. let both : ◌≡◌ {A = Option ℕ} None (Some t) = sym none ∙ l.found in absurd cc,
+)
+
+-- the first fault of a stage behind stages that are clear is the first fault of the tape
+pub first_of : (tape : List ControlProgram) (stage : Stage) (o : Option OrderFault) (fault : OrderFault) → IsClearBefore tape stage
+    → IsFirstOf tape stage o → o ≡ Some fault → IsFirst tape fault.line fault.cause
+first_of tape stage o fault before first is =
+    let f : IsFirstOf tape stage (Some fault) = subst (IsFirstOf tape stage) is first in
+    record { stage = stage; before = before; holds = f.0; least = f.1 }
+
+item_at : {X : Type 0} (xs : List X) (i : ℕ) → i < length xs → (x : X) × (slice_get xs i ≡ Some x)
+item_at [] i within = absurd (omega (arith, within))
+item_at (x ∷ xs) zero within = (x, refl)
+item_at (x ∷ xs) (suc i) within = item_at xs i (omega (arith, within))
+
+-- the tables of a program stand at its place
+pub tables_there : (tape : List ControlProgram) (tables : TapeTables) (q i : ℕ) → IsTapeTables tape tables → Some i ≡ place_of tape q
+    → (own : ProgramTables) × (slice_get tables.programs.items i ≡ Some own) × IsProgramTables (blocks tape q) own
+tables_there tape tables q i are e =
+    let within = place_within tape q i e in
+    let stood = item_at tape i within in
+    let p : ControlProgram = stood.0 in
+    let at : ◌≡◌ {A = Option ControlProgram} (Some p) (Some (slice_index_or tape i p)) = sym stood.1 ∙ stands tape i p within in
+    let is : p ≡ slice_index_or tape i p = cc in
+    let found = are.each i p stood.1 in
+    (found.0, found.1, subst (λ bs. IsProgramTables bs found.0) (blocks_there tape q i p e within is) found.2)
+
+pub tables_within : (tape : List ControlProgram) (tables : TapeTables) (q i : ℕ) → IsTapeTables tape tables → Some i ≡ place_of tape q
+    → i < length tables.programs.items
+tables_within tape tables q i are e = omega (arith, place_within tape q i e, are.long)

@@ -1,0 +1,32 @@
+-- What `get` and `copied` give, as one look-up.
+use Rattle.std.proofs.Common.{◌≡◌, ◌≢◌, ℕ, eqb, true, false, arith, ◌<◌, ◌≤◌, Bor, List, length, Option, Some, None, refl, sym, ap, ◌∙◌}
+use Rattle.std.specs.Option.{MatchOption, option_copied, option_flatten, option_eq}
+use Rattle.std.proofs.lemmas.Bool.Decides.{nat_tests}
+use Rattle.std.proofs.lemmas.Bool.{eqb-true}
+use Rattle.std.specs.List.{slice_get, HoldsAt}
+use Rattle.std.proofs.lemmas.Option.{slice_get_past, slice_get_read}
+
+pub got_copied : {X : Type 0} (r : Option (Bor X)) (xs : List X) (i : ℕ)
+    → MatchOption r (length xs ≤ i) (λ x. (i < length xs) × HoldsAt (λ y. x.now ≡ y) xs i)
+    → option_copied r ≡ slice_get xs i
+got_copied None xs i h = sym (slice_get_past xs i h)
+got_copied (Some x) xs i h = sym (slice_get_read xs (length xs) i x.now refl h.0 (h.1 x.now))
+
+pub flat-some : {X : Type 0} (o : Option (Option X)) (x : X) → option_flatten o ≡ Some x → o ≡ Some (Some x)
+flat-some None x e = absurd cc
+flat-some (Some None) x e = absurd cc
+flat-some (Some (Some y)) x e = ap (λ o. Some o) e
+
+pub some-flat : {X : Type 0} (a b : Option (Option X)) (o : Option X) → a ≡ b → b ≡ Some o → option_flatten a ≡ o
+some-flat a b o e f = ap option_flatten (e ∙ f)
+
+-- two options that a test found equal, and that it found to differ
+pub eq-some : (o : Option ℕ) (x : ℕ) → option_eq eqb o (Some x) ≡ true → o ≡ Some x
+eq-some None x e = absurd cc
+eq-some (Some y) x e = ap (λ k. Some k) (eqb-true y x e)
+
+pub eq-not : (o : Option ℕ) (x : ℕ) → option_eq eqb o (Some x) ≡ false → o ≢ Some x
+eq-not None x e f = absurd cc
+eq-not (Some y) x e f =
+    let k : y ≡ x = cc in
+    let test : eqb y x ≡ true = grind (arith, nat_tests) in absurd cc

@@ -1,0 +1,140 @@
+-- Each step keeps the labels ahead, but for an M99 of the main program.
+use Rattle.std.proofs.Common.{◌≡◌, ℕ, zero, suc, ◌<◌, inl, inr, Bool, true, false, List, [], ◌∷◌, length, Some, refl, ap, sym, subst, ◌∙◌, arith}
+use Rattle.block_order.specs.declared.control.Control.{Control}
+use Rattle.block_order.specs.declared.control.Control.TheVariants.{Next, Goto, While, Do, EndLoop, Wait, End, Call, Back, BackTo}
+use Rattle.block_order.specs.declared.frame.Frame.{Frame}
+use Rattle.block_order.specs.declared.label.Label.TheVariants as label
+use Rattle.block_order.specs.declared.program.ControlProgram.{ControlProgram}
+use Rattle.block_order.specs.Order.{blocks, control_at, IsLoop}
+use Rattle.block_order.specs.Loud.{loud, mark_of}
+use Rattle.block_order.specs.Labels.{room, behind, counts, IsTarget, Counts, IsUnforked}
+use Rattle.block_order.specs.Steps.{at, returned, ReturnsTo, Goes, IsPlace, Kept, Same}
+use Rattle.block_order.proofs.LoudReaches.{AreLoud}
+use Rattle.block_order.proofs.CallChains.{counts_below, main_below}
+use Rattle.block_order.proofs.LabelsAhead.{ahead-counts, ahead-quiet, moves_kept, from-next, from-jump, call_opens, repeat_begins, last_returns}
+
+-- the running program counts: it is the main program or loud
+pub Counts-from : (tape : List ControlProgram) (f : Frame) (stack : List Frame) → IsPlace tape (f ∷ stack)
+    → counts tape f.program stack ≡ true → Counts tape f.program
+Counts-from tape f [] place e = inl place.0
+Counts-from tape f (g ∷ stack) place e = inr e
+
+pub next_kept : (tape : List ControlProgram) (f : Frame) (stack : List Frame) (c : Control)
+    → control_at (blocks tape f.program) f.block ≡ Some c → mark_of (loud tape) c ≡ []
+    → Same tape f stack (at f (suc f.block) ∷ stack)
+next_kept tape f stack c is none =
+    moves_kept tape f stack (suc f.block) (λ _. from-next tape f.program f.block c is none)
+
+-- a jump to a target in the same stretch
+pub jump_kept : (tape : List ControlProgram) → IsUnforked tape → (f : Frame) (stack : List Frame)
+    → IsPlace tape (f ∷ stack) → (c : Control) → control_at (blocks tape f.program) f.block ≡ Some c
+    → (target : ℕ) → IsTarget tape f.program f.block c target
+    → Same tape f stack (at f target ∷ stack)
+jump_kept tape un f stack place c is target to =
+    moves_kept tape f stack target
+    (λ e. from-jump tape f.program f.block target
+    (un.jumps f.program f.block target c (Counts-from tape f stack place e) is to))
+
+-- from the head of a loop behind its end
+pub exit_kept : (tape : List ControlProgram) → IsUnforked tape → (f : Frame) (stack : List Frame)
+    → IsPlace tape (f ∷ stack) → (close : ℕ) → IsLoop (blocks tape f.program) f.block close
+    → Same tape f stack (at f (suc close) ∷ stack)
+exit_kept tape un f stack place close loop =
+    moves_kept tape f stack (suc close)
+    (λ e. from-next tape f.program close (EndLoop loop.name) loop.is_close refl
+    ∙ from-jump tape f.program f.block close (un.loops f.program f.block close (Counts-from tape f stack place e) loop))
+
+pub loop_kept : (tape : List ControlProgram) → IsUnforked tape → (f : Frame) (stack : List Frame)
+    → IsPlace tape (f ∷ stack) → (head : ℕ) → IsLoop (blocks tape f.program) head f.block
+    → Same tape f stack (at f head ∷ stack)
+loop_kept tape un f stack place head loop =
+    moves_kept tape f stack head
+    (λ e. sym (from-jump tape f.program head f.block
+    (un.loops f.program head f.block (Counts-from tape f stack place e) loop)))
+
+pub call_kept : (tape : List ControlProgram) → AreLoud tape → (f : Frame) (stack : List Frame) (q more : ℕ)
+    → control_at (blocks tape f.program) f.block ≡ Some (Call q (suc more))
+    → length stack < 8
+    → Same tape f stack (record { program = q; block = 0; left = more } ∷ f ∷ stack)
+call_kept tape are f stack q more is few = go (loud tape q) refl
+  where
+    go : (b : Bool) → loud tape q ≡ b → Same tape f stack (record { program = q; block = 0; left = more } ∷ f ∷ stack)
+    go false e = ahead-quiet tape (record { program = q; block = 0; left = more }) (f ∷ stack) e
+    go true e =
+        let deep : room stack ≡ suc (room (f ∷ stack)) = omega arith in
+        ahead-counts tape (record { program = q; block = 0; left = more }) (f ∷ stack) e
+        ∙ (call_opens tape (room stack) (room (f ∷ stack)) f.program f.block f.left q more (behind tape stack) deep is e
+        ∙ sym (ahead-counts tape f stack (counts_below tape are f stack q (suc more) is e)))
+
+-- a quiet program's return, with whatever repeats
+pub back_kept : (tape : List ControlProgram) → AreLoud tape → (f g : Frame) (stack : List Frame)
+    → IsPlace tape (f ∷ g ∷ stack) → control_at (blocks tape f.program) f.block ≡ Some Back
+    → (left : ℕ) → f.left ≡ left
+    → Same tape f (g ∷ stack) (returned left f (g ∷ stack))
+back_kept tape are f g stack place is zero l = go (loud tape f.program) refl
+  where
+    go : (b : Bool) → loud tape f.program ≡ b → Same tape f (g ∷ stack) (at g (suc g.block) ∷ stack)
+    go false e =
+        next_kept tape g stack (Call f.program place.0) place.1 (rw e refl) ∙ sym (ahead-quiet tape f (g ∷ stack) e)
+    go true e =
+        ahead-counts tape (at g (suc g.block)) stack (counts_below tape are g stack f.program place.0 place.1 e)
+        ∙ sym (ahead-counts tape f (g ∷ stack) e
+        ∙ (rw l (last_returns tape (room (g ∷ stack)) f.program f.block (behind tape (g ∷ stack)) is)))
+back_kept tape are f g stack place is (suc left) l = go (loud tape f.program) refl
+  where
+    go : (b : Bool) → loud tape f.program ≡ b
+        → Same tape f (g ∷ stack) (record { program = f.program; block = 0; left = left } ∷ g ∷ stack)
+    go false e =
+        ahead-quiet tape (record { program = f.program; block = 0; left = left }) (g ∷ stack) e
+        ∙ sym (ahead-quiet tape f (g ∷ stack) e)
+    go true e =
+        ahead-counts tape (record { program = f.program; block = 0; left = left }) (g ∷ stack) e
+        ∙ (repeat_begins tape (room (g ∷ stack)) f.program f.block left (behind tape (g ∷ stack)) is
+        ∙ sym (ahead-counts tape f (g ∷ stack) e ∙ rw l refl))
+
+pub back_to_kept : (tape : List ControlProgram) → AreLoud tape → IsUnforked tape → (f : Frame) (stack : List Frame)
+    → IsPlace tape (f ∷ stack) → (n : ℕ) → control_at (blocks tape f.program) f.block ≡ Some (BackTo n)
+    → (to : List Frame) → ReturnsTo tape f stack n to → Same tape f stack to
+back_to_kept tape are un f [] place n is to (target, leads, e) =
+    subst (Same tape f []) (sym e) (jump_kept tape un f [] place (BackTo n) is target (place.0, leads))
+back_to_kept tape are un f (g ∷ stack) place n is to (target, leads, e) =
+    subst (Same tape f (g ∷ stack)) (sym e) (go (loud tape f.program) refl)
+  where
+    go : (b : Bool) → loud tape f.program ≡ b → Same tape f (g ∷ stack) (at g target ∷ stack)
+    go true noisy = absurd (main_below tape are un f g stack place noisy (un.backs f.program f.block n noisy is))
+    go false quiet =
+        jump_kept tape un g stack place.3 (Call f.program place.0) place.1 target (quiet, f.block, n, is, leads)
+        ∙ sym (ahead-quiet tape f (g ∷ stack) quiet)
+
+pub restart_kept : (tape : List ControlProgram) (f : Frame) → IsPlace tape (f ∷ [])
+    → control_at (blocks tape f.program) f.block ≡ Some Back
+    → (to : List Frame) → Goes tape f [] Back to → Kept tape f [] Back to
+restart_kept tape f place is to e = (
+  rw place.1 (last_returns tape 8 f.program f.block (label.Again ∷ []) is),
+  rw (e, place.0, place.1) refl,
+)
+
+pub keeps : (tape : List ControlProgram) → AreLoud tape → IsUnforked tape → (f : Frame) (stack : List Frame)
+    → IsPlace tape (f ∷ stack) → (c : Control) → control_at (blocks tape f.program) f.block ≡ Some c
+    → (to : List Frame) → Goes tape f stack c to → Kept tape f stack c to
+keeps tape are un f stack place Next is to e = subst (Same tape f stack) (sym e) (next_kept tape f stack Next is refl)
+keeps tape are un f stack place (Goto n) is to (inl e) =
+    subst (Same tape f stack) (sym e) (next_kept tape f stack (Goto n) is refl)
+keeps tape are un f stack place (Goto n) is to (inr (k, target, may, leads, e)) =
+    subst (Same tape f stack) (sym e) (jump_kept tape un f stack place (Goto n) is target (k, may, leads))
+keeps tape are un f stack place (While m) is to (inl e) =
+    subst (Same tape f stack) (sym e) (next_kept tape f stack (While m) is refl)
+keeps tape are un f stack place (While m) is to (inr (close, loop, e)) =
+    subst (Same tape f stack) (sym e) (exit_kept tape un f stack place close loop)
+keeps tape are un f stack place (Do m) is to e =
+    subst (Same tape f stack) (sym e) (next_kept tape f stack (Do m) is refl)
+keeps tape are un f stack place (EndLoop m) is to (head, loop, e) =
+    subst (Same tape f stack) (sym e) (loop_kept tape un f stack place head loop)
+keeps tape are un f stack place (Wait code) is to e = absurd e
+keeps tape are un f stack place End is to e = absurd e
+keeps tape are un f stack place (Call q r) is to (more, more_is, few, e) =
+    subst (Same tape f stack) (sym e) (call_kept tape are f stack q more (is ∙ ap (λ k. Some (Call q k)) more_is) few)
+keeps tape are un f [] place Back is to e = restart_kept tape f place is to e
+keeps tape are un f (g ∷ stack) place Back is to e =
+    subst (Same tape f (g ∷ stack)) (sym e) (back_kept tape are f g stack place is f.left refl)
+keeps tape are un f stack place (BackTo n) is to e = back_to_kept tape are un f stack place n is to e

@@ -1,0 +1,81 @@
+-- The labels ahead of a place, as its running frame moves.
+use Rattle.std.proofs.Common.{◌≡◌, ℕ, suc, Bool, true, false, List, [], ◌∷◌, ◌++◌, drop, Some, refl, ap, sym, ◌∙◌}
+use Rattle.block_order.specs.declared.control.Control.{Control}
+use Rattle.block_order.specs.declared.control.Control.TheVariants.{Wait, End, Call, Back}
+use Rattle.block_order.specs.declared.frame.Frame.{Frame}
+use Rattle.block_order.specs.declared.label.Label.{Label}
+use Rattle.block_order.specs.declared.label.Label.TheVariants as label
+use Rattle.block_order.specs.declared.label.Mark.{Mark}
+use Rattle.block_order.specs.declared.program.ControlProgram.{ControlProgram}
+use Rattle.block_order.specs.Order.{blocks, control_at}
+use Rattle.block_order.specs.Loud.{loud, mark_of, marks, stretch}
+use Rattle.block_order.specs.Labels.{times, labels, whole, frame_labels, room, behind, counts, ahead}
+use Rattle.block_order.specs.Steps.{at}
+use Rattle.block_order.proofs.MarksFrom.{marks-at, same_stretch}
+
+pub ahead-counts : (tape : List ControlProgram) (f : Frame) (stack : List Frame) → counts tape f.program stack ≡ true
+    → ahead tape (f ∷ stack) ≡ frame_labels tape (room stack) f.program f.block f.left (behind tape stack)
+ahead-counts tape f stack e = rw e
+
+pub ahead-quiet : (tape : List ControlProgram) (f : Frame) (stack : List Frame) → counts tape f.program stack ≡ false
+    → ahead tape (f ∷ stack) ≡ ahead tape stack
+ahead-quiet tape f stack e = rw e
+
+-- the marks from the frame's block on
+abbrev pub from : List ControlProgram → ℕ → ℕ → List Mark
+from tape p block = marks (loud tape) (drop block (blocks tape p))
+
+-- a frame that moves where its marks stay keeps the labels ahead; a quiet one may move anywhere
+pub moves_kept : (tape : List ControlProgram) (f : Frame) (stack : List Frame) (block : ℕ)
+    → (counts tape f.program stack ≡ true → from tape f.program block ≡ from tape f.program f.block)
+    → ahead tape (at f block ∷ stack) ≡ ahead tape (f ∷ stack)
+moves_kept tape f stack block same = go (counts tape f.program stack) refl
+  where
+    go : (b : Bool) → counts tape f.program stack ≡ b → ahead tape (at f block ∷ stack) ≡ ahead tape (f ∷ stack)
+    go true e =
+        rw e (ap (λ ms. labels (λ q k. whole tape (room stack) q k) ms
+        (times f.left (λ k. whole tape (suc (room stack)) f.program k) (behind tape stack))) (same e))
+    go false e = rw e refl
+
+-- past a block that is no mark_of
+pub from-next : (tape : List ControlProgram) (p block : ℕ) (c : Control) → control_at (blocks tape p) block ≡ Some c
+    → mark_of (loud tape) c ≡ []
+    → from tape p (suc block) ≡ from tape p block
+from-next tape p block c is none =
+    sym (marks-at (loud tape) (blocks tape p) block c is ∙ ap (λ ms. ms ++ from tape p (suc block)) none)
+
+pub from-jump : (tape : List ControlProgram) (p i j : ℕ)
+    → stretch (loud tape) (blocks tape p) i ≡ stretch (loud tape) (blocks tape p) j
+    → from tape p j ≡ from tape p i
+from-jump tape p i j e = sym (same_stretch (loud tape) (blocks tape p) i j e)
+
+-- a call of a loud program opens as its labels say
+pub call_opens : (tape : List ControlProgram) (n m p block left q more : ℕ) (rest : List Label) → n ≡ suc m
+    → control_at (blocks tape p) block ≡ Some (Call q (suc more)) → loud tape q ≡ true
+    → frame_labels tape m q 0 more (frame_labels tape n p (suc block) left rest) ≡ frame_labels tape n p block left rest
+unfolding whole
+call_opens tape n m p block left q more rest e is noisy =
+    rw (e, marks-at (loud tape) (blocks tape p) block (Call q (suc more)) is, noisy) refl
+
+-- a return with a repeat left begins the program anew
+pub repeat_begins : (tape : List ControlProgram) (n p block left : ℕ) (rest : List Label)
+    → control_at (blocks tape p) block ≡ Some Back
+    → frame_labels tape n p 0 left rest ≡ frame_labels tape n p block (suc left) rest
+unfolding whole
+repeat_begins tape n p block left rest is = rw (marks-at (loud tape) (blocks tape p) block Back is) refl
+
+-- a last return leads to what stands behind
+pub last_returns : (tape : List ControlProgram) (n p block : ℕ) (rest : List Label)
+    → control_at (blocks tape p) block ≡ Some Back
+    → frame_labels tape n p block 0 rest ≡ rest
+last_returns tape n p block rest is = rw (marks-at (loud tape) (blocks tape p) block Back is) refl
+
+pub wait_begins : (tape : List ControlProgram) (n p block left code : ℕ) (rest : List Label)
+    → control_at (blocks tape p) block ≡ Some (Wait code)
+    → frame_labels tape n p block left rest ≡ label.Wait code ∷ frame_labels tape n p (suc block) left rest
+wait_begins tape n p block left code rest is = rw (marks-at (loud tape) (blocks tape p) block (Wait code) is) refl
+
+pub end_alone : (tape : List ControlProgram) (n p block left : ℕ) (rest : List Label)
+    → control_at (blocks tape p) block ≡ Some End
+    → frame_labels tape n p block left rest ≡ label.End ∷ []
+end_alone tape n p block left rest is = rw (marks-at (loud tape) (blocks tape p) block End is) refl

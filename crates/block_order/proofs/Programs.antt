@@ -1,0 +1,87 @@
+-- A program of the tape stands at the place that is kept of its number.
+use Rattle.std.proofs.Common.{◌≡◌, ℕ, zero, suc, ◌+◌, ◌<◌, Bool, true, false, ◌==◌, List, [], ◌∷◌, length, find, Option, Some, None, slice_get, slice_index_or, refl, ap, sym, ◌∙◌, arith}
+use Rattle.std.proofs.lemmas.Bool.Decides.{nat_tests}
+use Rattle.block_order.specs.declared.program.ControlBlock.{ControlBlock}
+use Rattle.block_order.specs.declared.program.ControlProgram.{ControlProgram}
+use Rattle.block_order.specs.Order.{program_of, blocks_of, blocks}
+use Rattle.block_order.specs.ProgramPlaces.{place_from, place_of}
+
+-- the program of this number stands that many places on
+record IsThere (ps : List ControlProgram) (place q i : ℕ) : Type 0 where
+  behind : ℕ
+  at : i ≡ place + behind
+  within : behind < length ps
+  is : find (λ p. p.number == q) ps ≡ slice_get ps behind
+  named : (p : ControlProgram) → slice_get ps behind ≡ Some p → p.number ≡ q
+
+test : (m n : ℕ) → (m == n) ≡ true → m ≡ n
+test m n e = grind (arith, nat_tests)
+
+there : (ps : List ControlProgram) (place q i : ℕ) → place_from ps place q ≡ Some i → IsThere ps place q i
+there [] place q i e = absurd cc
+there (p ∷ ps) place q i e = go (λ h. there ps (suc place) q i h) (p.number == q) refl
+  where
+    go : (place_from ps (suc place) q ≡ Some i → IsThere ps (suc place) q i) → (x : Bool) → (p.number == q) ≡ x → IsThere (p ∷ ps) place q i
+    go rest true y =
+        let both : Some place ≡ Some i = rw y at e in
+        let same : place ≡ i = cc in
+        record { behind = 0; at = omega arith; within = omega arith; is = rw y refl; named = λ r e'. (let both : Some p ≡ Some r = e' in let same : p ≡ r = cc in sym (ap (λ x. x.number) same) ∙ test p.number q y) }
+    go rest false y =
+        let r = rest (rw y at e) in
+        record {
+          behind = suc r.behind;
+          at = (let at = r.at in omega arith);
+          within = (let within = r.within in omega arith);
+          is = rw y r.is;
+          named = r.named;
+        }
+
+not_there : (ps : List ControlProgram) (place q : ℕ) → place_from ps place q ≡ None → find (λ p. p.number == q) ps ≡ None
+not_there [] place q e = refl
+not_there (p ∷ ps) place q e = go (λ h. not_there ps (suc place) q h) (p.number == q) refl
+  where
+    go : (place_from ps (suc place) q ≡ None → find (λ r. r.number == q) ps ≡ None) → (x : Bool) → (p.number == q) ≡ x
+        → find (λ r. r.number == q) (p ∷ ps) ≡ None
+    go rest true y = absurd (let both : ◌≡◌ {A = Option ℕ} (Some place) None = rw y at e in cc)
+    go rest false y = rw y (rest (rw y at e))
+
+pub stands : (tape : List ControlProgram) (i : ℕ) (d : ControlProgram) → i < length tape → slice_get tape i ≡ Some (slice_index_or tape i d)
+stands [] i d within = absurd (omega arith)
+stands (p ∷ ps) zero d within = refl
+stands (p ∷ ps) (suc i) d within = stands ps i d (omega arith)
+
+-- the program that stands there
+pub blocks_there : (tape : List ControlProgram) (q i : ℕ) (p : ControlProgram) → Some i ≡ place_of tape q → i < length tape
+    → p ≡ slice_index_or tape i p → p.blocks ≡ blocks tape q
+blocks_there tape q i p e within is =
+    let r = there tape 0 q i (sym e) in
+    let at = r.at in
+    let same : r.behind ≡ i = omega arith in
+    let found : program_of tape q ≡ Some p =
+    r.is ∙ (ap (λ k. slice_get tape k) same ∙ (stands tape i p within ∙ ap (λ x. Some x) (sym is))) in
+    sym (ap (λ o. blocks_of o) found)
+
+pub no_blocks_there : (tape : List ControlProgram) (q : ℕ) → None ≡ place_of tape q → ◌≡◌ {A = List ControlBlock} [] (blocks tape q)
+no_blocks_there tape q e = sym (ap (λ o. blocks_of o) (not_there tape 0 q (sym e)))
+
+pub place_within : (tape : List ControlProgram) (q i : ℕ) → Some i ≡ place_of tape q → i < length tape
+place_within tape q i e = let r = there tape 0 q i (sym e) in let at = r.at in let within = r.within in omega arith
+
+-- two numbers with one place are one
+pub one_place : (tape : List ControlProgram) (q r i : ℕ) → place_of tape q ≡ Some i → place_of tape r ≡ Some i → q ≡ r
+one_place tape q r i e f =
+    let a = there tape 0 q i e in
+    let b = there tape 0 r i f in
+    let at = a.at in
+    let at' = b.at in
+    let same : a.behind ≡ b.behind = omega arith in
+    go a b same (slice_get tape a.behind) refl
+  where
+    go : (a : IsThere tape 0 q i) (b : IsThere tape 0 r i) → a.behind ≡ b.behind → (o : Option ControlProgram) → slice_get tape a.behind ≡ o → q ≡ r
+    go a b same (Some p) y = sym (a.named p y) ∙ b.named p (ap (λ k. slice_get tape k) (sym same) ∙ y)
+    go a b same None y = absurd (missing tape a.behind a.within y)
+      where
+        missing : (xs : List ControlProgram) (k : ℕ) → k < length xs → slice_get xs k ≡ None → ⊥
+        missing [] k within e = absurd (omega arith)
+        missing (x ∷ xs) zero within e = absurd cc
+        missing (x ∷ xs) (suc k) within e = missing xs k (omega arith) e

@@ -1,0 +1,85 @@
+-- Steps lead from place to place; and what a wait and an end say of the labels ahead.
+use Rattle.std.proofs.Common.{◌≡◌, ℕ, zero, suc, inl, inr, true, List, [], ◌∷◌, Some, refl, ap, sym, subst, ◌∙◌}
+use Rattle.block_order.specs.declared.control.Control.{Control}
+use Rattle.block_order.specs.declared.control.Control.TheVariants.{Next, Goto, While, Do, EndLoop, Wait, End, Call, Back, BackTo}
+use Rattle.block_order.specs.declared.frame.Frame.{Frame}
+use Rattle.block_order.specs.declared.label.Label.TheVariants as label
+use Rattle.block_order.specs.declared.program.ControlProgram.{ControlProgram}
+use Rattle.block_order.specs.Order.{blocks, control_at}
+use Rattle.block_order.specs.Labels.{room, behind, counts, ahead}
+use Rattle.block_order.specs.Steps.{at, returned, Goes, Step, IsPlace, standing, passed}
+use Rattle.block_order.proofs.LoudReaches.{AreLoud}
+use Rattle.block_order.proofs.LabelsAhead.{ahead-counts, wait_begins, end_alone}
+
+pub place_moves : (tape : List ControlProgram) (f : Frame) (stack : List Frame) (block : ℕ) → IsPlace tape (f ∷ stack)
+    → IsPlace tape (at f block ∷ stack)
+place_moves tape f [] block place = place
+place_moves tape f (g ∷ stack) block place = place
+
+pub goes_stays : (tape : List ControlProgram) (f : Frame) (stack : List Frame) → IsPlace tape (f ∷ stack)
+    → (c : Control) → control_at (blocks tape f.program) f.block ≡ Some c
+    → (to : List Frame) → Goes tape f stack c to → IsPlace tape to
+goes_stays tape f stack place Next is to e = subst (IsPlace tape) (sym e) (place_moves tape f stack (suc f.block) place)
+goes_stays tape f stack place (Goto n) is to (inl e) =
+    subst (IsPlace tape) (sym e) (place_moves tape f stack (suc f.block) place)
+goes_stays tape f stack place (Goto n) is to (inr (k, target, may, leads, e)) =
+    subst (IsPlace tape) (sym e) (place_moves tape f stack target place)
+goes_stays tape f stack place (While m) is to (inl e) =
+    subst (IsPlace tape) (sym e) (place_moves tape f stack (suc f.block) place)
+goes_stays tape f stack place (While m) is to (inr (close, loop, e)) =
+    subst (IsPlace tape) (sym e) (place_moves tape f stack (suc close) place)
+goes_stays tape f stack place (Do m) is to e =
+    subst (IsPlace tape) (sym e) (place_moves tape f stack (suc f.block) place)
+goes_stays tape f stack place (EndLoop m) is to (head, loop, e) =
+    subst (IsPlace tape) (sym e) (place_moves tape f stack head place)
+goes_stays tape f stack place (Wait code) is to e = absurd e
+goes_stays tape f stack place End is to e = absurd e
+goes_stays tape f stack place (Call q r) is to (more, more_is, few, e) =
+    subst (IsPlace tape) (sym e) (r, is, few, place)
+goes_stays tape f [] place Back is to e = subst (IsPlace tape) (sym e) place
+goes_stays tape f (g ∷ stack) place Back is to e = subst (IsPlace tape) (sym e) (go f.left)
+  where
+    go : (left : ℕ) → IsPlace tape (returned left f (g ∷ stack))
+    go zero = place_moves tape g stack (suc g.block) place.3
+    go (suc left) = place
+goes_stays tape f [] place (BackTo n) is to (target, leads, e) = subst (IsPlace tape) (sym e) place
+goes_stays tape f (g ∷ stack) place (BackTo n) is to (target, leads, e) =
+    subst (IsPlace tape) (sym e) (place_moves tape g stack target place.3)
+
+pub step_stays : (tape : List ControlProgram) (from to : List Frame) → IsPlace tape from → Step tape from to
+    → IsPlace tape to
+step_stays tape [] to place step = absurd place
+step_stays tape (f ∷ stack) to place (c, is, goes) = goes_stays tape f stack place c is to goes
+
+pub passed_stays : (tape : List ControlProgram) (from : List Frame) → IsPlace tape from → IsPlace tape (passed from)
+passed_stays tape [] place = absurd place
+passed_stays tape (f ∷ stack) place = place_moves tape f stack (suc f.block) place
+
+wait_counts : (tape : List ControlProgram) → AreLoud tape → (f : Frame) (stack : List Frame) (code : ℕ)
+    → control_at (blocks tape f.program) f.block ≡ Some (Wait code) → counts tape f.program stack ≡ true
+wait_counts tape are f [] code is = refl
+wait_counts tape are f (g ∷ stack) code is = are.waits f.program f.block code is
+
+end_counts : (tape : List ControlProgram) → AreLoud tape → (f : Frame) (stack : List Frame)
+    → control_at (blocks tape f.program) f.block ≡ Some End → counts tape f.program stack ≡ true
+end_counts tape are f [] is = refl
+end_counts tape are f (g ∷ stack) is = are.ends f.program f.block is
+
+-- at a wait the labels ahead begin with it, and passing it takes it away
+pub wait_first : (tape : List ControlProgram) → AreLoud tape → (place : List Frame) (code : ℕ)
+    → standing tape place ≡ Some (Wait code)
+    → ahead tape place ≡ label.Wait code ∷ ahead tape (passed place)
+wait_first tape are [] code is = absurd cc
+wait_first tape are (f ∷ stack) code is =
+    let e : counts tape f.program stack ≡ true = wait_counts tape are f stack code is in
+    ahead-counts tape f stack e
+    ∙ (wait_begins tape (room stack) f.program f.block f.left code (behind tape stack) is
+    ∙ ap (λ ls. label.Wait code ∷ ls) (sym (ahead-counts tape (at f (suc f.block)) stack e)))
+
+-- at an end the labels ahead are it alone
+pub end_only : (tape : List ControlProgram) → AreLoud tape → (place : List Frame) → standing tape place ≡ Some End
+    → ahead tape place ≡ label.End ∷ []
+end_only tape are [] is = absurd cc
+end_only tape are (f ∷ stack) is =
+    ahead-counts tape f stack (end_counts tape are f stack is)
+    ∙ end_alone tape (room stack) f.program f.block f.left (behind tape stack) is

@@ -1,0 +1,41 @@
+use Rattle.std.proofs.Common.{◌≡◌, length, refl, sym, ap, ◌∙◌, arith, subst}
+use Rattle.std.proofs.lemmas.Option.{slice_get_read, get_or_from_slice_get}
+use Rattle.block_order.specs.declared.tables.ProgramTables.{ProgramTables}
+use Rattle.block_order.specs.Found.{IsProgramFault}
+use Rattle.block_order.specs.TapeTable.{IsProgramTables}
+use Rattle.block_order.proofs.Findable.{main-is, found-first, finds-all, finds-more}
+use Rattle.block_order.proofs.finding.finding_fault.Goals as goal
+
+pub returns-in-Some : goal.returns-in-Some
+returns-in-Some c =
+    let tape = c.args.tape.now in
+    let i = c.loop-at.at in
+    let p = c.index-tape-at.result in
+    let at = slice_get_read tape (length tape) i p refl c.loop-at-test.true c.index-tape-at.is in
+    let made = c.requires.made.each i p at in
+    let own_is : c.index-own.result.now ≡ made.0 =
+    c.index-own.ensures ∙ get_or_from_slice_get c.args.tables.now.programs.items i made.0 c.index-own.result.now made.1 in
+    let own : IsProgramTables p.blocks c.index-own.result.now =
+    subst (λ (t : ProgramTables). IsProgramTables p.blocks t) (sym own_is) made.2 in
+    let main = ap (λ x. x.number) (sym c.index-tape-0.is) ∙ main-is tape c.index-tape-0.result c.requires.listed.some c.index-tape-0.is in
+    let told = c.program_fault.ensures tape c.requires.made own main in
+    found-first tape i p c.in-Some.field-0.line c.in-Some.field-0.cause c.requires.listed c.requires.fits at
+    c.loop-at.invariant (subst (IsProgramFault tape p) c.in-Some.is told)
+
+pub loop-at-preserved : goal.loop-at-preserved
+loop-at-preserved c =
+    let tape = c.args.tape.now in
+    let i = c.loop-at.at in
+    let p = c.index-tape-at.result in
+    let at = slice_get_read tape (length tape) i p refl c.loop-at-test.true c.index-tape-at.is in
+    let made = c.requires.made.each i p at in
+    let own_is : c.index-own.result.now ≡ made.0 =
+    c.index-own.ensures ∙ get_or_from_slice_get c.args.tables.now.programs.items i made.0 c.index-own.result.now made.1 in
+    let own : IsProgramTables p.blocks c.index-own.result.now =
+    subst (λ (t : ProgramTables). IsProgramTables p.blocks t) (sym own_is) made.2 in
+    let main = ap (λ x. x.number) (sym c.index-tape-0.is) ∙ main-is tape c.index-tape-0.result c.requires.listed.some c.index-tape-0.is in
+    let told = c.program_fault.ensures tape c.requires.made own main in
+    finds-more tape i p at (subst (IsProgramFault tape p) c.in_default.is told) c.loop-at.invariant
+
+pub returns : goal.returns
+returns c = finds-all c.args.tape.now c.loop-at.at (omega arith) c.loop-at.invariant

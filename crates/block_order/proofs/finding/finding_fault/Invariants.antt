@@ -1,0 +1,5 @@
+use Rattle.block_order.proofs.Findable.{ClearFinds}
+use Rattle.block_order.proofs.finding.finding_fault.Given as goal
+
+abbrev pub invariant-loop-at : goal.invariant-loop-at
+invariant-loop-at l = ClearFinds l.tape l.at

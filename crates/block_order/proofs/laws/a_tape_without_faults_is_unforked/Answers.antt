@@ -1,0 +1,5 @@
+use Rattle.block_order.proofs.Faultless.{faultless_unforked}
+use Rattle.block_order.proofs.laws.a_tape_without_faults_is_unforked.Goals as goal
+
+pub returns : goal.returns
+returns c = faultless_unforked

@@ -1,0 +1,5 @@
+use Rattle.block_order.proofs.LoudReaches.{loud_exactly}
+use Rattle.block_order.proofs.laws.being_loud_is_reaching_a_wait_or_an_end.Goals as goal
+
+pub returns : goal.returns
+returns c = loud_exactly

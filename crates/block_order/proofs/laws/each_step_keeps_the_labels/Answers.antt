@@ -1,0 +1,5 @@
+use Rattle.block_order.proofs.OnePath.{keeps_labels}
+use Rattle.block_order.proofs.laws.each_step_keeps_the_labels.Goals as goal
+
+pub returns : goal.returns
+returns c = keeps_labels

@@ -1,0 +1,15 @@
+use Rattle.std.proofs.Common.{sym, ap, ◌∙◌}
+use Rattle.block_order.specs.Misplaced.{seen}
+use Rattle.block_order.specs.Loops.{open_behind}
+use Rattle.block_order.proofs.Seen.{seen-push}
+use Rattle.block_order.proofs.mismatch.pass.Goals as goal
+
+pub returns-in_ok-push-in-While : goal.returns-in_ok-push-in-While
+returns-in_ok-push-in-While c =
+    ap seen c.in_ok-push-in-While.ensures.items ∙ seen-push c.args.stack.now.items _
+    ∙ sym (ap (λ x. open_behind c.args.place x (seen c.args.stack.now.items)) c.in-While.is)
+
+pub returns-in_ok-push-in-Do : goal.returns-in_ok-push-in-Do
+returns-in_ok-push-in-Do c =
+    ap seen c.in_ok-push-in-Do.ensures.items ∙ seen-push c.args.stack.now.items _
+    ∙ sym (ap (λ x. open_behind c.args.place x (seen c.args.stack.now.items)) c.in-Do.is)

@@ -1,0 +1,6 @@
+use Rattle.std.proofs.Common.{◌≡◌, ◌++◌, ◌∷◌, take, map}
+use Rattle.block_order.proofs.waiting_tests.push_lines.Given as goal
+
+abbrev pub invariant-loop-block : goal.invariant-loop-block
+invariant-loop-block l =
+    l.lines.items ≡ l.fn.lines.items ++ l.program.line ∷ map (λ b. b.line) (take l.block-index l.program.blocks)

@@ -1,0 +1,14 @@
+-- What is kept of which programs are loud.
+use Rattle.std.specs.Prelude.{ℕ, Bool, List}
+use Rattle.block_order.specs.declared.loud.LoudPrograms.{LoudPrograms}
+use Rattle.block_order.specs.declared.numbers.ProgramNumbers.{ProgramNumbers}
+use Rattle.block_order.specs.Numbers.{place_known}
+use Rattle.block_order.specs.ProgramPlaces.{flag_at}
+
+-- the flag that is kept of an O number's program
+abbrev pub flag_known : ProgramNumbers → List Bool → ℕ → Bool
+flag_known numbers flags number = flag_at flags (place_known numbers number)
+
+-- whether the program of an O number is known to be loud
+abbrev pub heard : LoudPrograms → ℕ → Bool
+heard known number = flag_known known.numbers known.flags.items number

@@ -1,0 +1,53 @@
+-- Which loops are open where, and when the heads and ends of a program's loops don't fit together.
+use Rattle.std.specs.Prelude.{◌≡◌, ◌≢◌, ℕ, suc, ◌==◌, List, [], ◌∷◌, length, map, take, Option, Some, None, Contains, if◌then◌else◌}
+use Rattle.block_order.specs.declared.control.Control.{Control}
+use Rattle.block_order.specs.declared.control.Control.TheVariants.{While, Do, EndLoop}
+use Rattle.block_order.specs.declared.program.ControlBlock.{ControlBlock}
+use Rattle.block_order.specs.Order.{control_at, IsHead}
+
+-- a loop that is open: the place of its head, and its name
+pub record Open : Type 0 where
+  pub place : ℕ
+  pub name : ℕ
+
+-- without the latest one of this name
+abbrev pub closed : ℕ → List Open → List Open
+closed name [] = []
+closed name (loop ∷ loops) = if loop.name == name then loops else loop ∷ closed name loops
+
+-- The loops that are open behind a block at a place, the latest first: an END closes the latest open one of its name.
+abbrev pub open_behind : ℕ → Control → List Open → List Open
+open_behind place (While name) loops = record { place = place; name = name } ∷ loops
+open_behind place (Do name) loops = record { place = place; name = name } ∷ loops
+open_behind place (EndLoop name) loops = closed name loops
+open_behind place other loops = loops
+
+-- the loops that are open behind these blocks, which stand from a place on
+abbrev pub open_after : ℕ → List Open → List ControlBlock → List Open
+open_after place loops [] = loops
+open_after place loops (b ∷ bs) = open_after (suc place) (open_behind place b.control loops) bs
+
+-- the loops that are open before the block
+abbrev pub open_before : List ControlBlock → ℕ → List Open
+open_before bs place = open_after 0 [] (take place bs)
+
+abbrev pub names : List Open → List ℕ
+names loops = map (λ loop. loop.name) loops
+
+abbrev pub places : List Open → List ℕ
+places loops = map (λ loop. loop.place) loops
+
+abbrev pub latest : List ℕ → Option ℕ
+latest [] = None
+latest (name ∷ earlier) = Some name
+
+-- The block at a place does not fit: a head without its END, an END without its head, a head inside a loop of its own name, or
+-- an END that closes a loop while a later one is open.
+pub data IsMismatch (bs : List ControlBlock) (place : ℕ) : Type 0 where
+  unclosed : Contains (places (open_before bs (length bs))) place → IsMismatch bs place
+  unopened : (name : ℕ) → control_at bs place ≡ Some (EndLoop name) → (Contains (names (open_before bs place)) name → ⊥)
+      → IsMismatch bs place
+  nested : (c : Control) (name : ℕ) → control_at bs place ≡ Some c → IsHead c name
+      → Contains (names (open_before bs place)) name → IsMismatch bs place
+  overlap : (name : ℕ) → control_at bs place ≡ Some (EndLoop name) → Contains (names (open_before bs place)) name
+      → latest (names (open_before bs place)) ≢ Some name → IsMismatch bs place

@@ -1,0 +1,26 @@
+-- What holds of the programs of every tape that was read: where they stand in the text, and how many blocks there are.
+use Rattle.std.specs.Prelude.{ℕ, ◌<◌, ◌≤◌, List, [], ◌∷◌, length, map}
+use Rattle.std.specs.List.{flat_map}
+use Rattle.block_order.specs.declared.program.ControlBlock.{ControlBlock}
+use Rattle.block_order.specs.declared.program.ControlProgram.{ControlProgram}
+
+-- each number is above the one before it, and the first above this one
+abbrev pub RiseFrom : ℕ → List ℕ → Type 0
+RiseFrom low [] = Unit {0}
+RiseFrom low (n ∷ ns) = (low < n) × RiseFrom n ns
+
+-- the lines of a program's O number and of its blocks
+abbrev pub lines_of_program : ControlProgram → List ℕ
+lines_of_program program = program.line ∷ map (λ block. block.line) program.blocks
+
+abbrev pub lines_in : List ControlProgram → List ℕ
+lines_in tape = flat_map lines_of_program tape
+
+abbrev pub blocks_in : List ControlProgram → List ControlBlock
+blocks_in tape = flat_map (λ program. program.blocks) tape
+
+-- at least one program, lines that rise through the whole tape, and at most 20,000 blocks
+pub record IsListed (tape : List ControlProgram) : Type 0 where
+  pub some : 0 < length tape
+  pub lines : RiseFrom 0 (lines_in tape)
+  pub few : length (blocks_in tape) ≤ 20000

@@ -1,0 +1,116 @@
+//! The first fault in what jumps and calls find.
+ghost use Rattle.std.specs.Prelude.{◌≡◌, ◌↔◌, ◌<◌, ◌≤◌, List, IsTrue, None, Some, is_some, length, if◌then◌else◌};
+ghost use Rattle.nc_number.specs.declared.cause.Cause.TheVariants.{NoProgram};
+ghost use Rattle.block_order.specs.declared.program.ControlBlock.{ControlBlock};
+ghost use Rattle.block_order.specs.declared.program.ControlProgram.{ControlProgram};
+ghost use Rattle.block_order.specs.Order.{main_number, program_of};
+ghost use Rattle.block_order.specs.Faults.{Fitting, Finding, IsClear};
+ghost use Rattle.block_order.specs.First.{IsFirstOf};
+ghost use Rattle.block_order.specs.Found.{JumpFault, BlockFault, IsFaultOf, IsProgramFault};
+ghost use Rattle.block_order.specs.Shape.{IsListed};
+ghost use Rattle.block_order.specs.TapeTable.{IsProgramTables, IsTapeTables};
+
+use crate::control::Control;
+use crate::fault::OrderFault;
+use crate::program::ControlProgram;
+use crate::tables::{ProgramTables, TapeTables};
+use nc_number::Cause;
+
+/// The first fault of a tape in what its jumps and calls find: a sequence number that the program
+/// lacks, 50, an O number that the tape lacks, 51, or a jump into a loop, 53.
+pub(crate) fn finding_fault(tape: &[ControlProgram], tables: &TapeTables) -> Option<OrderFault>
+    requires listed { IsListed tape.now }
+    requires fits { IsClear tape.now Fitting }
+    requires made { IsTapeTables tape.now tables.now }
+    ensures { IsFirstOf tape.now Finding result }
+{
+    let main = tape[0].number;
+    for (at, program) in tape.iter().enumerate() {
+        let own = &tables.programs[at];
+        if let Some(OrderFault { cause, line }) = program_fault(tables, own, main, program) {
+            let cause: Cause = cause;
+            return Some(OrderFault { cause, line });
+        }
+    }
+    None
+}
+
+/// The first fault of one program.
+fn program_fault(
+    tables: &TapeTables,
+    own: &ProgramTables,
+    main: u16,
+    program: &ControlProgram,
+) -> Option<OrderFault>
+    requires { length program.now.blocks ≤ 20000 }
+    ensures { (tape : List ControlProgram) → IsTapeTables tape tables.now
+        → IsProgramTables program.now.blocks own.now → main ≡ main_number tape
+        → IsProgramFault tape program.now result }
+{
+    let is_main = program.number == main;
+    let mut place: u32 = 0;
+    for block in program.blocks.as_slice() {
+        if let Some(cause) = block_fault(tables, own, is_main, place, block.control) {
+            let cause: Cause = cause;
+            return Some(OrderFault {
+                cause,
+                line: block.line,
+            });
+        }
+        place += 1;
+    }
+    None
+}
+
+/// The fault of a block of a program, which is the main one or not.
+fn block_fault(
+    tables: &TapeTables,
+    own: &ProgramTables,
+    is_main: bool,
+    place: u32,
+    control: Control,
+) -> Option<Cause>
+    ensures { (tape : List ControlProgram) (program : ControlProgram) → IsTapeTables tape tables.now
+        → IsProgramTables program.blocks own.now → (IsTrue is_main ↔ (program.number ≡ main_number tape))
+        → place < length program.blocks → IsFaultOf (BlockFault tape program place control) result }
+{
+    match control {
+        Control::Goto(Some(number)) => jump_fault(own, place, number),
+        Control::BackTo(number) => {
+            if is_main {
+                jump_fault(own, place, number)
+            } else {
+                None
+            }
+        }
+        Control::Call { program, .. } => call_fault(tables, program),
+        _ => None,
+    }
+}
+
+/// The fault of a jump to a sequence number.
+fn jump_fault(own: &ProgramTables, place: u32, number: u32) -> Option<Cause>
+    ensures { (bs : List ControlBlock) → IsProgramTables bs own.now → place < length bs
+        → IsFaultOf (JumpFault bs place number) result }
+{
+    let Some(target) = own.index.seek(place, number) else {
+        return Some(Cause::NoSequence);
+    };
+    let reach = own.loops.reach(target);
+    if reach.holds(place) {
+        None
+    } else {
+        Some(Cause::IntoLoop)
+    }
+}
+
+/// The fault of a call.
+fn call_fault(tables: &TapeTables, called: u16) -> Option<Cause>
+    ensures { (tape : List ControlProgram) → IsTapeTables tape tables.now
+        → result ≡ (if is_some (program_of tape called) then None else Some NoProgram) }
+{
+    match tables.place_of(called) {
+        Some(_) => None,
+        None => Some(Cause::NoProgram),
+    }
+}

@@ -1,0 +1,26 @@
+//! What holds of every tape, for the crates above. Each law is the contract of a function that does
+//! nothing: who calls it has the law.
+
+ghost use Rattle.std.specs.Prelude.{List};
+ghost use Rattle.block_order.specs.declared.program.ControlProgram.{ControlProgram};
+ghost use Rattle.block_order.specs.Faults.{IsClear, Waiting};
+ghost use Rattle.block_order.specs.Labels.{IsUnforked};
+ghost use Rattle.block_order.specs.Loud.{IsLoudExactly};
+ghost use Rattle.block_order.specs.Steps.{KeepsLabels};
+
+/// The law of one path: whatever its variables hold, it comes to the labels of its tape in their
+/// order.
+pub fn each_step_keeps_the_labels()
+    ensures { (tape : List ControlProgram) → IsUnforked tape → KeepsLabels tape }
+{}
+
+/// A program is found loud exactly where it, or one that it calls, directly or through others, has
+/// a wait or an end.
+pub fn being_loud_is_reaching_a_wait_or_an_end()
+    ensures { (tape : List ControlProgram) → IsLoudExactly tape }
+{}
+
+/// Where no fault of waits is found, all runs of the tape come to one list of labels.
+pub fn a_tape_without_faults_is_unforked()
+    ensures { (tape : List ControlProgram) → IsClear tape Waiting → IsUnforked tape }
+{}

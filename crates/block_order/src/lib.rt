@@ -1,0 +1,51 @@
+//! The order in which the blocks of a tape run.
+//!
+//! Each block has a [`Control`]: what it does to the order of blocks. From the controls of a tape's
+//! programs follow where jumps lead, which loops hold a block, which programs reach a wait, the
+//! marks of a program and the labels ahead of a place. [`each_step_keeps_the_labels`] is the law of
+//! one path: whatever its variables hold, it comes to the labels of its tape in their order.
+#![tactic(auto)]
+
+mod computed;
+mod computed_strays;
+mod control;
+mod deep;
+mod depth;
+mod fault;
+mod finding;
+mod fitting;
+mod fitting_law;
+mod frame;
+mod label;
+mod laws;
+mod loops;
+mod loud;
+mod mismatch;
+mod numbers;
+mod order;
+mod place;
+mod program;
+mod sequence;
+mod stretch;
+mod tables;
+mod view;
+mod waiting;
+mod ways;
+
+pub use control::Control;
+pub use fault::OrderFault;
+pub use fitting_law::loops_that_fit_are_nested;
+pub use frame::Frame;
+pub use label::{Label, Mark};
+pub use laws::{
+    a_tape_without_faults_is_unforked, being_loud_is_reaching_a_wait_or_an_end,
+    each_step_keeps_the_labels,
+};
+pub use order::BlockOrder;
+pub use place::{MOST_CALLS, Place};
+pub use program::{ControlBlock, ControlBlockList, ControlProgram};
+
+#[cfg(test)]
+mod tests;
+#[cfg(test)]
+mod waiting_tests;

@@ -1,0 +1,111 @@
+//! The first block of a program that shows that its loops don't fit together.
+ghost use Rattle.std.specs.Prelude.{◌≡◌, ◌≤◌, length, IfOk, OnOk, OnErr};
+ghost use Rattle.block_order.specs.Loops.{closed, open_behind};
+ghost use Rattle.block_order.specs.Misplaced.{seen, has_name, is_latest, is_misplaced, earliest, lesser, IsFirstMismatch};
+
+use crate::control::Control;
+use crate::program::ControlBlock;
+use nc_number::NoMemory;
+use std::alloc::Global;
+
+/// A loop that is open: the place of its head, and its name.
+#[derive(Clone, Copy, Debug, PartialEq, Eq)]
+struct OpenLoop {
+    place: u32,
+    name: u8,
+}
+
+/// The first block that does not fit: a head without its END, an END without its head, a head inside
+/// a loop of its own name, or an END that closes a loop while a later one is open.
+pub(crate) fn first_mismatch(
+    alloc: Global,
+    blocks: &[ControlBlock],
+) -> Result<Option<u32>, NoMemory>
+    requires { length blocks.now ≤ 20000 }
+    ensures { IfOk result (λ first. IsFirstMismatch blocks.now first) }
+{
+    let mut stack: Vec<OpenLoop> = Vec::new(alloc);
+    let mut misplaced: Option<u32> = None;
+    let mut place: u32 = 0;
+    for block in blocks {
+        misplaced = misplaced.or(is_misplaced(stack.as_slice(), block.control).then_some(place));
+        pass(&mut stack, block.control, place)?;
+        place += 1;
+    }
+    Ok(lesser(misplaced, earliest(stack.as_slice())))
+}
+
+/// With these loops open, the latest last, a block of this control does not fit.
+fn is_misplaced(stack: &[OpenLoop], control: Control) -> bool
+    ensures { result ≡ is_misplaced (seen stack.now) control }
+{
+    match control {
+        Control::While(name) => has_name(stack, name),
+        Control::Do(name) => has_name(stack, name),
+        Control::EndLoop(name) => !is_latest(stack, name),
+        _ => false,
+    }
+}
+
+/// An open loop has this name.
+fn has_name(stack: &[OpenLoop], name: u8) -> bool
+    ensures { result ≡ has_name name (seen stack.now) }
+{
+    stack.iter().any(|other| other.name == name)
+}
+
+/// The latest open loop has this name.
+fn is_latest(stack: &[OpenLoop], name: u8) -> bool
+    ensures { result ≡ is_latest name (seen stack.now) }
+{
+    match stack.last() {
+        Some(latest) => latest.name == name,
+        None => false,
+    }
+}
+
+/// Opens the loop of a head, or closes that of an END.
+fn pass(stack: &mut Vec<OpenLoop>, control: Control, place: u32) -> Result<(), NoMemory>
+    ensures { OnOk result (seen stack.new.items ≡ open_behind place control (seen stack.old.items)) }
+{
+    match control {
+        Control::While(name) => stack.push(OpenLoop { place, name })?,
+        Control::Do(name) => stack.push(OpenLoop { place, name })?,
+        Control::EndLoop(name) => close(stack, name),
+        _ => {}
+    }
+    Ok(())
+}
+
+/// Closes the latest open loop of this name.
+fn close(stack: &mut Vec<OpenLoop>, name: u8)
+    ensures { seen stack.new.items ≡ closed name (seen stack.old.items) }
+{
+    let mut at = stack.len();
+    while at > 0 {
+        at -= 1;
+        if stack[at].name == name {
+            stack.remove(at);
+            return;
+        }
+    }
+}
+
+/// The head of the loop that was opened first.
+fn earliest(stack: &[OpenLoop]) -> Option<u32>
+    ensures { result ≡ earliest (seen stack.now) }
+{
+    let head = stack.first()?;
+    Some(head.place)
+}
+
+/// The lesser place of two, where there are two.
+fn lesser(one: Option<u32>, other: Option<u32>) -> Option<u32>
+    ensures { result ≡ lesser one other }
+{
+    match (one, other) {
+        (Some(place), Some(further)) => Some(place.min(further)),
+        (Some(place), None) => Some(place),
+        (None, further) => further,
+    }
+}

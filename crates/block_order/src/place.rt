@@ -1,0 +1,240 @@
+ghost use Rattle.std.specs.Prelude.{◌≡◌, ℕ, ◌+◌, ◌≤◌, ◌↔◌, ◌∷◌, [], List, length, reverse, slice_get};
+ghost use Rattle.std.specs.Prelude.{Some, IsOk, IfErr, OnOk, OnErr};
+ghost use Rattle.nc_number.specs.declared.cause.Cause.TheVariants as Cause;
+ghost use Rattle.block_order.specs.declared.control.Control.TheVariants as Control;
+ghost use Rattle.block_order.specs.declared.program.ControlProgram.{ControlProgram};
+ghost use Rattle.block_order.specs.PlaceSteps.{start_of, callers, moved, opened, returned_from, returned_to};
+ghost use Rattle.block_order.specs.PlaceSteps.{MayPass, MayGoOn, MayLead, LeadsBack};
+ghost use Rattle.block_order.specs.Steps.{passed, standing, Step};
+
+use crate::frame::Frame;
+use arrayvec::ArrayVec;
+use nc_number::Cause;
+use std::marker::Model;
+
+/// How many calls may be open at a place.
+pub const MOST_CALLS: usize = 8;
+
+/// Where a path stands: the frame that runs, and those of its callers.
+#[derive(Debug, Drop)]
+pub struct Place {
+    running: Frame,
+    /// The callers, the main program first.
+    below: ArrayVec<Frame, MOST_CALLS>,
+}
+
+impl Model for Place {
+    ghost use Rattle.std.specs.Prelude.{List, ◌∷◌, reverse, All};
+    ghost use Rattle.block_order.specs.declared.frame.Frame.{Frame};
+    ghost use Rattle.block_order.specs.PlaceSteps.{HasNext};
+
+    ghost Value = { List Frame };
+
+    ghost view = { λ place. place.running ∷ reverse place.below.items };
+
+    ghost invariant = { λ place. All HasNext place.below.items };
+}
+
+/// The frame at this index, the running one at 0 and the callers behind it, the latest first.
+fn frame_at(running: Frame, below: &[Frame], index: usize) -> Option<Frame>
+    ensures { result ≡ slice_get (running ∷ reverse below.now) index }
+{
+    if index == 0 {
+        Some(running)
+    } else if index <= below.len() {
+        Some(below[below.len() - index])
+    } else {
+        None
+    }
+}
+
+impl Place {
+    /// The first block of the main program, which has this O number.
+    pub fn start(main: u16) -> Place
+        ensures { result ≡ start_of main }
+    {
+        let running = Frame {
+            program: main,
+            block: 0,
+            left: 0,
+        };
+        Place {
+            running,
+            below: ArrayVec::new(),
+        }
+    }
+
+    /// The frame that runs.
+    pub fn running(&self) -> Frame
+        ensures { self.now ≡ result ∷ callers self.now }
+    {
+        self.running
+    }
+
+    /// How many calls are open.
+    pub fn depth(&self) -> u8
+        ensures counted { result + 1 ≡ length self.now }
+        ensures limit { result ≤ MOST_CALLS }
+    {
+        self.below.len() as u8
+    }
+
+    /// The frame at this index: the running one at 0, its caller at 1, the main program last.
+    pub fn frame(&self, index: usize) -> Option<Frame>
+        ensures { result ≡ slice_get self.now index }
+    {
+        frame_at(self.running, self.below.as_slice(), index)
+    }
+
+    /// The frame that called the running program; none in the main program.
+    pub fn caller(&self) -> Option<Frame>
+        ensures { result ≡ slice_get self.now 1 }
+    {
+        self.frame(1)
+    }
+
+    /// Goes to the next block, behind a wait too.
+    pub fn next(&mut self)
+        requires { MayPass self.old }
+        ensures passes { self.new ≡ passed self.old }
+        ensures follows { (tape : List ControlProgram) → MayGoOn (standing tape self.old)
+            → Step tape self.old self.new }
+    {
+        self.running.block += 1;
+    }
+
+    /// Goes to another block of the running program, as a jump, a WHILE that is left and an END do.
+    pub fn to(&mut self, block: u32)
+        ensures moves { self.new ≡ moved block self.old }
+        ensures follows { (tape : List ControlProgram) → MayLead tape self.old block
+            → Step tape self.old self.new }
+    {
+        self.running.block = block;
+    }
+
+    /// Opens a call of a program, to run it so many times.
+    ///
+    /// Errors: [`Cause::TooDeep`] where eight calls are open; nothing changes then.
+    pub fn call(&mut self, program: u16, repeats: u16) -> Result<(), Cause>
+        requires next { MayPass self.old }
+        requires some { 1 ≤ repeats }
+        ensures room { IsOk result ↔ (length self.old ≤ MOST_CALLS) }
+        ensures deep { IfErr result (λ cause. cause ≡ Cause.TooDeep) }
+        ensures refused { OnErr result (self.new ≡ self.old) }
+        ensures opens { OnOk result (self.new ≡ opened program repeats self.old) }
+        ensures follows { (tape : List ControlProgram) → standing tape self.old ≡ Some (Control.Call program repeats)
+            → OnOk result (Step tape self.old self.new) }
+    {
+        if self.below.len() == MOST_CALLS {
+            return Err(Cause::TooDeep);
+        }
+        self.below.push(self.running);
+        self.running = Frame {
+            program,
+            block: 0,
+            left: repeats - 1,
+        };
+        Ok(())
+    }
+
+    /// Returns, as M99 does: to the next repeat, or else behind the call; in the main program to its
+    /// start.
+    pub fn back(&mut self)
+        ensures returns { self.new ≡ returned_from self.old }
+        ensures follows { (tape : List ControlProgram) → standing tape self.old ≡ Some Control.Back
+            → Step tape self.old self.new }
+    {
+        if self.below.is_empty() {
+            self.running.block = 0;
+        } else if self.running.left > 0 {
+            self.running.block = 0;
+            self.running.left -= 1;
+        } else {
+            let caller = self.below.remove(self.below.len() - 1);
+            self.running = Frame {
+                block: caller.block + 1,
+                ..caller
+            };
+        }
+    }
+
+    /// Returns to a block of the caller, as M99 P does, whatever repeats are left; in the main
+    /// program goes to the block.
+    pub fn back_to(&mut self, block: u32)
+        ensures returns { self.new ≡ returned_to block self.old }
+        ensures follows { (tape : List ControlProgram) (n : ℕ) → standing tape self.old ≡ Some (Control.BackTo n)
+            → LeadsBack tape self.old n block → Step tape self.old self.new }
+    {
+        if !self.below.is_empty() {
+            self.running = self.below.remove(self.below.len() - 1);
+        }
+        self.running.block = block;
+    }
+}
+
+#[cfg(test)]
+mod tests {
+    use super::{MOST_CALLS, Place};
+    use std::test::Fail;
+
+    /// How many calls are open, and the program, the block and the repeats left of the running frame.
+    fn shown(place: &Place) -> [u32; 4] {
+        let frame = place.running();
+        [
+            u32::from(place.depth()),
+            u32::from(frame.program),
+            frame.block,
+            u32::from(frame.left),
+        ]
+    }
+
+    #[test]
+    fn a_return_leads_to_the_next_repeat_and_then_behind_the_call(
+        rt: HostRuntime,
+    ) -> Result<(), Fail> {
+        let mut place = Place::start(1);
+        place.next();
+        assert!(rt; place.call(2, 3).is_ok());
+        assert_eq!(rt; shown(&place), [1, 2, 0, 2]);
+        place.to(4);
+        assert_eq!(rt; shown(&place), [1, 2, 4, 2]);
+        place.back();
+        assert_eq!(rt; shown(&place), [1, 2, 0, 1]);
+        place.back();
+        assert_eq!(rt; shown(&place), [1, 2, 0, 0]);
+        place.back();
+        assert_eq!(rt; shown(&place), [0, 1, 2, 0]);
+        place.back();
+        assert_eq!(rt; shown(&place), [0, 1, 0, 0]);
+        Ok(())
+    }
+
+    #[test]
+    fn a_return_with_a_number_goes_to_a_block_of_the_caller(rt: HostRuntime) -> Result<(), Fail> {
+        let mut place = Place::start(1);
+        assert!(rt; place.call(3, 9).is_ok());
+        place.back_to(7);
+        assert_eq!(rt; shown(&place), [0, 1, 7, 0]);
+        place.back_to(5);
+        assert_eq!(rt; shown(&place), [0, 1, 5, 0]);
+        Ok(())
+    }
+
+    /// A call from the running block; whether it was refused.
+    fn is_too_deep(place: &mut Place, program: u16) -> bool {
+        place.running().block < 99 && place.call(program, 1).is_err()
+    }
+
+    #[test]
+    fn the_ninth_call_is_too_deep(rt: HostRuntime) -> Result<(), Fail> {
+        let mut place = Place::start(1);
+        for program in 2..10 {
+            assert!(rt; !is_too_deep(&mut place, program));
+        }
+        assert!(rt; is_too_deep(&mut place, 10));
+        assert_eq!(rt; shown(&place), [8, 9, 0, 0]);
+        assert_eq!(rt; place.frame(MOST_CALLS), Some(Place::start(1).running()));
+        assert_eq!(rt; place.frame(MOST_CALLS + 1), None);
+        Ok(())
+    }
+}

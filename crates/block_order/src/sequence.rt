@@ -1,0 +1,89 @@
+//! The blocks of a program by their sequence numbers.
+ghost use Rattle.std.specs.Prelude.{◌≡◌, ℕ, ◌<◌, ◌≤◌, ◌↔◌, List, Some, length, IfOk};
+ghost use Rattle.block_order.specs.Order.{seek};
+
+use crate::program::ControlBlock;
+use indexmap::IndexMap;
+use nc_number::NoMemory;
+use std::alloc::Global;
+
+/// From a sequence number to the ascending places of its blocks in one program.
+#[derive(Drop)]
+pub(crate) struct SequenceIndex {
+    places: IndexMap<u32, Vec<u32>>,
+}
+
+/// The blocks from which the search for its number comes to one block: those from `low` up to, and
+/// without, `high`, and those from `around` on, whose search begins anew at the program's start.
+#[derive(Clone, Copy, Debug, PartialEq, Eq)]
+pub(crate) struct Finders {
+    pub(crate) low: u32,
+    pub(crate) high: u32,
+    pub(crate) around: Option<u32>,
+}
+
+impl SequenceIndex {
+    ghost use Rattle.block_order.specs.declared.program.ControlBlock.{ControlBlock};
+    ghost use Rattle.block_order.specs.Places.{IsIndexOf, IsNumbered, IsFinder, places_of};
+
+    /// The index of a program's blocks.
+    pub(crate) fn of(alloc: Global, blocks: &[ControlBlock]) -> Result<SequenceIndex, NoMemory>
+        requires { length blocks.now ≤ 20000 }
+        ensures { IfOk result (λ index. IsIndexOf blocks.now index) }
+    {
+        let mut places: IndexMap<u32, Vec<u32>> = IndexMap::new(alloc);
+        let mut place: u32 = 0;
+        for block in blocks {
+            if let Some(number) = block.sequence {
+                places
+                    .entry(number)?
+                    .or_insert(Vec::new(alloc))
+                    .push(place)?;
+            }
+            place += 1;
+        }
+        Ok(SequenceIndex { places })
+    }
+
+    /// The places of the blocks of this number, in their order.
+    fn places_of(&self, number: u32) -> &[u32]
+        ensures { (bs : List ControlBlock) → IsIndexOf bs self.now → result.now ≡ places_of bs number }
+    {
+        match self.places.get(&number) {
+            Some(places) => places.as_slice(),
+            None => &[],
+        }
+    }
+
+    /// Where a search for this number leads from a block: to the next block of the number behind
+    /// it, else to the first one of the program.
+    pub(crate) fn seek(&self, from: u32, number: u32) -> Option<u32>
+        ensures { (bs : List ControlBlock) → IsIndexOf bs self.now → result ≡ seek bs from number }
+    {
+        let places = self.places_of(number);
+        let behind = places.partition_point(|place| *place <= from);
+        places.get(behind).copied().or(places.first().copied())
+    }
+
+    /// From which blocks the search for this number comes to its block at a place.
+    pub(crate) fn finders(&self, number: u32, place: u32) -> Finders
+        ensures { (bs : List ControlBlock) → IsIndexOf bs self.now → IsNumbered bs place number
+            → (block : ℕ) → (seek bs block number ≡ Some place) ↔ IsFinder result block }
+    {
+        let places = self.places_of(number);
+        let before = places.partition_point(|other| *other < place);
+        if before == 0 {
+            Finders {
+                low: 0,
+                high: place,
+                around: places.last().copied(),
+            }
+        } else {
+            Finders {
+                low: places[before - 1],
+                high: place,
+                around: None,
+            }
+        }
+    }
+}
