@@ -1,0 +1,159 @@
+-- What holds of a block of words that is not refused.
+use Rattle.std.proofs.Common.{◌≡◌, ℕ, ◌≤◌, ◌/◌, ◌%◌, nat_le, Bool, true, false, if◌then◌else◌, ◌&&◌, ◌||◌, List, [], ◌∷◌, Option, Some, None, IfSome, refl, sym, ◌∙◌, arith}
+use Rattle.std.proofs.lemmas.Bool.Decides.{nat_tests}
+use Rattle.nc_number.specs.declared.cause.Cause.TheVariants.{NotFixed, UnknownCode, WaitNotAlone, WaitPaths, TwoM, BadCall, AxisTwice, WordRange}
+use Rattle.block_order.specs.declared.control.Control.TheVariants as control
+use Rattle.macro_expr.specs.Tree.{Sentence, Aim, Assign, Goto, IfGoto, IfThen, WhileDo, DoOnly, EndLoop, ToNumber, ToNumberOf, IsInRange, IsLoop, IsAimInRange}
+use Rattle.block_forms.specs.declared.purpose.Purpose.{Purpose}
+use Rattle.block_forms.specs.declared.purpose.Purpose.TheVariants.{MacroCall, Subprogram, Return, Wait, Dwell, Setting, Other}
+use Rattle.block_forms.specs.declared.range.Range.TheVariants.{Between}
+use Rattle.block_forms.specs.declared.waits.WaitCodes.{WaitCodes}
+use Rattle.block_forms.specs.declared.word.FlowWord.{FlowWord}
+use Rattle.block_forms.specs.Codes.{m_codes, is_waiting, has_code, first_waiting, purpose_of}
+use Rattle.block_forms.specs.Ranges.{range_of}
+use Rattle.block_forms.specs.Refusals.{is_not_fixed, is_unknown, is_wait_not_alone, is_wait_of_others, has_two_m, is_bad_call, has_axis_twice, is_out_of_range, refusal_of}
+use Rattle.block_forms.specs.Controls.{number_of, or_number, call_of_p, back_to, wait_at, end_or_next, control_by, control_of_words, number_of_aim, control_of_sentence, is_sequence, is_allowed, waits_by_a_code}
+use Rattle.block_forms.proofs.NumbersFit.{IsWithin, last_within}
+use Rattle.block_forms.proofs.Waiting.{found_passes}
+
+last_of_eight : (a b c d e f g h : Bool) → (if a then Some NotFixed else if b then Some UnknownCode else if c then Some WaitNotAlone else if d then Some WaitPaths else if e then Some TwoM else if f then Some BadCall else if g then Some AxisTwice else if h then Some WordRange else None) ≡ None → h ≡ false
+last_of_eight true b c d e f g h none = absurd (cc)
+last_of_eight false true c d e f g h none = absurd (cc)
+last_of_eight false false true d e f g h none = absurd (cc)
+last_of_eight false false false true e f g h none = absurd (cc)
+last_of_eight false false false false true f g h none = absurd (cc)
+last_of_eight false false false false false true g h none = absurd (cc)
+last_of_eight false false false false false false true h none = absurd (cc)
+last_of_eight false false false false false false false true none = absurd (cc)
+last_of_eight false false false false false false false false none = refl
+
+-- each word is in its range
+all_in_range : (waits : WaitCodes) (words : List FlowWord) → refusal_of waits words ≡ None → is_out_of_range waits words ≡ false
+all_in_range waits words none =
+    last_of_eight (is_not_fixed waits words) (is_unknown words) (is_wait_not_alone waits words) (is_wait_of_others waits words) (has_two_m words) (is_bad_call waits words) (has_axis_twice words) (is_out_of_range waits words) none
+
+number_within : (waits : WaitCodes) (words : List FlowWord) (purpose : Purpose) (letter least greatest : ℕ) → refusal_of waits words ≡ None → purpose_of waits words ≡ purpose → range_of purpose letter ≡ Between least greatest → IsWithin least greatest (number_of (letter ∷ []) words)
+number_within waits words purpose letter least greatest none is range =
+    last_within purpose letter least greatest words range
+    (rw (← is) (all_in_range waits words none))
+
+weaker : (least greatest : ℕ) (number : Option ℕ) → IsWithin least greatest number → IfSome number (λ n. n ≤ greatest)
+weaker least greatest None is = tt
+weaker least greatest (Some n) is = is.1
+
+-- a number of a call, as far as a cast needs it
+pub number_at_most : (waits : WaitCodes) (words : List FlowWord) (own purpose : Purpose) (letter least greatest : ℕ) → refusal_of waits words ≡ None → own ≡ purpose_of waits words → own ≡ purpose → range_of purpose letter ≡ Between least greatest → IfSome (number_of (letter ∷ []) words) (λ n. n ≤ greatest)
+number_at_most waits words own purpose letter least greatest none is kind range =
+    weaker least greatest _ (number_within waits words purpose letter least greatest none (sym is ∙ kind) range)
+
+call_allowed : (program repeats : Option ℕ) → IsWithin 1 9999 program → IsWithin 1 9999 repeats → is_allowed (control.Call (or_number 0 program) (or_number 1 repeats)) ≡ true
+call_allowed None None p r = refl
+call_allowed (Some n) None p r = grind (arith, nat_tests)
+call_allowed None (Some m) p r = grind (arith, nat_tests)
+call_allowed (Some n) (Some m) p r = grind (arith, nat_tests)
+
+repeats_within : (repeats : Option ℕ) → IsWithin 1 9999 repeats → (1 ≤ or_number 1 repeats) × (or_number 1 repeats ≤ 9999)
+repeats_within None r = (omega arith, omega arith)
+repeats_within (Some n) r = r
+
+p_within : (p : Option ℕ) → IsWithin 1 99999999 p → or_number 0 p ≤ 99999999
+p_within None is = omega arith
+p_within (Some n) is = is.1
+
+call_of_p_allowed : (p repeats : ℕ) → p ≤ 99999999 → (1 ≤ repeats) × (repeats ≤ 9999) → is_allowed (call_of_p p repeats) ≡ true
+call_of_p_allowed p repeats small within = go (nat_le 10000 p) refl
+  where
+    go : (b : Bool) → nat_le 10000 p ≡ b → is_allowed (if b then control.Call (p % 10000) (p / 10000) else control.Call p repeats) ≡ true
+    go true e = grind (arith, nat_tests)
+    go false e = grind (arith, nat_tests)
+
+back_allowed : (n : Option ℕ) → IsWithin 1 99999 n → is_allowed (back_to n) ≡ true
+back_allowed None is = refl
+back_allowed (Some n) is = grind (arith, nat_tests)
+
+wait_allowed : (code : Option ℕ) → is_allowed (wait_at code) ≡ true
+wait_allowed None = refl
+wait_allowed (Some code) = refl
+
+end_allowed : (words : List FlowWord) → is_allowed (end_or_next words) ≡ true
+end_allowed words = go (has_code 2 words || has_code 30 words)
+  where
+    go : (b : Bool) → is_allowed (if b then control.End else control.Next) ≡ true
+    go true = refl
+    go false = refl
+
+pub words_allowed : (waits : WaitCodes) (words : List FlowWord) → refusal_of waits words ≡ None → is_allowed (control_of_words waits words) ≡ true
+words_allowed waits words none = go (purpose_of waits words) refl
+  where
+    go : (purpose : Purpose) → purpose_of waits words ≡ purpose → is_allowed (control_by purpose waits words) ≡ true
+    go MacroCall is =
+        call_allowed _ _ (number_within waits words MacroCall 80 1 9999 none is refl) (number_within waits words MacroCall 76 1 9999 none is refl)
+    go Subprogram is =
+        call_of_p_allowed _ _ (p_within _ (number_within waits words Subprogram 80 1 99999999 none is refl)) (repeats_within _ (number_within waits words Subprogram 76 1 9999 none is refl))
+    go Return is = back_allowed _ (number_within waits words Return 80 1 99999 none is refl)
+    go Wait is = wait_allowed (first_waiting waits (m_codes words))
+    go Dwell is = end_allowed words
+    go Setting is = end_allowed words
+    go Other is = end_allowed words
+
+waits_of_call : (waits : WaitCodes) (p repeats : ℕ) → waits_by_a_code waits (call_of_p p repeats) ≡ true
+waits_of_call waits p repeats = go (nat_le 10000 p)
+  where
+    go : (b : Bool) → waits_by_a_code waits (if b then control.Call (p % 10000) (p / 10000) else control.Call p repeats) ≡ true
+    go true = refl
+    go false = refl
+
+waits_of_back : (waits : WaitCodes) (n : Option ℕ) → waits_by_a_code waits (back_to n) ≡ true
+waits_of_back waits None = refl
+waits_of_back waits (Some n) = refl
+
+waits_of_wait : (waits : WaitCodes) (own : List ℕ) → waits_by_a_code waits (wait_at (first_waiting waits own)) ≡ true
+waits_of_wait waits own = go (first_waiting waits own) refl
+  where
+    go : (code : Option ℕ) → first_waiting waits own ≡ code → waits_by_a_code waits (wait_at code) ≡ true
+    go None e = refl
+    go (Some code) e = found_passes (is_waiting waits) own code e
+
+waits_of_end : (waits : WaitCodes) (words : List FlowWord) → waits_by_a_code waits (end_or_next words) ≡ true
+waits_of_end waits words = go (has_code 2 words || has_code 30 words)
+  where
+    go : (b : Bool) → waits_by_a_code waits (if b then control.End else control.Next) ≡ true
+    go true = refl
+    go false = refl
+
+pub words_wait : (waits : WaitCodes) (words : List FlowWord) → waits_by_a_code waits (control_of_words waits words) ≡ true
+words_wait waits words = go (purpose_of waits words)
+  where
+    go : (purpose : Purpose) → waits_by_a_code waits (control_by purpose waits words) ≡ true
+    go MacroCall = refl
+    go Subprogram = waits_of_call waits _ _
+    go Return = waits_of_back waits _
+    go Wait = waits_of_wait waits (m_codes words)
+    go Dwell = waits_of_end waits words
+    go Setting = waits_of_end waits words
+    go Other = waits_of_end waits words
+
+pub sentence_waits : (waits : WaitCodes) (sentence : Sentence) → waits_by_a_code waits (control_of_sentence sentence) ≡ true
+sentence_waits waits (Assign name tree) = refl
+sentence_waits waits (Goto aim) = refl
+sentence_waits waits (IfGoto test aim) = refl
+sentence_waits waits (IfThen test name tree) = refl
+sentence_waits waits (WhileDo test name) = refl
+sentence_waits waits (DoOnly name) = refl
+sentence_waits waits (EndLoop name) = refl
+
+loop_allowed : (n : ℕ) → IsLoop n → (nat_le 1 n && nat_le n 3) ≡ true
+loop_allowed n is = grind (arith, nat_tests)
+
+aim_allowed : (aim : Aim) → IsAimInRange aim → is_sequence (number_of_aim aim) ≡ true
+aim_allowed (ToNumber n) is = grind (arith, nat_tests)
+aim_allowed (ToNumberOf tree) is = refl
+
+pub sentence_allowed : (sentence : Sentence) → IsInRange sentence → is_allowed (control_of_sentence sentence) ≡ true
+sentence_allowed (Assign name tree) is = refl
+sentence_allowed (Goto aim) is = aim_allowed aim is
+sentence_allowed (IfGoto test aim) is = aim_allowed aim is
+sentence_allowed (IfThen test name tree) is = refl
+sentence_allowed (WhileDo test name) is = loop_allowed name is
+sentence_allowed (DoOnly name) is = loop_allowed name is
+sentence_allowed (EndLoop name) is = loop_allowed name is

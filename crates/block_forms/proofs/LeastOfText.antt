@@ -1,0 +1,192 @@
+-- Of the refusals that hold of the text of a block of words the least is answered.
+use Rattle.std.proofs.Common.{◌≡◌, ℕ, ◌≤◌, nat_le, Bool, true, false, if◌then◌else◌, List, [], ◌∷◌, ◌++◌, Option, Some, None, Result, Ok, Err, ◌↔◌, refl, sym, ◌∙◌, ap, arith}
+use Rattle.std.proofs.lemmas.Bool.Decides.{nat_tests}
+use Rattle.nc_number.specs.Causes.{cause_number}
+use Rattle.nc_number.specs.declared.cause.Cause.{Cause}
+use Rattle.nc_number.specs.declared.cause.Cause.TheVariants.{TooManyVariables}
+use Rattle.nc_text.specs.declared.tape.Word.{Word}
+use Rattle.block_forms.specs.declared.waits.WaitCodes.{WaitCodes}
+use Rattle.block_forms.specs.declared.word.FlowWord.{FlowWord}
+use Rattle.block_forms.specs.Refusals.{IsLeast, refusal_of}
+use Rattle.block_forms.specs.Forms.{word_of, joined, all_words, has_many_variables, with_refusal, judged, words_or_refusal}
+use Rattle.block_forms.specs.Texts.{RefusesText, unread, many, said, IsLeastOfText}
+use Rattle.block_forms.proofs.LeastRefusal.{least_refusal, no_refusal, refusal_above_25}
+use Rattle.block_forms.proofs.WordNumbers.{Stops, word_number}
+
+-- where all words read, so do those behind the first
+rest_reads : (word : Result FlowWord ℕ) (rest : Result (List FlowWord) ℕ) (words : List FlowWord) → joined word rest ≡ Ok words → (behind : List FlowWord) × (rest ≡ Ok behind)
+rest_reads (Ok w) (Ok ws) words e = (ws, refl)
+rest_reads (Ok w) (Err n) words e = absurd (cc)
+rest_reads (Err n) (Ok ws) words e = absurd (cc)
+rest_reads (Err n) (Err m) words e = absurd (cc)
+
+all_read : (before behind : List Word) (word : Word) (words : List FlowWord) (number : ℕ) → all_words (before ++ word ∷ behind) ≡ Ok words → word_of word ≡ Err number → ⊥
+all_read [] behind word words number all fails = go (word_of word) (all_words behind) fails all
+  where
+    go : (w : Result FlowWord ℕ) (rest : Result (List FlowWord) ℕ) → w ≡ Err number → joined w rest ≡ Ok words → ⊥
+    go (Ok w) rest e all = absurd (cc)
+    go (Err n) (Ok ws) e all = absurd (cc)
+    go (Err n) (Err m) e all = absurd (cc)
+all_read (b ∷ before) behind word words number all fails =
+    let rest = rest_reads (word_of b) (all_words (before ++ word ∷ behind)) words all in
+    all_read before behind word rest.0 number rest.1 fails
+
+-- the number that is answered is that of a word, or of those behind it
+first_or_rest : (own rest number : ℕ) → ◌≡◌ {A = Result (List FlowWord) ℕ} (Err (if nat_le own rest then own else rest)) (Err number) → (number ≤ own) × (number ≤ rest)
+first_or_rest own rest number e = let same : (if nat_le own rest then own else rest) ≡ number = cc in (grind (arith, nat_tests), grind (arith, nat_tests))
+
+is_least : (before behind : List Word) (word : Word) (number own : ℕ) → all_words (before ++ word ∷ behind) ≡ Err number → word_of word ≡ Err own → number ≤ own
+is_least [] behind word number own all fails = go (word_of word) (all_words behind) fails all
+  where
+    go : (w : Result FlowWord ℕ) (rest : Result (List FlowWord) ℕ) → w ≡ Err own → joined w rest ≡ Err number → number ≤ own
+    go (Ok w) rest e all = absurd (cc)
+    go (Err n) (Ok ws) e all = let a : n ≡ own = cc in let b : n ≡ number = cc in omega arith
+    go (Err n) (Err m) e all = let a : n ≡ own = cc in let b : number ≤ n = (first_or_rest n m number all).0 in omega arith
+is_least (b ∷ before) behind word number own all fails =
+    go (word_of b) (all_words (before ++ word ∷ behind)) refl all (λ n rest. is_least before behind word n own rest fails)
+    (λ words rest. all_read before behind word words own rest fails)
+  where
+    go : (w : Result FlowWord ℕ) (rest : Result (List FlowWord) ℕ) → all_words (before ++ word ∷ behind) ≡ rest → joined w rest ≡ Err number → ((n : ℕ) → all_words (before ++ word ∷ behind) ≡ Err n → n ≤ own) → ((words : List FlowWord) → all_words (before ++ word ∷ behind) ≡ Ok words → ⊥) → number ≤ own
+    go w (Ok ws) at all later never = absurd (never ws at)
+    go (Ok w) (Err m) at all later never = let a : m ≡ number = cc in let b : m ≤ own = later m at in omega arith
+    go (Err n) (Err m) at all later never = let a : number ≤ m = (first_or_rest n m number all).1 in let b : m ≤ own = later m at in omega arith
+
+-- a word that does not read
+pub record Unread (texts : List Word) (number : ℕ) : Type 0 where
+  pub before : List Word
+  pub behind : List Word
+  pub word : Word
+  pub stands : texts ≡ before ++ word ∷ behind
+  pub fails : word_of word ≡ Err number
+
+there : (texts : List Word) (number : ℕ) → all_words texts ≡ Err number → Unread texts number
+there [] number all = absurd (cc)
+there (t ∷ ts) number all = go (word_of t) (all_words ts) refl refl all (λ n rest. there ts n rest)
+  where
+    here : (n : ℕ) → word_of t ≡ Err n → n ≡ number → Unread (t ∷ ts) number
+    here n at same = record { before = []; behind = ts; word = t; stands = refl; fails = at ∙ ap Err same }
+
+    later : (n : ℕ) → Unread ts n → n ≡ number → Unread (t ∷ ts) number
+    later n it same = record {
+      before = t ∷ it.before;
+      behind = it.behind;
+      word = it.word;
+      stands = ap (λ rest. t ∷ rest) it.stands;
+      fails = it.fails ∙ ap Err same;
+    }
+
+    either : (first : Bool) (n m : ℕ) → word_of t ≡ Err n → Unread ts m → (if first then n else m) ≡ number → Unread (t ∷ ts) number
+    either true n m at it same = here n at same
+    either false n m at it same = later m it same
+
+    go : (w : Result FlowWord ℕ) (rest : Result (List FlowWord) ℕ) → word_of t ≡ w → all_words ts ≡ rest → joined w rest ≡ Err number → ((n : ℕ) → all_words ts ≡ Err n → Unread ts n) → Unread (t ∷ ts) number
+    go (Ok w) (Ok ws) at rest e behind = absurd (cc)
+    go (Ok w) (Err m) at rest e behind = let same : m ≡ number = cc in later m (behind m rest) same
+    go (Err n) (Ok ws) at rest e behind = let same : n ≡ number = cc in here n at same
+    go (Err n) (Err m) at rest e behind =
+        let same : (if nat_le n m then n else m) ≡ number = cc in
+        either (nat_le n m) n m at (behind m rest) same
+
+-- where a word does not read
+unread_is_least : Stops → (waits : WaitCodes) (texts : List Word) (number : ℕ) → all_words texts ≡ Err number → IsLeastOfText waits texts number
+unread_is_least stops waits texts number all =
+    let it = there texts number all in
+    record {
+      holds = unread it.before it.behind it.word number it.stands it.fails;
+      least = λ other refuses. go other refuses (word_number stops it.word number it.fails);
+    }
+  where
+    go : (other : ℕ) → RefusesText waits texts other → number ≤ 25 → number ≤ other
+    go _ (unread before behind word other stands fails) small =
+        is_least before behind word number other (sym (ap all_words stands) ∙ all) fails
+    go _ (many is) small = small
+    go _ (said words cause read refuses) small =
+        let never : ◌≡◌ {A = Result (List FlowWord) ℕ} (Ok words) (Err number) = sym read ∙ all in absurd (cc)
+
+-- where all words read
+said_is_least : (waits : WaitCodes) (texts : List Word) (words : List FlowWord) (cause : Cause) → all_words texts ≡ Ok words → has_many_variables texts ≡ false → refusal_of waits words ≡ Some cause → IsLeastOfText waits texts (cause_number cause)
+said_is_least waits texts words cause all few refused =
+    let is = (least_refusal waits words cause).0 refused in
+    record {
+      holds = said words cause all is.holds;
+      least = λ other refuses. go other refuses is;
+    }
+  where
+    go : (other : ℕ) → RefusesText waits texts other → IsLeast waits words cause → cause_number cause ≤ other
+    go _ (unread before behind word other stands fails) is =
+        absurd (all_read before behind word words other (sym (ap all_words stands) ∙ all) fails)
+    go _ (many are) is = let never : true ≡ false = sym are ∙ few in absurd (cc)
+    go _ (said own other read refuses) is =
+        let both : ◌≡◌ {A = Result (List FlowWord) ℕ} (Ok own) (Ok words) = sym read ∙ all in
+        let same : own ≡ words = cc in
+        is.least other (rw (← same) refuses)
+
+many_is_least : (waits : WaitCodes) (texts : List Word) (words : List FlowWord) → all_words texts ≡ Ok words → has_many_variables texts ≡ true → IsLeastOfText waits texts (cause_number TooManyVariables)
+many_is_least waits texts words all are =
+    record { holds = many are; least = λ other refuses. go other refuses }
+  where
+    go : (other : ℕ) → RefusesText waits texts other → cause_number TooManyVariables ≤ other
+    go _ (unread before behind word other stands fails) =
+        absurd (all_read before behind word words other (sym (ap all_words stands) ∙ all) fails)
+    go _ (many is) = omega arith
+    go _ (said own other read refuses) = refusal_above_25 waits own other refuses
+
+along : (waits : WaitCodes) (texts : List Word) (a b : ℕ) → a ≡ b → IsLeastOfText waits texts a → IsLeastOfText waits texts b
+along waits texts a b same is = rw (← same) is
+
+answered_is_least : Stops → (waits : WaitCodes) (texts : List Word) (number : ℕ) → words_or_refusal waits texts ≡ Err number → IsLeastOfText waits texts number
+answered_is_least stops waits texts number answered =
+    go (all_words texts) refl (has_many_variables texts) refl answered
+  where
+    told : (words : List FlowWord) → all_words texts ≡ Ok words → has_many_variables texts ≡ false → (refused : Option Cause) → refusal_of waits words ≡ refused → with_refusal refused words ≡ Err number → IsLeastOfText waits texts number
+    told words all few None at e = absurd (cc)
+    told words all few (Some cause) at e =
+        let same : cause_number cause ≡ number = cc in
+        along waits texts (cause_number cause) number same (said_is_least waits texts words cause all few at)
+
+    go : (read : Result (List FlowWord) ℕ) → all_words texts ≡ read → (are : Bool) → has_many_variables texts ≡ are → judged waits are read ≡ Err number → IsLeastOfText waits texts number
+    go (Ok words) all true are e =
+        let same : cause_number TooManyVariables ≡ number = cc in
+        along waits texts (cause_number TooManyVariables) number same (many_is_least waits texts words all are)
+    go (Ok words) all false few e = told words all few (refusal_of waits words) refl e
+    go (Err n) all are is e =
+        let same : n ≡ number = cc in
+        along waits texts n number same (unread_is_least stops waits texts n all)
+
+-- what holds of an accepted block: its words read, and no refusal holds
+pub accepted_has_none : (waits : WaitCodes) (texts : List Word) (words : List FlowWord) → words_or_refusal waits texts ≡ Ok words → (all_words texts ≡ Ok words) × ((number : ℕ) → ¬ (RefusesText waits texts number))
+accepted_has_none waits texts words accepted =
+    go (all_words texts) refl (has_many_variables texts) refl accepted
+  where
+    none : (own : List FlowWord) → all_words texts ≡ Ok own → has_many_variables texts ≡ false → refusal_of waits own ≡ None → (number : ℕ) → RefusesText waits texts number → ⊥
+    none own all few at _ (unread before behind word other stands fails) =
+        all_read before behind word own other (sym (ap all_words stands) ∙ all) fails
+    none own all few at _ (many are) = let never : true ≡ false = sym are ∙ few in absurd (cc)
+    none own all few at _ (said read cause reads refuses) =
+        let both : ◌≡◌ {A = Result (List FlowWord) ℕ} (Ok read) (Ok own) = sym reads ∙ all in
+        let same : read ≡ own = cc in
+        (no_refusal waits own).0 at cause (rw (← same) refuses)
+
+    told : (own : List FlowWord) → all_words texts ≡ Ok own → has_many_variables texts ≡ false → (refused : Option Cause) → refusal_of waits own ≡ refused → with_refusal refused own ≡ Ok words → (all_words texts ≡ Ok words) × ((number : ℕ) → ¬ (RefusesText waits texts number))
+    told own all few None at e = (all ∙ e, λ number refuses. none own all few at number refuses)
+    told own all few (Some cause) at e = absurd (cc)
+
+    go : (read : Result (List FlowWord) ℕ) → all_words texts ≡ read → (are : Bool) → has_many_variables texts ≡ are → judged waits are read ≡ Ok words → (all_words texts ≡ Ok words) × ((number : ℕ) → ¬ (RefusesText waits texts number))
+    go (Ok own) all true are e = absurd (cc)
+    go (Ok own) all false few e = told own all few (refusal_of waits own) refl e
+    go (Err n) all are is e = absurd (cc)
+
+least_is_answered : Stops → (waits : WaitCodes) (texts : List Word) (number : ℕ) → IsLeastOfText waits texts number → words_or_refusal waits texts ≡ Err number
+least_is_answered stops waits texts number is = go (words_or_refusal waits texts) refl
+  where
+    go : (answer : Result (List FlowWord) ℕ) → words_or_refusal waits texts ≡ answer → answer ≡ Err number
+    go (Ok words) e = absurd ((accepted_has_none waits texts words e).1 number is.holds)
+    go (Err n) e =
+        let own = answered_is_least stops waits texts n e in
+        let below : n ≤ number = own.least number is.holds in
+        let above : number ≤ n = is.least n own.holds in
+        let same : n ≡ number = omega arith in
+        ap Err same
+
+pub least_of_text : Stops → (waits : WaitCodes) (texts : List Word) (number : ℕ) → (words_or_refusal waits texts ≡ Err number) ↔ IsLeastOfText waits texts number
+least_of_text stops waits texts number = (answered_is_least stops waits texts number, least_is_answered stops waits texts number)

@@ -1,0 +1,158 @@
+-- The first refusal that holds, in the order of their numbers, is the least.
+use Rattle.std.proofs.Common.{◌≡◌, ℕ, ◌≤◌, nat_le, Bool, true, false, cond, ◌&&◌, ◌⊎◌, inl, inr, List, [], ◌∷◌, Option, Some, None, ◌↔◌, refl, sym, ◌∙◌, ap, arith, lit≤}
+use Rattle.std.specs.List.{find, list_all}
+use Rattle.std.proofs.lemmas.Bool.Decides.{nat_tests}
+use Rattle.nc_number.specs.Causes.{cause_number}
+use Rattle.nc_number.specs.declared.cause.Cause.{Cause}
+use Rattle.nc_number.specs.declared.cause.Cause.TheVariants.{NotFixed, UnknownCode, WaitNotAlone, WaitPaths, TwoM, BadCall, AxisTwice, WordRange}
+use Rattle.nc_number.proofs.CauseTable.{number_has_one_cause}
+use Rattle.block_forms.specs.declared.waits.WaitCodes.{WaitCodes}
+use Rattle.block_forms.specs.declared.word.FlowWord.{FlowWord}
+use Rattle.block_forms.specs.Refusals.{Refuses, not_fixed, unknown, not_alone, others, two_m, bad_call, axis_twice, out_of_range, IsLeast, is_not_fixed, is_unknown, is_wait_not_alone, is_wait_of_others, has_two_m, is_bad_call, has_axis_twice, is_out_of_range, refusal_of}
+
+-- whether the refusal holds of the block
+abbrev holds_of : WaitCodes → List FlowWord → Cause → Bool
+holds_of waits words NotFixed = is_not_fixed waits words
+holds_of waits words UnknownCode = is_unknown words
+holds_of waits words WaitNotAlone = is_wait_not_alone waits words
+holds_of waits words WaitPaths = is_wait_of_others waits words
+holds_of waits words TwoM = has_two_m words
+holds_of waits words BadCall = is_bad_call waits words
+holds_of waits words AxisTwice = has_axis_twice words
+holds_of waits words WordRange = is_out_of_range waits words
+holds_of waits words _ = false
+
+abbrev in_order : List Cause
+in_order = NotFixed ∷ UnknownCode ∷ WaitNotAlone ∷ WaitPaths ∷ TwoM ∷ BadCall ∷ AxisTwice ∷ WordRange ∷ []
+
+abbrev IsAmong : Cause → List Cause → Type 0
+IsAmong cause [] = ⊥
+IsAmong cause (x ∷ xs) = (cause ≡ x) ⊎ IsAmong cause xs
+
+-- no later number is smaller
+abbrev rises : List Cause → Bool
+rises [] = true
+rises (x ∷ xs) = list_all (λ cause. nat_le (cause_number x) (cause_number cause)) xs && rises xs
+
+tests_so : (waits : WaitCodes) (words : List FlowWord) (cause : Cause) → Refuses waits words cause → (holds_of waits words cause ≡ true) × IsAmong cause in_order
+tests_so waits words _ (not_fixed e) = (e, inl refl)
+tests_so waits words _ (unknown e) = (e, inr (inl refl))
+tests_so waits words _ (not_alone e) = (e, inr (inr (inl refl)))
+tests_so waits words _ (others e) = (e, inr (inr (inr (inl refl))))
+tests_so waits words _ (two_m e) = (e, inr (inr (inr (inr (inl refl)))))
+tests_so waits words _ (bad_call e) = (e, inr (inr (inr (inr (inr (inl refl))))))
+tests_so waits words _ (axis_twice e) = (e, inr (inr (inr (inr (inr (inr (inl refl)))))))
+tests_so waits words _ (out_of_range e) = (e, inr (inr (inr (inr (inr (inr (inr (inl refl))))))))
+
+refuses_so : (waits : WaitCodes) (words : List FlowWord) (cause : Cause) → holds_of waits words cause ≡ true → Refuses waits words cause
+refuses_so waits words NotFixed e = not_fixed e
+refuses_so waits words UnknownCode e = unknown e
+refuses_so waits words WaitNotAlone e = not_alone e
+refuses_so waits words WaitPaths e = others e
+refuses_so waits words TwoM e = two_m e
+refuses_so waits words BadCall e = bad_call e
+refuses_so waits words AxisTwice e = axis_twice e
+refuses_so waits words WordRange e = out_of_range e
+refuses_so waits words _ e = absurd (cc)
+
+both_hold : (a b : Bool) → (a && b) ≡ true → (a ≡ true) × (b ≡ true)
+both_hold true b e = (refl, e)
+both_hold false b e = absurd (cc)
+
+all_at_least : (n : ℕ) (xs : List Cause) → list_all (λ cause. nat_le n (cause_number cause)) xs ≡ true → (other : Cause) → IsAmong other xs → n ≤ cause_number other
+all_at_least n [] all other among = absurd among
+all_at_least n (x ∷ xs) all other (inl e) =
+    let first : nat_le n (cause_number x) ≡ true = (both_hold _ _ all).0 in
+    rw e (at_least n (cause_number x) first)
+  where
+    at_least : (a b : ℕ) → nat_le a b ≡ true → a ≤ b
+    at_least a b le = grind (arith, nat_tests)
+all_at_least n (x ∷ xs) all other (inr later) = all_at_least n xs (both_hold _ _ all).1 other later
+
+first_is_least : (p : Cause → Bool) (xs : List Cause) (cause : Cause) → rises xs ≡ true → find p xs ≡ Some cause → (p cause ≡ true) × ((other : Cause) → IsAmong other xs → p other ≡ true → cause_number cause ≤ cause_number other)
+first_is_least p [] cause rise found = absurd (cc)
+first_is_least p (x ∷ xs) cause rise found =
+    go (p x) refl (both_hold _ _ rise).0 (first_is_least p xs cause (both_hold _ _ rise).1) found
+  where
+    this : (b : Bool) → p x ≡ b → list_all (λ later. nat_le (cause_number x) (cause_number later)) xs ≡ true → (other : Cause) → IsAmong other (x ∷ xs) → cause_number x ≤ cause_number other
+    this b e all other (inl same) = rw same (omega arith)
+    this b e all other (inr later) = all_at_least (cause_number x) xs all other later
+
+    behind : p x ≡ false → ((other : Cause) → IsAmong other xs → p other ≡ true → cause_number cause ≤ cause_number other) → (other : Cause) → IsAmong other (x ∷ xs) → p other ≡ true → cause_number cause ≤ cause_number other
+    behind e rest other (inl same) holds =
+        let fails : p other ≡ false = rw same e in
+        let never : true ≡ false = sym holds ∙ fails in
+        absurd (cc)
+    behind e rest other (inr later) holds = rest other later holds
+
+    go : (b : Bool) → p x ≡ b → list_all (λ later. nat_le (cause_number x) (cause_number later)) xs ≡ true → (find p xs ≡ Some cause → (p cause ≡ true) × ((other : Cause) → IsAmong other xs → p other ≡ true → cause_number cause ≤ cause_number other)) → cond b (Some x) (find p xs) ≡ Some cause → (p cause ≡ true) × ((other : Cause) → IsAmong other (x ∷ xs) → p other ≡ true → cause_number cause ≤ cause_number other)
+    go true e all rest found =
+        let same : x ≡ cause = cc in
+        rw (← same) (e, λ other among holds. this true e all other among)
+    go false e all rest found = ((rest found).0, behind e (rest found).1)
+
+none_holds : (p : Cause → Bool) (xs : List Cause) → find p xs ≡ None → (other : Cause) → IsAmong other xs → p other ≡ true → ⊥
+none_holds p [] none other among holds = among
+none_holds p (x ∷ xs) none other among holds =
+    go (p x) refl none among (λ fails later. none_holds p xs fails other later holds)
+  where
+    go : (b : Bool) → p x ≡ b → cond b (Some x) (find p xs) ≡ None → IsAmong other (x ∷ xs) → (find p xs ≡ None → IsAmong other xs → ⊥) → ⊥
+    go true e none among rest = absurd (cc)
+    go false e none (inl same) rest =
+        let fails : p other ≡ false = rw same e in
+        let never : true ≡ false = sym holds ∙ fails in
+        absurd (cc)
+    go false e none (inr later) rest = rest none later
+
+none_found : (p : Cause → Bool) (xs : List Cause) → ((other : Cause) → p other ≡ true → ⊥) → find p xs ≡ None
+none_found p [] never = refl
+none_found p (x ∷ xs) never = go (p x) refl (none_found p xs never)
+  where
+    go : (b : Bool) → p x ≡ b → find p xs ≡ None → cond b (Some x) (find p xs) ≡ None
+    go true e rest = absurd (never x e)
+    go false e rest = rest
+
+is_the_first : (waits : WaitCodes) (words : List FlowWord) → refusal_of waits words ≡ find (holds_of waits words) in_order
+is_the_first waits words = refl
+
+answered_is_least : (waits : WaitCodes) (words : List FlowWord) (cause : Cause) → refusal_of waits words ≡ Some cause → IsLeast waits words cause
+answered_is_least waits words cause answered =
+    let first = first_is_least (holds_of waits words) in_order cause refl (sym (is_the_first waits words) ∙ answered) in
+    record {
+      holds = refuses_so waits words cause first.0;
+      least = λ other refuses. let so = tests_so waits words other refuses in first.1 other so.1 so.0;
+    }
+
+least_is_answered : (waits : WaitCodes) (words : List FlowWord) (cause : Cause) → IsLeast waits words cause → refusal_of waits words ≡ Some cause
+least_is_answered waits words cause is = go (refusal_of waits words) refl
+  where
+    go : (answer : Option Cause) → refusal_of waits words ≡ answer → answer ≡ Some cause
+    go None e =
+        let so = tests_so waits words cause is.holds in
+        absurd (none_holds (holds_of waits words) in_order (sym (is_the_first waits words) ∙ e) cause so.1 so.0)
+    go (Some own) e =
+        let first = answered_is_least waits words own e in
+        let below : cause_number own ≤ cause_number cause = first.least cause is.holds in
+        let above : cause_number cause ≤ cause_number own = is.least own first.holds in
+        let same : cause_number own ≡ cause_number cause = omega arith in
+        ap Some (number_has_one_cause own cause same)
+
+pub least_refusal : (waits : WaitCodes) (words : List FlowWord) (cause : Cause) → (refusal_of waits words ≡ Some cause) ↔ IsLeast waits words cause
+least_refusal waits words cause = (answered_is_least waits words cause, least_is_answered waits words cause)
+
+pub no_refusal : (waits : WaitCodes) (words : List FlowWord) → (refusal_of waits words ≡ None) ↔ ((cause : Cause) → ¬ (Refuses waits words cause))
+no_refusal waits words = (
+  λ none cause refuses. let so = tests_so waits words cause refuses in none_holds (holds_of waits words) in_order (sym (is_the_first waits words) ∙ none) cause so.1 so.0,
+  λ never. is_the_first waits words ∙ none_found (holds_of waits words) in_order (λ other holds. never other (refuses_so waits words other holds)),
+)
+
+-- what the words say is refused with a number above those of words that don't read
+pub refusal_above_25 : (waits : WaitCodes) (words : List FlowWord) (cause : Cause) → Refuses waits words cause → 25 ≤ cause_number cause
+refusal_above_25 waits words _ (not_fixed e) = lit≤ tt
+refusal_above_25 waits words _ (unknown e) = lit≤ tt
+refusal_above_25 waits words _ (not_alone e) = lit≤ tt
+refusal_above_25 waits words _ (others e) = lit≤ tt
+refusal_above_25 waits words _ (two_m e) = lit≤ tt
+refusal_above_25 waits words _ (bad_call e) = lit≤ tt
+refusal_above_25 waits words _ (axis_twice e) = lit≤ tt
+refusal_above_25 waits words _ (out_of_range e) = lit≤ tt

@@ -1,0 +1,10 @@
+pub mod LastWord
+pub mod Waiting
+pub mod InOrder
+pub mod NumbersFit
+pub mod Accepted
+pub mod WordByWord
+pub mod Judged
+pub mod LeastRefusal
+pub mod WordNumbers
+pub mod LeastOfText

@@ -1,0 +1,58 @@
+-- Numbers of words that are in their range.
+use Rattle.std.proofs.Common.{◌≡◌, ℕ, ◌≤◌, Bool, true, false, cond, not, ◌||◌, List, [], ◌∷◌, Option, Some, None, IfSome, ℤ, pos, negsuc, refl, arith}
+use Rattle.std.specs.List.{list_any}
+use Rattle.std.proofs.lemmas.Bool.Decides.{nat_tests}
+use Rattle.code_tables.specs.Codes.{last_of}
+use Rattle.block_forms.specs.declared.purpose.Purpose.{Purpose}
+use Rattle.block_forms.specs.declared.range.Range.TheVariants.{Between}
+use Rattle.block_forms.specs.declared.word.FlowWord.{FlowWord}
+use Rattle.block_forms.specs.declared.word.WordValue.{WordValue}
+use Rattle.block_forms.specs.declared.word.WordValue.TheVariants.{Fixed, Computed}
+use Rattle.block_forms.specs.Words.{is_one_of, words_of, whole_value, value_of_last, whole_of_last, last_whole}
+use Rattle.block_forms.specs.Codes.{natural}
+use Rattle.block_forms.specs.Ranges.{is_between, range_of, fits_value, is_in_range}
+
+-- a number, if there is one, from the one to the other
+abbrev pub IsWithin : ℕ → ℕ → Option ℕ → Type 0
+IsWithin least greatest number = IfSome number (λ n. (least ≤ n) × (n ≤ greatest))
+
+number_within : (least greatest : ℕ) (z : Option ℤ) → is_between least greatest z ≡ true → IsWithin least greatest (natural z)
+number_within least greatest None is = tt
+number_within least greatest (Some (pos n)) is = (grind (arith, nat_tests), grind (arith, nat_tests))
+number_within least greatest (Some (negsuc n)) is = tt
+
+value_within : (least greatest : ℕ) (value : WordValue) → fits_value (Between least greatest) value ≡ true → IsWithin least greatest (natural (whole_value value))
+value_within least greatest (Fixed literal) is = number_within least greatest _ is
+value_within least greatest (Computed minus tree) is = tt
+
+passes : (b : Bool) → not b ≡ false → b ≡ true
+passes true e = refl
+passes false e = absurd (cc)
+
+either_fails : (a b : Bool) → (a || b) ≡ false → (a ≡ false) × (b ≡ false)
+either_fails true b e = absurd (cc)
+either_fails false b e = (refl, e)
+
+letter_is : (letter own : ℕ) → is_one_of (letter ∷ []) own ≡ true → own ≡ letter
+letter_is letter own e = grind (arith, nat_tests)
+
+word_within : (purpose : Purpose) (letter least greatest : ℕ) (word : FlowWord) → range_of purpose letter ≡ Between least greatest → is_one_of (letter ∷ []) word.letter ≡ true → is_in_range purpose word ≡ true → IsWithin least greatest (natural (whole_value word.value))
+word_within purpose letter least greatest word range same fits =
+    let own : word.letter ≡ letter = letter_is letter word.letter same in
+    let there : fits_value (range_of purpose letter) word.value ≡ true = rw own at fits in
+    let between : fits_value (Between least greatest) word.value ≡ true = rw range at there in
+    value_within least greatest word.value between
+
+-- the last word of a letter, where all words are in their ranges
+pub last_within : (purpose : Purpose) (letter least greatest : ℕ) (words : List FlowWord) → range_of purpose letter ≡ Between least greatest → list_any (λ word. not (is_in_range purpose word)) words ≡ false → IsWithin least greatest (natural (last_whole (letter ∷ []) words))
+last_within purpose letter least greatest [] range all = tt
+last_within purpose letter least greatest (w ∷ ws) range all =
+    let both = either_fails _ _ all in
+    go (is_one_of (letter ∷ []) w.letter) (words_of (letter ∷ []) ws) (last_of (words_of (letter ∷ []) ws)) refl
+    (λ same. word_within purpose letter least greatest w range same (passes _ both.0))
+    (last_within purpose letter least greatest ws range both.1)
+  where
+    go : (b : Bool) (rest : List FlowWord) (later : Option FlowWord) → last_of rest ≡ later → (b ≡ true → IsWithin least greatest (natural (whole_value w.value))) → IsWithin least greatest (natural (whole_of_last (value_of_last (last_of rest)))) → IsWithin least greatest (natural (whole_of_last (value_of_last (last_of (cond b (w ∷ rest) rest)))))
+    go true rest (Some v) e here there = rw e (rw e at there)
+    go true rest None e here there = rw e (here refl)
+    go false rest later e here there = there

@@ -1,0 +1,96 @@
+-- The G and M codes of a block, and what they make of P and L.
+use Rattle.std.specs.Prelude.{ℕ, Bool, true, false, ◌==◌, ◌&&◌, nat_le, List, Option, Some, None, ℤ, pos, negsuc, codes, find, if◌then◌else◌}
+use Rattle.std.specs.List.{list_any, filter_map}
+use Rattle.code_tables.specs.declared.row.Row.{Row}
+use Rattle.code_tables.specs.declared.kind.CodeKind.{CodeKind}
+use Rattle.code_tables.specs.declared.kind.CodeKind.TheVariants.{Dwell, Setting, Limit, Machine, MacroCall}
+use Rattle.code_tables.specs.declared.group.TheConstants.{ONE_SHOT_GROUP}
+use Rattle.code_tables.specs.Codes.{row_of, last_of_group}
+use Rattle.code_tables.specs.SystemA.{system_a_rows}
+use Rattle.block_forms.specs.declared.word.FlowWord.{FlowWord}
+use Rattle.block_forms.specs.declared.waits.WaitCodes.{WaitCodes}
+use Rattle.block_forms.specs.declared.purpose.Purpose.{Purpose}
+use Rattle.block_forms.specs.declared.purpose.Purpose.TheVariants as purpose
+use Rattle.block_forms.specs.Words.{words_of, whole_value}
+
+-- a number that is not below 0
+abbrev pub natural : Option ℤ → Option ℕ
+natural None = None
+natural (Some (pos n)) = Some n
+natural (Some (negsuc n)) = None
+
+-- the row of a G code that is written out, if the control knows it
+abbrev pub row_of_number : Option ℕ → Option Row
+row_of_number None = None
+row_of_number (Some code) = row_of system_a_rows code
+
+abbrev pub row_of_word : FlowWord → Option Row
+row_of_word word = row_of_number (natural (whole_value word.value))
+
+-- the rows of the block's G words, in their order
+abbrev pub rows : List FlowWord → List Row
+rows words = filter_map row_of_word (words_of (codes "G") words)
+
+-- a G code of that kind is given
+abbrev pub gives : (CodeKind → Bool) → List FlowWord → Bool
+gives is_kind words = list_any (λ row. is_kind row.kind) (rows words)
+
+abbrev pub is_dwell : CodeKind → Bool
+is_dwell Dwell = true
+is_dwell other = false
+
+abbrev pub is_setting : CodeKind → Bool
+is_setting Setting = true
+is_setting other = false
+
+abbrev pub is_limit : CodeKind → Bool
+is_limit Limit = true
+is_limit other = false
+
+abbrev pub is_machine : CodeKind → Bool
+is_machine Machine = true
+is_machine other = false
+
+abbrev pub is_macro_call : CodeKind → Bool
+is_macro_call MacroCall = true
+is_macro_call other = false
+
+abbrev pub kind_of : Option Row → Option CodeKind
+kind_of None = None
+kind_of (Some row) = Some row.kind
+
+-- the one-shot code that is in force: the last one of the block
+abbrev pub one_shot : List FlowWord → Option CodeKind
+one_shot words = kind_of (last_of_group (rows words) ONE_SHOT_GROUP)
+
+-- the numbers of the block's M words that are written out, in their order
+abbrev pub m_codes : List FlowWord → List ℕ
+m_codes words = filter_map (λ word. natural (whole_value word.value)) (words_of (codes "M") words)
+
+abbrev pub is_waiting : WaitCodes → ℕ → Bool
+is_waiting waits code = nat_le waits.low code && nat_le code waits.high
+
+abbrev pub has_code : ℕ → List FlowWord → Bool
+has_code code words = list_any (λ own. own == code) (m_codes words)
+
+-- the first waiting code of the block
+abbrev pub first_waiting : WaitCodes → List ℕ → Option ℕ
+first_waiting waits codes = find (is_waiting waits) codes
+
+abbrev pub has_wait : WaitCodes → List FlowWord → Bool
+has_wait waits words = list_any (is_waiting waits) (m_codes words)
+
+-- what the one-shot code in force makes of P and L
+abbrev pub purpose_by : Option CodeKind → Purpose
+purpose_by (Some Dwell) = purpose.Dwell
+purpose_by (Some Setting) = purpose.Setting
+purpose_by other = purpose.Other
+
+-- What decides the meaning of P and L: a macro call; a call, a return or a wait; else the one-shot code in force.
+abbrev pub purpose_of : WaitCodes → List FlowWord → Purpose
+purpose_of waits words =
+    if gives is_macro_call words then purpose.MacroCall
+    else if has_code 98 words then purpose.Subprogram
+    else if has_code 99 words then purpose.Return
+    else if has_wait waits words then purpose.Wait
+    else purpose_by (one_shot words)

@@ -1,0 +1,9 @@
+pub mod Words
+pub mod Codes
+pub mod Ranges
+pub mod Refusals
+pub mod Controls
+pub mod Forms
+pub mod Views
+pub mod Blocks
+pub mod Texts

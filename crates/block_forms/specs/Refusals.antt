@@ -1,0 +1,192 @@
+-- When a block of words is refused. Each refusal is a condition of the whole block, apart from the others.
+use Rattle.std.specs.Prelude.{◌≡◌, ◌≤◌, ℕ, Bool, true, false, not, ◌==◌, ◌&&◌, ◌||◌, nat_lt, nat_le, List, [], ◌∷◌, length, map, Option, Some, None, codes, if◌then◌else◌}
+use Rattle.std.specs.List.{list_any}
+use Rattle.nc_number.specs.Causes.{cause_number}
+use Rattle.nc_number.specs.declared.cause.Cause.{Cause}
+use Rattle.nc_number.specs.declared.cause.Cause.TheVariants.{NotFixed, UnknownCode, WaitNotAlone, WaitPaths, TwoM, BadCall, AxisTwice, WordRange}
+use Rattle.code_tables.specs.declared.row.Row.{Row}
+use Rattle.code_tables.specs.Kinds.{is_refused}
+use Rattle.block_forms.specs.declared.word.FlowWord.{FlowWord}
+use Rattle.block_forms.specs.declared.waits.WaitCodes.{WaitCodes}
+use Rattle.block_forms.specs.declared.purpose.Purpose.{Purpose}
+use Rattle.block_forms.specs.declared.purpose.Purpose.TheVariants.{MacroCall, Subprogram, Return, Wait, Dwell, Setting, Other}
+use Rattle.block_forms.specs.Words.{is_one_of, words_of, has, is_computed, has_computed, last_whole}
+use Rattle.block_forms.specs.Codes.{natural, row_of_word, gives, is_dwell, is_setting, is_limit, is_machine, is_macro_call, has_code, has_wait, purpose_of}
+use Rattle.block_forms.specs.Ranges.{is_in_range}
+
+-- the letters whose words must be written out: G, N and O everywhere, M outside macro calls, P and L of calls and returns, L of
+-- the setting of an offset
+abbrev pub fixed_letters : Purpose → List ℕ
+fixed_letters MacroCall = codes "GNOPL"
+fixed_letters Subprogram = codes "GNOMPL"
+fixed_letters Return = codes "GNOMPL"
+fixed_letters Setting = codes "GNOML"
+fixed_letters Wait = codes "GNOM"
+fixed_letters Dwell = codes "GNOM"
+fixed_letters Other = codes "GNOM"
+
+-- 54: a word that must be written out is computed
+abbrev pub is_not_fixed : WaitCodes → List FlowWord → Bool
+is_not_fixed waits words = has_computed (fixed_letters (purpose_of waits words)) words
+
+-- a G word that the control does not know or refuses; a computed one is no matter of this
+abbrev pub is_refused_row : Option Row → Bool
+is_refused_row None = true
+is_refused_row (Some row) = is_refused row.kind
+
+abbrev pub is_unknown_code : FlowWord → Bool
+is_unknown_code word = not (is_computed word.value) && is_refused_row (row_of_word word)
+
+-- a letter that has no meaning outside macro calls; Q has one beside G10 alone
+abbrev pub is_unknown_letter : List FlowWord → ℕ → Bool
+is_unknown_letter words letter =
+    not (is_one_of (codes "XZUWIKRFSTNOMGPL") letter || (is_one_of (codes "Q") letter && gives is_setting words))
+
+-- G50 needs S, and X, Z, U and W have no meaning beside it; G53 goes to absolute positions alone
+abbrev pub is_bad_limit : List FlowWord → Bool
+is_bad_limit words = gives is_limit words && (not (has (codes "S") words) || has (codes "XZUW") words)
+
+abbrev pub is_bad_machine : List FlowWord → Bool
+is_bad_machine words = gives is_machine words && has (codes "UW") words
+
+-- the first word is the G65 and no other is a G word
+abbrev pub is_macro_row : Option Row → Bool
+is_macro_row None = false
+is_macro_row (Some row) = is_macro_call row.kind
+
+abbrev pub begins_macro_call : List FlowWord → Bool
+begins_macro_call [] = false
+begins_macro_call (word ∷ words) =
+    (is_one_of (codes "G") word.letter && is_macro_row (row_of_word word)) && not (has (codes "GNO") words)
+
+-- 56: a letter or a code that the control does not know, or refuses, or does not allow there
+abbrev pub is_unknown : List FlowWord → Bool
+is_unknown words =
+    if gives is_macro_call words then not (begins_macro_call words)
+    else (list_any is_unknown_code (words_of (codes "G") words) || list_any (λ word. is_unknown_letter words word.letter) words)
+    || (is_bad_limit words || is_bad_machine words)
+
+-- the block waits for the other path: a macro call has arguments in place of M codes
+abbrev pub waits_there : WaitCodes → List FlowWord → Bool
+waits_there waits words = not (gives is_macro_call words) && has_wait waits words
+
+-- 57: a wait beside another word than P
+abbrev pub is_wait_not_alone : WaitCodes → List FlowWord → Bool
+is_wait_not_alone waits words =
+    waits_there waits words && nat_lt 1 (length (words_of (codes "ABCDEFGHIJKLMNOQRSTUVWXYZ") words))
+
+-- P names both paths: 3 by bits, 12 or 21 by their numbers
+abbrev pub names_both : Bool → ℕ → Bool
+names_both true n = n == 3
+names_both false n = n == 12 || n == 21
+
+abbrev pub is_both : Bool → Option ℕ → Bool
+is_both bits None = false
+is_both bits (Some n) = names_both bits n
+
+-- 58: the P of a wait is computed, or the last one does not name both paths
+abbrev pub is_wait_of_others : WaitCodes → List FlowWord → Bool
+is_wait_of_others waits words =
+    waits_there waits words && has (codes "P") words
+    && (has_computed (codes "P") words || not (is_both waits.bits (natural (last_whole (codes "P") words))))
+
+-- 59: two M words outside a macro call
+abbrev pub has_two_m : List FlowWord → Bool
+has_two_m words = not (gives is_macro_call words) && nat_lt 1 (length (words_of (codes "M") words))
+
+-- the letter is above the one before it
+abbrev pub is_above : Option ℕ → ℕ → Bool
+is_above None letter = true
+is_above (Some before) letter = nat_lt before letter
+
+-- each letter is above the one before it, and the first above this one
+abbrev pub rises_behind : Option ℕ → List ℕ → Bool
+rises_behind before [] = true
+rises_behind before (letter ∷ letters) = is_above before letter && rises_behind (Some letter) letters
+
+-- I, J and K of a macro call stand in the order of the alphabet, each once
+abbrev pub are_in_order : List FlowWord → Bool
+are_in_order words = rises_behind None (map (λ word. word.letter) (words_of (codes "IJK") words))
+
+abbrev pub is_many : Option ℕ → Bool
+is_many None = false
+is_many (Some n) = nat_le 10000 n
+
+-- the P of a call of a subprogram has repeats before the program's four digits
+abbrev pub has_repeats : List FlowWord → Bool
+has_repeats words = is_many (natural (last_whole (codes "P") words))
+
+-- P and L have no meaning in the block
+abbrev pub is_idle_p : Purpose → Bool
+is_idle_p Other = true
+is_idle_p _ = false
+
+abbrev pub is_idle_l : Purpose → Bool
+is_idle_l MacroCall = false
+is_idle_l Subprogram = false
+is_idle_l Setting = false
+is_idle_l _ = true
+
+-- a dwell or the setting of an offset beside a call or a return
+abbrev pub is_crowded_call : List FlowWord → Bool
+is_crowded_call words = (has_code 98 words || has_code 99 words) && (gives is_dwell words || gives is_setting words)
+
+-- 61 of a block that calls a macro, and of every other one
+abbrev pub is_bad_macro_call : List FlowWord → Bool
+is_bad_macro_call words = not (has (codes "P") words) || not (are_in_order words)
+
+abbrev pub is_bad_subprogram : List FlowWord → Bool
+is_bad_subprogram words = not (has (codes "P") words) || (has_repeats words && has (codes "L") words)
+
+abbrev pub is_subprogram : Purpose → Bool
+is_subprogram Subprogram = true
+is_subprogram _ = false
+
+abbrev pub is_bad_block : Purpose → List FlowWord → Bool
+is_bad_block purpose words =
+    ((is_subprogram purpose && is_bad_subprogram words) || is_crowded_call words)
+    || ((has (codes "P") words && is_idle_p purpose) || (has (codes "L") words && is_idle_l purpose))
+
+-- 61: a call without its program or with words that don't fit together; P or L where they have no meaning
+abbrev pub is_bad_call : WaitCodes → List FlowWord → Bool
+is_bad_call waits words =
+    if gives is_macro_call words then is_bad_macro_call words else is_bad_block (purpose_of waits words) words
+
+-- 62: an absolute and an incremental word of one axis outside a macro call
+abbrev pub has_axis_twice : List FlowWord → Bool
+has_axis_twice words =
+    not (gives is_macro_call words)
+    && ((has (codes "X") words && has (codes "U") words) || (has (codes "Z") words && has (codes "W") words))
+
+-- 64: a word that is written out is out of its range
+abbrev pub is_out_of_range : WaitCodes → List FlowWord → Bool
+is_out_of_range waits words = list_any (λ word. not (is_in_range (purpose_of waits words) word)) words
+
+-- the refusal holds of the block
+pub data Refuses (waits : WaitCodes) (words : List FlowWord) : Cause → Type 0 where
+  not_fixed : is_not_fixed waits words ≡ true → Refuses waits words NotFixed
+  unknown : is_unknown words ≡ true → Refuses waits words UnknownCode
+  not_alone : is_wait_not_alone waits words ≡ true → Refuses waits words WaitNotAlone
+  others : is_wait_of_others waits words ≡ true → Refuses waits words WaitPaths
+  two_m : has_two_m words ≡ true → Refuses waits words TwoM
+  bad_call : is_bad_call waits words ≡ true → Refuses waits words BadCall
+  axis_twice : has_axis_twice words ≡ true → Refuses waits words AxisTwice
+  out_of_range : is_out_of_range waits words ≡ true → Refuses waits words WordRange
+
+-- of several the one of the least number
+abbrev pub refusal_of : WaitCodes → List FlowWord → Option Cause
+refusal_of waits words =
+    if is_not_fixed waits words then Some NotFixed
+    else if is_unknown words then Some UnknownCode
+    else if is_wait_not_alone waits words then Some WaitNotAlone
+    else if is_wait_of_others waits words then Some WaitPaths
+    else if has_two_m words then Some TwoM
+    else if is_bad_call waits words then Some BadCall
+    else if has_axis_twice words then Some AxisTwice
+    else if is_out_of_range waits words then Some WordRange
+    else None
+
+-- the refusal holds of the block, and no other with a smaller number
+pub record IsLeast (waits : WaitCodes) (words : List FlowWord) (cause : Cause) : Type 0 where
+  pub holds : Refuses waits words cause
+  pub least : (other : Cause) → Refuses waits words other → cause_number cause ≤ cause_number other

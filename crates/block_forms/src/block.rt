@@ -1,0 +1,61 @@
+ghost use Rattle.std.specs.Prelude.{◌≡◌, true};
+ghost use Rattle.block_forms.specs.Controls.{is_allowed};
+ghost use Rattle.block_forms.specs.Views.{control_of, call_of, kind_of_call, called_by};
+
+use crate::body::FlowBody;
+use crate::called::{CallKind, Called};
+use crate::purpose::Purpose;
+use block_order::Control;
+
+/// A block that is not refused.
+#[derive(Drop)]
+pub struct FlowBlock {
+    /// The number of its line, from 1.
+    pub line: u32,
+    /// Its sequence number, at most 99,999.
+    pub sequence: Option<u32>,
+    /// What stands in it.
+    pub body: FlowBody,
+    /// What it does to the order of blocks.
+    pub control: Control,
+    ghost controls: { control ≡ control_of body },
+    ghost allowed: { is_allowed control ≡ true },
+}
+
+impl FlowBlock {
+    ghost use Rattle.std.specs.Prelude.{◌≤◌, IfSome};
+
+    /// The call that the block is: by M98 or by G65.
+    pub fn calls(&self) -> Option<Called>
+        ensures value { result ≡ call_of self.now.body self.now.control }
+        ensures program { IfSome result (λ called. called.program ≤ 9999) }
+        ensures repeats { IfSome result (λ called. (1 ≤ called.repeats) × (called.repeats ≤ 9999)) }
+    {
+        match &self.body {
+            FlowBody::Words(words) => called_by(kind_of_call(words.purpose), self.control),
+            FlowBody::Statement(_) => None,
+        }
+    }
+}
+
+fn kind_of_call(purpose: Purpose) -> CallKind
+    ensures { result ≡ kind_of_call purpose }
+{
+    match purpose {
+        Purpose::MacroCall => CallKind::Macro,
+        _ => CallKind::Subprogram,
+    }
+}
+
+fn called_by(kind: CallKind, control: Control) -> Option<Called>
+    ensures { result ≡ called_by kind control }
+{
+    match control {
+        Control::Call { program, repeats } => Some(Called {
+            program,
+            repeats,
+            kind,
+        }),
+        _ => None,
+    }
+}

@@ -1,0 +1,11 @@
+use crate::statement::FlowStatement;
+use crate::words::FlowWords;
+
+/// What stands in a block.
+#[derive(Drop)]
+pub enum FlowBody {
+    /// Words; none where the block has a sequence number or a skip sign alone.
+    Words(FlowWords),
+    /// An assignment, a jump or a loop.
+    Statement(FlowStatement),
+}

@@ -1,0 +1,71 @@
+ghost use Rattle.std.specs.Prelude.{◌≡◌, List, ℕ, Result, OnOk, IfOk};
+ghost use Rattle.nc_number.specs.Answers.{GivesBy};
+ghost use Rattle.block_forms.specs.declared.word.FlowWord.{FlowWord};
+ghost use Rattle.block_forms.specs.Forms.{lesser, joined, gathered};
+
+use crate::fault::FormFault;
+use crate::word::{FlowWord, FlowWordList};
+use nc_number::{Failing, NoMemory};
+use std::alloc::Global;
+
+/// The words of a block that were read so far, and the least number of the refusals of those that
+/// don't read.
+#[derive(Drop)]
+pub(crate) struct Gathered {
+    words: Vec<FlowWord>,
+    least: Option<u8>,
+}
+
+/// The lesser one of the numbers.
+fn lesser(before: Option<u8>, number: u8) -> u8
+    ensures { result ≡ lesser before number }
+{
+    match before {
+        Some(before) if before <= number => before,
+        _ => number,
+    }
+}
+
+impl Gathered {
+    ghost use Rattle.std.specs.Prelude.{[], None};
+
+    /// No words, with room for so many.
+    pub(crate) fn empty(alloc: Global, words: usize) -> Result<Gathered, NoMemory>
+        ensures words { IfOk result (λ it. it.words.items ≡ []) }
+        ensures least { IfOk result (λ it. it.least ≡ None) }
+    {
+        Ok(Gathered {
+            words: Vec::with_capacity(alloc, words)?,
+            least: None,
+        })
+    }
+
+    /// One word more: what was gathered with any rest is what was gathered before with the word and
+    /// the rest.
+    #[tactic(auto, using(crate::proofs::WordByWord::one_that_reads, crate::proofs::WordByWord::one_that_does_not))]
+    pub(crate) fn add(&mut self, word: Result<FlowWord, Failing<FormFault>>) -> Result<(), NoMemory>
+        ensures { (due : Result FlowWord ℕ) (rest : Result (List FlowWord) ℕ)
+            → GivesBy (λ word. word) (λ fault. fault.number) word due
+            → OnOk result (gathered self.new.words.items self.new.least rest
+            ≡ gathered self.old.words.items self.old.least (joined due rest)) }
+    {
+        match word {
+            Ok(word) => self.words.push(word)?,
+            Err(Failing::Fault(fault)) => self.least = Some(lesser(self.least, fault.number)),
+            Err(Failing::NoMemory) => return Err(NoMemory),
+        }
+        Ok(())
+    }
+
+    /// The words, or the least number.
+    pub(crate) fn finish(self) -> Result<FlowWordList, Failing<FormFault>>
+        ensures { GivesBy (λ words. words) (λ fault. fault.number) result
+            (gathered self.words.items self.least (Ok [])) }
+    {
+        let Gathered { words, least } = self;
+        match least {
+            Some(number) => Err(Failing::Fault(FormFault { number })),
+            None => Ok(FlowWordList::of(words)),
+        }
+    }
+}

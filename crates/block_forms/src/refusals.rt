@@ -1,0 +1,286 @@
+ghost use Rattle.std.specs.Prelude.{◌≡◌, codes};
+ghost use Rattle.std.specs.List.{list_any};
+ghost use Rattle.block_forms.specs.Words.{words_of};
+ghost use Rattle.block_forms.specs.Refusals.{is_refused_row, is_unknown_code, is_macro_row, begins_macro_call, is_above, are_in_order, has_repeats};
+
+use crate::codes::{has_code, has_wait, row_of_word};
+use crate::letters::{count_of, has, has_computed, is_one_of, number_of};
+use crate::purpose::Purpose;
+use crate::range::is_in_range;
+use crate::word::FlowWord;
+use crate::words::FlowWords;
+use code_tables::{CodeKind, Row};
+use nc_number::Cause;
+
+/// Whether the control does not know the code of the row, or refuses it.
+fn is_refused_row(row: Option<Row>) -> bool
+    ensures { result ≡ is_refused_row row }
+{
+    match row {
+        Some(row) => row.kind.is_refused(),
+        None => true,
+    }
+}
+
+/// Whether it is the row of a macro call.
+fn is_macro_row(row: Option<Row>) -> bool
+    ensures { result ≡ is_macro_row row }
+{
+    match row {
+        Some(row) => matches!(row.kind, CodeKind::MacroCall),
+        None => false,
+    }
+}
+
+/// Whether the G word is written out, and of a code that the control does not know or refuses.
+fn is_unknown_code(word: &FlowWord) -> bool
+    ensures { result ≡ is_unknown_code word.now }
+{
+    !word.value.is_computed() && is_refused_row(row_of_word(word))
+}
+
+fn has_unknown_code(words: &[FlowWord]) -> bool
+    ensures { result ≡ list_any is_unknown_code (words_of (codes "G") words.now) }
+{
+    words
+        .iter()
+        .filter(|word| is_one_of(b"G", word.letter))
+        .any(|word| is_unknown_code(word))
+}
+
+/// Whether the first word is the G65, and no other is a G word, or a computed N or O.
+fn begins_macro_call(words: &[FlowWord]) -> bool
+    ensures { result ≡ begins_macro_call words.now }
+{
+    match words {
+        [] => false,
+        [first, rest @ ..] => {
+            is_one_of(b"G", first.letter) && is_macro_row(row_of_word(first)) && !has(rest, b"GNO")
+        }
+    }
+}
+
+/// Whether a letter of the arguments I, J and K may follow the one before it.
+fn is_above(before: Option<u8>, letter: u8) -> bool
+    ensures { result ≡ is_above before letter }
+{
+    match before {
+        Some(before) => before < letter,
+        None => true,
+    }
+}
+
+/// Whether I, J and K stand in the order of the alphabet, each once.
+#[tactic(auto, using(crate::proofs::InOrder::in_order_start))]
+fn are_in_order(words: &[FlowWord]) -> bool
+    ensures { result ≡ are_in_order words.now }
+{
+    let mut before = None;
+    for word in words {
+        if is_one_of(b"IJK", word.letter) {
+            if !is_above(before, word.letter) {
+                return false;
+            }
+            before = Some(word.letter);
+        }
+    }
+    true
+}
+
+/// Whether the P of a call of a subprogram has repeats before the program's four digits.
+fn has_repeats(words: &[FlowWord]) -> bool
+    ensures { result ≡ has_repeats words.now }
+{
+    match number_of(words, b"P") {
+        Some(n) => 10_000 <= n,
+        None => false,
+    }
+}
+
+impl FlowWords {
+    ghost use Rattle.block_forms.specs.Refusals.{is_not_fixed, is_unknown_letter, is_bad_limit, is_bad_machine};
+    ghost use Rattle.block_forms.specs.Refusals.{is_unknown, waits_there, is_wait_not_alone, is_both};
+    ghost use Rattle.block_forms.specs.Refusals.{is_wait_of_others, has_two_m, is_crowded_call, is_bad_macro_call};
+    ghost use Rattle.block_forms.specs.Refusals.{is_bad_subprogram, is_bad_block, is_bad_call, has_axis_twice};
+    ghost use Rattle.block_forms.specs.Refusals.{is_out_of_range, refusal_of};
+    ghost use Rattle.block_forms.specs.Words.{has, last_whole};
+    ghost use Rattle.block_forms.specs.Codes.{natural};
+
+    /// 54: a word that must be written out is computed.
+    fn is_not_fixed(&self) -> bool
+        ensures { result ≡ is_not_fixed self.now.waits self.now.words }
+    {
+        has_computed(self.words.as_slice(), self.purpose.fixed_letters())
+    }
+
+    /// Whether the letter has no meaning outside macro calls; Q has one beside G10 alone.
+    fn is_unknown_letter(&self, letter: u8) -> bool
+        ensures { result ≡ is_unknown_letter self.now.words letter }
+    {
+        !(is_one_of(b"XZUWIKRFSTNOMGPL", letter)
+            || (is_one_of(b"Q", letter) && self.gives_setting()))
+    }
+
+    fn has_unknown_letter(&self) -> bool
+        ensures { result ≡ list_any (λ word. is_unknown_letter self.now.words word.letter) self.now.words }
+    {
+        let words = self.words.as_slice();
+        words.iter().any(|word| self.is_unknown_letter(word.letter))
+    }
+
+    /// G50 needs S, and X, Z, U and W have no meaning beside it.
+    fn is_bad_limit(&self) -> bool
+        ensures { result ≡ is_bad_limit self.now.words }
+    {
+        let words = self.words.as_slice();
+        self.gives_limit() && (!has(words, b"S") || has(words, b"XZUW"))
+    }
+
+    /// G53 goes to absolute positions alone.
+    fn is_bad_machine(&self) -> bool
+        ensures { result ≡ is_bad_machine self.now.words }
+    {
+        self.gives_machine() && has(self.words.as_slice(), b"UW")
+    }
+
+    /// 56: a letter or a code that the control does not know, or refuses, or does not allow there.
+    fn is_unknown(&self) -> bool
+        ensures { result ≡ is_unknown self.now.words }
+    {
+        if self.gives_macro_call() {
+            !begins_macro_call(self.words.as_slice())
+        } else {
+            has_unknown_code(self.words.as_slice())
+                || self.has_unknown_letter()
+                || self.is_bad_limit()
+                || self.is_bad_machine()
+        }
+    }
+
+    /// Whether the block waits for the other path.
+    fn waits_there(&self) -> bool
+        ensures { result ≡ waits_there self.now.waits self.now.words }
+    {
+        !self.gives_macro_call() && has_wait(self.words.as_slice(), self.waits)
+    }
+
+    /// 57: a wait beside another word than P.
+    fn is_wait_not_alone(&self) -> bool
+        ensures { result ≡ is_wait_not_alone self.now.waits self.now.words }
+    {
+        self.waits_there() && 1 < count_of(self.words.as_slice(), b"ABCDEFGHIJKLMNOQRSTUVWXYZ")
+    }
+
+    /// Whether the number of the last P names both paths.
+    fn names_both(&self) -> bool
+        ensures { result ≡ is_both self.now.waits.bits (natural (last_whole (codes "P") self.now.words)) }
+    {
+        match number_of(self.words.as_slice(), b"P") {
+            Some(paths) => self.waits.names_both(paths),
+            None => false,
+        }
+    }
+
+    /// 58: the P of a wait is computed, or the last one does not name both paths.
+    fn is_wait_of_others(&self) -> bool
+        ensures { result ≡ is_wait_of_others self.now.waits self.now.words }
+    {
+        let words = self.words.as_slice();
+        self.waits_there() && has(words, b"P") && (has_computed(words, b"P") || !self.names_both())
+    }
+
+    /// 59: two M words outside a macro call.
+    fn has_two_m(&self) -> bool
+        ensures { result ≡ has_two_m self.now.words }
+    {
+        !self.gives_macro_call() && 1 < count_of(self.words.as_slice(), b"M")
+    }
+
+    /// A dwell or the setting of an offset beside a call or a return.
+    fn is_crowded_call(&self) -> bool
+        ensures { result ≡ is_crowded_call self.now.words }
+    {
+        let words = self.words.as_slice();
+        (has_code(words, 98) || has_code(words, 99)) && (self.gives_dwell() || self.gives_setting())
+    }
+
+    /// A block that calls a macro needs P, and its I, J and K in order.
+    fn is_bad_macro_call(&self) -> bool
+        ensures { result ≡ is_bad_macro_call self.now.words }
+    {
+        let words = self.words.as_slice();
+        !has(words, b"P") || !are_in_order(words)
+    }
+
+    /// A call of a subprogram needs P, and has its repeats once.
+    fn is_bad_subprogram(&self) -> bool
+        ensures { result ≡ is_bad_subprogram self.now.words }
+    {
+        let words = self.words.as_slice();
+        !has(words, b"P") || (has_repeats(words) && has(words, b"L"))
+    }
+
+    fn is_bad_block(&self) -> bool
+        ensures { result ≡ is_bad_block self.now.purpose self.now.words }
+    {
+        let words = self.words.as_slice();
+        (self.purpose == Purpose::Subprogram && self.is_bad_subprogram())
+            || self.is_crowded_call()
+            || (has(words, b"P") && self.purpose.is_idle_p())
+            || (has(words, b"L") && self.purpose.is_idle_l())
+    }
+
+    /// 61: a call without its program or with words that don't fit together; P or L where they have
+    /// no meaning.
+    fn is_bad_call(&self) -> bool
+        ensures { result ≡ is_bad_call self.now.waits self.now.words }
+    {
+        if self.gives_macro_call() {
+            self.is_bad_macro_call()
+        } else {
+            self.is_bad_block()
+        }
+    }
+
+    /// 62: an absolute and an incremental word of one axis outside a macro call.
+    fn has_axis_twice(&self) -> bool
+        ensures { result ≡ has_axis_twice self.now.words }
+    {
+        let words = self.words.as_slice();
+        !self.gives_macro_call()
+            && ((has(words, b"X") && has(words, b"U")) || (has(words, b"Z") && has(words, b"W")))
+    }
+
+    /// 64: a word that is written out is out of its range.
+    fn is_out_of_range(&self) -> bool
+        ensures { result ≡ is_out_of_range self.now.waits self.now.words }
+    {
+        let words = self.words.as_slice();
+        words.iter().any(|word| !is_in_range(self.purpose, word))
+    }
+
+    /// Why the block is refused: of the refusals that hold of it the one of the least number.
+    pub(crate) fn refusal(&self) -> Option<Cause>
+        ensures { result ≡ refusal_of self.now.waits self.now.words }
+    {
+        if self.is_not_fixed() {
+            Some(Cause::NotFixed)
+        } else if self.is_unknown() {
+            Some(Cause::UnknownCode)
+        } else if self.is_wait_not_alone() {
+            Some(Cause::WaitNotAlone)
+        } else if self.is_wait_of_others() {
+            Some(Cause::WaitPaths)
+        } else if self.has_two_m() {
+            Some(Cause::TwoM)
+        } else if self.is_bad_call() {
+            Some(Cause::BadCall)
+        } else if self.has_axis_twice() {
+            Some(Cause::AxisTwice)
+        } else if self.is_out_of_range() {
+            Some(Cause::WordRange)
+        } else {
+            None
+        }
+    }
+}

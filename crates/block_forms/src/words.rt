@@ -1,0 +1,120 @@
+ghost use Rattle.std.specs.Prelude.{◌≡◌};
+ghost use Rattle.block_forms.specs.Codes.{rows as rows_in, one_shot as one_shot_in, purpose_of};
+
+use crate::codes::{has_code, has_wait, have_macro_call, one_shot_of, purpose_by, rows_of};
+use crate::purpose::Purpose;
+use crate::row_list::RowList;
+use crate::waits::WaitCodes;
+use crate::word::{FlowWord, FlowWordList};
+use code_tables::{CodeKind, Row};
+use nc_number::NoMemory;
+use std::alloc::Global;
+
+/// The words of a block, and what its codes make of them.
+#[derive(Drop)]
+pub struct FlowWords {
+    /// The waiting codes of the cell in which it was read.
+    pub waits: WaitCodes,
+    /// Its words, in the order of the text.
+    pub words: FlowWordList,
+    /// The rows of its G words, in their order.
+    pub rows: RowList,
+    /// Its one-shot code in force: the last one.
+    pub one_shot: Option<CodeKind>,
+    /// What decides the meaning of P and L.
+    pub purpose: Purpose,
+    ghost rows_are: { rows ≡ rows_in words },
+    ghost one_shot_is: { one_shot ≡ one_shot_in words },
+    ghost purpose_is: { purpose ≡ purpose_of waits words },
+}
+
+impl FlowWords {
+    ghost use Rattle.std.specs.Prelude.{IfOk};
+    ghost use Rattle.std.specs.List.{list_any};
+    ghost use Rattle.block_forms.specs.Codes.{gives, is_dwell, is_setting, is_limit, is_machine, is_macro_call};
+
+    /// The words with their rows and their purpose.
+    pub(crate) fn of(
+        alloc: Global,
+        waits: WaitCodes,
+        words: FlowWordList,
+    ) -> Result<FlowWords, NoMemory>
+        ensures waits { IfOk result (λ it. it.waits ≡ waits) }
+        ensures words { IfOk result (λ it. it.words ≡ words) }
+    {
+        let rows = rows_of(alloc, words.as_slice())?;
+        let one_shot = one_shot_of(rows.as_slice());
+        let purpose = purpose_of(waits, words.as_slice(), rows.as_slice(), one_shot);
+        Ok(FlowWords {
+            waits,
+            words,
+            rows,
+            one_shot,
+            purpose,
+        })
+    }
+
+    /// Whether a dwell is given.
+    pub(crate) fn gives_dwell(&self) -> bool
+        ensures { result ≡ gives is_dwell self.now.words }
+    {
+        let rows = self.rows.as_slice();
+        rows.iter().any(|row| matches!(row.kind, CodeKind::Dwell))
+    }
+
+    /// Whether the setting of an offset is given.
+    pub(crate) fn gives_setting(&self) -> bool
+        ensures { result ≡ gives is_setting self.now.words }
+    {
+        let rows = self.rows.as_slice();
+        rows.iter().any(|row| matches!(row.kind, CodeKind::Setting))
+    }
+
+    /// Whether the highest speed of the spindle is given.
+    pub(crate) fn gives_limit(&self) -> bool
+        ensures { result ≡ gives is_limit self.now.words }
+    {
+        let rows = self.rows.as_slice();
+        rows.iter().any(|row| matches!(row.kind, CodeKind::Limit))
+    }
+
+    /// Whether a rapid in machine coordinates is given.
+    pub(crate) fn gives_machine(&self) -> bool
+        ensures { result ≡ gives is_machine self.now.words }
+    {
+        let rows = self.rows.as_slice();
+        rows.iter().any(|row| matches!(row.kind, CodeKind::Machine))
+    }
+
+    /// Whether a call of a macro is given.
+    pub(crate) fn gives_macro_call(&self) -> bool
+        ensures { result ≡ gives is_macro_call self.now.words }
+    {
+        have_macro_call(self.rows.as_slice())
+    }
+}
+
+/// What decides the meaning of P and L: a macro call; a call, a return or a wait; else the one-shot
+/// code in force.
+fn purpose_of(
+    waits: WaitCodes,
+    words: &[FlowWord],
+    rows: &[Row],
+    one_shot: Option<CodeKind>,
+) -> Purpose
+    requires rows { rows.now ≡ rows_in words.now }
+    requires one_shot { one_shot ≡ one_shot_in words.now }
+    ensures { result ≡ purpose_of waits words.now }
+{
+    if have_macro_call(rows) {
+        Purpose::MacroCall
+    } else if has_code(words, 98) {
+        Purpose::Subprogram
+    } else if has_code(words, 99) {
+        Purpose::Return
+    } else if has_wait(words, waits) {
+        Purpose::Wait
+    } else {
+        purpose_by(one_shot)
+    }
+}
