@@ -1,0 +1,4 @@
+pub mod FirstRefused
+pub mod Listed
+pub mod Seen
+pub mod Accepted

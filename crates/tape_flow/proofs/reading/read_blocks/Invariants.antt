@@ -1,0 +1,9 @@
+-- The blocks that are read, with the rest as it reads behind them, are the whole.
+use Rattle.std.proofs.Common.{◌≡◌, [], map, drop}
+use Rattle.block_forms.specs.Blocks.{block_form}
+use Rattle.tape_flow.specs.Forms.{blocks_from}
+use Rattle.tape_flow.proofs.reading.read_blocks.Given as goal
+
+abbrev pub invariant-loop-block : goal.invariant-loop-block
+invariant-loop-block l =
+    blocks_from l.waits [] l.blocks ≡ blocks_from l.waits (map block_form l.read.items) (drop l.block-index l.blocks)

@@ -1,0 +1,9 @@
+-- The programs that are read, with the rest as it reads behind them, are the whole.
+use Rattle.std.proofs.Common.{◌≡◌, [], map, drop}
+use Rattle.tape_flow.specs.Forms.{program_form, programs_from}
+use Rattle.tape_flow.proofs.reading.read_programs.Given as goal
+
+abbrev pub invariant-loop-program : goal.invariant-loop-program
+invariant-loop-program l =
+    programs_from l.waits [] l.programs
+    ≡ programs_from l.waits (map program_form l.read.items) (drop l.program-index l.programs)

@@ -1,0 +1,48 @@
+-- The blocks of a tape as they read one by one, or the first of them that is refused.
+use Rattle.std.specs.Prelude.{ℕ, List, [], ◌∷◌, ◌++◌, map, Result, Ok, Err}
+use Rattle.nc_number.specs.Results.{◌>>=◌}
+use Rattle.nc_text.specs.declared.tape.Block.{Block}
+use Rattle.nc_text.specs.declared.tape.Program.{Program}
+use Rattle.block_forms.specs.declared.waits.WaitCodes.{WaitCodes}
+use Rattle.block_forms.specs.Forms.{BlockForm, block_or_refusal}
+use Rattle.block_forms.specs.Blocks.{block_form}
+use Rattle.tape_flow.specs.declared.fault.FlowFault.{FlowFault}
+use Rattle.tape_flow.specs.declared.program.FlowProgram.{FlowProgram}
+
+-- a program, and what its blocks say
+pub record ProgramForm : Type 0 where
+  pub number : ℕ
+  pub line : ℕ
+  pub blocks : List BlockForm
+
+abbrev pub program_form : FlowProgram → ProgramForm
+program_form program = record { number = program.number; line = program.line; blocks = map block_form program.blocks }
+
+abbrev pub at_line : ℕ → Result BlockForm ℕ → Result BlockForm FlowFault
+at_line line (Ok form) = Ok form
+at_line line (Err number) = Err (record { number = number; line = line })
+
+abbrev pub block_read : WaitCodes → Block → Result BlockForm FlowFault
+block_read waits block = at_line block.line (block_or_refusal waits block)
+
+-- the blocks behind those that are read, or the first refusal
+abbrev pub blocks_from : WaitCodes → List BlockForm → List Block → Result (List BlockForm) FlowFault
+blocks_from waits done [] = Ok done
+blocks_from waits done (block ∷ blocks) = do
+  form ← block_read waits block
+  blocks_from waits (done ++ form ∷ []) blocks
+
+abbrev pub program_read : WaitCodes → Program → Result ProgramForm FlowFault
+program_read waits program = do
+  blocks ← blocks_from waits [] program.blocks
+  Ok (record { number = program.number; line = program.line; blocks = blocks })
+
+abbrev pub programs_from : WaitCodes → List ProgramForm → List Program → Result (List ProgramForm) FlowFault
+programs_from waits done [] = Ok done
+programs_from waits done (program ∷ programs) = do
+  form ← program_read waits program
+  programs_from waits (done ++ form ∷ []) programs
+
+-- all programs of a tape, or the first refusal of a block
+abbrev pub programs_read : WaitCodes → List Program → Result (List ProgramForm) FlowFault
+programs_read waits tape = programs_from waits [] tape

@@ -1,0 +1,4 @@
+pub mod Forms
+pub mod Controls
+pub mod Exact
+pub mod Places

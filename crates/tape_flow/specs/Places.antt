@@ -1,0 +1,80 @@
+-- What a flow tells of a place: its block, its line, the label that a path comes to there, and the mark of a block.
+use Rattle.std.specs.Prelude.{ℕ, ◌-◌, ◌==◌, ◌||◌, List, [], ◌∷◌, length, find, Option, Some, None, slice_get, if◌then◌else◌}
+use Rattle.block_order.specs.declared.control.Control.{Control}
+use Rattle.block_order.specs.declared.control.Control.TheVariants.{Wait, End, Back}
+use Rattle.block_order.specs.declared.frame.Frame.{Frame}
+use Rattle.block_order.specs.declared.label.Label.{Label}
+use Rattle.block_order.specs.declared.label.Label.TheVariants as label
+use Rattle.block_order.specs.declared.label.Mark.{Mark}
+use Rattle.block_order.specs.declared.label.Mark.TheVariants.{Past}
+use Rattle.block_order.specs.declared.program.ControlBlock.{ControlBlock}
+use Rattle.block_order.specs.declared.program.ControlProgram.{ControlProgram}
+use Rattle.block_order.specs.Order.{program_of, main_number, control_at}
+use Rattle.block_order.specs.Loud.{loud, mark_of}
+use Rattle.block_order.specs.Steps.{standing}
+use Rattle.block_forms.specs.declared.block.FlowBlock.{FlowBlock}
+use Rattle.tape_flow.specs.declared.program.FlowProgram.{FlowProgram}
+
+-- the program of that O number, if the flow has one
+abbrev pub flow_program : List FlowProgram → ℕ → Option FlowProgram
+flow_program programs number = find (λ program. program.number == number) programs
+
+abbrev pub flow_blocks : Option FlowProgram → List FlowBlock
+flow_blocks None = []
+flow_blocks (Some program) = program.blocks
+
+-- the block at a place of a program, if there is one
+abbrev pub flow_block : List FlowProgram → ℕ → ℕ → Option FlowBlock
+flow_block programs number block = slice_get (flow_blocks (flow_program programs number)) block
+
+-- the block's line, or this one where there is no block
+abbrev pub line_or : Option ControlBlock → ℕ → ℕ
+line_or None line = line
+line_or (Some block) line = block.line
+
+-- the line of a program's last block, or of its O number where it has none
+abbrev pub last_line : ControlProgram → ℕ
+last_line program = line_or (slice_get program.blocks (length program.blocks - 1)) program.line
+
+-- the line of a block of the program; past its last block the last line
+abbrev pub line_in : Option ControlProgram → ℕ → ℕ
+line_in None block = 0
+line_in (Some program) block = line_or (slice_get program.blocks block) (last_line program)
+
+-- the line at which a path stands
+abbrev pub line_at : List ControlProgram → List Frame → ℕ
+line_at tape [] = 0
+line_at tape (f ∷ stack) = line_in (program_of tape f.program) f.block
+
+-- The label of a block of this control, in a program with this caller. Past the last block there is no control, and M99
+-- begins the main program again, which has no caller.
+abbrev pub label_of : Option Frame → Option Control → Option Label
+label_of caller None = Some label.Off
+label_of caller (Some (Wait code)) = Some (label.Wait code)
+label_of caller (Some End) = Some label.End
+label_of None (Some Back) = Some label.Again
+label_of caller (Some other) = None
+
+-- the label that a path comes to at a place
+abbrev pub label_at : List ControlProgram → List Frame → Option Label
+label_at tape place = label_of (slice_get place 1) (standing tape place)
+
+-- the only mark of a block, if it has one
+abbrev pub only : List Mark → Option Mark
+only [] = None
+only (mark ∷ marks) = Some mark
+
+-- the mark of a block of a program that counts: the main program, or a loud one
+abbrev pub mark_of_block : List ControlProgram → ℕ → Option Control → Option Mark
+mark_of_block tape number None = None
+mark_of_block tape number (Some control) =
+    if (number == main_number tape) || loud tape number then only (mark_of (loud tape) control) else None
+
+-- the mark at a place of a program, which is Past behind the last block
+abbrev pub mark_in : List ControlProgram → ℕ → Option ControlProgram → ℕ → Option Mark
+mark_in tape number None block = None
+mark_in tape number (Some program) block =
+    if block == length program.blocks then Some Past else mark_of_block tape number (control_at program.blocks block)
+
+abbrev pub mark_at : List ControlProgram → ℕ → ℕ → Option Mark
+mark_at tape number block = mark_in tape number (program_of tape number) block

@@ -1,0 +1,211 @@
+//! What a flow lends to the layers above: its blocks, and what a place of it is.
+ghost use Rattle.std.specs.Prelude.{◌≡◌, ◌==◌, Some, length, map, slice_get};
+ghost use Rattle.std.specs.Option.{option_copied, option_map};
+ghost use Rattle.block_forms.specs.Blocks.{block_form};
+ghost use Rattle.block_order.specs.Labels.{start};
+ghost use Rattle.block_order.specs.Loud.{loud, mark_of};
+ghost use Rattle.block_order.specs.Order.{blocks, control_at, main_number, program_of, seek};
+ghost use Rattle.tape_flow.specs.Controls.{control_block, control_program, controls};
+ghost use Rattle.tape_flow.specs.Forms.{program_form};
+ghost use Rattle.tape_flow.specs.Places.{flow_program, flow_block, last_line, line_in, line_at};
+ghost use Rattle.tape_flow.specs.Places.{label_of, label_at, only, mark_of_block, mark_at};
+
+use crate::flow::Flow;
+use crate::ordering::control_of;
+use crate::program::FlowProgram;
+use block_forms::FlowBlock;
+use block_order::{BlockOrder, Control, ControlBlock, Frame, Label, Mark, Place};
+
+fn main_of(programs: &[FlowProgram]) -> u16
+    ensures { result ≡ main_number (controls (map program_form programs.now)) }
+{
+    match programs {
+        [main, ..] => main.number,
+        [] => 0,
+    }
+}
+
+fn program_of(programs: &[FlowProgram], number: u16) -> Option<&FlowProgram>
+    ensures { option_copied result ≡ flow_program programs.now number }
+{
+    for program in programs {
+        if program.number == number {
+            return Some(program);
+        }
+    }
+    None
+}
+
+fn control_block_of(block: Option<&FlowBlock>) -> Option<ControlBlock>
+    ensures { result ≡ option_map (λ block. control_block (block_form block)) (option_copied block.entry) }
+{
+    match block {
+        Some(block) => Some(control_of(block)),
+        None => None,
+    }
+}
+
+fn get_block(blocks: &[FlowBlock], place: usize) -> Option<&FlowBlock>
+    ensures { option_copied result ≡ slice_get blocks.now place }
+{
+    blocks.get(place)
+}
+
+/// The block at a place, as far as the order of blocks goes.
+fn block_at(blocks: &[FlowBlock], place: usize) -> Option<ControlBlock>
+    ensures { result ≡ slice_get (map control_block (map block_form blocks.now)) place }
+{
+    control_block_of(get_block(blocks, place))
+}
+
+fn last_line(program: &FlowProgram) -> u32
+    ensures { result ≡ last_line (control_program (program_form program.now)) }
+{
+    let blocks = program.blocks.as_slice();
+    match block_at(blocks, blocks.len().saturating_sub(1)) {
+        Some(block) => block.line,
+        None => program.line,
+    }
+}
+
+fn line_in(program: &FlowProgram, block: u32) -> u32
+    ensures { result ≡ line_in (Some (control_program (program_form program.now))) block }
+{
+    match block_at(program.blocks.as_slice(), block as usize) {
+        Some(block) => block.line,
+        None => last_line(program),
+    }
+}
+
+fn is_past(program: &FlowProgram, block: u32) -> bool
+    ensures { result ≡ (block == length (control_program (program_form program.now)).blocks) }
+{
+    block as usize == program.blocks.as_slice().len()
+}
+
+fn label_of(caller: Option<Frame>, control: Option<Control>) -> Option<Label>
+    ensures { result ≡ label_of caller control }
+{
+    match (caller, control) {
+        (_, None) => Some(Label::Off),
+        (_, Some(Control::Wait(code))) => Some(Label::Wait(code)),
+        (_, Some(Control::End)) => Some(Label::End),
+        (None, Some(Control::Back)) => Some(Label::Again),
+        (_, Some(_)) => None,
+    }
+}
+
+fn mark_of(order: &BlockOrder, control: Control) -> Option<Mark>
+    ensures { result ≡ only (mark_of (loud order.now) control) }
+{
+    match control {
+        Control::Wait(code) => Some(Mark::Wait(code)),
+        Control::End => Some(Mark::End),
+        Control::Call { program, repeats } if order.is_loud(program) => Some(Mark::Call {
+            program,
+            repeats,
+        }),
+        Control::Back => Some(Mark::Back),
+        _ => None,
+    }
+}
+
+impl Flow {
+    /// The O number of the main program.
+    pub fn main(&self) -> u16
+        ensures { result ≡ main_number self.now.order }
+    {
+        main_of(self.programs.as_slice())
+    }
+
+    /// Where a path begins: the first block of the main program.
+    pub fn start(&self) -> Place
+        ensures { result ≡ start self.now.order }
+    {
+        Place::start(self.main())
+    }
+
+    fn program_of(&self, number: u16) -> Option<&FlowProgram>
+        ensures value { option_copied result ≡ flow_program self.now.programs number }
+        ensures ordered { option_map (λ program. control_program (program_form program.now)) result
+            ≡ program_of self.now.order number }
+    {
+        program_of(self.programs.as_slice(), number)
+    }
+
+    /// A block of a program, counted from 0; none where the tape has no such program, or the program
+    /// no such block.
+    pub fn block(&self, program: u16, block: u32) -> Option<&FlowBlock>
+        ensures value { option_copied result ≡ flow_block self.now.programs program block }
+        ensures ordered { option_map (λ block. control_block (block_form block.now)) result
+            ≡ slice_get (blocks self.now.order program) block }
+    {
+        match self.program_of(program) {
+            Some(program) => get_block(program.blocks.as_slice(), block as usize),
+            None => None,
+        }
+    }
+
+    fn control(&self, program: u16, block: u32) -> Option<Control>
+        ensures { result ≡ control_at (blocks self.now.order program) block }
+    {
+        match control_block_of(self.block(program, block)) {
+            Some(block) => Some(block.control),
+            None => None,
+        }
+    }
+
+    /// Where a search for a sequence number leads: to the next block of that number behind the block,
+    /// else to the first one of its program.
+    pub fn seek(&self, program: u16, block: u32, number: u32) -> Option<u32>
+        ensures { result ≡ seek (blocks self.now.order program) block number }
+    {
+        self.order.seek(program, block, number)
+    }
+
+    /// The line at which a path stands; past the last block of its program the last block's, or that
+    /// of the O number where there is no block.
+    pub fn line(&self, at: &Place) -> u32
+        ensures { result ≡ line_at self.now.order at.now }
+    {
+        let running = at.running();
+        match self.program_of(running.program) {
+            Some(program) => line_in(program, running.block),
+            None => 0,
+        }
+    }
+
+    /// The label that a path comes to at the place: a wait, an end, `Again` at an M99 of the main
+    /// program, `Off` past the last block of a program; else none.
+    pub fn label(&self, at: &Place) -> Option<Label>
+        ensures { result ≡ label_at self.now.order at.now }
+    {
+        let running = at.running();
+        label_of(at.caller(), self.control(running.program, running.block))
+    }
+
+    fn mark_of_block(&self, program: u16, control: Option<Control>) -> Option<Mark>
+        ensures { result ≡ mark_of_block self.now.order program control }
+    {
+        match control {
+            Some(control) if program == self.main() || self.order.is_loud(program) => mark_of(
+                &self.order,
+                control,
+            ),
+            _ => None,
+        }
+    }
+
+    /// The mark at a block of a program: `Past` behind its last block; in the main program, and in
+    /// programs that reach a wait or an end, a wait, an end, an M99 without P and a call of a program
+    /// that reaches a wait or an end. None where the tape has no such program.
+    pub fn mark(&self, program: u16, block: u32) -> Option<Mark>
+        ensures { result ≡ mark_at self.now.order program block }
+    {
+        match self.program_of(program) {
+            Some(found) if is_past(found, block) => Some(Mark::Past),
+            Some(_) => self.mark_of_block(program, self.control(program, block)),
+            None => None,
+        }
+    }
+}

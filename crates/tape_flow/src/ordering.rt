@@ -1,0 +1,82 @@
+//! The programs of a flow, as far as the order of their blocks goes.
+ghost use Rattle.std.specs.Prelude.{◌≡◌, map, IfOk, IfErr};
+ghost use Rattle.block_order.specs.Answers.{IfFault};
+ghost use Rattle.block_order.specs.Faults.{IsSound};
+ghost use Rattle.block_order.specs.Shape.{IsListed};
+ghost use Rattle.tape_flow.specs.Forms.{program_form};
+ghost use Rattle.tape_flow.specs.Controls.{control_block, control_program, controls};
+ghost use Rattle.tape_flow.specs.Exact.{IsOrderFault};
+ghost use Rattle.block_forms.specs.Blocks.{block_form};
+
+use crate::fault::FlowFault;
+use crate::program::FlowProgram;
+use block_forms::FlowBlock;
+use block_order::{BlockOrder, ControlBlock, ControlBlockList, ControlProgram};
+use nc_number::{Failing, NoMemory};
+use std::alloc::Global;
+
+pub(crate) fn control_of(block: &FlowBlock) -> ControlBlock
+    ensures { result ≡ control_block (block_form block.now) }
+{
+    ControlBlock {
+        line: block.line,
+        sequence: block.sequence,
+        control: block.control,
+    }
+}
+
+fn controls_of(alloc: Global, blocks: &[FlowBlock]) -> Result<Vec<ControlBlock>, NoMemory>
+    ensures { IfOk result (λ controls. controls.items ≡ map (λ block. control_block (block_form block)) blocks.now) }
+{
+    let mut controls = Vec::with_capacity(alloc, blocks.len())?;
+    for block in blocks {
+        controls.push(control_of(block))?;
+    }
+    Ok(controls)
+}
+
+fn ordered(alloc: Global, program: &FlowProgram) -> Result<ControlProgram, NoMemory>
+    ensures { IfOk result (λ ordered. ordered ≡ control_program (program_form program.now)) }
+{
+    let blocks = controls_of(alloc, program.blocks.as_slice())?;
+    Ok(ControlProgram {
+        number: program.number,
+        line: program.line,
+        blocks: ControlBlockList::of(blocks),
+    })
+}
+
+fn control_programs(
+    alloc: Global,
+    programs: &[FlowProgram],
+) -> Result<Vec<ControlProgram>, NoMemory>
+    ensures { IfOk result (λ made. made.items ≡ map (λ program. control_program (program_form program)) programs.now) }
+{
+    let mut controls = Vec::with_capacity(alloc, programs.len())?;
+    for program in programs {
+        controls.push(ordered(alloc, program)?)?;
+    }
+    Ok(controls)
+}
+
+/// The order of the blocks of all programs, or its first fault.
+pub(crate) fn order_of(
+    alloc: Global,
+    programs: &[FlowProgram],
+) -> Result<BlockOrder, Failing<FlowFault>>
+    requires { IsListed (controls (map program_form programs.now)) }
+    ensures same { IfOk result (λ order. order ≡ controls (map program_form programs.now)) }
+    ensures sound { IfOk result (λ _. IsSound (controls (map program_form programs.now))) }
+    ensures first { IfErr result (λ error. IfFault error
+        (λ fault. IsOrderFault (controls (map program_form programs.now)) fault.line fault.number)) }
+{
+    let controls = control_programs(alloc, programs)?;
+    match BlockOrder::check(alloc, controls) {
+        Ok(order) => Ok(order),
+        Err(Failing::Fault(fault)) => Err(Failing::Fault(FlowFault {
+            number: fault.cause.number(),
+            line: fault.line,
+        })),
+        Err(Failing::NoMemory) => Err(Failing::NoMemory),
+    }
+}

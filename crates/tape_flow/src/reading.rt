@@ -1,0 +1,98 @@
+//! The blocks of a tape, each read by itself.
+ghost use Rattle.std.specs.Prelude.{◌≡◌, ◌≤◌, [], map};
+ghost use Rattle.nc_number.specs.Answers.{Gives};
+ghost use Rattle.nc_text.specs.Shape.{IsTapeShape};
+ghost use Rattle.block_forms.specs.Blocks.{block_form};
+ghost use Rattle.tape_flow.specs.Forms.{block_read, blocks_from, program_form, program_read, programs_from, programs_read};
+ghost use Rattle.tape_flow.specs.Exact.{waits_of};
+
+use crate::fault::FlowFault;
+use crate::program::{FlowBlockList, FlowProgram, FlowProgramList};
+use block_forms::{FlowBlock, WaitCodes, read_block};
+use cell_settings::Settings;
+use nc_number::Failing;
+use nc_text::{Block, Program};
+use std::alloc::Global;
+
+fn read_at_line(
+    alloc: Global,
+    block: &Block,
+    waits: &WaitCodes,
+) -> Result<FlowBlock, Failing<FlowFault>>
+    ensures { Gives block_form result (block_read waits.now block.now) }
+{
+    match read_block(alloc, block, waits) {
+        Ok(read) => Ok(read),
+        Err(Failing::Fault(fault)) => Err(Failing::Fault(FlowFault {
+            number: fault.number,
+            line: block.line,
+        })),
+        Err(Failing::NoMemory) => Err(Failing::NoMemory),
+    }
+}
+
+fn read_blocks(
+    alloc: Global,
+    blocks: &[Block],
+    waits: &WaitCodes,
+) -> Result<Vec<FlowBlock>, Failing<FlowFault>>
+    ensures { Gives (λ read. map block_form read.items) result (blocks_from waits.now [] blocks.now) }
+{
+    let mut read = Vec::with_capacity(alloc, blocks.len())?;
+    for block in blocks {
+        match read_at_line(alloc, block, waits) {
+            Ok(form) => read.push(form)?,
+            Err(fault) => return Err(fault),
+        }
+    }
+    Ok(read)
+}
+
+fn read_program(
+    alloc: Global,
+    program: &Program,
+    waits: &WaitCodes,
+) -> Result<FlowProgram, Failing<FlowFault>>
+    requires { program.now.number ≤ 9999 }
+    ensures { Gives program_form result (program_read waits.now program.now) }
+{
+    match read_blocks(alloc, program.blocks.as_slice(), waits) {
+        Ok(blocks) => Ok(FlowProgram {
+            number: program.number as u16,
+            line: program.line,
+            blocks: FlowBlockList::of(blocks),
+        }),
+        Err(fault) => Err(fault),
+    }
+}
+
+fn read_programs(
+    alloc: Global,
+    programs: &[Program],
+    waits: &WaitCodes,
+) -> Result<FlowProgramList, Failing<FlowFault>>
+    requires { IsTapeShape programs.now }
+    ensures { Gives (λ read. map program_form read) result (programs_from waits.now [] programs.now) }
+{
+    let mut read = Vec::with_capacity(alloc, programs.len())?;
+    for program in programs {
+        match read_program(alloc, program, waits) {
+            Ok(form) => read.push(form)?,
+            Err(fault) => return Err(fault),
+        }
+    }
+    Ok(FlowProgramList::of(read))
+}
+
+/// The programs of a tape with each block read, or the first refusal of a block.
+pub(crate) fn read_tape(
+    alloc: Global,
+    tape: &[Program],
+    settings: &Settings,
+) -> Result<FlowProgramList, Failing<FlowFault>>
+    requires { IsTapeShape tape.now }
+    ensures { Gives (λ read. map program_form read) result (programs_read (waits_of settings.now) tape.now) }
+{
+    let waits = WaitCodes::of(settings);
+    read_programs(alloc, tape, &waits)
+}
