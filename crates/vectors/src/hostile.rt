@@ -69,6 +69,9 @@ fn lines_and_blocks_at_their_limits(rt: HostRuntime) -> Result<(), Fail> {
     for (again, count, end, wanted) in [
         (" ", 512, "\n%\n", "O1 line 2\n"),
         (" ", 513, "\n%\n", "refused 15 line 3\n"),
+        (" ", 512, "\r\n%\n", "refused 15 line 3\n"),
+        (" ", 512, "$\n%\n", "refused 10 line 3\n"),
+        (" ", 512, "(\n%\n", "refused 12 line 3\n"),
         ("(", 513, "\n%\n", "refused 12 line 3\n"),
         ("$", 513, "\n%\n", "refused 10 line 3\n"),
         ("%", 513, "\n", "refused 15 line 3\n"),
@@ -94,6 +97,8 @@ fn bytes_at_their_limit(rt: HostRuntime) -> Result<(), Fail> {
     let steps = [8_000_000, 65_536];
     for (head, count, end, wanted) in [
         ("", 65_536, "", "refused 13 line 1\n"),
+        ("%", 8, "\n", "refused 15 line 1\n"),
+        ("%\nO1\n%\n", 9, "$\n", "O1 line 2\n"),
         ("", 65_536, "x", "refused 17 line 1\n"),
         ("%\nO1\n%\n", 65_535, "", "O1 line 2\n"),
         ("%\nO1\n%\n", 65_536, "", "refused 17 line 4\n"),

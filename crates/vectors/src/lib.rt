@@ -1,9 +1,11 @@
-//! Tables of tests that cross crates: what the reader of tapes, the settings and the maker of pairs say of the realistic
-//! pair, of made pairs, of the program's own examples and of hostile texts.
+//! Tables of tests that cross crates: what the reader of tapes, their flow, the settings and the maker of pairs say of
+//! the realistic pair, of made pairs, of the program's own examples and of hostile texts.
 //!
 //! The answers that are expected stem from the rules of tapes and settings, and never from what the program answered.
 #![tactic(auto)]
 
+#[cfg(test)]
+mod flow;
 #[cfg(test)]
 mod hostile;
 #[cfg(test)]

@@ -8,8 +8,8 @@ use nc_number::Failing;
 use std::alloc::Global;
 
 /// The number and the line of the refusal, or zeros where there is none.
-fn refusal(alloc: Global, text: &[u8], step: usize) -> (u8, u32) {
-    match read_in(alloc, 0, text, step) {
+fn refusal(alloc: Global, skips: u16, text: &[u8], step: usize) -> (u8, u32) {
+    match read_in(alloc, skips, text, step) {
         Ok(_) => (0, 0),
         Err(Failing::Fault(fault)) => (fault.number, fault.line),
         Err(Failing::NoMemory) => (255, 0),
@@ -128,7 +128,32 @@ fn the_least_line_and_on_it_the_least_number(rt: HostRuntime) {
     ];
     for (text, wanted) in table {
         for step in [1_000_000, 1] {
-            let got = refusal(rt.alloc(), text, step);
+            let got = refusal(rt.alloc(), 0, text, step);
+            assert_eq!(&rt; got, wanted, "{text:?} in pieces of {step}");
+        }
+    }
+}
+
+// Switch 1 is on. A block that it leaves out must be readable, and counts for nothing else.
+#[test]
+fn a_block_that_is_left_out_gives_few_refusals(rt: HostRuntime) {
+    let table: [(&[u8], (u8, u32)); 12] = [
+        (b"%\nO1\n/O2\n%\n", (11, 3)),
+        (b"%\nO1\n/X$\n%\n", (10, 3)),
+        (b"%\nO1\n/X\n%\n", (11, 3)),
+        (b"%\nO1\n/X1 (A\n%\n", (12, 3)),
+        (b"%\nO1\n/N123456789\n%\n", (0, 0)),
+        (b"%\nO1\n/N123456789 #1=1\n%\n", (0, 0)),
+        (b"%\nO1\n/N100000\n%\n", (0, 0)),
+        (b"%\nO1\n/N-1 X1\n%\n", (0, 0)),
+        (b"%\n/G0\nO1\n%\n", (0, 0)),
+        (b"%\n/G0\nG1\nO1\n%\n", (13, 3)),
+        (b"%\n/G0\n%\n", (13, 1)),
+        (b"%\nO1\n/2N100000\n%\n", (64, 3)),
+    ];
+    for (text, wanted) in table {
+        for step in [1_000_000, 1] {
+            let got = refusal(rt.alloc(), 2, text, step);
             assert_eq!(&rt; got, wanted, "{text:?} in pieces of {step}");
         }
     }
