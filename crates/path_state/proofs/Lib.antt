@@ -1,0 +1,3 @@
+pub mod ByTable
+mod Ends
+mod Hanging

@@ -1,0 +1,156 @@
+-- What a block does to its path: the whole, step by step.
+use Rattle.std.specs.Prelude.{ℕ, Bool, true, false, List, [], Option, Some, None, Result, Ok, Err, ℤ, pos, codes}
+use Rattle.nc_number.specs.declared.cause.Cause.{Cause}
+use Rattle.nc_number.specs.declared.cause.Cause.TheVariants.{RanOff}
+use Rattle.nc_number.specs.declared.point.Point.{Point}
+use Rattle.nc_number.specs.declared.value.Var.{Var}
+use Rattle.nc_number.specs.Causes.{cause_number}
+use Rattle.nc_outside.specs.declared.motion.Move.{Move}
+use Rattle.local_levels.specs.Stack.{all_vacant}
+use Rattle.modal_state.specs.declared.fault.ModalFault.{ModalFault}
+use Rattle.modal_state.specs.declared.words.ModalWords.{ModalWords}
+use Rattle.modal_state.specs.declared.words.SpeedWord.{SpeedWord}
+use Rattle.modal_state.specs.declared.words.SpeedWord.TheVariants.{Speed, Limit}
+use Rattle.modal_state.specs.View.{ModalView}
+use Rattle.modal_state.specs.Modal.{with_codes}
+use Rattle.modal_state.specs.Words.{with_words, tool_fault}
+use Rattle.offset_store.specs.declared.slot.Slot.{Slot}
+use Rattle.offset_store.specs.Table.{OffsetTable}
+use Rattle.offset_store.specs.Changes.{with_point}
+use Rattle.block_order.specs.declared.control.Control.{Control}
+use Rattle.block_order.specs.declared.control.Control.TheVariants.{Wait, End}
+use Rattle.block_order.specs.declared.program.ControlProgram.{ControlProgram}
+use Rattle.block_forms.specs.declared.word.FlowWord.{FlowWord}
+use Rattle.block_forms.specs.declared.purpose.Purpose.{Purpose}
+use Rattle.block_forms.specs.declared.purpose.Purpose.TheVariants.{MacroCall}
+use Rattle.block_forms.specs.Words.{has}
+use Rattle.block_forms.specs.Codes.{rows, one_shot, gives, is_limit, m_codes}
+use Rattle.macro_expr.specs.Tree.{Sentence}
+use Rattle.path_state.specs.View.{Fixed, PathView}
+use Rattle.path_state.specs.Outcomes.{Outcome, Gives, Needs, Alarms}
+use Rattle.path_state.specs.Values.{Values, nothing_said, sense_of, words_taken}
+use Rattle.path_state.specs.Arguments.{arguments_taken}
+use Rattle.path_state.specs.Motion.{Motion, motion_kind, motion_of}
+use Rattle.path_state.specs.Moves.{all_moves, last_end}
+use Rattle.path_state.specs.Places.{Standing, goes_on}
+use Rattle.path_state.specs.Statements.{Write, After, standing_of, with_standing, statement_effect}
+
+-- what a block comes to, and at most one write to a shared variable
+pub data Effect : Type 0 where
+  Need : (variable : ℕ) → Effect
+  Done : (path : PathView) → (write : Option Write) → (moves : List Move) → Effect
+  AtWait : (code : ℕ) → Effect
+  -- the path stays on the block
+  AtEnd : (path : PathView) → (moves : List Move) → Effect
+  Alarm : (number : ℕ) → (value : ℤ) → Effect
+
+-- S of a block: beside G50 it is the highest speed
+abbrev pub speed_word : Bool → Var → SpeedWord
+speed_word true s = Limit s
+speed_word false s = Speed s
+
+abbrev pub modal_words : Bool → Values → ModalWords
+modal_words limits values = record { feed = values.feed; speed = speed_word limits values.speed; tool = values.tool }
+
+abbrev pub unless_fault : Option ModalFault → ModalView → Result ModalView ℕ
+unless_fault None modal = Ok modal
+unless_fault (Some fault) modal = Err fault.number
+
+-- G codes set their groups, and F, S and T are taken; alarm 40 of T
+abbrev pub modal_after : ModalView → List FlowWord → Values → Result ModalView ℕ
+modal_after modal words values =
+    unless_fault (tool_fault values.tool) (with_words (with_codes modal (rows words)) (modal_words (gives is_limit words) values))
+
+abbrev pub with_set_offset : OffsetTable → Option (Slot × Point) → OffsetTable
+with_set_offset offsets None = offsets
+with_set_offset offsets (Some set) = with_point offsets set.0 set.1
+
+-- the path behind the motion of a block, and all of the block's moves
+pub record Moved : Type 0 where
+  pub path : PathView
+  pub moves : List Move
+
+abbrev pub moved_by : PathView → ModalView → List FlowWord → Values → Motion → Moved
+moved_by path modal words values motion =
+    let moves = all_moves (gives is_limit words) modal values motion.moves (m_codes words) in
+    record {
+      path = record path {
+        modal = record modal { cycle = motion.cycle };
+        offsets = with_set_offset path.offsets motion.offset;
+        position = last_end path.position moves;
+      };
+      moves = moves;
+    }
+
+abbrev pub after_motion : PathView → ModalView → List FlowWord → Values → Result Motion ℕ → Result Moved ℕ
+after_motion path modal words values (Ok motion) = Ok (moved_by path modal words values motion)
+after_motion path modal words values (Err number) = Err number
+
+abbrev pub motion_with : Fixed → PathView → List FlowWord → Values → Result ModalView ℕ → Result Moved ℕ
+motion_with fixed path words values (Ok modal) =
+    after_motion path modal words values
+    (motion_of fixed path modal (motion_kind modal (one_shot words)) (has (codes "L") words) values)
+motion_with fixed path words values (Err number) = Err number
+
+-- the modal state and then the motion of a block whose words are evaluated
+abbrev pub acted : Fixed → PathView → List FlowWord → Values → Result Moved ℕ
+acted fixed path words values = motion_with fixed path words values (modal_after path.modal words values)
+
+abbrev pub alarm_of : Cause → Effect
+alarm_of cause = Alarm (cause_number cause) (pos 0)
+
+abbrev pub done_by : Moved → Result Standing Cause → Effect
+done_by moved (Ok standing) = Done (with_standing moved.path standing) None moved.moves
+done_by moved (Err cause) = alarm_of cause
+
+-- control behind the moves of a block; at the end the path stays on the block
+abbrev pub controlled : List ControlProgram → Moved → Option (List Var) → Control → Effect
+controlled tape moved arguments End = AtEnd moved.path moved.moves
+controlled tape moved arguments control = done_by moved (goes_on tape (standing_of moved.path) arguments control)
+
+abbrev pub of_moved : List ControlProgram → Control → Result Moved ℕ → Effect
+of_moved tape control (Ok moved) = controlled tape moved None control
+of_moved tape control (Err number) = Alarm number (pos 0)
+
+abbrev pub of_values : List ControlProgram → Fixed → PathView → List FlowWord → Control → Outcome Values → Effect
+of_values tape fixed path words control (Gives values left) = of_moved tape control (acted fixed path words values)
+of_values tape fixed path words control (Needs variable) = Need variable
+of_values tape fixed path words control (Alarms number value) = Alarm number value
+
+-- a block of words that calls no macro
+abbrev pub words_effect : List ControlProgram → Fixed → PathView → Purpose → List FlowWord → Control → List Var → Effect
+words_effect tape fixed path purpose words control reads =
+    of_values tape fixed path words control (words_taken fixed path (sense_of path purpose words) words nothing_said reads)
+
+abbrev pub of_arguments : List ControlProgram → PathView → Control → Outcome (List Var) → Effect
+of_arguments tape path control (Gives arguments left) =
+    controlled tape (record { path = path; moves = [] }) (Some arguments) control
+of_arguments tape path control (Needs variable) = Need variable
+of_arguments tape path control (Alarms number value) = Alarm number value
+
+-- a block that calls a macro: its words are arguments, and nothing moves
+abbrev pub macro_effect : List ControlProgram → Fixed → PathView → List FlowWord → Control → List Var → Effect
+macro_effect tape fixed path words control reads =
+    of_arguments tape path control (arguments_taken fixed path words all_vacant reads)
+
+abbrev pub of_purpose : List ControlProgram → Fixed → PathView → Purpose → List FlowWord → Control → List Var → Effect
+of_purpose tape fixed path MacroCall words control reads = macro_effect tape fixed path words control reads
+of_purpose tape fixed path purpose words control reads = words_effect tape fixed path purpose words control reads
+
+-- a block of words; at a wait nothing is done
+abbrev pub block_of_words : List ControlProgram → Fixed → PathView → Purpose → List FlowWord → Control → List Var → Effect
+block_of_words tape fixed path purpose words (Wait code) reads = AtWait code
+block_of_words tape fixed path purpose words control reads = of_purpose tape fixed path purpose words control reads
+
+abbrev pub of_after : Outcome After → Effect
+of_after (Gives after left) = Done after.path after.write []
+of_after (Needs variable) = Need variable
+of_after (Alarms number value) = Alarm number value
+
+-- a block that is a statement
+abbrev pub block_of_statement : List ControlProgram → Fixed → PathView → Sentence → List Var → Effect
+block_of_statement tape fixed path sentence reads = of_after (statement_effect tape fixed path sentence reads)
+
+-- past the last block of a program
+abbrev pub past_the_last : Effect
+past_the_last = alarm_of RanOff

@@ -1,0 +1,14 @@
+pub mod View
+pub mod Looks
+pub mod Outcomes
+pub mod Values
+pub mod Motion
+pub mod Moves
+pub mod Arguments
+pub mod Jumps
+pub mod Places
+pub mod Statements
+pub mod Effect
+pub mod Worked
+pub mod Seen
+pub mod Drawn

@@ -1,0 +1,89 @@
+//! The modal state behind the codes and words of a block.
+ghost use Rattle.std.specs.Prelude.{◌≡◌, List};
+ghost use Rattle.modal_state.specs.View.{ModalView};
+ghost use Rattle.block_forms.specs.declared.word.FlowWord.{FlowWord};
+ghost use Rattle.block_forms.specs.Codes.{rows};
+ghost use Rattle.path_state.specs.Values.{Values};
+ghost use Rattle.path_state.specs.Effect.{modal_after, speed_word};
+ghost use Rattle.path_state.specs.Drawn.{settings_said, has_limit, modal_behind};
+
+use code_tables::{CodeKind, Row};
+use modal_state::{Modal, ModalWords, SpeedWord};
+use nc_number::Var;
+
+/// The modal state behind a block: its G codes, by their rows in the block's order, set their groups,
+/// and then F, S and T are taken. Beside G50 S is the highest speed. Alarm 40, as its number, exactly
+/// where the tool offset of T is none of 0 to 64.
+pub fn modal_after(
+    modal: &Modal,
+    rows: &[Row],
+    feed: Var,
+    speed: Var,
+    tool: Option<u16>,
+) -> Result<Modal, u8>
+    ensures { result ≡ modal_behind modal.now rows.now (settings_said feed speed tool) }
+{
+    let mut after = *modal;
+    after.take(rows);
+    let words = ModalWords {
+        feed,
+        speed: speed_word(has_limit(rows), speed),
+        tool,
+    };
+    match after.take_values(&words) {
+        Ok(()) => Ok(after),
+        Err(fault) => Err(fault.number),
+    }
+}
+
+// Whether G50 is among these rows.
+fn has_limit(rows: &[Row]) -> bool
+    ensures { result ≡ has_limit rows.now }
+{
+    rows.iter().any(|row| matches!(row.kind, CodeKind::Limit))
+}
+
+fn speed_word(limits: bool, speed: Var) -> SpeedWord
+    ensures { result ≡ speed_word limits speed }
+{
+    if limits {
+        SpeedWord::Limit(speed)
+    } else {
+        SpeedWord::Speed(speed)
+    }
+}
+
+/// What the modal state behind a block hangs on, as a law: of its words the rows of its G codes, and F, S
+/// and T.
+#[tactic(auto, using(crate::proofs::Hanging::modal_hangs))]
+pub fn modal_states_hang_on_their_rows()
+    ensures { (modal : ModalView) (words : List FlowWord) (values : Values) → modal_after modal words values
+        ≡ modal_behind modal (rows words) (settings_said values.feed values.speed values.tool) }
+{}
+
+#[cfg(test)]
+mod tests {
+    use super::*;
+    use code_tables::system_a;
+    use nc_number::Value;
+    use std::test::Fail;
+
+    #[test]
+    fn beside_g50_a_speed_is_the_highest_and_a_tool_without_an_offset_is_refused(
+        rt: HostRuntime,
+    ) -> Result<(), Fail> {
+        let speed = Var::Is(Value::of_units(2_000).ok_or("a speed")?);
+        let row = system_a().find(50).ok_or("G50")?;
+        let modal = Modal::new();
+        let after = modal_after(&modal, &[row], Var::Vacant, speed, Some(101))
+            .ok()
+            .ok_or("taken")?;
+        assert_eq!(rt;
+            (after.speed(), after.limit(), after.offset()),
+            (Var::Vacant, speed, 1)
+        );
+        let refused = modal_after(&modal, &[], Var::Vacant, Var::Vacant, Some(165));
+        assert_eq!(rt; refused, Err(40));
+        Ok(())
+    }
+}

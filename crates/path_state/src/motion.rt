@@ -1,0 +1,287 @@
+//! The motion of a block: by its one-shot code if it has one, else by the motion code in force.
+ghost use Rattle.std.specs.Prelude.{Bool, ◌≡◌, ◌≤◌, ◌==◌, ◌∷◌, [], length, None, IfOk, IfSome};
+ghost use Rattle.nc_number.specs.Position.{IsPosition};
+ghost use Rattle.code_tables.specs.Codes.{row_of};
+ghost use Rattle.code_tables.specs.SystemA.{system_a_rows};
+ghost use Rattle.nc_outside.specs.declared.motion.Move.TheVariants.{Dwell};
+ghost use Rattle.motion_track.specs.Block.{IsBlockWithin, AllEnd};
+ghost use Rattle.turn_cycles.specs.Pass.{cycle_kind_of};
+ghost use Rattle.path_state.specs.Motion.{kind_of_row, motion_kind, form_of, setting_of, block_motion, cut_motion, motion_of};
+ghost use Rattle.path_state.specs.Drawn.{seen, homed, standing_at, motion_said, motion_part, AreLengthsWithin};
+ghost use Rattle.path_state.specs.View.{Fixed, PathView};
+ghost use Rattle.path_state.specs.Values.{Values};
+ghost use Rattle.modal_state.specs.View.{ModalView};
+ghost use Rattle.code_tables.specs.declared.kind.CodeKind.{CodeKind};
+
+use code_tables::{CodeKind, FEED_GROUP, MOTION_GROUP, system_a};
+use modal_state::Modal;
+use motion_track::{BlockMotion, LONGEST, MotionFault, track};
+use nc_number::{Axis, Point};
+use nc_outside::{Move, MoveList};
+use offset_store::{OffsetFault, OffsetForm, Offsets, Slot};
+use turn_cycles::{CycleKind, cycle_pass};
+
+/// The code of a feed by the revolution.
+const PER_REVOLUTION: u16 = 99;
+
+/// What the words of a block say to its motion. Lengths are in 0.001 mm.
+#[derive(Clone, Copy, Debug, PartialEq, Eq)]
+pub struct MotionWords {
+    pub x: Option<i64>,
+    pub z: Option<i64>,
+    pub u: Option<i64>,
+    pub w: Option<i64>,
+    pub i: Option<i64>,
+    pub k: Option<i64>,
+    pub r: Option<i64>,
+    /// P of the setting of an offset.
+    pub number: Option<i64>,
+    /// A dwell in milliseconds.
+    pub rest: u64,
+}
+
+/// What the motion of a block comes to.
+#[derive(Debug, Drop)]
+pub struct Motion {
+    pub moves: MoveList,
+    /// Where the cycle in force ends from then on.
+    pub cycle: Option<Point>,
+    /// The offset that is set, and to what.
+    pub offset: Option<(Slot, Point)>,
+}
+
+/// The kind of the code that decides the motion.
+pub fn motion_kind(modal: &Modal, one_shot: Option<CodeKind>) -> CodeKind
+    ensures { result ≡ motion_kind modal.now one_shot }
+{
+    match one_shot {
+        Some(kind) => kind,
+        None => kind_in_force(modal),
+    }
+}
+
+// The kind of the motion code in force.
+fn kind_in_force(modal: &Modal) -> CodeKind
+    ensures { result ≡ kind_of_row (row_of system_a_rows modal.now.g01) }
+{
+    let Some(code) = modal.code(MOTION_GROUP) else {
+        return CodeKind::Rapid;
+    };
+    match system_a().find(code) {
+        Some(row) => row.kind,
+        None => CodeKind::Rapid,
+    }
+}
+
+/// The motion of a block by the kind of its code, from where the turret stands: a dwell, the setting of
+/// an offset, a cycle, a line, an arc, a thread, a way home, or none.
+///
+/// Alarms, as their numbers: 40 of an offset that does not exist, 41 past the range, 43 of an arc without
+/// a centre, 42 of one that ends off its circle, 44 of a cut without a feed.
+#[tactic(auto, using(crate::proofs::Ends::none_stand))]
+pub fn motion_of(
+    position: Point,
+    home: Point,
+    modal: &Modal,
+    offsets: &Offsets,
+    kind: CodeKind,
+    has_l: bool,
+    words: &MotionWords,
+) -> Result<Motion, u8>
+    requires position { IsPosition position }
+    requires lengths { AreLengthsWithin 100000000000 words.now }
+    ensures motion { seen result ≡ motion_of (homed home) (standing_at position offsets.now)
+        modal.now kind has_l (motion_said words.now) }
+    ensures few { IfOk result (λ motion. length motion.moves ≤ 4) }
+    ensures ends { IsPosition home → IfOk result (λ motion. AllEnd IsPosition motion.moves) }
+    ensures cycle { IfOk result (λ motion. IfSome motion.cycle IsPosition) }
+    ensures offset { IfOk result (λ motion. IfSome motion.offset (λ set. IsPosition set.1)) }
+{
+    match kind {
+        CodeKind::Dwell => Ok(dwell(modal.cycle(), words.rest)),
+        CodeKind::Setting => match setting(offsets, has_l, words) {
+            Ok(set) => Ok(Motion {
+                moves: MoveList::empty(),
+                cycle: modal.cycle(),
+                offset: Some(set),
+            }),
+            Err(fault) => Err(fault.number),
+        },
+        _ => {
+            let block = block_motion(position, home, modal, offsets, words);
+            match cut_motion(kind, modal.cycle(), &block) {
+                Ok(motion) => Ok(motion),
+                Err(fault) => Err(fault.number),
+            }
+        }
+    }
+}
+
+// A rest alone.
+#[tactic(auto, using(crate::proofs::Ends::dwell_stands))]
+fn dwell(cycle: Option<Point>, ms: u64) -> Motion
+    ensures ends { AllEnd IsPosition result.moves }
+    ensures motion { result ≡ record { moves = Dwell ms ∷ []; cycle = cycle; offset = None } }
+{
+    let mut moves = MoveList::empty();
+    moves.push(Move::Dwell { ms });
+    Motion {
+        moves,
+        cycle,
+        offset: None,
+    }
+}
+
+/// The offset that G10 sets, and to what: with L a work offset, else a tool's. Alarm 40 exactly where P
+/// names none, then 41 exactly where a part of it would be past 99,999.999 mm.
+pub fn setting(
+    offsets: &Offsets,
+    has_l: bool,
+    words: &MotionWords,
+) -> Result<(Slot, Point), OffsetFault>
+    ensures set { result ≡ setting_of offsets.now has_l (motion_said words.now) }
+    ensures position { IfOk result (λ set. IsPosition set.1) }
+{
+    let slot = Slot::named(form_of(has_l), words.number)?;
+    let to = offsets.changed(
+        &slot,
+        Axis::of(words.x, words.u),
+        Axis::of(words.z, words.w),
+    )?;
+    Ok((slot, to))
+}
+
+fn form_of(has_l: bool) -> OffsetForm
+    ensures { result ≡ form_of has_l }
+{
+    if has_l {
+        OffsetForm::WorkOffset
+    } else {
+        OffsetForm::ToolOffset
+    }
+}
+
+// What the moves of the block hang on.
+fn block_motion(
+    position: Point,
+    home: Point,
+    modal: &Modal,
+    offsets: &Offsets,
+    words: &MotionWords,
+) -> BlockMotion
+    requires position { IsPosition position }
+    requires lengths { AreLengthsWithin 100000000000 words.now }
+    ensures block { result ≡ block_motion (homed home) (standing_at position offsets.now)
+        modal.now (motion_said words.now) }
+    ensures within { IsBlockWithin LONGEST result }
+{
+    BlockMotion {
+        start: position,
+        shift: offsets.shift(modal.work(), modal.offset()),
+        home,
+        x: Axis::of(words.x, words.u),
+        z: Axis::of(words.z, words.w),
+        i: words.i,
+        k: words.k,
+        r: words.r,
+        feed: modal.feed().or_zero(),
+        per_rev: is_by_revolution(modal),
+    }
+}
+
+// Whether the feed in force is by the revolution.
+fn is_by_revolution(modal: &Modal) -> bool
+    ensures { result ≡ (modal.now.g05 == 99) }
+{
+    match modal.code(FEED_GROUP) {
+        Some(code) => code == PER_REVOLUTION,
+        None => false,
+    }
+}
+
+// A cycle, or a line, an arc, a thread or a way home, or no motion at all.
+fn cut_motion(
+    kind: CodeKind,
+    kept: Option<Point>,
+    block: &BlockMotion,
+) -> Result<Motion, MotionFault>
+    requires kept { IfSome kept IsPosition }
+    requires block { IsBlockWithin LONGEST block.now }
+    ensures motion { seen result ≡ cut_motion (cycle_kind_of kind) kind kept block.now }
+    ensures few { IfOk result (λ motion. length motion.moves ≤ 4) }
+    ensures ends { IsPosition block.now.start → IsPosition block.now.home
+        → IfOk result (λ motion. AllEnd IsPosition motion.moves) }
+    ensures cycle { IfOk result (λ motion. IfSome motion.cycle IsPosition) }
+    ensures no_offset { IfOk result (λ motion. motion.offset ≡ None) }
+{
+    match CycleKind::of(kind) {
+        Some(cycle) => {
+            let pass = cycle_pass(cycle, kept, block)?;
+            Ok(Motion {
+                moves: pass.moves,
+                cycle: pass.kept,
+                offset: None,
+            })
+        }
+        None => {
+            let moves = track(kind, block)?;
+            Ok(Motion {
+                moves,
+                cycle: kept,
+                offset: None,
+            })
+        }
+    }
+}
+
+/// What the motion of a block hangs on, as a law: of its path the position and the offsets alone, of what
+/// is fixed the reference position, and of its words what `MotionWords` has.
+#[tactic(auto, using(crate::proofs::Hanging::motion_hangs))]
+pub fn motions_hang_on_their_words()
+    ensures { (fixed : Fixed) (path : PathView) (modal : ModalView) (kind : CodeKind) (has_l : Bool)
+        (values : Values) → motion_of fixed path modal kind has_l values
+        ≡ motion_of (homed fixed.home) (standing_at path.position path.offsets) modal kind has_l
+        (motion_said (motion_part values)) }
+{}
+
+#[cfg(test)]
+mod tests {
+    use super::*;
+
+    #[test]
+    fn a_rapid_leads_to_its_target_and_a_cut_wants_a_feed(rt: HostRuntime) {
+        let words = MotionWords {
+            x: Some(40_000),
+            z: None,
+            u: None,
+            w: Some(-5_000),
+            i: None,
+            k: None,
+            r: None,
+            number: None,
+            rest: 0,
+        };
+        let at = Point {
+            x: 50_000,
+            z: 2_000,
+        };
+        let home = Point {
+            x: 300_000,
+            z: 200_000,
+        };
+        let to = Point {
+            x: 40_000,
+            z: -3_000,
+        };
+        let (modal, offsets) = (Modal::new(), Offsets::new());
+        let kind = motion_kind(&modal, None);
+        match motion_of(at, home, &modal, &offsets, kind, false, &words) {
+            Ok(motion) => assert_eq!(rt; motion.moves.as_slice(), [Move::Rapid { to }].as_slice()),
+            Err(number) => assert_eq!(rt; number, 0),
+        }
+        let cut = motion_of(at, home, &modal, &offsets, CodeKind::Feed, false, &words);
+        assert_eq!(rt; cut.map(|_| ()), Err(44));
+        let set = motion_of(at, home, &modal, &offsets, CodeKind::Setting, true, &words);
+        assert_eq!(rt; set.map(|_| ()), Err(40));
+    }
+}

@@ -1,0 +1,163 @@
+//! All moves of a block in their order, and where the turret stands behind them.
+ghost use Rattle.std.specs.Prelude.{ℕ, Bool, List, ◌≡◌, ◌≤◌, ◌==◌, length};
+ghost use Rattle.nc_number.specs.declared.value.Var.TheVariants.{Vacant};
+ghost use Rattle.nc_number.specs.Arithmetic.{whole_of};
+ghost use Rattle.nc_number.specs.Position.{IsPosition};
+ghost use Rattle.motion_track.specs.Block.{AllEnd};
+ghost use Rattle.modal_state.specs.View.{ModalView};
+ghost use Rattle.nc_outside.specs.declared.motion.Move.{Move};
+ghost use Rattle.path_state.specs.Values.{Values};
+ghost use Rattle.path_state.specs.Moves.{whole_or_zero, speed_moves, tool_moves, auxiliary_moves, is_auxiliary, all_moves, last_end};
+ghost use Rattle.path_state.specs.Drawn.{settings_said, at_most_one};
+
+use code_tables::SPINDLE_GROUP;
+use modal_state::Modal;
+use nc_number::{Point, Value, Var};
+use nc_outside::{Move, MoveList};
+
+/// The code of a constant surface speed.
+const SURFACE: u16 = 96;
+
+/// All moves of a block: its highest speed (beside G50) or its speed, its tool, its motion, and its
+/// auxiliary code. M02, M30, M98 and M99 are the control's own, and no moves.
+pub fn all_moves(
+    limits: bool,
+    modal: &Modal,
+    speed: Var,
+    tool: Option<u16>,
+    motion: &MoveList,
+    code: Option<u16>,
+) -> MoveList
+    requires { length motion.now ≤ 4 }
+    ensures moves { result ≡ all_moves limits modal.now (settings_said Vacant speed tool) motion.now (at_most_one code) }
+    ensures few { length result ≤ 7 }
+    ensures positions { AllEnd IsPosition motion.now → AllEnd IsPosition result }
+{
+    let mut moves = speed_moves(limits, modal, speed);
+    moves.append(tool_moves(tool).as_slice());
+    moves.append(motion.as_slice());
+    moves.append(auxiliary_moves(code).as_slice());
+    moves
+}
+
+/// Where the turret stands behind these moves, which begin at `at`: the end of the last one that goes
+/// somewhere.
+pub fn last_end(at: Point, moves: &[Move]) -> Point
+    ensures last { result ≡ last_end at moves.now }
+    ensures position { IsPosition at → AllEnd IsPosition moves.now → IsPosition result }
+{
+    let mut end = at;
+    for step in moves {
+        end = step.end().unwrap_or(end);
+    }
+    end
+}
+
+// S, where it is said: the highest speed beside G50, else the speed.
+fn speed_moves(limits: bool, modal: &Modal, speed: Var) -> MoveList
+    ensures moves { result ≡ speed_moves limits modal.now speed }
+    ensures few { length result ≤ 1 }
+{
+    let mut moves = MoveList::empty();
+    if let Var::Is(s) = speed {
+        let s = whole_or_zero(&s);
+        moves.push(if limits {
+            Move::Limit { s }
+        } else {
+            Move::Speed {
+                surface: is_surface_speed(modal),
+                s,
+            }
+        });
+    }
+    moves
+}
+
+// Whether a constant surface speed is in force.
+fn is_surface_speed(modal: &Modal) -> bool
+    ensures { result ≡ (modal.now.g02 == 96) }
+{
+    match modal.code(SPINDLE_GROUP) {
+        Some(code) => code == SURFACE,
+        None => false,
+    }
+}
+
+// The whole number of a speed; one with a fraction counts 0, and no tape has one.
+fn whole_or_zero(speed: &Value) -> u32
+    ensures { result ≡ whole_or_zero (whole_of speed.now) }
+{
+    match speed.whole() {
+        Some(n) => n.unsigned_abs() as u32,
+        None => 0,
+    }
+}
+
+fn tool_moves(tool: Option<u16>) -> MoveList
+    ensures moves { result ≡ tool_moves tool }
+    ensures few { length result ≤ 1 }
+{
+    let mut moves = MoveList::empty();
+    if let Some(t) = tool {
+        moves.push(Move::Tool { t });
+    }
+    moves
+}
+
+fn auxiliary_moves(code: Option<u16>) -> MoveList
+    ensures moves { result ≡ auxiliary_moves (at_most_one code) }
+    ensures few { length result ≤ 1 }
+{
+    let mut moves = MoveList::empty();
+    if let Some(m) = code
+        && is_auxiliary(m)
+    {
+        moves.push(Move::Aux { m });
+    }
+    moves
+}
+
+// Whether the code is none of the control's own.
+fn is_auxiliary(m: u16) -> bool
+    ensures { result ≡ is_auxiliary m }
+{
+    !matches!(m, 2 | 30 | 98 | 99)
+}
+
+/// What the moves of a block hang on, as a law: of its words S and T alone, beside its motion and its codes.
+#[tactic(auto, using(crate::proofs::Hanging::moves_hang))]
+pub fn moves_hang_on_their_words()
+    ensures { (limits : Bool) (modal : ModalView) (values : Values) (motion : List Move) (codes : List ℕ)
+        → all_moves limits modal values motion codes
+        ≡ all_moves limits modal (settings_said Vacant values.speed values.tool) motion codes }
+{}
+
+#[cfg(test)]
+mod tests {
+    use super::*;
+    use std::test::Fail;
+
+    #[test]
+    fn a_block_gets_its_speed_its_tool_its_motion_and_its_code(
+        rt: HostRuntime,
+    ) -> Result<(), Fail> {
+        let speed = Var::Is(Value::of_units(1_200).ok_or("a speed")?);
+        let mut motion = MoveList::empty();
+        motion.push(Move::Dwell { ms: 500 });
+        let modal = Modal::new();
+        let moves = all_moves(false, &modal, speed, Some(101), &motion, Some(3));
+        let want = [
+            Move::Speed {
+                surface: false,
+                s: 1_200,
+            },
+            Move::Tool { t: 101 },
+            Move::Dwell { ms: 500 },
+            Move::Aux { m: 3 },
+        ];
+        assert_eq!(rt; moves.as_slice(), want.as_slice());
+        let moves = all_moves(true, &modal, speed, None, &MoveList::empty(), Some(30));
+        assert_eq!(rt; moves.as_slice(), [Move::Limit { s: 1_200 }].as_slice());
+        Ok(())
+    }
+}

@@ -1,0 +1,99 @@
+ghost use Rattle.std.specs.Prelude.{◌≡◌};
+ghost use Rattle.path_state.specs.Outcomes.{reading_none};
+ghost use Rattle.path_state.specs.Values.{nothing_said, computed, taken_var};
+ghost use Rattle.path_state.specs.Seen.{values_seen, values_of, sense_seen, outcome_of, word_with, words_with};
+
+use crate::outcome::Stop;
+use crate::values::{Sense, Values, taken};
+use block_forms::{FlowWord, WordValue};
+use macro_eval::{Eval, Scope, evaluate};
+use nc_number::{Cause, Literal, Value, Var, neg};
+
+/// A computed number, behind the word's own sign, counts as one with a point.
+pub(crate) fn computed(minus: bool, value: Value) -> Literal
+    ensures { result ≡ computed minus value }
+{
+    Literal {
+        value: if minus { neg(value) } else { value },
+        point: true,
+    }
+}
+
+/// A vacant word counts as absent.
+fn taken_var(
+    sense: &Sense,
+    letter: u8,
+    minus: bool,
+    value: Var,
+    said: &Values,
+) -> Result<Values, Cause>
+    ensures { values_of result ≡ taken_var (sense_seen sense.now) letter minus value (values_seen said.now) }
+{
+    match value {
+        Var::Vacant => Ok(*said),
+        Var::Is(number) => taken(sense, letter, &computed(minus, number), *said),
+    }
+}
+
+/// The answer of a step that takes no read.
+fn answer<'a>(taken: Result<Values, Cause>, left: &'a [Var]) -> (Result<Values, Stop>, &'a [Var])
+    ensures { outcome_of values_seen result.0 result.1.now ≡ reading_none (values_of taken) left.now }
+{
+    match taken {
+        Ok(said) => (Ok(said), left),
+        Err(cause) => (Err(Stop::of(cause)), left),
+    }
+}
+
+/// One word: it is evaluated, and then converted, before the next.
+fn word_taken<'a, S: Scope>(
+    word: &FlowWord,
+    sense: &Sense,
+    scope: &S,
+    said: &Values,
+    reads: &'a [Var],
+) -> (Result<Values, Stop>, &'a [Var])
+    ensures { outcome_of values_seen result.0 result.1.now
+        ≡ word_with (S.table scope.now) (sense_seen sense.now) word.now.letter word.now.value
+        (values_seen said.now) reads.now }
+{
+    let FlowWord { letter, value } = word;
+    match value {
+        WordValue::Fixed(literal) => answer(taken(sense, *letter, literal, *said), reads),
+        WordValue::Computed { minus, code } => {
+            let (evaluated, left) = evaluate(code, scope, reads);
+            match evaluated {
+                Eval::Got(value) => answer(taken_var(sense, *letter, *minus, value, said), left),
+                Eval::Need(variable) => (Err(Stop::Needs(variable)), left),
+                Eval::Fault(number) => (Err(Stop::Alarms { number, value: 0 }), left),
+            }
+        }
+    }
+}
+
+/// What the words of a block say, each evaluated and converted before the next, and the reads that
+/// are left: or the shared variable that must be read next, or the first alarm.
+///
+/// Alarms: those of [`evaluate`], 56 of I, K and R that mean nothing, and 64 of a number out of the
+/// range of its word.
+pub fn words_taken<'a, S: Scope>(
+    words: &[FlowWord],
+    sense: &Sense,
+    scope: &S,
+    reads: &'a [Var],
+) -> (Result<Values, Stop>, &'a [Var])
+    ensures { outcome_of values_seen result.0 result.1.now
+        ≡ words_with (S.table scope.now) (sense_seen sense.now) words.now nothing_said reads.now }
+{
+    let mut said = Values::nothing();
+    let mut left = reads;
+    for word in words {
+        let (step, rest) = word_taken(word, sense, scope, &said, left);
+        left = rest;
+        match step {
+            Ok(next) => said = next,
+            Err(stop) => return (Err(stop), left),
+        }
+    }
+    (Ok(said), left)
+}

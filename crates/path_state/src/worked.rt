@@ -1,0 +1,6 @@
+ghost use Rattle.path_state.specs.Worked.{WorkedBlocks};
+
+/// Worked blocks, and what the definitions make of them.
+pub fn worked_blocks_come_to_these()
+    ensures { WorkedBlocks }
+{}
