@@ -1,8 +1,12 @@
 -- How entries are taken from a window of a file.
 use Rattle.std.proofs.Common.{◌≡◌, ℕ, ◌+◌, ◌-◌, ◌≤◌, ◌<◌, min, List, [], ◌∷◌, ◌++◌, length, take, drop, inl, inr, sym, ◌∙◌, ap, subst, arith, append_assoc, length-append, length-drop, take-append-drop}
+use Rattle.std.proofs.Math.Seq.{take-add}
 use Rattle.std.proofs.lemmas.Bool.{cases_lt}
 use Rattle.std.proofs.lemmas.List.{take_at, drop_at, take_all, take-take, length-take, drop-append-le, drop-drop}
+use Rattle.std.specs.Int.{w32, to_be_bytes}
+use Rattle.gate_file.specs.Bodies.{bodies_from, AreEnds}
 use Rattle.gate_file.specs.Chain.{entry, IsEntry, Opens}
+use Rattle.gate_file.proofs.Bodies.{ends_more, bodies_more}
 use Rattle.gate_file.proofs.Chains.{opens_push, length-entry}
 
 pub take_front : (xs : List ℕ) → take (min (length xs) 5) xs ≡ take 5 xs
@@ -34,6 +38,41 @@ behind_entry body rest behind seen is within rest_is =
       long,
       sym (drop_at begin behind (length body + 5) size) ∙ ap (drop (length body + 5)) (sym is.bytes ∙ rest_is) ∙ drop-drop (length body + 5) (length seen - length rest) seen ∙ ap (λ (n : ℕ). drop n seen) place,
     )
+
+-- What is noted of an entry more: where it ends, behind the bytes that were there.
+module _ (seen rest behind body ends : List ℕ) (start : ℕ) (is : IsEntry body rest behind) (within : length rest ≤ length seen) (place : rest ≡ drop (length seen - length rest) seen)
+    (are : AreEnds 0 ends (start + (length seen - length rest))) where
+  left : length behind + length body + 5 ≡ length rest
+  left = (behind_entry body rest behind seen is within place).0
+
+  abbrev pub frame : List ℕ
+  frame = is.gate ∷ to_be_bytes w32 (length body)
+
+  five : length frame ≡ 5
+  five = omega (arith, length-entry body, length-append (to_be_bytes w32 (length body)) body)
+
+  abbrev pub done : ℕ
+  done = length seen - length rest
+
+  here : take (5 + length body) (drop done seen) ≡ frame ++ body
+  here = ap (take (5 + length body)) (sym place ∙ is.bytes) ∙ take_at (frame ++ body) behind (5 + length body) (omega (arith, five, length-append frame body))
+
+  taken : take (length seen - length behind) seen ≡ take done seen ++ (frame ++ body)
+  taken =
+      let sum : length seen - length behind ≡ done + (5 + length body) = omega (arith, left, within) in
+      ap (λ (n : ℕ). take n seen) sum ∙ take-add done (5 + length body) seen ∙ ap (λ (l : List ℕ). take done seen ++ l) here
+
+  pub marked_ends : AreEnds 0 (ends ++ (start + (length seen - length behind)) ∷ []) (start + (length seen - length behind))
+  marked_ends = ends_more 0 ends (start + done) (start + (length seen - length behind)) are (omega (arith, left, within))
+
+  pub marked_bodies : (bytes : List ℕ) → length bytes ≡ start
+      → bodies_from 0 (ends ++ (start + (length seen - length behind)) ∷ []) (bytes ++ take (length seen - length behind) seen) ≡ bodies_from 0 ends (bytes ++ take done seen) ++ body ∷ []
+  marked_bodies bytes size =
+      let end : ℕ = start + (length seen - length behind) in
+      let before : length (bytes ++ take done seen) ≡ start + done = omega (arith, size, length-append bytes (take done seen), length-take done seen, within) in
+      let joined : bytes ++ take (length seen - length behind) seen ≡ (bytes ++ take done seen) ++ (frame ++ body) = ap (λ (l : List ℕ). bytes ++ l) taken ∙ sym (append_assoc bytes (take done seen) (frame ++ body)) in
+      let all = bodies_more 0 ends (bytes ++ take done seen) frame body end (subst (AreEnds 0 ends) (sym before) are) five (omega (arith, before, left, within)) in
+      ap (bodies_from 0 (ends ++ end ∷ [])) joined ∙ all
 
 -- A file from an offset on begins with what was seen of it.
 pub record Seen (bytes seen : List ℕ) (at : ℕ) : Type 0 where

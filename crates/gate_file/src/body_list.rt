@@ -1,16 +1,19 @@
 // A list of bodies.
-ghost use Rattle.std.specs.Prelude.{◌≡◌, ◌<◌, ◌≤◌, ◌++◌, ◌==◌, [], ◌∷◌, List, ℕ, length, get_or, IfSome, IfNone, OnOk, OnErr};
-ghost use Rattle.gate_file.specs.Bodies.{between};
+ghost use Rattle.std.specs.Prelude.{◌≡◌, ◌+◌, ◌*◌, ◌^◌, ◌<◌, ◌≤◌, ◌++◌, ◌==◌, [], ◌∷◌, List, ℕ, length, take, drop, get_or, IfOk, IfSome, IfNone, OnOk, OnErr, vec_capacity};
+ghost use Rattle.gate_file.specs.Bodies.{between, bodies_from, AreEnds};
+ghost use Rattle.gate_file.specs.Chain.{Opens};
 
-use crate::open::FRAME;
+use crate::open::{FRAME, entry_in};
 use std::alloc::{AllocError, Global};
 use std::marker::Model;
 
-/// A list of bodies, the first one first. All of them stand in one list of bytes, so that none takes memory of its own.
+/// A list of bodies, the first one first. All of them stand in one list of bytes, as a file has them, so that none takes memory
+/// of its own.
 #[derive(Drop)]
 pub struct BodyList {
+    // Each body, and before it the five bytes of its gate and its length.
     bytes: Vec<u8>,
-    // Where each body ends and the next one begins.
+    // Where each body ends and the gate of the next one stands.
     ends: Vec<usize>,
 }
 
@@ -67,30 +70,68 @@ impl BodyList {
         requires { index < length self.now }
         ensures { result.now ≡ get_or self.now index [] }
     {
-        stretch(&self.bytes, start_of(&self.ends, index), self.ends[index])
+        let end = self.ends[index];
+        let gate = start_of(&self.ends, index);
+        stretch(&self.bytes, gate + FRAME as usize, end)
     }
 
-    // Makes room for the bodies of so many bytes of a file.
-    pub(crate) fn make_room(&mut self, size: usize) -> Result<(), AllocError>
-        ensures { self.new ≡ self.old }
+    // Takes the entries that lie whole in these bytes, each with the gate behind it, by one copy, and answers where the next gate
+    // stands.
+    pub(crate) fn take_entries(&mut self, seen: &[u8]) -> Result<usize, AllocError>
+        ensures reads { IfOk result (λ n. (file behind : List ℕ) → Opens self.old file (seen.now ++ behind)
+            → Opens self.new file (drop n seen.now ++ behind)) }
+        ensures moved { IfOk result (λ n. 0 < n → (n < length seen.now) × (length self.old < length self.new)) }
+        ensures opens { (file behind : List ℕ) → Opens self.old file (seen.now ++ behind) → (rest : List ℕ)
+            × Opens self.new file rest }
+        ensures grown { length self.old ≤ length self.new }
     {
-        self.bytes.reserve(size)?;
-        self.ends.reserve(size / FRAME as usize)?;
-        Ok(())
+        let start = self.bytes.len();
+        self.ends.reserve(seen.len() / FRAME as usize)?;
+        self.bytes.extend_from_slice(seen)?;
+        let taken = mark_entries(seen, start, &mut self.ends);
+        self.bytes.truncate(start + taken);
+        Ok(taken)
     }
 
+    // One body more, behind five bytes that stand for its gate and its length.
     pub(crate) fn add(&mut self, body: &[u8]) -> Result<(), AllocError>
         ensures ok { OnOk result (self.new ≡ self.old ++ body.now ∷ []) }
         ensures err { OnErr result (self.new ≡ self.old) }
     {
+        let start = self.bytes.len();
         self.ends.reserve(1)?;
-        self.bytes.extend_from_slice(body)?;
+        self.bytes.extend_from_slice(&[1, 0, 0, 0, 0])?;
+        if self.bytes.extend_from_slice(body).is_err() {
+            self.bytes.truncate(start);
+            return Err(AllocError);
+        }
         self.ends.push_reserved(self.bytes.len());
         Ok(())
     }
 }
 
-// Where the body of an index begins: where the one before it ends.
+// Notes where each entry ends that lies whole in these bytes, the first of which stands at an offset, and answers how many of the
+// bytes they take.
+fn mark_entries(seen: &[u8], start: usize, ends: &mut Vec<usize>) -> usize
+    requires room { 5 * length ends.old.items + length seen.now ≤ 5 * vec_capacity ends.old + 4 }
+    requires small { start + length seen.now < 2 ^ 63 }
+    ensures marks { (bytes file behind : List ℕ) → length bytes ≡ start → AreEnds 0 ends.old.items start
+        → Opens (bodies_from 0 ends.old.items bytes) file (seen.now ++ behind)
+        → Opens (bodies_from 0 ends.new.items (bytes ++ take result seen.now)) file (drop result seen.now ++ behind) }
+    ensures ends { AreEnds 0 ends.old.items start → AreEnds 0 ends.new.items (start + result) }
+    ensures moved { 0 < result → (result < length seen.now) × (length ends.old.items < length ends.new.items) }
+    ensures within { result ≤ length seen.now }
+    ensures grown { length ends.old.items ≤ length ends.new.items }
+{
+    let mut rest = seen;
+    while let Some((_body, behind)) = entry_in(rest) {
+        rest = behind;
+        ends.push_reserved(start + (seen.len() - rest.len()));
+    }
+    seen.len() - rest.len()
+}
+
+// Where the gate before the body of an index stands: where the body before it ends.
 fn start_of(ends: &[usize], index: usize) -> usize
     requires { index ≤ length ends.now }
     ensures { result ≡ get_or (0 ∷ ends.now) index 0 }

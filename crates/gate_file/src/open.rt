@@ -125,7 +125,7 @@ fn read_on<D: Disk>(
 {
     let count = disk.read_at(at, window)?;
     let seen = front(window, count, len - at);
-    let taken = take_entries(seen, bodies)?;
+    let taken = bodies.take_entries(seen)?;
     if taken > 0 {
         return Ok(Some(at + taken as u64));
     }
@@ -153,26 +153,8 @@ fn front(window: &[u8], count: usize, left: u64) -> &[u8]
     front
 }
 
-// Takes the entries that lie whole in these bytes, each with the gate behind it, and answers where the next gate stands.
-fn take_entries(seen: &[u8], bodies: &mut BodyList) -> Result<usize, AllocError>
-    ensures reads { IfOk result (λ n. (file behind : List ℕ) → Opens bodies.old file (seen.now ++ behind)
-        → Opens bodies.new file (drop n seen.now ++ behind)) }
-    ensures moved { IfOk result (λ n. 0 < n → (n < length seen.now) × (length bodies.old < length bodies.new)) }
-    ensures opens { (file behind : List ℕ) → Opens bodies.old file (seen.now ++ behind) → (rest : List ℕ)
-        × Opens bodies.new file rest }
-    ensures grown { length bodies.old ≤ length bodies.new }
-{
-    bodies.make_room(seen.len())?;
-    let mut rest = seen;
-    while let Some((body, behind)) = entry_in(rest) {
-        bodies.add(body)?;
-        rest = behind;
-    }
-    Ok(seen.len() - rest.len())
-}
-
 // The body that stands whole in these bytes behind an open gate, and what stands behind it: the next gate at least.
-fn entry_in(bytes: &[u8]) -> Option<(&[u8], &[u8])>
+pub(crate) fn entry_in(bytes: &[u8]) -> Option<(&[u8], &[u8])>
     ensures { IfSome result (λ found. IsEntry found.0.now bytes.now found.1.now × (0 < length found.1.now)) }
 {
     let Head::Open(size) = head_of(bytes) else {
