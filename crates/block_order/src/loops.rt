@@ -90,7 +90,7 @@ impl LoopTable {
     /// From where a jump to this block is permitted.
     pub(crate) fn reach(&self, target: u32) -> Reach
         ensures { (bs : List ControlBlock) → IsLoopTable bs self.now → target < length bs
-            → (block : ℕ) → block < length bs → IsPermitted bs block target ↔ IsWithin result block }
+            → (block : ℕ) → block ≤ u32.MAX → IsPermitted bs block target ↔ IsWithin result block }
     {
         match self.head_around(target) {
             Some(head) => Reach {

@@ -123,8 +123,7 @@ impl BlockOrder {
 
     // Whether a jump from the block to the target is permitted.
     fn permits(&self, program: u16, block: u32, target: u32) -> bool
-        requires block { block < length (blocks self.now program) }
-        requires target { target < length (blocks self.now program) }
+        requires { target < length (blocks self.now program) }
         ensures { IsTrue result ↔ IsPermitted (blocks self.now program) block target }
     {
         match self.tables_of(program) {
@@ -138,7 +137,6 @@ impl BlockOrder {
     /// Errors: [`Cause::NoSequence`], 50, where the program has no such number; [`Cause::IntoLoop`],
     /// 53, where a loop holds the target and not the block.
     pub fn target(&self, program: u16, block: u32, number: u32) -> Result<u32, Cause>
-        requires { block < length (blocks self.now program) }
         ensures leads { (target : ℕ) → (result ≡ Ok target) ↔ Leads (blocks self.now program) block number target }
         ensures lost { (result ≡ Err NoSequence) ↔ (seek (blocks self.now program) block number ≡ None) }
         ensures causes { IfErr result (λ cause. (cause ≡ NoSequence) ⊎ (cause ≡ IntoLoop)) }
@@ -155,7 +153,8 @@ impl BlockOrder {
 
     /// The END of the loop that begins at the block.
     pub fn loop_end(&self, program: u16, head: u32) -> Option<u32>
-        ensures { (close : ℕ) → (result ≡ Some close) ↔ IsLoop (blocks self.now program) head close }
+        ensures ends { (close : ℕ) → (result ≡ Some close) ↔ IsLoop (blocks self.now program) head close }
+        ensures behind { IfSome result (λ close. close < u32.MAX) }
     {
         match self.tables_of(program) {
             Some(tables) => tables.loops.end_of(head),

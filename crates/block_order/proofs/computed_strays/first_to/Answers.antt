@@ -10,7 +10,7 @@ returns-in-Some c loud ways ahead within numbered =
     (record {
       few = ways.few;
       finds = c.finders-finders.ensures bs ways.sequences numbered;
-      reaches = c.reach-reach.ensures bs ways.loops within;
+      reaches = λ block l. c.reach-reach.ensures bs ways.loops within block (omega (arith, ways.few));
     }) c.in-Some.is (omega arith) (c.first_in-ahead.ensures loud ways ahead within) (c.first_in-around.ensures loud ways ahead within) in
     rw c.sooner.ensures least
 
@@ -21,5 +21,5 @@ returns-in-None c loud ways ahead within numbered =
     (record {
       few = ways.few;
       finds = c.finders-finders.ensures bs ways.sequences numbered;
-      reaches = c.reach-reach.ensures bs ways.loops within;
+      reaches = λ block l. c.reach-reach.ensures bs ways.loops within block (omega (arith, ways.few));
     }) c.in-None.is (c.first_in-ahead.ensures loud ways ahead within)

@@ -4,8 +4,8 @@ use Rattle.block_order.proofs.Aimed.{leads_then, leads_else}
 use Rattle.block_order.proofs.Findable.{seek-within}
 use Rattle.block_order.proofs.order.BlockOrder.target.Goals as goal
 
-pub permits-requires-clause-target : goal.permits-requires-clause-target
-permits-requires-clause-target c =
+pub permits-requires : goal.permits-requires
+permits-requires c =
     seek-within (blocks c.args.self.now c.args.program) c.args.block c.args.number c.in-Some.target (sym c.seek.ensures ∙ c.in-Some.is)
 
 pub returns-then-permits-clause-leads : goal.returns-then-permits-clause-leads
