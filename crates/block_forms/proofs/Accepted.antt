@@ -9,11 +9,11 @@ use Rattle.block_forms.specs.declared.purpose.Purpose.TheVariants.{MacroCall, Su
 use Rattle.block_forms.specs.declared.range.Range.TheVariants.{Between}
 use Rattle.block_forms.specs.declared.waits.WaitCodes.{WaitCodes}
 use Rattle.block_forms.specs.declared.word.FlowWord.{FlowWord}
-use Rattle.block_forms.specs.Codes.{m_codes, is_waiting, has_code, first_waiting, purpose_of}
+use Rattle.block_forms.specs.Codes.{m_codes, m_code, is_waiting, has_code, first_waiting, purpose_of, is_macro}
 use Rattle.block_forms.specs.Ranges.{range_of}
 use Rattle.block_forms.specs.Refusals.{is_not_fixed, is_unknown, is_wait_not_alone, is_wait_of_others, has_two_m, is_bad_call, has_axis_twice, is_out_of_range, refusal_of}
 use Rattle.block_forms.specs.Controls.{number_of, or_number, call_of_p, back_to, wait_at, end_or_next, control_by, control_of_words, number_of_aim, control_of_sentence, is_sequence, is_allowed, waits_by_a_code}
-use Rattle.block_forms.proofs.NumbersFit.{IsWithin, last_within}
+use Rattle.block_forms.proofs.NumbersFit.{IsWithin, last_within, first_within}
 use Rattle.block_forms.proofs.Waiting.{found_passes}
 
 last_of_eight : (a b c d e f g h : Bool) → (if a then Some NotFixed else if b then Some UnknownCode else if c then Some WaitNotAlone else if d then Some WaitPaths else if e then Some TwoM else if f then Some BadCall else if g then Some AxisTwice else if h then Some WordRange else None) ≡ None → h ≡ false
@@ -45,6 +45,21 @@ weaker least greatest (Some n) is = is.1
 pub number_at_most : (waits : WaitCodes) (words : List FlowWord) (own purpose : Purpose) (letter least greatest : ℕ) → refusal_of waits words ≡ None → own ≡ purpose_of waits words → own ≡ purpose → range_of purpose letter ≡ Between least greatest → IfSome (number_of (letter ∷ []) words) (λ n. n ≤ greatest)
 number_at_most waits words own purpose letter least greatest none is kind range =
     weaker least greatest _ (number_within waits words purpose letter least greatest none (sym is ∙ kind) range)
+
+range_of_m : (purpose : Purpose) → is_macro purpose ≡ false → range_of purpose 77 ≡ Between 0 999
+range_of_m MacroCall other = absurd (cc)
+range_of_m Subprogram other = refl
+range_of_m Return other = refl
+range_of_m Wait other = refl
+range_of_m Dwell other = refl
+range_of_m Setting other = refl
+range_of_m Other other = refl
+
+-- the M code of a block that calls no macro
+pub code_at_most : (waits : WaitCodes) (words : List FlowWord) (own : Purpose) → refusal_of waits words ≡ None → own ≡ purpose_of waits words → is_macro own ≡ false → IfSome (m_code words) (λ n. n ≤ 999)
+code_at_most waits words own none is other =
+    weaker 0 999 _
+    (first_within own 77 0 999 words (range_of_m own other) (rw is (all_in_range waits words none)))
 
 call_allowed : (program repeats : Option ℕ) → IsWithin 1 9999 program → IsWithin 1 9999 repeats → is_allowed (control.Call (or_number 0 program) (or_number 1 repeats)) ≡ true
 call_allowed None None p r = refl

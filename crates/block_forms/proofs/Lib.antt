@@ -8,3 +8,4 @@ pub mod Judged
 pub mod LeastRefusal
 pub mod WordNumbers
 pub mod LeastOfText
+pub mod FewVariables

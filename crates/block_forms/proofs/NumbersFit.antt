@@ -1,6 +1,6 @@
 -- Numbers of words that are in their range.
 use Rattle.std.proofs.Common.{◌≡◌, ℕ, ◌≤◌, Bool, true, false, cond, not, ◌||◌, List, [], ◌∷◌, Option, Some, None, IfSome, ℤ, pos, negsuc, refl, arith}
-use Rattle.std.specs.List.{list_any}
+use Rattle.std.specs.List.{list_any, filter_map}
 use Rattle.std.proofs.lemmas.Bool.Decides.{nat_tests}
 use Rattle.code_tables.specs.Codes.{last_of}
 use Rattle.block_forms.specs.declared.purpose.Purpose.{Purpose}
@@ -9,7 +9,7 @@ use Rattle.block_forms.specs.declared.word.FlowWord.{FlowWord}
 use Rattle.block_forms.specs.declared.word.WordValue.{WordValue}
 use Rattle.block_forms.specs.declared.word.WordValue.TheVariants.{Fixed, Computed}
 use Rattle.block_forms.specs.Words.{is_one_of, words_of, whole_value, value_of_last, whole_of_last, last_whole}
-use Rattle.block_forms.specs.Codes.{natural}
+use Rattle.block_forms.specs.Codes.{natural, first}
 use Rattle.block_forms.specs.Ranges.{is_between, range_of, fits_value, is_in_range}
 
 -- a number, if there is one, from the one to the other
@@ -56,3 +56,17 @@ last_within purpose letter least greatest (w ∷ ws) range all =
     go true rest (Some v) e here there = rw e (rw e at there)
     go true rest None e here there = rw e (here refl)
     go false rest later e here there = there
+
+-- the first word of a letter whose number is written out, where all words are in their ranges
+pub first_within : (purpose : Purpose) (letter least greatest : ℕ) (words : List FlowWord) → range_of purpose letter ≡ Between least greatest → list_any (λ word. not (is_in_range purpose word)) words ≡ false → IsWithin least greatest (first (filter_map (λ word. natural (whole_value word.value)) (words_of (letter ∷ []) words)))
+first_within purpose letter least greatest [] range all = tt
+first_within purpose letter least greatest (w ∷ ws) range all =
+    let both = either_fails _ _ all in
+    go (is_one_of (letter ∷ []) w.letter) (natural (whole_value w.value)) (words_of (letter ∷ []) ws) refl
+    (λ same. word_within purpose letter least greatest w range same (passes _ both.0))
+    (first_within purpose letter least greatest ws range both.1)
+  where
+    go : (b : Bool) (number : Option ℕ) (rest : List FlowWord) → natural (whole_value w.value) ≡ number → (b ≡ true → IsWithin least greatest number) → IsWithin least greatest (first (filter_map (λ word. natural (whole_value word.value)) rest)) → IsWithin least greatest (first (filter_map (λ word. natural (whole_value word.value)) (cond b (w ∷ rest) rest)))
+    go true (Some n) rest e here there = rw e (here refl)
+    go true None rest e here there = rw e there
+    go false number rest e here there = there

@@ -1,5 +1,5 @@
 -- The G and M codes of a block, and what they make of P and L.
-use Rattle.std.specs.Prelude.{ℕ, Bool, true, false, ◌==◌, ◌&&◌, nat_le, List, Option, Some, None, ℤ, pos, negsuc, codes, find, if◌then◌else◌}
+use Rattle.std.specs.Prelude.{ℕ, Bool, true, false, ◌==◌, ◌&&◌, nat_le, List, [], ◌∷◌, Option, Some, None, ℤ, pos, negsuc, codes, find, if◌then◌else◌}
 use Rattle.std.specs.List.{list_any, filter_map}
 use Rattle.code_tables.specs.declared.row.Row.{Row}
 use Rattle.code_tables.specs.declared.kind.CodeKind.{CodeKind}
@@ -67,6 +67,15 @@ one_shot words = kind_of (last_of_group (rows words) ONE_SHOT_GROUP)
 abbrev pub m_codes : List FlowWord → List ℕ
 m_codes words = filter_map (λ word. natural (whole_value word.value)) (words_of (codes "M") words)
 
+-- the first of the codes, if there is one
+abbrev pub first : List ℕ → Option ℕ
+first [] = None
+first (code ∷ codes) = Some code
+
+-- the M code of the block: the first one, and in a block that is not refused the only one outside a macro call
+abbrev pub m_code : List FlowWord → Option ℕ
+m_code words = first (m_codes words)
+
 abbrev pub is_waiting : WaitCodes → ℕ → Bool
 is_waiting waits code = nat_le waits.low code && nat_le code waits.high
 
@@ -94,3 +103,8 @@ purpose_of waits words =
     else if has_code 99 words then purpose.Return
     else if has_wait waits words then purpose.Wait
     else purpose_by (one_shot words)
+
+-- a call of a macro, in which M is an argument
+abbrev pub is_macro : Purpose → Bool
+is_macro purpose.MacroCall = true
+is_macro _ = false

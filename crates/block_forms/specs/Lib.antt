@@ -7,3 +7,4 @@ pub mod Forms
 pub mod Views
 pub mod Blocks
 pub mod Texts
+pub mod Variables

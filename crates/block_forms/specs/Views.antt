@@ -1,5 +1,6 @@
 -- What contracts see of a block that was read.
 use Rattle.std.specs.Prelude.{Option, Some, None}
+use Rattle.nc_number.specs.declared.cause.Cause.{Cause}
 use Rattle.macro_expr.specs.Tree.{sentence_of}
 use Rattle.block_order.specs.declared.control.Control.{Control}
 use Rattle.block_order.specs.declared.control.Control.TheVariants.{Call}
@@ -10,6 +11,7 @@ use Rattle.block_forms.specs.declared.called.CallKind.{CallKind}
 use Rattle.block_forms.specs.declared.called.CallKind.TheVariants.{Subprogram, Macro}
 use Rattle.block_forms.specs.declared.body.FlowBody.{FlowBody}
 use Rattle.block_forms.specs.declared.body.FlowBody.TheVariants.{Words, Statement}
+use Rattle.block_forms.specs.Refusals.{refusal_of}
 use Rattle.block_forms.specs.Controls.{control_of_words, control_of_sentence}
 use Rattle.block_forms.specs.Forms.{Form, OfWords, OfSentence}
 
@@ -17,6 +19,11 @@ use Rattle.block_forms.specs.Forms.{Form, OfWords, OfSentence}
 abbrev pub form_of : FlowBody → Form
 form_of (Words words) = OfWords words.words
 form_of (Statement statement) = OfSentence (sentence_of statement.statement)
+
+-- why it would be refused; a statement that has a tree is not
+abbrev pub refusal_of_body : FlowBody → Option Cause
+refusal_of_body (Words words) = refusal_of words.waits words.words
+refusal_of_body (Statement statement) = None
 
 -- what it does to the order of blocks
 abbrev pub control_of : FlowBody → Control

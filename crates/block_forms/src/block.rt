@@ -1,6 +1,7 @@
-ghost use Rattle.std.specs.Prelude.{◌≡◌, true};
+ghost use Rattle.std.specs.Prelude.{◌≡◌, ◌≤◌, true, None};
 ghost use Rattle.block_forms.specs.Controls.{is_allowed};
-ghost use Rattle.block_forms.specs.Views.{control_of, call_of, kind_of_call, called_by};
+ghost use Rattle.block_forms.specs.Variables.{variables_of_body};
+ghost use Rattle.block_forms.specs.Views.{refusal_of_body, control_of, call_of, kind_of_call, called_by};
 
 use crate::body::FlowBody;
 use crate::called::{CallKind, Called};
@@ -20,10 +21,12 @@ pub struct FlowBlock {
     pub control: Control,
     ghost controls: { control ≡ control_of body },
     ghost allowed: { is_allowed control ≡ true },
+    ghost accepted: { refusal_of_body body ≡ None },
+    ghost few: { variables_of_body body ≤ 32 },
 }
 
 impl FlowBlock {
-    ghost use Rattle.std.specs.Prelude.{◌≤◌, IfSome};
+    ghost use Rattle.std.specs.Prelude.{IfSome};
 
     /// The call that the block is: by M98 or by G65.
     pub fn calls(&self) -> Option<Called>

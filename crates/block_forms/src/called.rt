@@ -1,6 +1,7 @@
 /// How a program is called.
-#[derive(Clone, Copy, Debug, PartialEq, Eq)]
+#[derive(Clone, Copy, Debug, Default, PartialEq, Eq)]
 pub enum CallKind {
+    #[default]
     /// By M98: the caller's local variables stay in force.
     Subprogram,
     /// By G65: with local variables of its own.

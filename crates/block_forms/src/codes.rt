@@ -2,7 +2,7 @@ ghost use Rattle.std.specs.Prelude.{◌≡◌, ◌≤◌, IfSome, IfOk};
 ghost use Rattle.std.specs.List.{list_any};
 ghost use Rattle.code_tables.specs.Codes.{row_of, last_of_group};
 ghost use Rattle.code_tables.specs.SystemA.{system_a_rows};
-ghost use Rattle.block_forms.specs.Codes.{row_of_word, rows, kind_of, m_codes, is_waiting, has_code, has_wait, first_waiting, is_macro_call, purpose_by};
+ghost use Rattle.block_forms.specs.Codes.{row_of_word, rows, kind_of, m_codes, m_code, is_waiting, has_code, has_wait, first_waiting, is_macro_call, purpose_by};
 
 use crate::letters::is_one_of;
 use crate::purpose::Purpose;
@@ -58,6 +58,21 @@ pub(crate) fn one_shot_of(rows: &[Row]) -> Option<CodeKind>
     ensures { result ≡ kind_of (last_of_group rows.now ONE_SHOT_GROUP) }
 {
     last_of_group(rows, ONE_SHOT_GROUP).map(|row| row.kind)
+}
+
+/// The first M code of the block.
+pub(crate) fn first_code(words: &[FlowWord]) -> Option<u32>
+    ensures value { result ≡ m_code words.now }
+    ensures range { IfSome result (λ code. code ≤ 99999999) }
+{
+    for word in words {
+        if is_one_of(b"M", word.letter)
+            && let Some(code) = word.value.natural()
+        {
+            return Some(code);
+        }
+    }
+    None
 }
 
 /// Whether the block has an M word of this code.

@@ -1,6 +1,7 @@
-ghost use Rattle.std.specs.Prelude.{◌≡◌, List, ℕ, Result, OnOk, IfOk};
+ghost use Rattle.std.specs.Prelude.{◌≡◌, ◌≤◌, ◌+◌, List, ℕ, Result, OnOk, IfOk};
 ghost use Rattle.nc_number.specs.Answers.{GivesBy};
 ghost use Rattle.block_forms.specs.declared.word.FlowWord.{FlowWord};
+ghost use Rattle.block_forms.specs.Variables.{variables_of_value, variables_of_words};
 ghost use Rattle.block_forms.specs.Forms.{lesser, joined, gathered};
 
 use crate::fault::FormFault;
@@ -42,12 +43,15 @@ impl Gathered {
 
     /// One word more: what was gathered with any rest is what was gathered before with the word and
     /// the rest.
-    #[tactic(auto, using(crate::proofs::WordByWord::one_that_reads, crate::proofs::WordByWord::one_that_does_not))]
+    #[tactic(auto, using(crate::proofs::WordByWord::one_that_reads, crate::proofs::WordByWord::one_that_does_not, crate::proofs::FewVariables::one_more_named))]
     pub(crate) fn add(&mut self, word: Result<FlowWord, Failing<FormFault>>) -> Result<(), NoMemory>
-        ensures { (due : Result FlowWord ℕ) (rest : Result (List FlowWord) ℕ)
+        ensures exact { (due : Result FlowWord ℕ) (rest : Result (List FlowWord) ℕ)
             → GivesBy (λ word. word) (λ fault. fault.number) word due
             → OnOk result (gathered self.new.words.items self.new.least rest
             ≡ gathered self.old.words.items self.old.least (joined due rest)) }
+        ensures named { (signs : ℕ) → IfOk word (λ word. variables_of_value word.value ≤ signs)
+            → OnOk result (variables_of_words self.new.words.items
+            ≤ variables_of_words self.old.words.items + signs) }
     {
         match word {
             Ok(word) => self.words.push(word)?,
@@ -59,8 +63,9 @@ impl Gathered {
 
     /// The words, or the least number.
     pub(crate) fn finish(self) -> Result<FlowWordList, Failing<FormFault>>
-        ensures { GivesBy (λ words. words) (λ fault. fault.number) result
+        ensures exact { GivesBy (λ words. words) (λ fault. fault.number) result
             (gathered self.words.items self.least (Ok [])) }
+        ensures words { IfOk result (λ words. words ≡ self.words.items) }
     {
         let Gathered { words, least } = self;
         match least {

@@ -5,7 +5,7 @@ ghost use Rattle.block_forms.specs.Codes.{natural};
 use crate::word::FlowWord;
 
 /// Whether the letter is one of these.
-pub(crate) fn is_one_of(letters: &[u8], letter: u8) -> bool
+pub fn is_one_of(letters: &[u8], letter: u8) -> bool
     ensures { result ≡ is_one_of letters.now letter }
 {
     letters.contains(&letter)

@@ -117,12 +117,19 @@ fn fits(range: Range, literal: &Literal) -> bool
     }
 }
 
+/// Whether a word of this letter may say the literal, in a block of this purpose.
+pub fn fits_word(purpose: Purpose, letter: u8, literal: &Literal) -> bool
+    ensures { result ≡ fits (range_of purpose letter) literal.now }
+{
+    fits(range_of(purpose, letter), literal)
+}
+
 /// Whether the word, where it is written out, is in its range.
 pub(crate) fn is_in_range(purpose: Purpose, word: &FlowWord) -> bool
     ensures { result ≡ is_in_range purpose word.now }
 {
     match &word.value {
-        WordValue::Fixed(literal) => fits(range_of(purpose, word.letter), literal),
+        WordValue::Fixed(literal) => fits_word(purpose, word.letter, literal),
         WordValue::Computed { .. } => true,
     }
 }

@@ -1,13 +1,14 @@
-ghost use Rattle.std.specs.Prelude.{◌≡◌, IfOk, None, true};
+ghost use Rattle.std.specs.Prelude.{◌≡◌, ◌≤◌, IfOk, None, true};
 ghost use Rattle.nc_number.specs.Answers.{GivesBy};
 ghost use Rattle.nc_number.specs.Literals.{IsLiteral, behind_sign, has_minus, word_literal};
 ghost use Rattle.macro_expr.specs.Answers.{expression_of, statement_of};
 ghost use Rattle.macro_expr.specs.Limits.{variable_signs};
-ghost use Rattle.macro_expr.specs.Tree.{sentence_of, IsInRange};
+ghost use Rattle.macro_expr.specs.Tree.{sentence_of, variables_in, evaluated, IsInRange};
 ghost use Rattle.block_forms.specs.declared.waits.WaitCodes.{WaitCodes};
 ghost use Rattle.block_forms.specs.Refusals.{refusal_of};
 ghost use Rattle.block_forms.specs.Controls.{control_of_words, control_of_sentence, waits_by_a_code};
-ghost use Rattle.block_forms.specs.Forms.{fixed_value, computed_value, value_of, word_of, all_words, has_many_variables, sentence_or_refusal, words_or_refusal, OfWords, OfSentence, form_at, block_or_refusal};
+ghost use Rattle.block_forms.specs.Forms.{fixed_value, computed_value, value_of, word_of, all_words, signs_in, has_many_variables, sentence_or_refusal, words_or_refusal, OfWords, OfSentence, form_at, block_or_refusal};
+ghost use Rattle.block_forms.specs.Variables.{variables_of_value, variables_of_words};
 ghost use Rattle.block_forms.specs.Blocks.{block_form};
 
 use crate::block::FlowBlock;
@@ -43,7 +44,8 @@ fn is_minus(text: &[u8]) -> bool
 
 fn read_literal(text: &[u8]) -> Result<WordValue, Failing<FormFault>>
     requires { IsLiteral text.now }
-    ensures { GivesBy (λ value. value) (λ fault. fault.number) result (fixed_value (word_literal text.now)) }
+    ensures exact { GivesBy (λ value. value) (λ fault. fault.number) result (fixed_value (word_literal text.now)) }
+    ensures named { IfOk result (λ value. variables_of_value value ≡ 0) }
 {
     match parse_word(text) {
         Ok(literal) => Ok(WordValue::Fixed(literal)),
@@ -52,9 +54,11 @@ fn read_literal(text: &[u8]) -> Result<WordValue, Failing<FormFault>>
 }
 
 /// A variable or an expression behind the word's own sign. Its tree is dropped.
+#[tactic(auto, using(crate::proofs::FewVariables::fewer_in_value))]
 fn read_expression(alloc: Global, text: &[u8]) -> Result<WordValue, Failing<FormFault>>
-    ensures { GivesBy (λ value. value) (λ fault. fault.number) result
+    ensures exact { GivesBy (λ value. value) (λ fault. fault.number) result
         (computed_value (has_minus text.now) (expression_of (behind_sign text.now))) }
+    ensures named { IfOk result (λ value. variables_of_value value ≤ variable_signs text.now) }
 {
     let minus = is_minus(text);
     match parse_expr(alloc, without_sign(text)) {
@@ -70,7 +74,8 @@ fn read_expression(alloc: Global, text: &[u8]) -> Result<WordValue, Failing<Form
 }
 
 fn read_value(alloc: Global, text: &[u8]) -> Result<WordValue, Failing<FormFault>>
-    ensures { GivesBy (λ value. value) (λ fault. fault.number) result (value_of text.now) }
+    ensures exact { GivesBy (λ value. value) (λ fault. fault.number) result (value_of text.now) }
+    ensures named { IfOk result (λ value. variables_of_value value ≤ variable_signs text.now) }
 {
     if is_literal(text) {
         read_literal(text)
@@ -81,7 +86,8 @@ fn read_value(alloc: Global, text: &[u8]) -> Result<WordValue, Failing<FormFault
 
 /// What a word says.
 fn read_word(alloc: Global, word: &Word) -> Result<FlowWord, Failing<FormFault>>
-    ensures { GivesBy (λ word. word) (λ fault. fault.number) result (word_of word.now) }
+    ensures exact { GivesBy (λ word. word) (λ fault. fault.number) result (word_of word.now) }
+    ensures named { IfOk result (λ read. variables_of_value read.value ≤ variable_signs word.now.text) }
 {
     match read_value(alloc, word.text.as_slice()) {
         Ok(value) => Ok(FlowWord {
@@ -94,7 +100,8 @@ fn read_word(alloc: Global, word: &Word) -> Result<FlowWord, Failing<FormFault>>
 
 /// All words, or the least number of the refusals of those that don't read.
 fn read_all(alloc: Global, words: &[Word]) -> Result<FlowWordList, Failing<FormFault>>
-    ensures { GivesBy (λ words. words) (λ fault. fault.number) result (all_words words.now) }
+    ensures exact { GivesBy (λ words. words) (λ fault. fault.number) result (all_words words.now) }
+    ensures named { IfOk result (λ read. variables_of_words read ≤ signs_in words.now) }
 {
     let mut gathered = Gathered::empty(alloc, words.len())?;
     for word in words {
@@ -142,6 +149,7 @@ pub fn read_words(
         (words_or_refusal waits.now words.now) }
     ensures waits { IfOk result (λ read. read.waits ≡ waits.now) }
     ensures accepted { IfOk result (λ read. refusal_of read.waits read.words ≡ None) }
+    ensures few { IfOk result (λ read. variables_of_words read.words ≤ 32) }
 {
     let list = match read_all(alloc, words) {
         Ok(list) => list,
@@ -165,6 +173,7 @@ pub fn read_statement(alloc: Global, text: &[u8]) -> Result<FlowStatement, Faili
     ensures exact { GivesBy (λ read. sentence_of read.statement) (λ fault. fault.number) result
         (sentence_or_refusal (statement_of text.now)) }
     ensures ranges { IfOk result (λ read. IsInRange (sentence_of read.statement)) }
+    ensures few { IfOk result (λ read. variables_in (evaluated (sentence_of read.statement)) ≤ 32) }
 {
     match parse_statement(alloc, text) {
         Ok(statement) => {
@@ -181,7 +190,8 @@ pub fn read_statement(alloc: Global, text: &[u8]) -> Result<FlowStatement, Faili
 /// The block of a statement.
 #[tactic(auto, using(crate::proofs::Accepted::sentence_allowed, crate::proofs::Accepted::sentence_waits))]
 fn block_of_statement(line: u32, sequence: Option<u32>, statement: FlowStatement) -> FlowBlock
-    requires { IsInRange (sentence_of statement.statement) }
+    requires ranges { IsInRange (sentence_of statement.statement) }
+    requires few { variables_in (evaluated (sentence_of statement.statement)) ≤ 32 }
     ensures form { block_form result ≡ form_at line sequence (OfSentence (sentence_of statement.statement))
         (control_of_sentence (sentence_of statement.statement)) }
     ensures waits { (waits : WaitCodes) → waits_by_a_code waits result.control ≡ true }
@@ -198,7 +208,8 @@ fn block_of_statement(line: u32, sequence: Option<u32>, statement: FlowStatement
 /// The block of words that are not refused.
 #[tactic(auto, using(crate::proofs::Accepted::words_allowed, crate::proofs::Accepted::words_wait))]
 fn block_of_words(line: u32, sequence: Option<u32>, words: FlowWords) -> FlowBlock
-    requires { refusal_of words.waits words.words ≡ None }
+    requires accepted { refusal_of words.waits words.words ≡ None }
+    requires few { variables_of_words words.words ≤ 32 }
     ensures form { block_form result ≡ form_at line sequence (OfWords words.words)
         (control_of_words words.waits words.words) }
     ensures waits { waits_by_a_code words.waits result.control ≡ true }

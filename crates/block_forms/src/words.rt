@@ -1,7 +1,10 @@
 ghost use Rattle.std.specs.Prelude.{◌≡◌};
 ghost use Rattle.block_forms.specs.Codes.{rows as rows_in, one_shot as one_shot_in, purpose_of};
 
-use crate::codes::{has_code, has_wait, have_macro_call, one_shot_of, purpose_by, rows_of};
+use crate::codes::{
+    first_code, has_code, has_wait, have_macro_call, one_shot_of, purpose_by, rows_of,
+};
+use crate::letters::has;
 use crate::purpose::Purpose;
 use crate::row_list::RowList;
 use crate::waits::WaitCodes;
@@ -29,9 +32,12 @@ pub struct FlowWords {
 }
 
 impl FlowWords {
-    ghost use Rattle.std.specs.Prelude.{IfOk};
+    ghost use Rattle.std.specs.Prelude.{◌≤◌, false, None, IfOk, IfSome, codes};
     ghost use Rattle.std.specs.List.{list_any};
-    ghost use Rattle.block_forms.specs.Codes.{gives, is_dwell, is_setting, is_limit, is_machine, is_macro_call};
+    ghost use Rattle.code_tables.specs.Kinds.{is_arc};
+    ghost use Rattle.block_forms.specs.Words.{has};
+    ghost use Rattle.block_forms.specs.Refusals.{refusal_of};
+    ghost use Rattle.block_forms.specs.Codes.{m_code, is_macro, gives, is_dwell, is_setting, is_limit, is_machine, is_macro_call};
 
     /// The words with their rows and their purpose.
     pub(crate) fn of(
@@ -54,6 +60,33 @@ impl FlowWords {
         })
     }
 
+    /// The M code of the block: the first one. A block that is not refused and calls no macro has no
+    /// two, and its code is at most 999.
+    #[tactic(auto, using(crate::proofs::Accepted::code_at_most))]
+    pub fn code(&self) -> Option<u32>
+        ensures value { result ≡ m_code self.now.words }
+        ensures range { IfSome result (λ code. code ≤ 99999999) }
+        ensures small { refusal_of self.now.waits self.now.words ≡ None → is_macro self.now.purpose ≡ false
+            → IfSome result (λ code. code ≤ 999) }
+    {
+        first_code(self.words.as_slice())
+    }
+
+    /// Whether L is given.
+    pub fn has_l(&self) -> bool
+        ensures { result ≡ has (codes "L") self.now.words }
+    {
+        has(self.words.as_slice(), b"L")
+    }
+
+    /// Whether an arc is given.
+    pub fn gives_arc(&self) -> bool
+        ensures { result ≡ gives is_arc self.now.words }
+    {
+        let rows = self.rows.as_slice();
+        rows.iter().any(|row| row.kind.is_arc())
+    }
+
     /// Whether a dwell is given.
     pub(crate) fn gives_dwell(&self) -> bool
         ensures { result ≡ gives is_dwell self.now.words }
@@ -63,7 +96,7 @@ impl FlowWords {
     }
 
     /// Whether the setting of an offset is given.
-    pub(crate) fn gives_setting(&self) -> bool
+    pub fn gives_setting(&self) -> bool
         ensures { result ≡ gives is_setting self.now.words }
     {
         let rows = self.rows.as_slice();
@@ -71,7 +104,7 @@ impl FlowWords {
     }
 
     /// Whether the highest speed of the spindle is given.
-    pub(crate) fn gives_limit(&self) -> bool
+    pub fn gives_limit(&self) -> bool
         ensures { result ≡ gives is_limit self.now.words }
     {
         let rows = self.rows.as_slice();
