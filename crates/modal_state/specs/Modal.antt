@@ -63,7 +63,3 @@ code_of modal group =
 -- the work offset in force: 1 at G54, and 6 at G59
 abbrev pub work_of : ModalView → ℕ
 work_of modal = modal.g14 + 1 - FIRST_WORK_CODE
-
--- the modal state with the end of a cycle kept
-abbrev pub with_cycle : ModalView → Point → ModalView
-with_cycle before end = record before { cycle = Some end }

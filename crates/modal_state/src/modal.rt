@@ -3,7 +3,7 @@ ghost use Rattle.std.specs.Result.{result_err};
 ghost use Rattle.nc_number.specs.Position.{IsPosition};
 ghost use Rattle.code_tables.specs.declared.group.TheConstants.{WORK_GROUP};
 ghost use Rattle.code_tables.specs.Codes.{is_work_code, names_work_offsets};
-ghost use Rattle.modal_state.specs.Modal.{opening_modal, in_force_after, work_after, with_codes, code_of, work_of, with_cycle};
+ghost use Rattle.modal_state.specs.Modal.{opening_modal, in_force_after, work_after, with_codes, code_of, work_of};
 ghost use Rattle.nc_number.specs.declared.point.TheConstants.{TOOL_OFFSETS};
 ghost use Rattle.modal_state.specs.Words.{with_words, tool_fault};
 
@@ -192,12 +192,12 @@ impl Modal {
         Ok(())
     }
 
-    /// Keeps the end of the cycle in force, in machine coordinates.
-    pub fn keep_cycle(&mut self, end: Point)
-        requires { IsPosition end }
-        ensures { self.new ≡ with_cycle self.old end }
+    /// Lets the cycle in force end there, in machine coordinates; or nowhere, as where none is in force.
+    pub fn set_cycle(&mut self, end: Option<Point>)
+        requires { IfSome end IsPosition }
+        ensures { self.new ≡ record self.old { cycle = end } }
     {
-        self.cycle = Some(end);
+        self.cycle = end;
     }
 }
 
@@ -312,7 +312,7 @@ mod tests {
         };
         let mut modal = Modal::new();
         modal.take(&[row(&rt, 90)]);
-        modal.keep_cycle(end);
+        modal.set_cycle(Some(end));
         modal.take(&[row(&rt, 99), row(&rt, 0), row(&rt, 90), row(&rt, 4)]);
         assert_eq!(rt; modal.cycle(), Some(end));
         modal.take(&[row(&rt, 94)]);
