@@ -42,16 +42,16 @@ tool_stands : (tool : Option ℕ) → AllEnd IsPosition (tool_moves tool)
 tool_stands None = All-nil Ends
 tool_stands (Some t) = All-cons Ends (move.Tool t) [] tt (All-nil Ends)
 
-one_more : (b : Bool) (m : ℕ) (rest : List Move) → AllEnd IsPosition rest → AllEnd IsPosition (if b then move.Aux m ∷ rest else rest)
-one_more true m rest all = All-cons Ends (move.Aux m) rest tt all
-one_more false m rest all = all
+one_more : (b : Bool) (m : ℕ) → AllEnd IsPosition (if b then move.Aux m ∷ [] else [])
+one_more true m = All-cons Ends (move.Aux m) [] tt (All-nil Ends)
+one_more false m = All-nil Ends
 
-auxiliary_stand : (codes : List ℕ) → AllEnd IsPosition (auxiliary_moves codes)
-auxiliary_stand [] = All-nil Ends
-auxiliary_stand (m ∷ ms) = one_more (is_auxiliary m) m (auxiliary_moves ms) (auxiliary_stand ms)
+auxiliary_stand : (code : Option ℕ) → AllEnd IsPosition (auxiliary_moves code)
+auxiliary_stand None = All-nil Ends
+auxiliary_stand (Some m) = one_more (is_auxiliary m) m
 
-pub all_stand : (limits : Bool) (modal : ModalView) (values : Values) (motion : List Move) (codes : List ℕ) → AllEnd IsPosition motion → AllEnd IsPosition (all_moves limits modal values motion codes)
-all_stand limits modal values motion codes all =
-    let behind = All-append Ends motion (auxiliary_moves codes) all (auxiliary_stand codes) in
-    let later = All-append Ends (tool_moves values.tool) (motion ++ auxiliary_moves codes) (tool_stands values.tool) behind in
+pub all_stand : (limits : Bool) (modal : ModalView) (values : Values) (motion : List Move) (code : Option ℕ) → AllEnd IsPosition motion → AllEnd IsPosition (all_moves limits modal values motion code)
+all_stand limits modal values motion code all =
+    let behind = All-append Ends motion (auxiliary_moves code) all (auxiliary_stand code) in
+    let later = All-append Ends (tool_moves values.tool) (motion ++ auxiliary_moves code) (tool_stands values.tool) behind in
     All-append Ends (speed_moves limits modal values.speed) _ (speed_stands limits modal values.speed) later

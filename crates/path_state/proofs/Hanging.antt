@@ -1,5 +1,5 @@
 -- What the parts of a block hang on: its motion on the position and the offsets of its path, and each on its own words.
-use Rattle.std.proofs.Common.{◌≡◌, ℕ, Bool, List, refl}
+use Rattle.std.proofs.Common.{◌≡◌, ℕ, Bool, List, Option, refl}
 use Rattle.code_tables.specs.declared.kind.CodeKind.{CodeKind}
 use Rattle.code_tables.specs.declared.kind.CodeKind.TheVariants.{Rapid, Feed, ArcCw, ArcCcw, Thread, CycleTurn, CycleThread, CycleFace, Surface, Spindle, PerMin, PerRev, Inch, Metric, NoseOff, NoseOn, Work, Dwell, Setting, Home, Limit, Machine, MacroCall, Idle}
 use Rattle.modal_state.specs.View.{ModalView}
@@ -18,10 +18,10 @@ pub modal_hangs : (modal : ModalView) (words : List FlowWord) (values : Values)
     → modal_after modal words values ≡ modal_behind modal (rows words) (settings_said values.feed values.speed values.tool)
 modal_hangs modal words values = refl
 
-pub moves_hang : (limits : Bool) (modal : ModalView) (values : Values) (motion : List Move) (codes : List ℕ)
-    → all_moves limits modal values motion codes
-    ≡ all_moves limits modal (settings_said Vacant values.speed values.tool) motion codes
-moves_hang limits modal values motion codes = refl
+pub moves_hang : (limits : Bool) (modal : ModalView) (values : Values) (motion : List Move) (code : Option ℕ)
+    → all_moves limits modal values motion code
+    ≡ all_moves limits modal (settings_said Vacant values.speed values.tool) motion code
+moves_hang limits modal values motion code = refl
 
 pub motion_hangs : (fixed : Fixed) (path : PathView) (modal : ModalView) (kind : CodeKind) (has_l : Bool) (values : Values)
     → motion_of fixed path modal kind has_l values

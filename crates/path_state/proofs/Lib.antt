@@ -1,3 +1,20 @@
 pub mod ByTable
 mod Ends
 mod Hanging
+pub mod Searches
+pub mod SearchesInOrder
+pub mod ControlledPlaces
+pub mod ControlledStatements
+pub mod ControlledWords
+pub mod ControlledWrites
+pub mod ControlledFlow
+pub mod ControlledLabels
+pub mod NeedsShared
+pub mod NeedsStatements
+pub mod NeedsWords
+mod RoutedSearches
+mod StandingLevels
+pub mod Decided
+pub mod NextBlocks
+mod StatementCodes
+pub mod KindsInForce

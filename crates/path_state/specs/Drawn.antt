@@ -21,11 +21,6 @@ use Rattle.path_state.specs.Effect.{unless_fault, modal_words}
 abbrev pub settings_said : Var → Var → Option ℕ → Values
 settings_said feed speed tool = record nothing_said { feed = feed; speed = speed; tool = tool }
 
--- the list of one number, or of none
-abbrev pub at_most_one : Option ℕ → List ℕ
-at_most_one None = []
-at_most_one (Some n) = n ∷ []
-
 -- G50 is among these rows
 abbrev pub has_limit : List Row → Bool
 has_limit rows = list_any (λ row. is_limit row.kind) rows
@@ -39,12 +34,13 @@ modal_behind modal rows values =
 abbrev pub standing_at : Point → OffsetTable → PathView
 standing_at position offsets = record {
   place = [];
-  macros = [];
+  calls = [];
   levels = [];
   own = [];
   modal = opening_modal;
   offsets = offsets;
   position = position;
+  fixed = record { home = position; shared100 = 0; shared500 = 0 };
 }
 
 -- what is fixed for a path, as far as it matters to a motion: its reference position
@@ -89,7 +85,10 @@ pub record AreLengthsWithin (far : ℕ) (words : MotionWords) : Type 0 where
   pub k : IsLengthWithin far words.k
   pub r : IsLengthWithin far words.r
 
+abbrev pub motion_view : Drawn → Motion
+motion_view motion = record { moves = motion.moves; cycle = motion.cycle; offset = motion.offset }
+
 -- the motion of a block, or why there is none
 abbrev pub seen : {F : Type 0} → Result Drawn F → Result Motion F
-seen (Ok effect) = Ok (record { moves = effect.moves; cycle = effect.cycle; offset = effect.offset })
+seen (Ok motion) = Ok (motion_view motion)
 seen (Err fault) = Err fault

@@ -1,5 +1,5 @@
 -- What a block does to its path: the whole, step by step.
-use Rattle.std.specs.Prelude.{ℕ, Bool, true, false, List, [], Option, Some, None, Result, Ok, Err, ℤ, pos, codes}
+use Rattle.std.specs.Prelude.{ℕ, Bool, true, false, List, [], ◌∷◌, Option, Some, None, Result, Ok, Err, ℤ, pos, codes}
 use Rattle.nc_number.specs.declared.cause.Cause.{Cause}
 use Rattle.nc_number.specs.declared.cause.Cause.TheVariants.{RanOff}
 use Rattle.nc_number.specs.declared.point.Point.{Point}
@@ -23,9 +23,16 @@ use Rattle.block_order.specs.declared.program.ControlProgram.{ControlProgram}
 use Rattle.block_forms.specs.declared.word.FlowWord.{FlowWord}
 use Rattle.block_forms.specs.declared.purpose.Purpose.{Purpose}
 use Rattle.block_forms.specs.declared.purpose.Purpose.TheVariants.{MacroCall}
+use Rattle.block_order.specs.declared.frame.Frame.{Frame}
+use Rattle.block_forms.specs.declared.block.FlowBlock.{FlowBlock}
+use Rattle.block_forms.specs.declared.body.FlowBody.{FlowBody}
+use Rattle.block_forms.specs.declared.body.FlowBody.TheVariants.{Words, Statement}
+use Rattle.tape_flow.specs.declared.flow.Flow.{Flow}
+use Rattle.tape_flow.specs.declared.program.FlowProgram.{FlowProgram}
+use Rattle.tape_flow.specs.Places.{flow_block}
 use Rattle.block_forms.specs.Words.{has}
-use Rattle.block_forms.specs.Codes.{rows, one_shot, gives, is_limit, m_codes}
-use Rattle.macro_expr.specs.Tree.{Sentence}
+use Rattle.block_forms.specs.Codes.{rows, one_shot, gives, is_limit, m_code}
+use Rattle.macro_expr.specs.Tree.{Sentence, sentence_of}
 use Rattle.path_state.specs.View.{Fixed, PathView}
 use Rattle.path_state.specs.Outcomes.{Outcome, Gives, Needs, Alarms}
 use Rattle.path_state.specs.Values.{Values, nothing_said, sense_of, words_taken}
@@ -72,7 +79,7 @@ pub record Moved : Type 0 where
 
 abbrev pub moved_by : PathView → ModalView → List FlowWord → Values → Motion → Moved
 moved_by path modal words values motion =
-    let moves = all_moves (gives is_limit words) modal values motion.moves (m_codes words) in
+    let moves = all_moves (gives is_limit words) modal values motion.moves (m_code words) in
     record {
       path = record path {
         modal = record modal { cycle = motion.cycle };
@@ -154,3 +161,23 @@ block_of_statement tape fixed path sentence reads = of_after (statement_effect t
 -- past the last block of a program
 abbrev pub past_the_last : Effect
 past_the_last = alarm_of RanOff
+
+-- a block that stands there, by what stands in it
+abbrev pub effect_of_body : List ControlProgram → Fixed → PathView → FlowBody → Control → List Var → Effect
+effect_of_body tape fixed path (Words words) control reads =
+    block_of_words tape fixed path words.purpose words.words control reads
+effect_of_body tape fixed path (Statement statement) control reads =
+    block_of_statement tape fixed path (sentence_of statement.statement) reads
+
+abbrev pub effect_of_block : List ControlProgram → PathView → Option FlowBlock → List Var → Effect
+effect_of_block tape path None reads = past_the_last
+effect_of_block tape path (Some block) reads = effect_of_body tape path.fixed path block.body block.control reads
+
+-- the block at which a path stands
+abbrev pub block_at : List FlowProgram → List Frame → Option FlowBlock
+block_at programs [] = None
+block_at programs (f ∷ stack) = flow_block programs f.program f.block
+
+-- what the block at which a path stands comes to, with these values read so far
+abbrev pub effect_of : Flow → PathView → List Var → Effect
+effect_of flow path reads = effect_of_block flow.order path (block_at flow.programs path.place) reads

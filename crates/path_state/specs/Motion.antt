@@ -55,9 +55,18 @@ abbrev pub kind_of_row : Option Row → CodeKind
 kind_of_row None = Rapid
 kind_of_row (Some row) = row.kind
 
+-- the kind of the motion code in force
+abbrev pub motion_in_force : ModalView → CodeKind
+motion_in_force modal = kind_of_row (row_of system_a_rows modal.g01)
+
 -- the kind of the code that decides the motion
 abbrev pub motion_kind : ModalView → Option CodeKind → CodeKind
-motion_kind modal one_shot = unwrap_or one_shot (kind_of_row (row_of system_a_rows modal.g01))
+motion_kind modal one_shot = unwrap_or one_shot (motion_in_force modal)
+
+-- the kind of the motion code behind a block, by the last motion row of the block
+abbrev pub kind_behind : CodeKind → Option Row → CodeKind
+kind_behind before None = before
+kind_behind before (Some row) = row.kind
 
 abbrev pub x_axis : Values → Axis
 x_axis values = axis_of values.x values.u

@@ -1,5 +1,5 @@
 -- All moves of a block in their order, and where the turret stands behind them.
-use Rattle.std.specs.Prelude.{ℕ, Bool, true, false, not, ◌==◌, ◌||◌, List, [], ◌∷◌, ◌++◌, Option, Some, None, unwrap_or, ℤ, unsigned_abs, if◌then◌else◌}
+use Rattle.std.specs.Prelude.{ℕ, Bool, true, false, not, ◌==◌, ◌&&◌, ◌||◌, nat_le, List, [], ◌∷◌, ◌++◌, Option, Some, None, unwrap_or, ℤ, unsigned_abs, if◌then◌else◌}
 use Rattle.nc_number.specs.declared.point.Point.{Point}
 use Rattle.nc_number.specs.declared.value.Var.{Var}
 use Rattle.nc_number.specs.declared.value.Var.TheVariants.{Vacant, Is}
@@ -24,18 +24,18 @@ abbrev pub tool_moves : Option ℕ → List Move
 tool_moves None = []
 tool_moves (Some t) = move.Tool t ∷ []
 
--- M02, M30, M98 and M99 are the control's own, and so are waits, which stand in blocks of their own
+-- M codes end at 999. M02, M30, M98 and M99 are the control's own, and so are waits, which stand in blocks of their own.
 abbrev pub is_auxiliary : ℕ → Bool
-is_auxiliary m = not (((m == 2) || (m == 30)) || ((m == 98) || (m == 99)))
+is_auxiliary m = nat_le m 999 && not (((m == 2) || (m == 30)) || ((m == 98) || (m == 99)))
 
-abbrev pub auxiliary_moves : List ℕ → List Move
-auxiliary_moves [] = []
-auxiliary_moves (m ∷ ms) = if is_auxiliary m then move.Aux m ∷ auxiliary_moves ms else auxiliary_moves ms
+abbrev pub auxiliary_moves : Option ℕ → List Move
+auxiliary_moves None = []
+auxiliary_moves (Some m) = if is_auxiliary m then move.Aux m ∷ [] else []
 
 -- the limit or the speed, the tool, the motion, the auxiliary code
-abbrev pub all_moves : Bool → ModalView → Values → List Move → List ℕ → List Move
-all_moves limits modal values motion codes =
-    speed_moves limits modal values.speed ++ (tool_moves values.tool ++ (motion ++ auxiliary_moves codes))
+abbrev pub all_moves : Bool → ModalView → Values → List Move → Option ℕ → List Move
+all_moves limits modal values motion code =
+    speed_moves limits modal values.speed ++ (tool_moves values.tool ++ (motion ++ auxiliary_moves code))
 
 -- the end of the last move that goes somewhere
 abbrev pub last_end : Point → List Move → Point

@@ -1,8 +1,10 @@
 -- Where control goes behind a block that is done, with the levels of local variables.
-use Rattle.std.specs.Prelude.{ℕ, zero, suc, Bool, true, false, nat_lt, List, [], ◌∷◌, length, Option, Some, None, Result, Ok, Err, if◌then◌else◌}
+use Rattle.std.specs.Prelude.{ℕ, zero, suc, nat_lt, List, [], ◌∷◌, length, Option, Some, None, Result, Ok, Err, if◌then◌else◌}
 use Rattle.nc_number.specs.declared.cause.Cause.{Cause}
 use Rattle.nc_number.specs.declared.cause.Cause.TheVariants.{TooDeep, LoopMismatch}
 use Rattle.nc_number.specs.declared.value.Var.{Var}
+use Rattle.block_forms.specs.declared.called.CallKind.{CallKind}
+use Rattle.block_forms.specs.declared.called.CallKind.TheVariants.{Macro, Subprogram}
 use Rattle.block_order.specs.declared.control.Control.{Control}
 use Rattle.block_order.specs.declared.control.Control.TheVariants.{Call, Back, BackTo}
 use Rattle.block_order.specs.declared.frame.Frame.{Frame}
@@ -16,7 +18,7 @@ use Rattle.local_levels.specs.Stack.{opened, reopened, closed}
 -- a place, with what belongs to its calls
 pub record Standing : Type 0 where
   pub place : List Frame
-  pub macros : List Bool
+  pub calls : List CallKind
   pub levels : List Level
 
 abbrev pub elsewhere : Standing → List Frame → Standing
@@ -67,9 +69,10 @@ abbrev pub levels_of_call : Option (List Var) → List Level → List Level
 levels_of_call None levels = levels
 levels_of_call (Some arguments) levels = opened arguments ∷ levels
 
-abbrev pub is_macro : Option (List Var) → Bool
-is_macro None = false
-is_macro (Some arguments) = true
+-- a call with arguments is that of a macro
+abbrev pub kind_with : Option (List Var) → CallKind
+kind_with None = Subprogram
+kind_with (Some arguments) = Macro
 
 abbrev pub called_frame : ℕ → ℕ → Frame
 called_frame program more = record { program = program; block = 0; left = more }
@@ -78,7 +81,7 @@ abbrev pub with_call : Standing → Option (List Var) → ℕ → ℕ → Result
 with_call standing arguments program zero = Err TooDeep
 with_call standing arguments program (suc more) = Ok (record {
   place = called_frame program more ∷ standing.place;
-  macros = is_macro arguments ∷ standing.macros;
+  calls = kind_with arguments ∷ standing.calls;
   levels = levels_of_call arguments standing.levels;
 })
 
@@ -88,30 +91,30 @@ called standing arguments program repeats =
     if nat_lt 8 (length standing.place) then Err TooDeep else with_call standing arguments program repeats
 
 -- a return closes the level of a macro call; a repeat opens it anew with the same arguments
-abbrev pub without_level : List Bool → List Level → List Level
-without_level (true ∷ macros) levels = closed levels
-without_level other levels = levels
+abbrev pub without_level : List CallKind → List Level → List Level
+without_level (Macro ∷ calls) levels = closed levels
+without_level _ levels = levels
 
-abbrev pub anew : List Bool → List Level → List Level
-anew (true ∷ macros) levels = reopened levels
-anew other levels = levels
+abbrev pub anew : List CallKind → List Level → List Level
+anew (Macro ∷ calls) levels = reopened levels
+anew _ levels = levels
 
-abbrev pub without_first : List Bool → List Bool
+abbrev pub without_first : List CallKind → List CallKind
 without_first [] = []
-without_first (m ∷ macros) = macros
+without_first (call ∷ calls) = calls
 
 -- back to the frames below, at a block of the caller
 abbrev pub left_call : Standing → Frame → List Frame → ℕ → Standing
 left_call standing g stack block = record {
   place = at g block ∷ stack;
-  macros = without_first standing.macros;
-  levels = without_level standing.macros standing.levels;
+  calls = without_first standing.calls;
+  levels = without_level standing.calls standing.levels;
 }
 
 abbrev pub repeated : Standing → Frame → List Frame → ℕ → Standing
 repeated standing f stack left = record standing {
   place = called_frame f.program left ∷ stack;
-  levels = anew standing.macros standing.levels;
+  levels = anew standing.calls standing.levels;
 }
 
 abbrev pub returned_by : Standing → ℕ → Frame → List Frame → Standing

@@ -11,7 +11,7 @@ use Rattle.block_forms.specs.declared.word.WordValue.TheVariants.{Fixed as Writt
 use Rattle.path_state.specs.declared.outcome.Stop.{Stop}
 use Rattle.path_state.specs.declared.outcome.Stop.TheVariants as stop
 use Rattle.path_state.specs.declared.values.Values as kept
-use Rattle.path_state.specs.declared.values.Sense as sensed
+use Rattle.path_state.specs.declared.sense.Sense as sensed
 use Rattle.path_state.specs.Outcomes.{Outcome, Gives, Needs, Alarms, ◌>>=◌, reading_none, answered}
 use Rattle.path_state.specs.Values.{Values, Sense, taken, taken_var}
 use Rattle.path_state.specs.Arguments.{local_of, argument, with_argument, with_var}

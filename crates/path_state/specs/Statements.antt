@@ -39,10 +39,10 @@ pub record After : Type 0 where
   pub write : Option Write
 
 abbrev pub standing_of : PathView → Standing
-standing_of path = record { place = path.place; macros = path.macros; levels = path.levels }
+standing_of path = record { place = path.place; calls = path.calls; levels = path.levels }
 
 abbrev pub with_standing : PathView → Standing → PathView
-with_standing path standing = record path { place = standing.place; macros = standing.macros; levels = standing.levels }
+with_standing path standing = record path { place = standing.place; calls = standing.calls; levels = standing.levels }
 
 abbrev pub gone : PathView → Standing → After
 gone path standing = record { path = with_standing path standing; write = None }

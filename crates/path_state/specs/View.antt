@@ -1,7 +1,8 @@
 -- What contracts see of one path of the machine.
-use Rattle.std.specs.Prelude.{ℕ, Bool, List}
+use Rattle.std.specs.Prelude.{ℕ, List}
 use Rattle.nc_number.specs.declared.value.Var.{Var}
 use Rattle.nc_number.specs.declared.point.Point.{Point}
+use Rattle.block_forms.specs.declared.called.CallKind.{CallKind}
 use Rattle.block_order.specs.declared.frame.Frame.{Frame}
 use Rattle.local_levels.specs.declared.stack.Level.{Level}
 use Rattle.modal_state.specs.View.{ModalView}
@@ -18,7 +19,7 @@ pub record PathView : Type 0 where
   -- the frames of its place, the running one first
   pub place : List Frame
   -- for each open call, the inner one first, whether G65 opened it: then it has a level of local variables
-  pub macros : List Bool
+  pub calls : List CallKind
   -- the levels of local variables, the running one first
   pub levels : List Level
   -- the common variables of its own, each at its number
@@ -27,3 +28,5 @@ pub record PathView : Type 0 where
   pub offsets : OffsetTable
   -- where its turret stands, in machine coordinates
   pub position : Point
+  -- what the path keeps throughout
+  pub fixed : Fixed

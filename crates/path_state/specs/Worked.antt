@@ -15,6 +15,7 @@ use Rattle.macro_expr.specs.declared.tree.Rel.TheVariants.{Eq}
 use Rattle.macro_expr.specs.Tree.{Tree, Number, Variable, Joined, Fixed as Numbered, ToNumber, Sentence, Assign, IfGoto}
 use Rattle.block_order.specs.declared.control.Control.TheVariants.{Next, Call, Back, End}
 use Rattle.block_order.specs.declared.frame.Frame.{Frame}
+use Rattle.block_forms.specs.declared.called.CallKind.TheVariants.{Macro}
 use Rattle.block_forms.specs.declared.purpose.Purpose.TheVariants.{Other, MacroCall, Dwell, Return}
 use Rattle.block_forms.specs.declared.word.FlowWord.{FlowWord}
 use Rattle.block_forms.specs.declared.word.WordValue.TheVariants.{Fixed as Written, Computed}
@@ -35,12 +36,13 @@ cell = record { home = point (pos 0) (pos 0); shared100 = 0; shared500 = 100 }
 abbrev pub path_at : Point → PathView
 path_at at = record {
   place = record { program = 1; block = 0; left = 0 } ∷ [];
-  macros = [];
+  calls = [];
   levels = base_level ∷ [];
   own = none_written;
   modal = opening_modal;
   offsets = no_offsets;
   position = at;
+  fixed = cell;
 }
 
 -- a word that is written out, in millionths, with a point or without; and one that is computed
@@ -137,14 +139,14 @@ pub record WorkedBlocks : Type 0 where
   pub repeats : place_in (block_of_words [] cell
       (record (path_at (point (pos 0) (pos 0))) {
         place = record { program = 2; block = 7; left = 1 } ∷ record { program = 1; block = 4; left = 0 } ∷ [];
-        macros = true ∷ [];
+        calls = Macro ∷ [];
         levels = base_level ∷ base_level ∷ [];
       }) Return (written 77 (pos 99000000) ∷ []) Back [])
       ≡ record { program = 2; block = 0; left = 0 } ∷ record { program = 1; block = 4; left = 0 } ∷ []
   pub returns : place_in (block_of_words [] cell
       (record (path_at (point (pos 0) (pos 0))) {
         place = record { program = 2; block = 7; left = 0 } ∷ record { program = 1; block = 4; left = 0 } ∷ [];
-        macros = true ∷ [];
+        calls = Macro ∷ [];
         levels = base_level ∷ base_level ∷ [];
       }) Return (written 77 (pos 99000000) ∷ []) Back [])
       ≡ record { program = 1; block = 5; left = 0 } ∷ []

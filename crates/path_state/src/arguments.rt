@@ -2,10 +2,9 @@ ghost use Rattle.std.specs.Prelude.{◌≡◌, ◌≤◌, IfSome, pos, int_div};
 ghost use Rattle.path_state.specs.Arguments.{local_of, argument, with_argument, with_var};
 ghost use Rattle.path_state.specs.Seen.{outcome_of, argument_with, arguments_with};
 
-use crate::letters::is_one_of;
 use crate::outcome::Stop;
 use crate::words::computed;
-use block_forms::{FlowWord, WordValue};
+use block_forms::{FlowWord, WordValue, is_one_of};
 use local_levels::LOCALS;
 use macro_eval::{Eval, Scope, evaluate};
 use nc_number::{Literal, Value, Var};
@@ -109,7 +108,7 @@ fn argument_taken<'a, S: Scope>(
                     (Ok(()), left)
                 }
                 Eval::Need(variable) => (Err(Stop::Needs(variable)), left),
-                Eval::Fault(number) => (Err(Stop::Alarms { number, value: 0 }), left),
+                Eval::Fault(number) => (Err(Stop::fault(number)), left),
             }
         }
     }

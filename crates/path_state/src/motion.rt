@@ -1,19 +1,17 @@
 //! The motion of a block: by its one-shot code if it has one, else by the motion code in force.
 ghost use Rattle.std.specs.Prelude.{Bool, ◌≡◌, ◌≤◌, ◌==◌, ◌∷◌, [], length, None, IfOk, IfSome};
 ghost use Rattle.nc_number.specs.Position.{IsPosition};
-ghost use Rattle.code_tables.specs.Codes.{row_of};
-ghost use Rattle.code_tables.specs.SystemA.{system_a_rows};
 ghost use Rattle.nc_outside.specs.declared.motion.Move.TheVariants.{Dwell};
 ghost use Rattle.motion_track.specs.Block.{IsBlockWithin, AllEnd};
 ghost use Rattle.turn_cycles.specs.Pass.{cycle_kind_of};
-ghost use Rattle.path_state.specs.Motion.{kind_of_row, motion_kind, form_of, setting_of, block_motion, cut_motion, motion_of};
+ghost use Rattle.path_state.specs.Motion.{form_of, setting_of, block_motion, cut_motion, motion_of};
 ghost use Rattle.path_state.specs.Drawn.{seen, homed, standing_at, motion_said, motion_part, AreLengthsWithin};
 ghost use Rattle.path_state.specs.View.{Fixed, PathView};
 ghost use Rattle.path_state.specs.Values.{Values};
 ghost use Rattle.modal_state.specs.View.{ModalView};
 ghost use Rattle.code_tables.specs.declared.kind.CodeKind.{CodeKind};
 
-use code_tables::{CodeKind, FEED_GROUP, MOTION_GROUP, system_a};
+use code_tables::{CodeKind, FEED_GROUP};
 use modal_state::Modal;
 use motion_track::{BlockMotion, LONGEST, MotionFault, track};
 use nc_number::{Axis, Point};
@@ -48,29 +46,6 @@ pub struct Motion {
     pub cycle: Option<Point>,
     /// The offset that is set, and to what.
     pub offset: Option<(Slot, Point)>,
-}
-
-/// The kind of the code that decides the motion.
-pub fn motion_kind(modal: &Modal, one_shot: Option<CodeKind>) -> CodeKind
-    ensures { result ≡ motion_kind modal.now one_shot }
-{
-    match one_shot {
-        Some(kind) => kind,
-        None => kind_in_force(modal),
-    }
-}
-
-// The kind of the motion code in force.
-fn kind_in_force(modal: &Modal) -> CodeKind
-    ensures { result ≡ kind_of_row (row_of system_a_rows modal.now.g01) }
-{
-    let Some(code) = modal.code(MOTION_GROUP) else {
-        return CodeKind::Rapid;
-    };
-    match system_a().find(code) {
-        Some(row) => row.kind,
-        None => CodeKind::Rapid,
-    }
 }
 
 /// The motion of a block by the kind of its code, from where the turret stands: a dwell, the setting of
@@ -274,7 +249,7 @@ mod tests {
             z: -3_000,
         };
         let (modal, offsets) = (Modal::new(), Offsets::new());
-        let kind = motion_kind(&modal, None);
+        let kind = CodeKind::Rapid;
         match motion_of(at, home, &modal, &offsets, kind, false, &words) {
             Ok(motion) => assert_eq!(rt; motion.moves.as_slice(), [Move::Rapid { to }].as_slice()),
             Err(number) => assert_eq!(rt; number, 0),

@@ -1,5 +1,5 @@
 //! All moves of a block in their order, and where the turret stands behind them.
-ghost use Rattle.std.specs.Prelude.{ℕ, Bool, List, ◌≡◌, ◌≤◌, ◌==◌, length};
+ghost use Rattle.std.specs.Prelude.{ℕ, Bool, List, Option, ◌≡◌, ◌≤◌, ◌==◌, length};
 ghost use Rattle.nc_number.specs.declared.value.Var.TheVariants.{Vacant};
 ghost use Rattle.nc_number.specs.Arithmetic.{whole_of};
 ghost use Rattle.nc_number.specs.Position.{IsPosition};
@@ -8,7 +8,7 @@ ghost use Rattle.modal_state.specs.View.{ModalView};
 ghost use Rattle.nc_outside.specs.declared.motion.Move.{Move};
 ghost use Rattle.path_state.specs.Values.{Values};
 ghost use Rattle.path_state.specs.Moves.{whole_or_zero, speed_moves, tool_moves, auxiliary_moves, is_auxiliary, all_moves, last_end};
-ghost use Rattle.path_state.specs.Drawn.{settings_said, at_most_one};
+ghost use Rattle.path_state.specs.Drawn.{settings_said};
 
 use code_tables::SPINDLE_GROUP;
 use modal_state::Modal;
@@ -26,10 +26,10 @@ pub fn all_moves(
     speed: Var,
     tool: Option<u16>,
     motion: &MoveList,
-    code: Option<u16>,
+    code: Option<u32>,
 ) -> MoveList
     requires { length motion.now ≤ 4 }
-    ensures moves { result ≡ all_moves limits modal.now (settings_said Vacant speed tool) motion.now (at_most_one code) }
+    ensures moves { result ≡ all_moves limits modal.now (settings_said Vacant speed tool) motion.now code }
     ensures few { length result ≤ 7 }
     ensures positions { AllEnd IsPosition motion.now → AllEnd IsPosition result }
 {
@@ -104,32 +104,32 @@ fn tool_moves(tool: Option<u16>) -> MoveList
     moves
 }
 
-fn auxiliary_moves(code: Option<u16>) -> MoveList
-    ensures moves { result ≡ auxiliary_moves (at_most_one code) }
+fn auxiliary_moves(code: Option<u32>) -> MoveList
+    ensures moves { result ≡ auxiliary_moves code }
     ensures few { length result ≤ 1 }
 {
     let mut moves = MoveList::empty();
     if let Some(m) = code
         && is_auxiliary(m)
     {
-        moves.push(Move::Aux { m });
+        moves.push(Move::Aux { m: m as u16 });
     }
     moves
 }
 
-// Whether the code is none of the control's own.
-fn is_auxiliary(m: u16) -> bool
+// Whether it is an M code, and none of the control's own.
+fn is_auxiliary(m: u32) -> bool
     ensures { result ≡ is_auxiliary m }
 {
-    !matches!(m, 2 | 30 | 98 | 99)
+    m <= 999 && !matches!(m, 2 | 30 | 98 | 99)
 }
 
 /// What the moves of a block hang on, as a law: of its words S and T alone, beside its motion and its codes.
 #[tactic(auto, using(crate::proofs::Hanging::moves_hang))]
 pub fn moves_hang_on_their_words()
-    ensures { (limits : Bool) (modal : ModalView) (values : Values) (motion : List Move) (codes : List ℕ)
-        → all_moves limits modal values motion codes
-        ≡ all_moves limits modal (settings_said Vacant values.speed values.tool) motion codes }
+    ensures { (limits : Bool) (modal : ModalView) (values : Values) (motion : List Move) (code : Option ℕ)
+        → all_moves limits modal values motion code
+        ≡ all_moves limits modal (settings_said Vacant values.speed values.tool) motion code }
 {}
 
 #[cfg(test)]

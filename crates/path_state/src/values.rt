@@ -1,13 +1,15 @@
-ghost use Rattle.std.specs.Prelude.{◌≡◌};
+ghost use Rattle.std.specs.Prelude.{◌≡◌, ◌≤◌, false, true, unsigned_abs, IfOk};
+ghost use Rattle.block_forms.specs.Ranges.{fits, range_of};
+ghost use Rattle.block_forms.specs.declared.range.Range.TheVariants.{Between};
 ghost use Rattle.nc_number.specs.Arithmetic.{whole_of};
 ghost use Rattle.block_forms.specs.Codes.{natural};
 ghost use Rattle.path_state.specs.Values.{is_meant, is_dwell, with_rest, with_length, with_setting, with_word, taken};
 ghost use Rattle.path_state.specs.Values.{nothing_said};
+ghost use Rattle.path_state.specs.Within.{AreLengthsSaid};
 ghost use Rattle.path_state.specs.Seen.{values_seen, values_of, sense_seen};
 
-use crate::letters::is_one_of;
-use crate::ranges::fits_word;
-use block_forms::Purpose;
+use crate::sense::Sense;
+use block_forms::{Purpose, fits_word, is_one_of};
 use nc_number::{Cause, Literal, Var};
 
 /// What the words of a block say; of an address given twice the last that is not vacant.
@@ -25,28 +27,19 @@ pub struct Values {
     pub feed: Var,
     /// S, in whole units.
     pub speed: Var,
-    /// T.
-    pub tool: Option<u32>,
+    /// T, at most 9,999.
+    pub tool: Option<u16>,
     /// P of the setting of an offset.
     pub number: Option<i64>,
     /// How long a dwell is, in milliseconds.
     pub rest: Option<u64>,
 }
 
-/// What decides the meaning of a word in its block.
-#[derive(Clone, Copy, Debug, PartialEq, Eq)]
-pub struct Sense {
-    pub purpose: Purpose,
-    /// An arc is in force or given, beside which I, K and R are read.
-    pub arc: bool,
-    /// The setting of an offset is given, beside which R is read and ignored.
-    pub setting: bool,
-}
-
 impl Values {
     /// Nothing is said.
     pub fn nothing() -> Values
-        ensures { values_seen result ≡ nothing_said }
+        ensures said { values_seen result ≡ nothing_said }
+        ensures within { AreLengthsSaid result }
     {
         Values {
             x: None,
@@ -75,6 +68,17 @@ fn natural(literal: &Literal) -> Option<u32>
     }
 }
 
+/// The number of a tool.
+fn tool_of(literal: &Literal) -> Option<u16>
+    requires { fits (Between 0 9999) literal.now ≡ true }
+    ensures { result ≡ natural (whole_of literal.now.value) }
+{
+    match natural(literal) {
+        Some(number) => Some(number as u16),
+        None => None,
+    }
+}
+
 /// Whether I, K and R mean something there; every other letter does.
 fn is_meant(sense: &Sense, letter: u8) -> bool
     ensures { result ≡ is_meant (sense_seen sense.now) letter }
@@ -88,48 +92,87 @@ fn is_meant(sense: &Sense, letter: u8) -> bool
 
 /// X, U and P say how long a dwell is.
 fn with_rest(letter: u8, literal: &Literal, values: Values) -> Values
-    ensures { values_seen result ≡ with_rest letter literal.now (values_seen values) }
+    ensures said { values_seen result ≡ with_rest letter literal.now (values_seen values) }
+    ensures within { AreLengthsSaid values → AreLengthsSaid result }
 {
-    let mut said = values;
     match letter {
-        b'X' | b'U' => said.rest = Some(literal.thousandths().unsigned_abs()),
-        b'P' => said.rest = natural(literal).map(u64::from),
-        _ => {}
+        b'X' | b'U' => Values {
+            rest: Some(literal.thousandths().unsigned_abs()),
+            ..values
+        },
+        b'P' => Values {
+            rest: natural(literal).map(u64::from),
+            ..values
+        },
+        _ => values,
     }
-    said
 }
 
 /// A length along an axis, or to a centre.
 fn with_length(letter: u8, length: i64, values: Values) -> Values
-    ensures { values_seen result ≡ with_length letter length (values_seen values) }
+    requires { unsigned_abs length ≤ 100000000000 }
+    ensures said { values_seen result ≡ with_length letter length (values_seen values) }
+    ensures within { AreLengthsSaid values → AreLengthsSaid result }
 {
-    let mut said = values;
+    let length = Some(length);
     match letter {
-        b'X' => said.x = Some(length),
-        b'Z' => said.z = Some(length),
-        b'U' => said.u = Some(length),
-        b'W' => said.w = Some(length),
-        b'I' => said.i = Some(length),
-        b'K' => said.k = Some(length),
-        b'R' => said.r = Some(length),
-        _ => {}
+        b'X' => Values {
+            x: length,
+            ..values
+        },
+        b'Z' => Values {
+            z: length,
+            ..values
+        },
+        b'U' => Values {
+            u: length,
+            ..values
+        },
+        b'W' => Values {
+            w: length,
+            ..values
+        },
+        b'I' => Values {
+            i: length,
+            ..values
+        },
+        b'K' => Values {
+            k: length,
+            ..values
+        },
+        b'R' => Values {
+            r: length,
+            ..values
+        },
+        _ => values,
     }
-    said
 }
 
 /// F, S and T, and the number of an offset.
 fn with_setting(sense: &Sense, letter: u8, literal: &Literal, values: Values) -> Values
-    ensures { values_seen result ≡ with_setting (sense_seen sense.now) letter literal.now (values_seen values) }
+    requires { fits (range_of sense.now.purpose letter) literal.now ≡ true }
+    ensures said { values_seen result ≡ with_setting (sense_seen sense.now) letter literal.now (values_seen values) }
+    ensures within { AreLengthsSaid values → AreLengthsSaid result }
 {
-    let mut said = values;
     match letter {
-        b'F' => said.feed = Var::Is(literal.value()),
-        b'S' => said.speed = Var::Is(literal.value()),
-        b'T' => said.tool = natural(literal),
-        b'P' if matches!(sense.purpose, Purpose::Setting) => said.number = literal.whole(),
-        _ => {}
+        b'F' => Values {
+            feed: Var::Is(literal.value()),
+            ..values
+        },
+        b'S' => Values {
+            speed: Var::Is(literal.value()),
+            ..values
+        },
+        b'T' => Values {
+            tool: tool_of(literal),
+            ..values
+        },
+        b'P' if matches!(sense.purpose, Purpose::Setting) => Values {
+            number: literal.whole(),
+            ..values
+        },
+        _ => values,
     }
-    said
 }
 
 /// Whether the block is a dwell.
@@ -141,7 +184,9 @@ fn is_dwell(sense: &Sense) -> bool
 
 /// The values with a word taken.
 fn with_word(sense: &Sense, letter: u8, literal: &Literal, values: Values) -> Values
-    ensures { values_seen result ≡ with_word (sense_seen sense.now) letter literal.now (values_seen values) }
+    requires { fits (range_of sense.now.purpose letter) literal.now ≡ true }
+    ensures said { values_seen result ≡ with_word (sense_seen sense.now) letter literal.now (values_seen values) }
+    ensures within { AreLengthsSaid values → AreLengthsSaid result }
 {
     if is_one_of(b"XUZWP", letter) && is_dwell(sense) {
         with_rest(letter, literal, values)
@@ -155,7 +200,8 @@ fn with_word(sense: &Sense, letter: u8, literal: &Literal, values: Values) -> Va
 /// The values with a word taken: 56 of I, K and R that mean nothing, then 64 of a word out of its
 /// range.
 pub fn taken(sense: &Sense, letter: u8, literal: &Literal, values: Values) -> Result<Values, Cause>
-    ensures { values_of result ≡ taken (sense_seen sense.now) letter literal.now (values_seen values) }
+    ensures said { values_of result ≡ taken (sense_seen sense.now) letter literal.now (values_seen values) }
+    ensures within { AreLengthsSaid values → IfOk result AreLengthsSaid }
 {
     if !is_meant(sense, letter) {
         Err(Cause::UnknownCode)

@@ -1,10 +1,12 @@
-ghost use Rattle.std.specs.Prelude.{◌≡◌};
+ghost use Rattle.std.specs.Prelude.{◌≡◌, IfOk};
+ghost use Rattle.path_state.specs.Within.{AreLengthsSaid};
 ghost use Rattle.path_state.specs.Outcomes.{reading_none};
 ghost use Rattle.path_state.specs.Values.{nothing_said, computed, taken_var};
 ghost use Rattle.path_state.specs.Seen.{values_seen, values_of, sense_seen, outcome_of, word_with, words_with};
 
 use crate::outcome::Stop;
-use crate::values::{Sense, Values, taken};
+use crate::sense::Sense;
+use crate::values::{Values, taken};
 use block_forms::{FlowWord, WordValue};
 use macro_eval::{Eval, Scope, evaluate};
 use nc_number::{Cause, Literal, Value, Var, neg};
@@ -27,7 +29,8 @@ fn taken_var(
     value: Var,
     said: &Values,
 ) -> Result<Values, Cause>
-    ensures { values_of result ≡ taken_var (sense_seen sense.now) letter minus value (values_seen said.now) }
+    ensures within { AreLengthsSaid said.now → IfOk result AreLengthsSaid }
+    ensures said { values_of result ≡ taken_var (sense_seen sense.now) letter minus value (values_seen said.now) }
 {
     match value {
         Var::Vacant => Ok(*said),
@@ -37,7 +40,8 @@ fn taken_var(
 
 /// The answer of a step that takes no read.
 fn answer<'a>(taken: Result<Values, Cause>, left: &'a [Var]) -> (Result<Values, Stop>, &'a [Var])
-    ensures { outcome_of values_seen result.0 result.1.now ≡ reading_none (values_of taken) left.now }
+    ensures within { IfOk taken AreLengthsSaid → IfOk result.0 AreLengthsSaid }
+    ensures said { outcome_of values_seen result.0 result.1.now ≡ reading_none (values_of taken) left.now }
 {
     match taken {
         Ok(said) => (Ok(said), left),
@@ -53,7 +57,8 @@ fn word_taken<'a, S: Scope>(
     said: &Values,
     reads: &'a [Var],
 ) -> (Result<Values, Stop>, &'a [Var])
-    ensures { outcome_of values_seen result.0 result.1.now
+    ensures within { AreLengthsSaid said.now → IfOk result.0 AreLengthsSaid }
+    ensures said { outcome_of values_seen result.0 result.1.now
         ≡ word_with (S.table scope.now) (sense_seen sense.now) word.now.letter word.now.value
         (values_seen said.now) reads.now }
 {
@@ -65,7 +70,7 @@ fn word_taken<'a, S: Scope>(
             match evaluated {
                 Eval::Got(value) => answer(taken_var(sense, *letter, *minus, value, said), left),
                 Eval::Need(variable) => (Err(Stop::Needs(variable)), left),
-                Eval::Fault(number) => (Err(Stop::Alarms { number, value: 0 }), left),
+                Eval::Fault(number) => (Err(Stop::fault(number)), left),
             }
         }
     }
@@ -82,7 +87,8 @@ pub fn words_taken<'a, S: Scope>(
     scope: &S,
     reads: &'a [Var],
 ) -> (Result<Values, Stop>, &'a [Var])
-    ensures { outcome_of values_seen result.0 result.1.now
+    ensures within { IfOk result.0 AreLengthsSaid }
+    ensures said { outcome_of values_seen result.0 result.1.now
         ≡ words_with (S.table scope.now) (sense_seen sense.now) words.now nothing_said reads.now }
 {
     let mut said = Values::nothing();

@@ -1,0 +1,186 @@
+-- A statement that is done leads where the order of blocks allows, and what is fixed for its path stays.
+use Rattle.std.proofs.Common.{◌≡◌, ℕ, suc, Bool, true, false, inl, List, ◌∷◌, Some, Result, Ok, Err, refl, ap, subst, ◌∙◌, if◌then◌else◌}
+use Rattle.nc_number.specs.declared.cause.Cause.{Cause}
+use Rattle.nc_number.specs.declared.point.Point.{Point}
+use Rattle.nc_number.specs.declared.value.Var.{Var}
+use Rattle.common_vars.specs.declared.variable.Variable.{Variable}
+use Rattle.common_vars.specs.declared.variable.Variable.TheVariants as variable
+use Rattle.offset_store.specs.declared.slot.Slot.{Slot}
+use Rattle.offset_store.specs.declared.slot.Slot.TheVariants.{Work}
+use Rattle.offset_store.specs.declared.fault.OffsetFault.{OffsetFault}
+use Rattle.offset_store.specs.Changes.{in_range, point_at}
+use Rattle.block_order.specs.declared.control.Control.{Control}
+use Rattle.block_order.specs.declared.control.Control.TheVariants as control
+use Rattle.block_order.specs.declared.frame.Frame.{Frame}
+use Rattle.block_order.specs.declared.program.ControlProgram.{ControlProgram}
+use Rattle.block_order.specs.Order.{MayBe}
+use Rattle.block_order.specs.Steps.{at, Goes as Goes_to, Step, standing}
+use Rattle.block_forms.specs.Controls.{number_of_aim, control_of_sentence}
+use Rattle.macro_expr.specs.Tree.{Tree, Named, Aim, ToNumber, ToNumberOf, Sentence, Assign, Goto, IfGoto, IfThen, WhileDo, DoOnly, EndLoop}
+use Rattle.path_state.specs.View.{Fixed, PathView}
+use Rattle.path_state.specs.Looks.{is_shared}
+use Rattle.path_state.specs.Outcomes.{Outcome, Gives, Needs, Alarms, ◌>>=◌, evaluated}
+use Rattle.path_state.specs.Places.{Standing, jumped, loop_left, loop_again}
+use Rattle.path_state.specs.Statements.{After, standing_of, length_of, along, with_offset, written_path, with_common, written, named, assigned, tested, aimed, moved, gone_to, gone_next, and_next, assigned_next, statement_effect}
+use Rattle.path_state.proofs.ControlledPlaces.{Steps, jumped_steps, next_steps, left_steps, again_steps}
+
+-- what is said of a value holds where a step gives one
+abbrev pub OnGives : {A : Type 0} → (A → Type 0) → Outcome A → Type 0
+OnGives P (Gives value left) = P value
+OnGives P (Needs variable) = Unit {0}
+OnGives P (Alarms number value) = Unit {0}
+
+-- where one step behind another gives a value, the first gives one too
+pub behind_gives : {A B : Type 0} (P : A → Type 0) (Q : B → Type 0) (step : Outcome A)
+    (next : A → List Var → Outcome B) → OnGives P step
+    → ((value : A) (left : List Var) → P value → OnGives Q (next value left))
+    → OnGives Q (step >>= next)
+behind_gives P Q (Gives value left) next first further = further value left first
+behind_gives P Q (Needs variable) next first further = tt
+behind_gives P Q (Alarms number value) next first further = tt
+
+-- anything may be said of nothing
+anything : {A : Type 0} (step : Outcome A) → OnGives (λ value. Unit {0}) step
+anything (Gives value left) = tt
+anything (Needs variable) = tt
+anything (Alarms number value) = tt
+
+-- whatever the first step gives
+pub after_any : {A B : Type 0} (Q : B → Type 0) (step : Outcome A) (next : A → List Var → Outcome B)
+    → ((value : A) (left : List Var) → OnGives Q (next value left)) → OnGives Q (step >>= next)
+after_any Q step next further =
+    behind_gives (λ value. Unit {0}) Q step next (anything step) (λ value left said. further value left)
+
+-- a path that stays where it is
+pub record Stays (before after : PathView) : Type 0 where
+  pub place : after.place ≡ before.place
+  pub fixed : after.fixed ≡ before.fixed
+
+-- a path that goes a step of the order of blocks
+pub record Follows (tape : List ControlProgram) (before after : PathView) : Type 0 where
+  pub step : Step tape before.place after.place
+  pub fixed : after.fixed ≡ before.fixed
+
+abbrev Keeps : PathView → After → Type 0
+Keeps path after = Stays path after.path
+
+abbrev pub Goes : List ControlProgram → PathView → After → Type 0
+Goes tape path after = Follows tape path after.path
+
+with_common-keeps : (shared : Bool) (path : PathView) (v : ℕ) (value : Var)
+    → Keeps path (with_common shared path v value)
+with_common-keeps true path v value = record { place = refl; fixed = refl }
+with_common-keeps false path v value = record { place = refl; fixed = refl }
+
+offset-keeps : (path : PathView) (slot : Slot) (to : Result Point OffsetFault) (left : List Var)
+    → OnGives (Keeps path) (written_path (with_offset path slot to) left)
+offset-keeps path slot (Ok to) left = record { place = refl; fixed = refl }
+offset-keeps path slot (Err fault) left = tt
+
+-- a variable that takes a value moves no path
+written-keeps : (fixed : Fixed) (path : PathView) (v : Variable) (value : Var) (left : List Var)
+    → OnGives (Keeps path) (written fixed path v value left)
+written-keeps fixed path (variable.Local i) value left = record { place = refl; fixed = refl }
+written-keeps fixed path (variable.Common v) value left =
+    with_common-keeps (is_shared fixed v) path v value
+written-keeps fixed path (variable.Work n axis) value left =
+    offset-keeps path (Work n)
+    (in_range (along axis (length_of value) (point_at path.offsets (Work n)))) left
+written-keeps fixed path variable.Raise value left = tt
+written-keeps fixed path _ value left = tt
+
+assigned-keeps : (fixed : Fixed) (path : PathView) (name : Named) (tree : Tree) (reads : List Var)
+    → OnGives (Keeps path) (assigned fixed path name tree reads)
+assigned-keeps fixed path name tree reads =
+    after_any (Keeps path) (named fixed path name reads) _ (λ v behind_name.
+    after_any (Keeps path) (evaluated fixed path tree behind_name) _
+    (λ value left. written-keeps fixed path v value left))
+
+-- on to the next block
+and_next-goes : (tape : List ControlProgram) (path : PathView) (c : Control) (after : After)
+    → standing tape path.place ≡ Some c
+    → ((f : Frame) (stack : List Frame) → Goes_to tape f stack c (at f (suc f.block) ∷ stack))
+    → Keeps path after → Goes tape path (and_next after)
+and_next-goes tape path c after stands goes keeps = record {
+  step = subst (λ place. Step tape place (and_next after).path.place) (keeps.place)
+      (next_steps tape (standing_of after.path) c
+      (ap (λ place. standing tape place) keeps.place ∙ stands) goes);
+  fixed = keeps.fixed;
+}
+
+assigned_next-goes : (tape : List ControlProgram) (fixed : Fixed) (path : PathView) (c : Control)
+    (name : Named) (tree : Tree) (reads : List Var)
+    → standing tape path.place ≡ Some c
+    → ((f : Frame) (stack : List Frame) → Goes_to tape f stack c (at f (suc f.block) ∷ stack))
+    → OnGives (Goes tape path) (assigned_next fixed path name tree reads)
+assigned_next-goes tape fixed path c name tree reads stands goes =
+    behind_gives (Keeps path) (Goes tape path) (assigned fixed path name tree reads) _
+    (assigned-keeps fixed path name tree reads)
+    (λ after left keeps. and_next-goes tape path c after stands goes keeps)
+
+gone_next-goes : (tape : List ControlProgram) (path : PathView) (c : Control) (reads : List Var)
+    → standing tape path.place ≡ Some c
+    → ((f : Frame) (stack : List Frame) → Goes_to tape f stack c (at f (suc f.block) ∷ stack))
+    → OnGives (Goes tape path) (gone_next path reads)
+gone_next-goes tape path c reads stands goes =
+    record { step = next_steps tape (standing_of path) c stands goes; fixed = refl }
+
+moved-goes : (tape : List ControlProgram) (path : PathView) (to : Result Standing Cause)
+    (left : List Var) → Steps tape path.place to
+    → OnGives (Goes tape path) (moved path to left)
+moved-goes tape path (Ok to) left steps = record { step = steps; fixed = refl }
+moved-goes tape path (Err cause) left steps = tt
+
+-- the number that a target comes to is one that the order of blocks allows
+aimed-allowed : (fixed : Fixed) (path : PathView) (aim : Aim) (reads : List Var)
+    → OnGives (MayBe (number_of_aim aim)) (aimed fixed path aim reads)
+aimed-allowed fixed path (ToNumber n) reads = refl
+aimed-allowed fixed path (ToNumberOf tree) reads = anything (aimed fixed path (ToNumberOf tree) reads)
+
+gone_to-goes : (tape : List ControlProgram) (fixed : Fixed) (path : PathView) (aim : Aim)
+    (reads : List Var)
+    → standing tape path.place ≡ Some (control.Goto (number_of_aim aim))
+    → OnGives (Goes tape path) (gone_to tape fixed path aim reads)
+gone_to-goes tape fixed path aim reads stands =
+    behind_gives (MayBe (number_of_aim aim)) (Goes tape path) (aimed fixed path aim reads) _
+    (aimed-allowed fixed path aim reads)
+    (λ n left may. moved-goes tape path (jumped tape (standing_of path) n) left
+    (jumped_steps tape (standing_of path) (number_of_aim aim) n stands may))
+
+-- by what a condition comes to
+pub either : {A : Type 0} (P : A → Type 0) (holds : Bool) (first second : Outcome A) → OnGives P first
+    → OnGives P second
+    → OnGives P (if holds then first else second)
+either P true first second one other = one
+either P false first second one other = other
+
+-- a statement
+pub statement-goes : (tape : List ControlProgram) (fixed : Fixed) (path : PathView)
+    (sentence : Sentence) (reads : List Var)
+    → standing tape path.place ≡ Some (control_of_sentence sentence)
+    → OnGives (Goes tape path) (statement_effect tape fixed path sentence reads)
+statement-goes tape fixed path (Assign name tree) reads stands =
+    assigned_next-goes tape fixed path control.Next name tree reads stands (λ f stack. refl)
+statement-goes tape fixed path (Goto aim) reads stands = gone_to-goes tape fixed path aim reads stands
+statement-goes tape fixed path (IfGoto test aim) reads stands =
+    after_any (Goes tape path) (tested fixed path test reads) _ (λ holds left.
+    either (Goes tape path) holds (gone_to tape fixed path aim left) (gone_next path left)
+    (gone_to-goes tape fixed path aim left stands)
+    (gone_next-goes tape path (control.Goto (number_of_aim aim)) left stands (λ f stack. inl refl)))
+statement-goes tape fixed path (IfThen test name tree) reads stands =
+    after_any (Goes tape path) (tested fixed path test reads) _ (λ holds left.
+    either (Goes tape path) holds (assigned_next fixed path name tree left) (gone_next path left)
+    (assigned_next-goes tape fixed path control.Next name tree left stands (λ f stack. refl))
+    (gone_next-goes tape path control.Next left stands (λ f stack. refl)))
+statement-goes tape fixed path (WhileDo test name) reads stands =
+    after_any (Goes tape path) (tested fixed path test reads) _ (λ holds left.
+    either (Goes tape path) holds (gone_next path left)
+    (moved path (loop_left tape (standing_of path)) left)
+    (gone_next-goes tape path (control.While name) left stands (λ f stack. inl refl))
+    (moved-goes tape path (loop_left tape (standing_of path)) left
+    (left_steps tape (standing_of path) name stands)))
+statement-goes tape fixed path (DoOnly name) reads stands =
+    gone_next-goes tape path (control.Do name) reads stands (λ f stack. refl)
+statement-goes tape fixed path (EndLoop name) reads stands =
+    moved-goes tape path (loop_again tape (standing_of path)) reads
+    (again_steps tape (standing_of path) name stands)

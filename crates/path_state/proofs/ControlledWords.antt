@@ -1,0 +1,176 @@
+-- A block of words that is done leads where the order of blocks allows, and what is fixed for its
+-- path stays.
+use Rattle.std.proofs.Common.{◌≡◌, ℕ, Bool, true, false, ◌||◌, nat_le, List, [], codes, Option, Some, None, Result, Ok, Err, refl, ap, subst, ◌∙◌, if◌then◌else◌}
+use Rattle.nc_number.specs.declared.cause.Cause.{Cause}
+use Rattle.nc_number.specs.declared.value.Var.{Var}
+use Rattle.modal_state.specs.View.{ModalView}
+use Rattle.local_levels.specs.Stack.{all_vacant}
+use Rattle.block_order.specs.declared.control.Control.{Control}
+use Rattle.block_order.specs.declared.control.Control.TheVariants as control
+use Rattle.block_order.specs.declared.program.ControlProgram.{ControlProgram}
+use Rattle.block_order.specs.Steps.{standing}
+use Rattle.block_forms.specs.declared.word.FlowWord.{FlowWord}
+use Rattle.block_forms.specs.declared.waits.WaitCodes.{WaitCodes}
+use Rattle.block_forms.specs.declared.purpose.Purpose.{Purpose}
+use Rattle.block_forms.specs.declared.purpose.Purpose.TheVariants.{MacroCall, Subprogram, Return, Wait}
+use Rattle.block_forms.specs.Codes.{one_shot, m_codes, has_code, first_waiting, purpose_of}
+use Rattle.block_forms.specs.Words.{has}
+use Rattle.block_forms.specs.Controls.{number_of, or_number, back_to, wait_at, control_by, control_of_words}
+use Rattle.path_state.specs.View.{Fixed, PathView}
+use Rattle.path_state.specs.Outcomes.{Outcome, Gives, Needs, Alarms}
+use Rattle.path_state.specs.Values.{Values, nothing_said, sense_of, words_taken}
+use Rattle.path_state.specs.Arguments.{arguments_taken}
+use Rattle.path_state.specs.Motion.{Motion, motion_kind, motion_of}
+use Rattle.path_state.specs.Places.{Standing, goes_on}
+use Rattle.path_state.specs.Statements.{standing_of}
+use Rattle.path_state.specs.Effect.{Effect, Moved, modal_after, after_motion, motion_with, acted, done_by, controlled, of_moved, of_values, of_arguments, of_purpose, block_of_words}
+use Rattle.path_state.specs.Controlled.{GoesAsOrdered, KeepsFixed}
+use Rattle.path_state.proofs.ControlledPlaces.{Steps, Passes, goes_on_steps}
+use Rattle.path_state.proofs.ControlledStatements.{Stays}
+
+-- an effect that leads where the order of blocks allows and keeps what is fixed
+pub record IsSteady (tape : List ControlProgram) (path : PathView) (effect : Effect) : Type 0 where
+  pub goes : GoesAsOrdered tape path effect
+  pub keeps : KeepsFixed path effect
+
+-- the words of a block may wait, and end no loop
+abbrev EndsNoLoop : Control → Type 0
+EndsNoLoop (control.EndLoop name) = ⊥
+EndsNoLoop _ = Unit {0}
+
+call-no_end : (b : Bool) (p q repeats other : ℕ)
+    → EndsNoLoop (if b then control.Call p repeats else control.Call q other)
+call-no_end true p q repeats other = tt
+call-no_end false p q repeats other = tt
+
+back-no_end : (n : Option ℕ) → EndsNoLoop (back_to n)
+back-no_end None = tt
+back-no_end (Some n) = tt
+
+wait-no_end : (code : Option ℕ) → EndsNoLoop (wait_at code)
+wait-no_end None = tt
+wait-no_end (Some code) = tt
+
+end-no_end : (b : Bool) → EndsNoLoop (if b then control.End else control.Next)
+end-no_end true = tt
+end-no_end false = tt
+
+control-no_end : (purpose : Purpose) (waits : WaitCodes) (words : List FlowWord)
+    → EndsNoLoop (control_by purpose waits words)
+control-no_end MacroCall waits words = tt
+control-no_end Subprogram waits words =
+    call-no_end (nat_le 10000 (or_number 0 (number_of (codes "P") words))) _ _ _ _
+control-no_end Return waits words = back-no_end (number_of (codes "P") words)
+control-no_end Wait waits words = wait-no_end (first_waiting waits (m_codes words))
+control-no_end _ waits words = end-no_end (has_code 2 words || has_code 30 words)
+
+pub words_end_no_loop : (waits : WaitCodes) (words : List FlowWord)
+    → EndsNoLoop (control_of_words waits words)
+words_end_no_loop waits words = control-no_end (purpose_of waits words) waits words
+
+-- where the words move the path, it stays on its block
+abbrev MovesThere : PathView → Result Moved ℕ → Type 0
+MovesThere path (Ok moved) = Stays path moved.path
+MovesThere path (Err number) = Unit {0}
+
+motion-stays : (path : PathView) (modal : ModalView) (words : List FlowWord) (values : Values)
+    (motion : Result Motion ℕ)
+    → MovesThere path (after_motion path modal words values motion)
+motion-stays path modal words values (Ok motion) = record { place = refl; fixed = refl }
+motion-stays path modal words values (Err number) = tt
+
+modal-stays : (fixed : Fixed) (path : PathView) (words : List FlowWord) (values : Values)
+    (modal : Result ModalView ℕ)
+    → MovesThere path (motion_with fixed path words values modal)
+modal-stays fixed path words values (Ok modal) =
+    motion-stays path modal words values
+    (motion_of fixed path modal (motion_kind modal (one_shot words)) (has (codes "L") words) values)
+modal-stays fixed path words values (Err number) = tt
+
+acted-stays : (fixed : Fixed) (path : PathView) (words : List FlowWord) (values : Values)
+    → MovesThere path (acted fixed path words values)
+acted-stays fixed path words values =
+    modal-stays fixed path words values (modal_after path.modal words values)
+
+done-steady : (tape : List ControlProgram) (path : PathView) (moved : Moved)
+    (to : Result Standing Cause) → Stays path moved.path
+    → Steps tape path.place to → IsSteady tape path (done_by moved to)
+done-steady tape path moved (Ok to) stays steps = record { goes = steps; keeps = stays.fixed }
+done-steady tape path moved (Err cause) stays steps = record { goes = tt; keeps = tt }
+
+-- behind the moves of a block that does not wait
+moved-steady : (tape : List ControlProgram) (path : PathView) (moved : Moved)
+    (arguments : Option (List Var)) (c : Control)
+    → Stays path moved.path → standing tape path.place ≡ Some c → Passes c
+    → IsSteady tape path (done_by moved (goes_on tape (standing_of moved.path) arguments c))
+moved-steady tape path moved arguments c stays stands passes =
+    done-steady tape path moved (goes_on tape (standing_of moved.path) arguments c) stays
+    (subst (λ place. Steps tape place (goes_on tape (standing_of moved.path) arguments c)) stays.place
+    (goes_on_steps tape (standing_of moved.path) arguments c
+    (ap (λ place. standing tape place) stays.place ∙ stands) passes))
+
+-- a control of words that waits nowhere
+abbrev pub Runs : Control → Type 0
+Runs (control.EndLoop name) = ⊥
+Runs (control.Wait code) = ⊥
+Runs _ = Unit {0}
+
+controlled-steady : (tape : List ControlProgram) (path : PathView) (moved : Moved)
+    (arguments : Option (List Var)) (c : Control)
+    → Stays path moved.path → standing tape path.place ≡ Some c → Runs c
+    → IsSteady tape path (controlled tape moved arguments c)
+controlled-steady tape path moved arguments control.End stays stands runs =
+    record { goes = (stands, stays.place); keeps = stays.fixed }
+controlled-steady tape path moved arguments (control.EndLoop name) stays stands runs = absurd runs
+controlled-steady tape path moved arguments (control.Wait code) stays stands runs = absurd runs
+controlled-steady tape path moved arguments c stays stands runs =
+    moved-steady tape path moved arguments c stays stands tt
+
+moves-steady : (tape : List ControlProgram) (path : PathView) (c : Control) (moved : Result Moved ℕ)
+    → MovesThere path moved
+    → standing tape path.place ≡ Some c → Runs c → IsSteady tape path (of_moved tape c moved)
+moves-steady tape path c (Ok moved) stays stands runs =
+    controlled-steady tape path moved None c stays stands runs
+moves-steady tape path c (Err number) stays stands runs = record { goes = tt; keeps = tt }
+
+values-steady : (tape : List ControlProgram) (fixed : Fixed) (path : PathView) (words : List FlowWord)
+    (c : Control) (values : Outcome Values)
+    → standing tape path.place ≡ Some c → Runs c
+    → IsSteady tape path (of_values tape fixed path words c values)
+values-steady tape fixed path words c (Gives values left) stands runs =
+    moves-steady tape path c (acted fixed path words values) (acted-stays fixed path words values)
+    stands runs
+values-steady tape fixed path words c (Needs variable) stands runs = record { goes = tt; keeps = tt }
+values-steady tape fixed path words c (Alarms number value) stands runs =
+    record { goes = tt; keeps = tt }
+
+arguments-steady : (tape : List ControlProgram) (path : PathView) (c : Control)
+    (arguments : Outcome (List Var))
+    → standing tape path.place ≡ Some c → Runs c
+    → IsSteady tape path (of_arguments tape path c arguments)
+arguments-steady tape path c (Gives arguments left) stands runs =
+    controlled-steady tape path (record { path = path; moves = [] }) (Some arguments) c
+    (record { place = refl; fixed = refl }) stands runs
+arguments-steady tape path c (Needs variable) stands runs = record { goes = tt; keeps = tt }
+arguments-steady tape path c (Alarms number value) stands runs = record { goes = tt; keeps = tt }
+
+purpose-steady : (tape : List ControlProgram) (fixed : Fixed) (path : PathView) (purpose : Purpose)
+    (words : List FlowWord) (c : Control) (reads : List Var)
+    → standing tape path.place ≡ Some c → Runs c
+    → IsSteady tape path (of_purpose tape fixed path purpose words c reads)
+purpose-steady tape fixed path MacroCall words c reads stands runs =
+    arguments-steady tape path c (arguments_taken fixed path words all_vacant reads) stands runs
+purpose-steady tape fixed path purpose words c reads stands runs =
+    values-steady tape fixed path words c
+    (words_taken fixed path (sense_of path purpose words) words nothing_said reads) stands runs
+
+-- a block of words
+pub words-steady : (tape : List ControlProgram) (fixed : Fixed) (path : PathView) (purpose : Purpose)
+    (words : List FlowWord) (c : Control) (reads : List Var)
+    → standing tape path.place ≡ Some c → EndsNoLoop c
+    → IsSteady tape path (block_of_words tape fixed path purpose words c reads)
+words-steady tape fixed path purpose words (control.Wait code) reads stands no_end =
+    record { goes = stands; keeps = tt }
+words-steady tape fixed path purpose words (control.EndLoop name) reads stands no_end = absurd no_end
+words-steady tape fixed path purpose words c reads stands no_end =
+    purpose-steady tape fixed path purpose words c reads stands tt

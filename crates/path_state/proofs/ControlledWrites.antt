@@ -1,0 +1,180 @@
+-- What a block writes beside its path is a variable that both paths share.
+use Rattle.std.proofs.Common.{◌≡◌, ℕ, Bool, true, false, List, [], Option, Some, None, Result, Ok, Err, refl, subst}
+use Rattle.nc_number.specs.declared.cause.Cause.{Cause}
+use Rattle.nc_number.specs.declared.point.Point.{Point}
+use Rattle.nc_number.specs.declared.value.Var.{Var}
+use Rattle.nc_outside.specs.declared.motion.Move.{Move}
+use Rattle.common_vars.specs.declared.variable.Variable.{Variable}
+use Rattle.common_vars.specs.declared.variable.Variable.TheVariants as variable
+use Rattle.local_levels.specs.Stack.{all_vacant}
+use Rattle.offset_store.specs.declared.slot.Slot.{Slot}
+use Rattle.offset_store.specs.declared.slot.Slot.TheVariants.{Work}
+use Rattle.offset_store.specs.declared.fault.OffsetFault.{OffsetFault}
+use Rattle.offset_store.specs.Changes.{in_range, point_at}
+use Rattle.block_order.specs.declared.control.Control.{Control}
+use Rattle.block_order.specs.declared.control.Control.TheVariants as control
+use Rattle.block_order.specs.declared.program.ControlProgram.{ControlProgram}
+use Rattle.block_forms.specs.declared.block.FlowBlock.{FlowBlock}
+use Rattle.block_forms.specs.declared.body.FlowBody.{FlowBody}
+use Rattle.block_forms.specs.declared.body.FlowBody.TheVariants.{Words, Statement}
+use Rattle.block_forms.specs.declared.purpose.Purpose.{Purpose}
+use Rattle.block_forms.specs.declared.purpose.Purpose.TheVariants.{MacroCall}
+use Rattle.block_forms.specs.declared.word.FlowWord.{FlowWord}
+use Rattle.macro_expr.specs.Tree.{Tree, Named, Aim, Sentence, Assign, Goto, IfGoto, IfThen, WhileDo, DoOnly, EndLoop, sentence_of}
+use Rattle.tape_flow.specs.declared.flow.Flow.{Flow}
+use Rattle.path_state.specs.View.{Fixed, PathView}
+use Rattle.path_state.specs.Looks.{is_shared}
+use Rattle.path_state.specs.Outcomes.{Outcome, Gives, Needs, Alarms, evaluated}
+use Rattle.path_state.specs.Values.{Values, nothing_said, sense_of, words_taken}
+use Rattle.path_state.specs.Arguments.{arguments_taken}
+use Rattle.path_state.specs.Places.{Standing, goes_on, jumped, loop_left, loop_again}
+use Rattle.path_state.specs.Statements.{Write, After, standing_of, length_of, along, with_offset, written_path, with_common, written, named, assigned, tested, aimed, moved, gone_to, gone_next, assigned_next, statement_effect}
+use Rattle.path_state.specs.Effect.{Effect, Done, Moved, acted, done_by, controlled, of_moved, of_values, of_arguments, of_purpose, block_of_words, of_after, effect_of_body, effect_of_block, block_at, effect_of}
+use Rattle.path_state.proofs.ControlledStatements.{OnGives, behind_gives, after_any, either}
+
+-- a write, if there is one, is to a shared variable
+abbrev WritesShared : Fixed → Option Write → Type 0
+WritesShared fixed None = Unit {0}
+WritesShared fixed (Some write) = is_shared fixed write.variable ≡ true
+
+abbrev Writes : Fixed → After → Type 0
+Writes fixed after = WritesShared fixed after.write
+
+module _ (fixed : Fixed) (path : PathView) where
+  common-writes : (shared : Bool) (v : ℕ) (value : Var) → is_shared fixed v ≡ shared
+      → Writes fixed (with_common shared path v value)
+  common-writes true v value is = is
+  common-writes false v value is = tt
+
+  offset-writes : (slot : Slot) (to : Result Point OffsetFault) (left : List Var)
+      → OnGives (Writes fixed) (written_path (with_offset path slot to) left)
+  offset-writes slot (Ok to) left = tt
+  offset-writes slot (Err fault) left = tt
+
+  written-writes : (v : Variable) (value : Var) (left : List Var)
+      → OnGives (Writes fixed) (written fixed path v value left)
+  written-writes (variable.Local i) value left = tt
+  written-writes (variable.Common v) value left = common-writes (is_shared fixed v) v value refl
+  written-writes (variable.Work n axis) value left =
+      offset-writes (Work n) (in_range (along axis (length_of value) (point_at path.offsets (Work n))))
+      left
+  written-writes variable.Raise value left = tt
+  written-writes _ value left = tt
+
+  assigned-writes : (name : Named) (tree : Tree) (reads : List Var)
+      → OnGives (Writes fixed) (assigned fixed path name tree reads)
+  assigned-writes name tree reads =
+      after_any (Writes fixed) (named fixed path name reads) _ (λ v behind_name.
+      after_any (Writes fixed) (evaluated fixed path tree behind_name) _
+      (λ value left. written-writes v value left))
+
+  assigned_next-writes : (name : Named) (tree : Tree) (reads : List Var)
+      → OnGives (Writes fixed) (assigned_next fixed path name tree reads)
+  assigned_next-writes name tree reads =
+      behind_gives (Writes fixed) (Writes fixed) (assigned fixed path name tree reads) _
+      (assigned-writes name tree reads)
+      (λ after left writes. writes)
+
+  moved-writes : (to : Result Standing Cause) (left : List Var)
+      → OnGives (Writes fixed) (moved path to left)
+  moved-writes (Ok to) left = tt
+  moved-writes (Err cause) left = tt
+
+  gone_to-writes : (tape : List ControlProgram) (aim : Aim) (reads : List Var)
+      → OnGives (Writes fixed) (gone_to tape fixed path aim reads)
+  gone_to-writes tape aim reads =
+      after_any (Writes fixed) (aimed fixed path aim reads) _
+      (λ n left. moved-writes (jumped tape (standing_of path) n) left)
+
+  statement-writes : (tape : List ControlProgram) (sentence : Sentence) (reads : List Var)
+      → OnGives (Writes fixed) (statement_effect tape fixed path sentence reads)
+  statement-writes tape (Assign name tree) reads = assigned_next-writes name tree reads
+  statement-writes tape (Goto aim) reads = gone_to-writes tape aim reads
+  statement-writes tape (IfGoto test aim) reads =
+      after_any (Writes fixed) (tested fixed path test reads) _ (λ holds left.
+      either (Writes fixed) holds (gone_to tape fixed path aim left) (gone_next path left)
+      (gone_to-writes tape aim left) tt)
+  statement-writes tape (IfThen test name tree) reads =
+      after_any (Writes fixed) (tested fixed path test reads) _ (λ holds left.
+      either (Writes fixed) holds (assigned_next fixed path name tree left) (gone_next path left)
+      (assigned_next-writes name tree left) tt)
+  statement-writes tape (WhileDo test name) reads =
+      after_any (Writes fixed) (tested fixed path test reads) _ (λ holds left.
+      either (Writes fixed) holds (gone_next path left)
+      (moved path (loop_left tape (standing_of path)) left) tt
+      (moved-writes (loop_left tape (standing_of path)) left))
+  statement-writes tape (DoOnly name) reads = tt
+  statement-writes tape (EndLoop name) reads = moved-writes (loop_again tape (standing_of path)) reads
+
+-- the effect of a block
+abbrev EffectWrites : Fixed → Effect → Type 0
+EffectWrites fixed (Done after write moves) = WritesShared fixed write
+EffectWrites fixed _ = Unit {0}
+
+module _ (tape : List ControlProgram) (fixed : Fixed) (path : PathView) where
+  done-writes : (moved : Moved) (to : Result Standing Cause) → EffectWrites fixed (done_by moved to)
+  done-writes moved (Ok to) = tt
+  done-writes moved (Err cause) = tt
+
+  controlled-writes : (moved : Moved) (arguments : Option (List Var)) (c : Control)
+      → EffectWrites fixed (controlled tape moved arguments c)
+  controlled-writes moved arguments control.End = tt
+  controlled-writes moved arguments c =
+      done-writes moved (goes_on tape (standing_of moved.path) arguments c)
+
+  moves-write : (c : Control) (moved : Result Moved ℕ) → EffectWrites fixed (of_moved tape c moved)
+  moves-write c (Ok moved) = controlled-writes moved None c
+  moves-write c (Err number) = tt
+
+  values-write : (words : List FlowWord) (c : Control) (values : Outcome Values)
+      → EffectWrites fixed (of_values tape fixed path words c values)
+  values-write words c (Gives values left) = moves-write c (acted fixed path words values)
+  values-write words c (Needs variable) = tt
+  values-write words c (Alarms number value) = tt
+
+  arguments-write : (c : Control) (arguments : Outcome (List Var))
+      → EffectWrites fixed (of_arguments tape path c arguments)
+  arguments-write c (Gives arguments left) =
+      controlled-writes (record { path = path; moves = [] }) (Some arguments) c
+  arguments-write c (Needs variable) = tt
+  arguments-write c (Alarms number value) = tt
+
+  purpose-writes : (purpose : Purpose) (words : List FlowWord) (c : Control) (reads : List Var)
+      → EffectWrites fixed (of_purpose tape fixed path purpose words c reads)
+  purpose-writes MacroCall words c reads =
+      arguments-write c (arguments_taken fixed path words all_vacant reads)
+  purpose-writes purpose words c reads =
+      values-write words c (words_taken fixed path (sense_of path purpose words) words nothing_said reads)
+
+  words-write : (purpose : Purpose) (words : List FlowWord) (c : Control) (reads : List Var)
+      → EffectWrites fixed (block_of_words tape fixed path purpose words c reads)
+  words-write purpose words (control.Wait code) reads = tt
+  words-write purpose words c reads = purpose-writes purpose words c reads
+
+  after-writes : (after : Outcome After) → OnGives (Writes fixed) after
+      → EffectWrites fixed (of_after after)
+  after-writes (Gives after left) writes = writes
+  after-writes (Needs variable) writes = tt
+  after-writes (Alarms number value) writes = tt
+
+  body-writes : (body : FlowBody) (c : Control) (reads : List Var)
+      → EffectWrites fixed (effect_of_body tape fixed path body c reads)
+  body-writes (Words words) c reads = words-write words.purpose words.words c reads
+  body-writes (Statement statement) c reads =
+      after-writes (statement_effect tape fixed path (sentence_of statement.statement) reads)
+      (statement-writes fixed path tape (sentence_of statement.statement) reads)
+
+found-writes : (tape : List ControlProgram) (path : PathView) (found : Option FlowBlock)
+    (reads : List Var)
+    → EffectWrites path.fixed (effect_of_block tape path found reads)
+found-writes tape path None reads = tt
+found-writes tape path (Some block) reads =
+    body-writes tape path.fixed path block.body block.control reads
+
+pub shared_written : (flow : Flow) (path : PathView) (reads : List Var) (after : PathView)
+    (write : Write) (moves : List Move)
+    → effect_of flow path reads ≡ Done after (Some write) moves
+    → is_shared path.fixed write.variable ≡ true
+shared_written flow path reads after write moves is =
+    subst (λ effect. EffectWrites path.fixed effect) is
+    (found-writes flow.order path (block_at flow.programs path.place) reads)

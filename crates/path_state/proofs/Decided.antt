@@ -1,0 +1,118 @@
+-- What a block comes to, decided step by step.
+use Rattle.std.proofs.Common.{◌≡◌, ◌≢◌, ℕ, Bool, true, false, List, [], Option, Some, None, Result, Ok, Err, refl, ap, sym, ◌∙◌}
+use Rattle.nc_number.specs.declared.value.Var.{Var}
+use Rattle.block_order.specs.declared.control.Control.{Control}
+use Rattle.block_order.specs.declared.program.ControlProgram.{ControlProgram}
+use Rattle.block_forms.specs.declared.word.FlowWord.{FlowWord}
+use Rattle.block_forms.specs.declared.purpose.Purpose.{Purpose}
+use Rattle.block_forms.specs.declared.purpose.Purpose.TheVariants.{MacroCall, Subprogram, Return, Wait, Dwell, Setting, Other}
+use Rattle.path_state.specs.declared.outcome.Stop.{Stop}
+use Rattle.path_state.specs.declared.outcome.Stop.TheVariants as stop
+use Rattle.path_state.specs.declared.values.Values as kept
+use Rattle.block_forms.specs.declared.waits.WaitCodes.{WaitCodes}
+use Rattle.block_forms.specs.Controls.{control_by}
+use Rattle.path_state.specs.View.{Fixed, PathView}
+use Rattle.path_state.specs.Looks.{look_of}
+use Rattle.path_state.specs.Outcomes.{Outcome}
+use Rattle.path_state.specs.Values.{Values, Sense, nothing_said, words_taken}
+use Rattle.path_state.specs.Seen.{values_seen, outcome_of, words_with}
+use Rattle.block_order.specs.declared.control.Control.TheVariants.{Next, Goto, While, Do, EndLoop, Wait as AtWait, End, Call, Back, BackTo}
+use Rattle.block_order.specs.PlaceSteps.{MayPass}
+use Rattle.local_levels.specs.Stack.{all_vacant}
+use Rattle.path_state.specs.declared.decision.Decision.{Decision}
+use Rattle.path_state.specs.declared.decision.Decision.TheVariants as decision
+use Rattle.path_state.specs.Purposes.{is_macro_call}
+use Rattle.path_state.specs.Arguments.{arguments_taken}
+use Rattle.path_state.specs.Places.{goes_on}
+use Rattle.path_state.specs.Statements.{standing_of}
+use Rattle.path_state.specs.Seen.{arguments_with}
+use Rattle.path_state.specs.Effect.{Effect, Moved, of_values, of_arguments, controlled, done_by, macro_effect, block_of_words, of_purpose, words_effect}
+use Rattle.path_state.specs.Decisions.{of_said, of_arguments_said, MayTake}
+use Rattle.path_state.proofs.ByTable.{by_table, arguments_by_table}
+
+-- of a step that gives values or stops, the effect
+pub of_values_said : (tape : List ControlProgram) (path : PathView) (words : List FlowWord) (control : Control) (said : Result kept.Values Stop) (left : List Var)
+    → of_values tape path.fixed path words control (outcome_of values_seen said left) ≡ of_said tape path words control said
+of_values_said tape path words control (Ok values) left = refl
+of_values_said tape path words control (Err (stop.Needs variable)) left = refl
+of_values_said tape path words control (Err (stop.Alarms number value)) left = refl
+
+pub words_said : (tape : List ControlProgram) (path : PathView) (sense : Sense) (words : List FlowWord) (control : Control) (reads : List Var) (said : Result kept.Values Stop) (left : List Var)
+    → outcome_of values_seen said left ≡ words_with (look_of path.fixed path) sense words nothing_said reads
+    → of_values tape path.fixed path words control (words_taken path.fixed path sense words nothing_said reads) ≡ of_said tape path words control said
+words_said tape path sense words control reads said left e =
+    ap (of_values tape path.fixed path words control) (sym (e ∙ by_table path.fixed path sense words nothing_said reads))
+    ∙ of_values_said tape path words control said left
+
+-- what is taken, where it is taken
+abbrev pub if_taken : {A B : Type 0} → Result A Stop → B → Result B Stop
+if_taken (Ok done) value = Ok value
+if_taken (Err stop) value = Err stop
+
+-- of arguments that are taken or not, the effect
+of_taken : {A : Type 0} → (tape : List ControlProgram) (path : PathView) (control : Control) (arguments : List Var) (taken : Result A Stop) (left : List Var)
+    → of_arguments tape path control (outcome_of (λ done. arguments) taken left) ≡ of_arguments_said tape path control (if_taken taken arguments)
+of_taken tape path control arguments (Ok done) left = refl
+of_taken tape path control arguments (Err (stop.Needs variable)) left = refl
+of_taken tape path control arguments (Err (stop.Alarms number value)) left = refl
+
+pub arguments_said : {A : Type 0} → (tape : List ControlProgram) (path : PathView) (words : List FlowWord) (control : Control) (reads arguments : List Var) (taken : Result A Stop) (left : List Var)
+    → outcome_of (λ done. arguments) taken left ≡ arguments_with (look_of path.fixed path) words all_vacant reads
+    → macro_effect tape path.fixed path words control reads ≡ of_arguments_said tape path control (if_taken taken arguments)
+arguments_said tape path words control reads arguments taken left e =
+    ap (of_arguments tape path control) (sym (e ∙ arguments_by_table path.fixed path words all_vacant reads))
+    ∙ of_taken tape path control arguments taken left
+
+-- a block of words that calls no macro, and stands at no wait
+pub plain : (tape : List ControlProgram) (fixed : Fixed) (path : PathView) (purpose : Purpose) (words : List FlowWord) (control : Control) (reads : List Var)
+    → is_macro_call purpose ≡ false → of_purpose tape fixed path purpose words control reads ≡ words_effect tape fixed path purpose words control reads
+plain tape fixed path MacroCall words control reads is = absurd cc
+plain tape fixed path Subprogram words control reads is = refl
+plain tape fixed path Return words control reads is = refl
+plain tape fixed path Wait words control reads is = refl
+plain tape fixed path Dwell words control reads is = refl
+plain tape fixed path Setting words control reads is = refl
+plain tape fixed path Other words control reads is = refl
+
+pub unwaiting : (tape : List ControlProgram) (fixed : Fixed) (path : PathView) (purpose : Purpose) (words : List FlowWord) (control : Control) (reads : List Var)
+    → ((code : ℕ) → control ≢ AtWait code) → is_macro_call purpose ≡ false
+    → block_of_words tape fixed path purpose words control reads ≡ words_effect tape fixed path purpose words control reads
+unwaiting tape fixed path purpose words (AtWait n) reads is calls = absurd (is n refl)
+unwaiting tape fixed path purpose words Next reads is calls = plain tape fixed path purpose words Next reads calls
+unwaiting tape fixed path purpose words (Goto n) reads is calls = plain tape fixed path purpose words (Goto n) reads calls
+unwaiting tape fixed path purpose words (While n) reads is calls = plain tape fixed path purpose words (While n) reads calls
+unwaiting tape fixed path purpose words (Do n) reads is calls = plain tape fixed path purpose words (Do n) reads calls
+unwaiting tape fixed path purpose words (EndLoop n) reads is calls = plain tape fixed path purpose words (EndLoop n) reads calls
+unwaiting tape fixed path purpose words End reads is calls = plain tape fixed path purpose words End reads calls
+unwaiting tape fixed path purpose words (Call p r) reads is calls = plain tape fixed path purpose words (Call p r) reads calls
+unwaiting tape fixed path purpose words Back reads is calls = plain tape fixed path purpose words Back reads calls
+unwaiting tape fixed path purpose words (BackTo n) reads is calls = plain tape fixed path purpose words (BackTo n) reads calls
+
+-- a block that calls a macro
+pub called : (purpose : Purpose) (waits : WaitCodes) (words : List FlowWord) → purpose ≡ MacroCall → (program : ℕ) × (repeats : ℕ) × (control_by purpose waits words ≡ Call program repeats)
+called MacroCall waits words is = (_, _, refl)
+called _ waits words is = absurd cc
+
+-- behind a block that is no end control goes on
+pub goes : (tape : List ControlProgram) (moved : Moved) (arguments : Option (List Var)) (control : Control) → control ≢ End
+    → controlled tape moved arguments control ≡ done_by moved (goes_on tape (standing_of moved.path) arguments control)
+goes tape moved arguments End is = absurd (is refl)
+goes tape moved arguments Next is = refl
+goes tape moved arguments (Goto n) is = refl
+goes tape moved arguments (While n) is = refl
+goes tape moved arguments (Do n) is = refl
+goes tape moved arguments (EndLoop n) is = refl
+goes tape moved arguments (AtWait n) is = refl
+goes tape moved arguments (Call program repeats) is = refl
+goes tape moved arguments Back is = refl
+goes tape moved arguments (BackTo n) is = refl
+
+-- where the running block has one behind it, whatever was decided may be done
+pub may_take : (path : PathView) (decided : Decision) → MayPass path.place → MayTake path decided
+may_take path (decision.Need variable) may = tt
+may_take path (decision.AtWait code) may = tt
+may_take path (decision.AtEnd step) may = tt
+may_take path (decision.Alarm number value) may = tt
+may_take path (decision.Words step route) may = may
+may_take path (decision.Macro program repeats arguments) may = may
+may_take path (decision.Statement step) may = may

@@ -1,0 +1,138 @@
+-- A statement asks for no more values than it names variables, and for shared ones alone.
+use Rattle.std.proofs.Common.{◌≡◌, ℕ, ◌+◌, ◌≤◌, Bool, true, false, List, [], ◌∷◌, ◌++◌, Result, Ok, Err, arith, if◌then◌else◌}
+use Rattle.nc_number.specs.declared.cause.Cause.{Cause}
+use Rattle.nc_number.specs.declared.point.Point.{Point}
+use Rattle.nc_number.specs.declared.value.Var.{Var}
+use Rattle.common_vars.specs.declared.variable.Variable.{Variable}
+use Rattle.common_vars.specs.declared.variable.Variable.TheVariants as variable
+use Rattle.common_vars.specs.Variables.{variable_of}
+use Rattle.offset_store.specs.declared.slot.Slot.{Slot}
+use Rattle.offset_store.specs.declared.slot.Slot.TheVariants.{Work}
+use Rattle.offset_store.specs.declared.fault.OffsetFault.{OffsetFault}
+use Rattle.offset_store.specs.Changes.{in_range, point_at}
+use Rattle.block_order.specs.declared.program.ControlProgram.{ControlProgram}
+use Rattle.macro_expr.specs.Tree.{Tree, Named, Fixed as Numbered, Computed, Test, Aim, ToNumber, ToNumberOf, Sentence, Assign, Goto, IfGoto, IfThen, WhileDo, DoOnly, EndLoop, variables, variables_in, evaluated_name, evaluated_aim, evaluated as evaluated_in}
+use Rattle.macro_eval.specs.Meaning.{whole_number, variable_number}
+use Rattle.path_state.specs.View.{Fixed, PathView}
+use Rattle.path_state.specs.Outcomes.{Outcome, ◌>>=◌, evaluated}
+use Rattle.path_state.specs.Places.{Standing, jumped, loop_left, loop_again}
+use Rattle.path_state.specs.Statements.{After, standing_of, existing, number_named, length_of, along, with_offset, written_path, written, named, assigned, tested, sequence_number, aimed, moved, gone_to, gone_next, assigned_next, statement_effect}
+use Rattle.path_state.proofs.NeedsShared.{Asks, then_asks, none_asks, tree_asks}
+
+append_variables : (first second : List Tree)
+    → variables_in (first ++ second) ≡ variables_in first + variables_in second
+append_variables [] second = omega arith
+append_variables (tree ∷ first) second = let rest = append_variables first second in omega arith
+
+module _ (fixed : Fixed) (path : PathView) where
+  named_asks : (name : Named) (reads : List Var)
+      → Asks fixed (variables_in (evaluated_name name)) reads (named fixed path name reads)
+  named_asks (Numbered n) reads = none_asks fixed 0 reads (existing (variable_of n))
+  named_asks (Computed tree) reads =
+      then_asks fixed (variables tree) 0 _ (omega arith) reads (evaluated fixed path tree reads) _
+      (tree_asks fixed path tree reads)
+      (λ value left. none_asks fixed 0 left (number_named (variable_number value)))
+
+  offset_asks : (slot : Slot) (to : Result Point OffsetFault) (left : List Var)
+      → Asks fixed 0 left (written_path (with_offset path slot to) left)
+  offset_asks slot (Ok to) left = omega arith
+  offset_asks slot (Err fault) left = tt
+
+  written_asks : (v : Variable) (value : Var) (left : List Var)
+      → Asks fixed 0 left (written fixed path v value left)
+  written_asks (variable.Local i) value left = omega arith
+  written_asks (variable.Common v) value left = omega arith
+  written_asks (variable.Work n axis) value left =
+      offset_asks (Work n) (in_range (along axis (length_of value) (point_at path.offsets (Work n))))
+      left
+  written_asks variable.Raise value left = tt
+  written_asks _ value left = tt
+
+  assigned_asks : (name : Named) (tree : Tree) (reads : List Var)
+      → Asks fixed (variables_in (evaluated_name name ++ tree ∷ [])) reads
+      (assigned fixed path name tree reads)
+  assigned_asks name tree reads =
+      let all = append_variables (evaluated_name name) (tree ∷ []) in
+      then_asks fixed (variables_in (evaluated_name name)) (variables tree) _ (omega arith) reads
+      (named fixed path name reads) _ (named_asks name reads)
+      (λ v behind_name. then_asks fixed (variables tree) 0 _ (omega arith) behind_name
+      (evaluated fixed path tree behind_name) _
+      (tree_asks fixed path tree behind_name) (λ value left. written_asks v value left))
+
+  assigned_next_asks : (name : Named) (tree : Tree) (reads : List Var)
+      → Asks fixed (variables_in (evaluated_name name ++ tree ∷ [])) reads
+      (assigned_next fixed path name tree reads)
+  assigned_next_asks name tree reads =
+      then_asks fixed (variables_in (evaluated_name name ++ tree ∷ [])) 0 _ (omega arith) reads
+      (assigned fixed path name tree reads) _
+      (assigned_asks name tree reads) (λ after left. omega arith)
+
+  tested_asks : (test : Test) (reads : List Var)
+      → Asks fixed (variables test.left + variables test.right) reads (tested fixed path test reads)
+  tested_asks test reads =
+      then_asks fixed (variables test.left) (variables test.right) _ (omega arith) reads
+      (evaluated fixed path test.left reads) _
+      (tree_asks fixed path test.left reads)
+      (λ left behind_left. then_asks fixed (variables test.right) 0 _ (omega arith) behind_left
+      (evaluated fixed path test.right behind_left) _
+      (tree_asks fixed path test.right behind_left) (λ right rest. omega arith))
+
+  aimed_asks : (aim : Aim) (reads : List Var)
+      → Asks fixed (variables_in (evaluated_aim aim)) reads (aimed fixed path aim reads)
+  aimed_asks (ToNumber n) reads = omega arith
+  aimed_asks (ToNumberOf tree) reads =
+      then_asks fixed (variables tree) 0 _ (omega arith) reads (evaluated fixed path tree reads) _
+      (tree_asks fixed path tree reads)
+      (λ value left. none_asks fixed 0 left (sequence_number (whole_number value)))
+
+  moved_asks : (to : Result Standing Cause) (most : ℕ) (left : List Var)
+      → Asks fixed most left (moved path to left)
+  moved_asks (Ok to) most left = omega arith
+  moved_asks (Err cause) most left = tt
+
+  gone_to_asks : (tape : List ControlProgram) (aim : Aim) (reads : List Var)
+      → Asks fixed (variables_in (evaluated_aim aim)) reads (gone_to tape fixed path aim reads)
+  gone_to_asks tape aim reads =
+      then_asks fixed (variables_in (evaluated_aim aim)) 0 _ (omega arith) reads
+      (aimed fixed path aim reads) _ (aimed_asks aim reads)
+      (λ n left. moved_asks (jumped tape (standing_of path) n) 0 left)
+
+  gone_next_asks : (most : ℕ) (reads : List Var) → Asks fixed most reads (gone_next path reads)
+  gone_next_asks most reads = omega arith
+
+  -- by what a condition comes to
+  test_asks : (test : Test) (most all : ℕ) → variables test.left + variables test.right + most ≤ all
+      → (reads : List Var) (one other : List Var → Outcome After)
+      → ((left : List Var) → Asks fixed most left (one left))
+      → ((left : List Var) → Asks fixed most left (other left))
+      → Asks fixed all reads
+      (tested fixed path test reads >>= λ holds left. if holds then one left else other left)
+  test_asks test most all within reads one other first second =
+      then_asks fixed (variables test.left + variables test.right) most all within reads
+      (tested fixed path test reads) _ (tested_asks test reads) either
+    where
+      either : (holds : Bool) (left : List Var)
+          → Asks fixed most left (if holds then one left else other left)
+      either true left = first left
+      either false left = second left
+
+  -- a statement
+  pub statement_asks : (tape : List ControlProgram) (sentence : Sentence) (reads : List Var)
+      → Asks fixed (variables_in (evaluated_in sentence)) reads
+      (statement_effect tape fixed path sentence reads)
+  statement_asks tape (Assign name tree) reads = assigned_next_asks name tree reads
+  statement_asks tape (Goto aim) reads = gone_to_asks tape aim reads
+  statement_asks tape (IfGoto test aim) reads =
+      test_asks test (variables_in (evaluated_aim aim)) _ (omega arith) reads
+      (gone_to tape fixed path aim) (gone_next path)
+      (gone_to_asks tape aim) (gone_next_asks (variables_in (evaluated_aim aim)))
+  statement_asks tape (IfThen test name tree) reads =
+      let most = variables_in (evaluated_name name ++ tree ∷ []) in
+      test_asks test most _ (omega arith) reads (assigned_next fixed path name tree) (gone_next path)
+      (assigned_next_asks name tree) (gone_next_asks most)
+  statement_asks tape (WhileDo test name) reads =
+      test_asks test 0 _ (omega arith) reads (gone_next path)
+      (λ left. moved path (loop_left tape (standing_of path)) left)
+      (gone_next_asks 0) (moved_asks (loop_left tape (standing_of path)) 0)
+  statement_asks tape (DoOnly name) reads = gone_next_asks 0 reads
+  statement_asks tape (EndLoop name) reads = moved_asks (loop_again tape (standing_of path)) 0 reads

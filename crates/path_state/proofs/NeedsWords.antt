@@ -1,0 +1,168 @@
+-- A block asks for no more values than it names variables, and for shared ones alone.
+use Rattle.std.proofs.Common.{◌≡◌, ℕ, ◌<◌, ◌≤◌, true, List, [], ◌∷◌, length, Option, Some, None, Result, Ok, Err, subst, arith}
+use Rattle.nc_number.specs.declared.cause.Cause.{Cause}
+use Rattle.nc_number.specs.declared.value.Var.{Var}
+use Rattle.local_levels.specs.Stack.{all_vacant}
+use Rattle.block_order.specs.declared.control.Control.{Control}
+use Rattle.block_order.specs.declared.control.Control.TheVariants as control
+use Rattle.block_order.specs.declared.program.ControlProgram.{ControlProgram}
+use Rattle.block_forms.specs.declared.word.FlowWord.{FlowWord}
+use Rattle.block_forms.specs.declared.word.WordValue.{WordValue}
+use Rattle.block_forms.specs.declared.word.WordValue.TheVariants.{Fixed as Written, Computed}
+use Rattle.block_forms.specs.declared.block.FlowBlock.{FlowBlock}
+use Rattle.block_forms.specs.declared.body.FlowBody.{FlowBody}
+use Rattle.block_forms.specs.declared.body.FlowBody.TheVariants.{Words, Statement}
+use Rattle.block_forms.specs.declared.purpose.Purpose.{Purpose}
+use Rattle.block_forms.specs.declared.purpose.Purpose.TheVariants.{MacroCall}
+use Rattle.block_forms.specs.Variables.{variables_of_value, variables_of_words, variables_of_body}
+use Rattle.macro_expr.specs.Tree.{variables, variables_in, evaluated as evaluated_in, sentence_of}
+use Rattle.tape_flow.specs.declared.flow.Flow.{Flow}
+use Rattle.path_state.specs.View.{Fixed, PathView}
+use Rattle.path_state.specs.Looks.{is_shared}
+use Rattle.path_state.specs.Outcomes.{Outcome, Gives, Needs, Alarms, evaluated}
+use Rattle.path_state.specs.Values.{Values, Sense, nothing_said, sense_of, taken, taken_var, word_taken, words_taken}
+use Rattle.path_state.specs.Arguments.{argument_taken, arguments_taken}
+use Rattle.path_state.specs.Places.{Standing, goes_on}
+use Rattle.path_state.specs.Statements.{After, standing_of}
+use Rattle.path_state.specs.Effect.{Effect, Need, Done, AtWait, AtEnd, Alarm, Moved, acted, done_by, controlled, of_moved, of_values, of_arguments, of_purpose, block_of_words, of_after, effect_of_body, effect_of_block, block_at, effect_of}
+use Rattle.path_state.specs.Controlled.{AsksForShared}
+use Rattle.path_state.proofs.NeedsShared.{Asks, then_asks, none_asks, tree_asks}
+use Rattle.path_state.proofs.NeedsStatements.{statement_asks}
+
+-- what an effect needs is shared, and fewer values were given than so many
+abbrev pub AsksFor : Fixed → ℕ → List Var → Effect → Type 0
+AsksFor fixed most reads (Need variable) = (is_shared fixed variable ≡ true) × (length reads < most)
+AsksFor fixed most reads _ = Unit {0}
+
+module _ (fixed : Fixed) (path : PathView) where
+  word_asks : (sense : Sense) (letter : ℕ) (value : WordValue) (values : Values) (reads : List Var)
+      → Asks fixed (variables_of_value value) reads (word_taken fixed path sense letter value values reads)
+  word_asks sense letter (Written literal) values reads =
+      none_asks fixed 0 reads (taken sense letter literal values)
+  word_asks sense letter (Computed minus tree) values reads =
+      then_asks fixed (variables tree) 0 _ (omega arith) reads (evaluated fixed path tree reads) _
+      (tree_asks fixed path tree reads)
+      (λ value left. none_asks fixed 0 left (taken_var sense letter minus value values))
+
+  words_asks : (sense : Sense) (words : List FlowWord) (values : Values) (reads : List Var)
+      → Asks fixed (variables_of_words words) reads (words_taken fixed path sense words values reads)
+  words_asks sense [] values reads = omega arith
+  words_asks sense (word ∷ words) values reads =
+      then_asks fixed (variables_of_value word.value) (variables_of_words words) _ (omega arith) reads
+      (word_taken fixed path sense word.letter word.value values reads) _
+      (word_asks sense word.letter word.value values reads)
+      (λ next left. words_asks sense words next left)
+
+  argument_asks : (letter : ℕ) (value : WordValue) (arguments reads : List Var)
+      → Asks fixed (variables_of_value value) reads (argument_taken fixed path letter value arguments reads)
+  argument_asks letter (Written literal) arguments reads = omega arith
+  argument_asks letter (Computed minus tree) arguments reads =
+      then_asks fixed (variables tree) 0 _ (omega arith) reads (evaluated fixed path tree reads) _
+      (tree_asks fixed path tree reads)
+      (λ value left. omega arith)
+
+  arguments_asks : (words : List FlowWord) (arguments reads : List Var)
+      → Asks fixed (variables_of_words words) reads (arguments_taken fixed path words arguments reads)
+  arguments_asks [] arguments reads = omega arith
+  arguments_asks (word ∷ words) arguments reads =
+      then_asks fixed (variables_of_value word.value) (variables_of_words words) _ (omega arith) reads
+      (argument_taken fixed path word.letter word.value arguments reads) _
+      (argument_asks word.letter word.value arguments reads)
+      (λ next left. arguments_asks words next left)
+
+  module _ (tape : List ControlProgram) (most : ℕ) (reads : List Var) where
+    -- behind the words nothing is needed
+    done-asks : (moved : Moved) (to : Result Standing Cause)
+        → AsksFor fixed most reads (done_by moved to)
+    done-asks moved (Ok to) = tt
+    done-asks moved (Err cause) = tt
+
+    controlled-asks : (moved : Moved) (arguments : Option (List Var)) (c : Control)
+        → AsksFor fixed most reads (controlled tape moved arguments c)
+    controlled-asks moved arguments control.End = tt
+    controlled-asks moved arguments c = done-asks moved (goes_on tape (standing_of moved.path) arguments c)
+
+    moves-ask : (c : Control) (moved : Result Moved ℕ)
+        → AsksFor fixed most reads (of_moved tape c moved)
+    moves-ask c (Ok moved) = controlled-asks moved None c
+    moves-ask c (Err number) = tt
+
+    values-ask : (words : List FlowWord) (c : Control) (values : Outcome Values)
+        → Asks fixed most reads values
+        → AsksFor fixed most reads (of_values tape fixed path words c values)
+    values-ask words c (Gives values left) asks = moves-ask c (acted fixed path words values)
+    values-ask words c (Needs variable) asks = asks
+    values-ask words c (Alarms number value) asks = tt
+
+    arguments-ask : (c : Control) (arguments : Outcome (List Var)) → Asks fixed most reads arguments
+        → AsksFor fixed most reads (of_arguments tape path c arguments)
+    arguments-ask c (Gives arguments left) asks =
+        controlled-asks (record { path = path; moves = [] }) (Some arguments) c
+    arguments-ask c (Needs variable) asks = asks
+    arguments-ask c (Alarms number value) asks = tt
+
+    after-asks : (after : Outcome After) → Asks fixed most reads after
+        → AsksFor fixed most reads (of_after after)
+    after-asks (Gives after left) asks = tt
+    after-asks (Needs variable) asks = asks
+    after-asks (Alarms number value) asks = tt
+
+  purpose-asks : (tape : List ControlProgram) (purpose : Purpose) (words : List FlowWord) (c : Control)
+      (reads : List Var)
+      → AsksFor fixed (variables_of_words words) reads (of_purpose tape fixed path purpose words c reads)
+  purpose-asks tape MacroCall words c reads =
+      arguments-ask tape (variables_of_words words) reads c _ (arguments_asks words all_vacant reads)
+  purpose-asks tape purpose words c reads =
+      values-ask tape (variables_of_words words) reads words c _
+      (words_asks (sense_of path purpose words) words nothing_said reads)
+
+  block-asks : (tape : List ControlProgram) (purpose : Purpose) (words : List FlowWord) (c : Control)
+      (reads : List Var)
+      → AsksFor fixed (variables_of_words words) reads (block_of_words tape fixed path purpose words c reads)
+  block-asks tape purpose words (control.Wait code) reads = tt
+  block-asks tape purpose words c reads = purpose-asks tape purpose words c reads
+
+  -- what stands in a block asks for as many values as it names variables, at most
+  pub body_asks : (tape : List ControlProgram) (body : FlowBody) (c : Control) (reads : List Var)
+      → AsksFor fixed (variables_of_body body) reads (effect_of_body tape fixed path body c reads)
+  body_asks tape (Words words) c reads = block-asks tape words.purpose words.words c reads
+  body_asks tape (Statement statement) c reads =
+      after-asks tape (variables_in (evaluated_in (sentence_of statement.statement))) reads _
+      (statement_asks fixed path tape (sentence_of statement.statement) reads)
+
+-- a body with so many variables asks for no more values
+pub body_most : (tape : List ControlProgram) (fixed : Fixed) (path : PathView) (body : FlowBody)
+    (c : Control) (reads : List Var) (variable : ℕ)
+    → effect_of_body tape fixed path body c reads ≡ Need variable
+    → length reads < variables_of_body body
+body_most tape fixed path body c reads variable is =
+    (subst (λ effect. AsksFor fixed (variables_of_body body) reads effect) is
+    (body_asks fixed path tape body c reads)).1
+
+within_room : (path : PathView) (most : ℕ) (reads : List Var) (effect : Effect) → most ≤ 32
+    → AsksFor path.fixed most reads effect
+    → AsksForShared path reads effect
+within_room path most reads (Need variable) few asks = (asks.0, (let fewer = asks.1 in omega arith))
+within_room path most reads (Done after write moves) few asks = tt
+within_room path most reads (AtWait code) few asks = tt
+within_room path most reads (AtEnd after moves) few asks = tt
+within_room path most reads (Alarm number value) few asks = tt
+
+found_asks : (tape : List ControlProgram) (path : PathView) (found : Option FlowBlock)
+    (reads : List Var)
+    → AsksForShared path reads (effect_of_block tape path found reads)
+found_asks tape path None reads = tt
+found_asks tape path (Some block) reads =
+    within_room path (variables_of_body block.body) reads
+    (effect_of_body tape path.fixed path block.body block.control reads) block.few
+    (body_asks path.fixed path tape block.body block.control reads)
+
+-- every block
+pub block_asks : (flow : Flow) (path : PathView) (reads : List Var)
+    → AsksForShared path reads (effect_of flow path reads)
+block_asks flow path reads = found_asks flow.order path (block_at flow.programs path.place) reads
+
+pub needed_shared : (flow : Flow) (path : PathView) (reads : List Var) (variable : ℕ)
+    → effect_of flow path reads ≡ Need variable → is_shared path.fixed variable ≡ true
+needed_shared flow path reads variable is =
+    (subst (λ effect. AsksForShared path reads effect) is (block_asks flow path reads)).0

@@ -1,0 +1,10 @@
+-- A level of local variables for each call of a macro: not more levels than calls.
+use Rattle.std.proofs.Common.{◌≤◌, List, [], ◌∷◌, length, arith}
+use Rattle.block_forms.specs.declared.called.CallKind.{CallKind}
+use Rattle.block_forms.specs.declared.called.CallKind.TheVariants.{Macro, Subprogram}
+use Rattle.path_state.specs.Routes.{macros}
+
+pub macros_few : (calls : List CallKind) → macros calls ≤ length calls
+macros_few [] = omega arith
+macros_few (Macro ∷ calls) = let few = macros_few calls in omega arith
+macros_few (Subprogram ∷ calls) = let few = macros_few calls in omega arith

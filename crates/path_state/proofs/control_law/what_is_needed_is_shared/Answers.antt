@@ -1,0 +1,5 @@
+use Rattle.path_state.proofs.NeedsWords.{needed_shared}
+use Rattle.path_state.proofs.control_law.what_is_needed_is_shared.Goals as goal
+
+pub returns : goal.returns
+returns c = needed_shared

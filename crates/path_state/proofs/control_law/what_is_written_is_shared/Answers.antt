@@ -1,0 +1,5 @@
+use Rattle.path_state.proofs.ControlledWrites.{shared_written}
+use Rattle.path_state.proofs.control_law.what_is_written_is_shared.Goals as goal
+
+pub returns : goal.returns
+returns c = shared_written

@@ -1,0 +1,9 @@
+use Rattle.std.proofs.Common.{◌≡◌, drop}
+use Rattle.offset_store.specs.Offsets.{no_offsets}
+use Rattle.path_state.specs.Opening.{with_presets}
+use Rattle.path_state.proofs.path.preset_offsets.Given as goal
+
+-- what is set so far, and the rest of the settings, come to what all come to
+abbrev pub invariant-loop-preset : goal.invariant-loop-preset
+invariant-loop-preset l =
+    with_presets l.path (drop l.preset-index l.presets) l.offsets ≡ with_presets l.fn.path l.fn.presets no_offsets

@@ -1,0 +1,26 @@
+-- What a block does to the labels ahead of its path.
+use Rattle.std.specs.Prelude.{◌≡◌, List, [], ◌∷◌, Option, Some}
+use Rattle.block_order.specs.declared.control.Control.{Control}
+use Rattle.block_order.specs.declared.control.Control.TheVariants.{Back}
+use Rattle.block_order.specs.declared.frame.Frame.{Frame}
+use Rattle.block_order.specs.declared.label.Label.TheVariants as label
+use Rattle.block_order.specs.declared.program.ControlProgram.{ControlProgram}
+use Rattle.block_order.specs.Labels.{ahead, list}
+use Rattle.block_order.specs.Steps.{IsPlace, passed, standing}
+use Rattle.path_state.specs.View.{PathView}
+use Rattle.path_state.specs.Effect.{Effect, Need, Done, AtWait, AtEnd, Alarm}
+
+-- from place to place the labels stay, but at an M99 of the main program with no call open they begin anew
+abbrev pub AheadOf : List ControlProgram → List Frame → Option Control → List Frame → Type 0
+AheadOf tape (f ∷ []) (Some Back) to = (ahead tape (f ∷ []) ≡ label.Again ∷ []) × (ahead tape to ≡ list tape)
+AheadOf tape place control to = ahead tape to ≡ ahead tape place
+
+-- at a wait the labels begin with it, and it goes with the passing; at an end they are End alone
+abbrev pub KeepsAhead : List ControlProgram → PathView → Effect → Type 0
+KeepsAhead tape path (Need variable) = Unit {0}
+KeepsAhead tape path (Done after write moves) =
+    IsPlace tape after.place × AheadOf tape path.place (standing tape path.place) after.place
+KeepsAhead tape path (AtWait code) =
+    IsPlace tape (passed path.place) × (ahead tape path.place ≡ label.Wait code ∷ ahead tape (passed path.place))
+KeepsAhead tape path (AtEnd after moves) = (after.place ≡ path.place) × (ahead tape path.place ≡ label.End ∷ [])
+KeepsAhead tape path (Alarm number value) = Unit {0}

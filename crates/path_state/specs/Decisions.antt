@@ -1,0 +1,69 @@
+-- What a decision of the code comes to, as an effect.
+use Rattle.std.specs.Prelude.{ℕ, List, [], Option, Some, None, Result, Ok, Err, ℤ}
+use Rattle.nc_number.specs.declared.value.Var.{Var}
+use Rattle.block_order.specs.PlaceSteps.{MayPass}
+use Rattle.path_state.specs.declared.words_step.WordsStep.{WordsStep}
+use Rattle.path_state.specs.declared.decision.Decision.{Decision}
+use Rattle.path_state.specs.declared.decision.Decision.TheVariants as decision
+use Rattle.path_state.specs.declared.outcome.Stop.{Stop}
+use Rattle.path_state.specs.declared.outcome.Stop.TheVariants as stop
+use Rattle.block_order.specs.declared.control.Control.{Control}
+use Rattle.block_order.specs.declared.program.ControlProgram.{ControlProgram}
+use Rattle.block_forms.specs.declared.word.FlowWord.{FlowWord}
+use Rattle.path_state.specs.declared.values.Values as kept
+use Rattle.path_state.specs.Seen.{values_seen}
+use Rattle.path_state.specs.View.{PathView}
+use Rattle.path_state.specs.Places.{Standing}
+use Rattle.path_state.specs.declared.route.Route.TheVariants.{Call}
+use Rattle.path_state.specs.Routes.{gone}
+use Rattle.path_state.specs.Statements.{standing_of, with_standing}
+use Rattle.path_state.specs.StatementSteps.{after_step, done_at}
+use Rattle.path_state.specs.Effect.{Effect, Need, Done, AtWait, AtEnd, Alarm, Moved, acted, controlled, of_moved, with_set_offset}
+
+-- the path behind the words of a block, at the same place
+abbrev pub behind_words : PathView → WordsStep → PathView
+behind_words path step = record path {
+  modal = step.in_force;
+  offsets = with_set_offset path.offsets step.offset;
+  position = step.position;
+}
+
+-- what words do, or the number of their alarm
+abbrev pub moved_seen : PathView → Result WordsStep ℕ → Result Moved ℕ
+moved_seen path (Ok step) = Ok (record { path = behind_words path step; moves = step.moves })
+moved_seen path (Err number) = Err number
+
+-- the need or the alarm at which a step stopped
+abbrev pub stopped : Stop → Effect
+stopped (stop.Needs variable) = Need variable
+stopped (stop.Alarms number value) = Alarm number value
+
+-- a block whose words say these values, or say nothing
+abbrev pub of_said : List ControlProgram → PathView → List FlowWord → Control → Result kept.Values Stop → Effect
+of_said tape path words control (Ok values) = of_moved tape control (acted path.fixed path words (values_seen values))
+of_said tape path words control (Err stop) = stopped stop
+
+-- a macro call with these arguments, or without them
+abbrev pub of_arguments_said : List ControlProgram → PathView → Control → Result (List Var) Stop → Effect
+of_arguments_said tape path control (Ok arguments) =
+    controlled tape (record { path = path; moves = [] }) (Some arguments) control
+of_arguments_said tape path control (Err stop) = stopped stop
+
+-- a decision as an effect
+abbrev pub decided : PathView → Decision → Effect
+decided path (decision.Need variable) = Need variable
+decided path (decision.AtWait code) = AtWait code
+decided path (decision.AtEnd step) = AtEnd (behind_words path step) step.moves
+decided path (decision.Alarm number value) = Alarm number value
+decided path (decision.Words step route) =
+    Done (with_standing (behind_words path step) (gone (standing_of path) None route)) None step.moves
+decided path (decision.Macro program repeats arguments) =
+    Done (with_standing path (gone (standing_of path) (Some arguments) (Call program repeats))) None []
+decided path (decision.Statement step) = done_at (after_step path step)
+
+-- where control goes on from a block, there is a number for the one behind it
+abbrev pub MayTake : PathView → Decision → Type 0
+MayTake path (decision.Words step route) = MayPass path.place
+MayTake path (decision.Macro program repeats arguments) = MayPass path.place
+MayTake path (decision.Statement step) = MayPass path.place
+MayTake path _ = Unit {0}

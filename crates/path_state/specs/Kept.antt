@@ -1,0 +1,37 @@
+-- What a path keeps at all times.
+use Rattle.std.specs.Prelude.{◌≤◌, List}
+use Rattle.nc_number.specs.declared.point.Point.{Point}
+use Rattle.nc_number.specs.declared.value.Var.{Var}
+use Rattle.nc_number.specs.Position.{IsPosition}
+use Rattle.modal_state.specs.View.{ModalView}
+use Rattle.offset_store.specs.Table.{OffsetTable}
+use Rattle.path_state.specs.declared.path.Fixed as kept
+use Rattle.path_state.specs.View.{Fixed, PathView}
+use Rattle.path_state.specs.Places.{Standing}
+use Rattle.path_state.specs.Routes.{IsMatched}
+use Rattle.path_state.specs.Statements.{standing_of}
+
+abbrev pub fixed_of : kept.Fixed → Fixed
+fixed_of fixed = record { home = fixed.home; shared100 = fixed.shared100; shared500 = fixed.shared500 }
+
+-- a path of these parts
+abbrev pub path_of : Standing → List Var → ModalView → OffsetTable → Point → kept.Fixed → PathView
+path_of standing own modal offsets position fixed = record {
+  place = standing.place;
+  calls = standing.calls;
+  levels = standing.levels;
+  own = own;
+  modal = modal;
+  offsets = offsets;
+  position = position;
+  fixed = fixed_of fixed;
+}
+
+-- Its turret and its reference position are positions, the paths share at most 100 and 500 variables, and its levels are those
+-- of its calls of macros.
+pub record IsKept (path : PathView) : Type 0 where
+  pub position : IsPosition path.position
+  pub home : IsPosition path.fixed.home
+  pub shared100 : path.fixed.shared100 ≤ 100
+  pub shared500 : path.fixed.shared500 ≤ 500
+  pub matched : IsMatched (standing_of path)

@@ -1,0 +1,58 @@
+-- A path as its tape begins.
+use Rattle.std.specs.Prelude.{ℕ, List, [], ◌∷◌, slice_index_or, if◌then◌else◌}
+use Rattle.nc_number.specs.declared.path.Path.{Path}
+use Rattle.nc_number.specs.declared.point.Point.{Point}
+use Rattle.nc_number.specs.Path.{index_of}
+use Rattle.cell_settings.specs.declared.preset.Preset.{Preset}
+use Rattle.cell_settings.specs.declared.preset.PresetKind.{PresetKind}
+use Rattle.cell_settings.specs.declared.preset.PresetKind.TheVariants as kind
+use Rattle.cell_settings.specs.declared.settings.Settings.{Settings}
+use Rattle.cell_settings.specs.Preset.{is_path}
+use Rattle.common_vars.specs.Common.{none_written}
+use Rattle.local_levels.specs.Stack.{base_level}
+use Rattle.modal_state.specs.Modal.{opening_modal}
+use Rattle.offset_store.specs.declared.slot.Slot.{Slot}
+use Rattle.offset_store.specs.declared.slot.Slot.TheVariants.{Work, Geometry, Wear}
+use Rattle.offset_store.specs.Table.{OffsetTable}
+use Rattle.offset_store.specs.Lists.{origin}
+use Rattle.offset_store.specs.Offsets.{no_offsets}
+use Rattle.offset_store.specs.Changes.{with_point}
+use Rattle.block_order.specs.Labels.{start}
+use Rattle.tape_flow.specs.declared.flow.Flow.{Flow}
+use Rattle.path_state.specs.View.{PathView}
+
+-- the offset that a setting speaks of
+abbrev pub preset_slot : PresetKind → ℕ → Slot
+preset_slot kind.Work n = Work n
+preset_slot kind.Geometry n = Geometry n
+preset_slot kind.Wear n = Wear n
+
+abbrev pub with_preset : Path → Preset → OffsetTable → OffsetTable
+with_preset path preset offsets =
+    if is_path preset.path path then with_point offsets (preset_slot preset.kind preset.number) preset.to else offsets
+
+-- the offsets with those that the settings have for the path
+abbrev pub with_presets : Path → List Preset → OffsetTable → OffsetTable
+with_presets path [] offsets = offsets
+with_presets path (preset ∷ presets) offsets = with_presets path presets (with_preset path preset offsets)
+
+-- the point that the settings have for the path
+abbrev pub point_of : Path → List Point → Point
+point_of path points = slice_index_or points (index_of path) origin
+
+-- a path at the first block of its main program, with nothing said: its turret and its offsets are as the settings have them
+abbrev pub opening_path : Flow → Settings → Path → PathView
+opening_path flow settings path = record {
+  place = start flow.order;
+  calls = [];
+  levels = base_level ∷ [];
+  own = none_written;
+  modal = opening_modal;
+  offsets = with_presets path settings.presets no_offsets;
+  position = point_of path settings.place;
+  fixed = record {
+    home = point_of path settings.home;
+    shared100 = settings.shared100;
+    shared500 = settings.shared500;
+  };
+}

@@ -1,0 +1,14 @@
+/// Where control goes behind a block that is done.
+#[derive(Clone, Copy, Debug, PartialEq, Eq)]
+pub(crate) enum Route {
+    /// To the next block.
+    Next,
+    /// To a block of the running program.
+    To(u32),
+    /// Into a program that is called, to run it so many times.
+    Call { program: u16, repeats: u16 },
+    /// Back, as M99 leads: to the next repeat, behind the call, or to the start of the main program.
+    Back,
+    /// Back to a block of the caller, in the main program to one of its own.
+    BackTo(u32),
+}

@@ -1,0 +1,19 @@
+//! What the words of a block do to its path, but for where control goes.
+
+use crate::in_force::InForce;
+use nc_number::Point;
+use nc_outside::MoveList;
+use offset_store::Slot;
+
+/// What the words of a block do to its path.
+#[derive(Drop)]
+pub(crate) struct WordsStep {
+    /// What is in force behind the block.
+    pub(crate) in_force: InForce,
+    /// The offset that is set, and to what.
+    pub(crate) offset: Option<(Slot, Point)>,
+    /// Where the turret stands behind the block.
+    pub(crate) position: Point,
+    /// All moves of the block.
+    pub(crate) moves: MoveList,
+}

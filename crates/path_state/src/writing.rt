@@ -1,0 +1,35 @@
+//! What a statement comes to, decided before anything changes.
+ghost use Rattle.std.specs.Prelude.{IsTrue};
+ghost use Rattle.path_state.specs.Writings.{is_possible};
+
+use crate::route::Route;
+use nc_number::{Point, Var};
+
+/// What is written, and its new value.
+#[derive(Clone, Copy, Debug, PartialEq, Eq)]
+pub(crate) enum Change {
+    /// A local variable of the running level, `#1` to `#33`.
+    Local(u8, Var),
+    /// A common variable of the path's own.
+    Own(u32, Var),
+    /// A common variable that both paths share.
+    Shared(u32, Var),
+    /// The work offset of this number, 0 to 6, in 0.001 mm.
+    Work(u8, Point),
+}
+
+/// A change that can be made: its variable exists, and an offset may be at its point.
+#[derive(Clone, Copy, Debug)]
+pub(crate) struct Writing {
+    pub(crate) change: Change,
+    ghost possible: { IsTrue (is_possible change) },
+}
+
+/// What a statement comes to.
+#[derive(Clone, Copy, Debug)]
+pub(crate) enum StatementStep {
+    /// A variable takes a value, and the next block follows.
+    Write(Writing),
+    /// Control goes somewhere.
+    Go(Route),
+}
