@@ -1,0 +1,234 @@
+-- The labels of a program as they grow block by block, and the labels that are known.
+use Rattle.std.proofs.Common.{◌≡◌, ℕ, zero, suc, ◌+◌, ◌-◌, ◌<◌, ◌≤◌, true, List, [], ◌∷◌, ◌++◌, length, drop, get_or, Some, None, ◌⊎◌, inl, inr, refl, ap, sym, subst, ◌∙◌, arith}
+use Rattle.std.proofs.lemmas.List.{append-nil, length-append}
+use Rattle.std.proofs.Math.Seq.{drop-cons}
+use Rattle.std.proofs.Math.ListN.{drop_of_length-le}
+use Rattle.nc_number.specs.declared.fault.Failing.{Failing}
+use Rattle.nc_number.specs.declared.fault.Failing.TheVariants.{Fault, NoMemory}
+use Rattle.block_order.specs.declared.control.Control.{Control}
+use Rattle.block_order.specs.declared.control.Control.TheVariants.{Next, Goto, While, Do, EndLoop, Wait, End, Call, Back, BackTo}
+use Rattle.block_order.specs.declared.label.Label.TheVariants as label
+use Rattle.block_order.specs.declared.program.ControlBlock.{ControlBlock}
+use Rattle.block_order.specs.declared.program.ControlProgram.{ControlProgram}
+use Rattle.block_order.specs.Answers.{IfFault}
+use Rattle.block_order.specs.Loud.{loud}
+use Rattle.block_order.specs.Order.{blocks, main_number, program_of}
+use Rattle.label_list.specs.declared.fault.PairFault.{PairFault}
+use Rattle.label_list.specs.declared.known.KnownPieces.{KnownPieces}
+use Rattle.label_list.specs.declared.labelled.Labelled.{Labelled}
+use Rattle.label_list.specs.declared.piece.Ending.{Ending}
+use Rattle.label_list.specs.declared.piece.Ending.TheVariants.{Stops, Returns}
+use Rattle.label_list.specs.declared.piece.Piece.{Piece}
+use Rattle.label_list.specs.Lists.{at, times, blocks_labels, off_line, whole, path_labels, most_labels}
+use Rattle.label_list.specs.Pieces.{coming, from_block, piece_known, AreKnown, IsAppended, IsTooLong, IsCallOf, IsReady, IsShort, IsShortCall, IsPiece, IsTaken, IsSoFar, IsLong, FailsAt, FailsInCall, FailsLong, IsListTooLong}
+
+-- what follows from the one fault follows for an error
+pub by_fault : (P Q : PairFault → Type 0) (error : Failing PairFault) → ((fault : PairFault) → P fault → Q fault)
+    → IfFault error P → IfFault error Q
+by_fault P Q (Fault fault) follows p = follows fault p
+by_fault P Q NoMemory follows p = tt
+
+-- a block calls one program
+pub one_call : (tape : List ControlProgram) (control : Control) (p q : ℕ) → IsCallOf tape control p → IsCallOf tape control q → p ≡ q
+one_call tape control p q a b = let e : Call p a.repeats ≡ Call q b.repeats = sym a.is ∙ b.is in cc
+
+pub call_of : (tape : List ControlProgram) (q r : ℕ) → loud tape q ≡ true → 0 < r → IsCallOf tape (Call q r) q
+call_of tape q r noisy some = record { repeats = r; is = refl; some = some; is_loud = noisy }
+
+pub ready_by : (tape : List ControlProgram) (known : KnownPieces) (control : Control) (p : ℕ) (piece : Piece)
+    → IsCallOf tape control p → piece_known known p ≡ Some piece → IsReady tape known control
+ready_by tape known control p piece call is = λ q other.
+    (piece, subst (λ k. piece_known known k ≡ Some piece) (one_call tape control p q call other) is)
+
+-- a program more is known
+pub known_more : (tape : List ControlProgram) (old new : KnownPieces) (p : ℕ) (piece : Piece) → AreKnown tape old
+    → IsPiece tape p piece.labels.items piece.ending → piece_known new p ≡ Some piece
+    → ((q : ℕ) → (q ≡ p → ⊥) → piece_known new q ≡ piece_known old q) → AreKnown tape new
+known_more tape old new p piece known is kept others = λ q found told. go q found told (same_or_not q p)
+  where
+    use_same : (found : Piece) → Some found ≡ Some piece → IsPiece tape p found.labels.items found.ending
+    use_same found e = let same : piece ≡ found = cc in subst (λ x. IsPiece tape p x.labels.items x.ending) same is
+
+    same_or_not : (m n : ℕ) → (m ≡ n) ⊎ (m ≡ n → ⊥)
+    same_or_not m n = grind arith
+
+    go : (q : ℕ) (found : Piece) → piece_known new q ≡ Some found → (q ≡ p) ⊎ (q ≡ p → ⊥) → IsPiece tape q found.labels.items found.ending
+    go q found told (inl e) =
+        subst (λ k. IsPiece tape k found.labels.items found.ending) (sym e)
+        (use_same found (sym (subst (λ k. piece_known new k ≡ Some found) e told) ∙ kept))
+    go q found told (inr n) = known q found (sym (others q n) ∙ told)
+
+-- a program in which no call may follow has no short chains
+pub short_some : (tape : List ControlProgram) (n p : ℕ) → IsShort tape n p → 0 < n
+short_some tape zero p short = absurd (short tt)
+short_some tape (suc n) p short = omega arith
+
+pub so_far_start : (tape : List ControlProgram) (p : ℕ) → IsSoFar tape p [] (blocks tape p)
+unfolding whole
+so_far_start tape p = record {
+  few = omega arith;
+  calls = λ place c is. (place, is);
+  are = λ n back short. refl;
+}
+
+-- the chains of a called program are shorter by the call
+pub short_call : (tape : List ControlProgram) (n p : ℕ) (labels : List Labelled) (b : ControlBlock) (rest : List ControlBlock)
+    → IsSoFar tape p labels (b ∷ rest) → IsShort tape (suc n) p → IsShortCall tape n b.control
+short_call tape n p labels b rest so short = go b.control refl
+  where
+    go : (c : Control) → b.control ≡ c → IsShortCall tape n c
+    go (Call q r) is = λ noisy chain.
+        let at_place = so.calls 0 b.control refl in
+        short (at_place.0, q, r, at_place.1 ∙ ap (λ k. Some k) is, noisy, chain)
+    go Next is = tt
+    go (Goto n) is = tt
+    go (While m) is = tt
+    go (Do m) is = tt
+    go (EndLoop m) is = tt
+    go (Wait code) is = tt
+    go End is = tt
+    go Back is = tt
+    go (BackTo n) is = tt
+
+-- the labels of the blocks that are left
+abbrev pub left_labels : List ControlProgram → ℕ → ℕ → (ℕ → List Labelled) → List ControlBlock → List Labelled
+left_labels tape p n back rest =
+    blocks_labels (loud tape) (λ q behind. whole tape n q (λ line. behind)) back (off_line (program_of tape p)) rest
+
+-- the block is taken and the program goes on
+pub so_far_next : (tape : List ControlProgram) (p : ℕ) (old new : List Labelled) (b : ControlBlock) (rest : List ControlBlock)
+    → IsSoFar tape p old (b ∷ rest) → IsTaken tape b.line b.control old new None → IsSoFar tape p new rest
+so_far_next tape p old new b rest so taken = record {
+  few = taken.few;
+  calls = λ place c is. so.calls (suc place) c is;
+  are = λ n back short.
+      so.are n back short
+      ∙ taken.are n back (left_labels tape p n back rest) (short_call tape n p old b rest so short);
+}
+
+ending_alone : (ending : Ending) (back : ℕ → List Labelled) (behind : List Labelled)
+    → coming (Some ending) back behind ≡ coming (Some ending) back []
+ending_alone Stops back behind = refl
+ending_alone (Returns line) back behind = refl
+
+-- the block is taken and the program ends
+pub piece_at : (tape : List ControlProgram) (p : ℕ) (old new : List Labelled) (b : ControlBlock) (rest : List ControlBlock) (ending : Ending)
+    → IsSoFar tape p old (b ∷ rest) → IsTaken tape b.line b.control old new (Some ending) → IsPiece tape p new ending
+piece_at tape p old new b rest ending so taken = record {
+  few = taken.few;
+  are = λ n back short. go n back short;
+}
+  where
+    go : (n : ℕ) (back : ℕ → List Labelled) → IsShort tape n p → whole tape n p back ≡ new ++ coming (Some ending) back []
+    go zero back short = absurd (short tt)
+    go (suc n) back short =
+        so.are n back short
+        ∙ (taken.are n back (left_labels tape p n back rest) (short_call tape n p old b rest so short)
+        ∙ ap (λ ys. new ++ ys) (ending_alone ending back (left_labels tape p n back rest)))
+
+-- all blocks are taken
+pub piece_off : (tape : List ControlProgram) (p line : ℕ) (old new : List Labelled) → IsSoFar tape p old [] → line ≡ off_line (program_of tape p)
+    → IsAppended old new (at label.Off line ∷ []) → IsPiece tape p new Stops
+piece_off tape p line old new so is appended = record {
+  few = appended.few;
+  are = λ n back short. go n back short;
+}
+  where
+    go : (n : ℕ) (back : ℕ → List Labelled) → IsShort tape n p → whole tape n p back ≡ new ++ []
+    go zero back short = absurd (short tt)
+    go (suc n) back short =
+        so.are n back short ∙ (ap (λ k. old ++ (at label.Off k ∷ [])) (sym is) ∙ (sym appended.are ∙ sym (append-nil new)))
+
+pub fails_off : (tape : List ControlProgram) (p line : ℕ) (old : List Labelled) (fault : PairFault) → IsSoFar tape p old []
+    → IsTooLong old (at label.Off line ∷ []) fault → FailsLong tape p fault
+fails_off tape p line old fault so long = record {
+  is = long.is;
+  long = λ n back short. go n back short;
+}
+  where
+    go : (n : ℕ) (back : ℕ → List Labelled) → IsShort tape n p → most_labels < length (whole tape n p back)
+    go zero back short = absurd (short tt)
+    go (suc n) back short =
+        omega (arith, ap length (so.are n back short), long.long, length-append old (at label.Off (off_line (program_of tape p)) ∷ []))
+
+-- the labels are too many already with the block
+pub fails_at : (tape : List ControlProgram) (p : ℕ) (old : List Labelled) (b : ControlBlock) (rest : List ControlBlock) (fault : PairFault)
+    → IsSoFar tape p old (b ∷ rest) → FailsAt tape b.line b.control old fault → FailsLong tape p fault
+fails_at tape p old b rest fault so fails = record {
+  is = fails.is;
+  long = λ n back short. go n back short;
+}
+  where
+    go : (n : ℕ) (back : ℕ → List Labelled) → IsShort tape n p → most_labels < length (whole tape n p back)
+    go zero back short = absurd (short tt)
+    go (suc n) back short =
+        subst (λ ys. most_labels < length ys) (sym (so.are n back short))
+        (fails.long n back (left_labels tape p n back rest) (short_call tape n p old b rest so short))
+
+-- a run of a program that is too long makes the caller too long
+called_long : (tape : List ControlProgram) (n q r line : ℕ) (back : ℕ → List Labelled) (behind : List Labelled) → loud tape q ≡ true → 0 < r
+    → IsLong tape q → IsShort tape n q → most_labels < length (from_block tape n back line (Call q r) behind)
+called_long tape n q zero line back behind noisy some long short = absurd (omega arith)
+called_long tape n q (suc r) line back behind noisy some long short =
+    rw noisy (long n (λ at_line. times r (λ k. whole tape n q (λ at_line. k)) behind) short)
+
+pub fails_in_call : (tape : List ControlProgram) (p : ℕ) (old : List Labelled) (b : ControlBlock) (rest : List ControlBlock) (fault : PairFault)
+    → IsSoFar tape p old (b ∷ rest) → FailsInCall tape b.control fault → FailsLong tape p fault
+fails_in_call tape p old b rest fault so fails = record {
+  is = fails.is;
+  long = λ n back short. go n back short;
+}
+  where
+    go : (n : ℕ) (back : ℕ → List Labelled) → IsShort tape n p → most_labels < length (whole tape n p back)
+    go zero back short = absurd (short tt)
+    go (suc n) back short =
+        let behind = left_labels tape p n back rest in
+        let call = fails.call in
+        let short' : IsShortCall tape n (Call fails.program call.repeats) =
+        subst (λ c. IsShortCall tape n c) call.is (short_call tape n p old b rest so short) in
+        let long : most_labels < length (from_block tape n back b.line (Call fails.program call.repeats) behind) =
+        called_long tape n fails.program call.repeats b.line back behind call.is_loud call.some fails.long (short' call.is_loud) in
+        let here : most_labels < length (from_block tape n back b.line b.control behind) =
+        subst (λ c. most_labels < length (from_block tape n back b.line c behind)) (sym call.is) long in
+        omega (arith, here, ap length (so.are n back short), length-append old (from_block tape n back b.line b.control behind))
+
+-- what stands for a block where there is none
+abbrev pub no_block : ControlBlock
+no_block = record { line = 0; sequence = None; control = Next }
+
+-- the labels so far, at the block that comes next
+pub so_far_at : (tape : List ControlProgram) (p : ℕ) (labels : List Labelled) (bs : List ControlBlock) (i : ℕ) → i < length bs
+    → IsSoFar tape p labels (drop i bs) → IsSoFar tape p labels (get_or bs i no_block ∷ drop (i + 1) bs)
+so_far_at tape p labels bs i within so =
+    let next : suc i ≡ i + 1 = omega arith in
+    subst (λ xs. IsSoFar tape p labels xs) (drop-cons bs i no_block within ∙ ap (λ k. get_or bs i no_block ∷ drop k bs) next) so
+
+-- the labels so far, behind the last block
+pub so_far_past : (tape : List ControlProgram) (p : ℕ) (labels : List Labelled) (bs : List ControlBlock) (i : ℕ) → length bs ≤ i
+    → IsSoFar tape p labels (drop i bs) → IsSoFar tape p labels []
+so_far_past tape p labels bs i past so = subst (λ xs. IsSoFar tape p labels xs) (drop_of_length-le bs past) so
+
+-- the chains of what this program calls are shorter by one
+pub short_left : (tape : List ControlProgram) (n p : ℕ) (labels : List Labelled) (b : ControlBlock) (rest : List ControlBlock)
+    → IsSoFar tape p labels (b ∷ rest) → IsShort tape n p → IsShortCall tape (n - 1) b.control
+short_left tape zero p labels b rest so short = absurd (short tt)
+short_left tape (suc n) p labels b rest so short =
+    let e : suc n - 1 ≡ n = omega arith in
+    rw e (short_call tape n p labels b rest so short)
+
+-- the piece of the main program is the list of the path, but for its beginning anew
+pub path_whole : (tape : List ControlProgram) (main : ℕ) (labels : List Labelled) (ending : Ending) → main ≡ main_number tape
+    → IsShort tape 9 (main_number tape) → IsPiece tape main labels ending
+    → path_labels tape ≡ labels ++ coming (Some ending) (λ line. at label.Again line ∷ []) []
+unfolding path_labels
+path_whole tape main labels ending is short piece =
+    (subst (λ p. IsPiece tape p labels ending) is piece).are 9 (λ line. at label.Again line ∷ []) short
+
+-- a program that is too long whatever follows makes the list of the path too long
+pub path_long : (tape : List ControlProgram) (main : ℕ) (fault : PairFault) → main ≡ main_number tape
+    → IsShort tape 9 (main_number tape) → FailsLong tape main fault → IsListTooLong (path_labels tape) fault
+unfolding path_labels
+path_long tape main fault is short fails = record {
+  is = fails.is;
+  long = subst (λ p. IsLong tape p) is fails.long 9 (λ line. at label.Again line ∷ []) short;
+}

@@ -1,0 +1,53 @@
+-- What a call of a loud program gives to the labels of the program that makes it.
+use Rattle.std.proofs.Common.{◌≡◌, ℕ, zero, suc, ◌+◌, ◌<◌, true, List, ◌++◌, length, ap, sym, subst, ◌∙◌, arith, append_assoc}
+use Rattle.std.proofs.lemmas.List.{length-append}
+use Rattle.block_order.specs.declared.control.Control.TheVariants.{Call}
+use Rattle.block_order.specs.declared.program.ControlProgram.{ControlProgram}
+use Rattle.block_order.specs.Loud.{loud}
+use Rattle.label_list.specs.declared.fault.PairFault.{PairFault}
+use Rattle.label_list.specs.declared.labelled.Labelled.{Labelled}
+use Rattle.label_list.specs.declared.piece.Ending.{Ending}
+use Rattle.label_list.specs.declared.piece.Ending.TheVariants.{Stops, Returns}
+use Rattle.label_list.specs.Lists.{times, whole, most_labels}
+use Rattle.label_list.specs.Pieces.{copies, stop_of, coming, from_block, IsAppended, IsTooLong, IsShortCall, IsPiece, IsTaken, FailsAt}
+use Rattle.label_list.proofs.Joined.{times_repeated}
+
+-- old and more are put together by the one or the other
+joined : (old new more behind : List Labelled) → new ≡ old ++ more → old ++ (more ++ behind) ≡ new ++ behind
+joined old new more behind e = sym (append_assoc old more behind) ∙ ap (λ xs. xs ++ behind) (sym e)
+
+-- what a call of a loud program gives
+call_gives : (tape : List ControlProgram) (line q r n : ℕ) (back : ℕ → List Labelled) (xs behind : List Labelled) (ending : Ending)
+    → loud tape q ≡ true → 0 < r → IsPiece tape q xs ending → IsShortCall tape n (Call q r)
+    → from_block tape n back line (Call q r) behind ≡ copies ending r xs ++ coming (stop_of ending) back behind
+call_gives tape line q zero n back xs behind ending noisy some piece short = absurd (omega arith)
+call_gives tape line q (suc r) n back xs behind Stops noisy some piece short =
+    rw noisy (piece.are n (λ at_line. times r (λ k. whole tape n q (λ at_line. k)) behind) (short noisy))
+call_gives tape line q (suc r) n back xs behind (Returns l) noisy some piece short =
+    rw noisy (times_repeated (suc r) (λ k. whole tape n q (λ at_line. k)) xs behind (λ k. piece.are n (λ at_line. k) (short noisy)))
+
+pub taken_call : (tape : List ControlProgram) (line q r : ℕ) (old new xs : List Labelled) (ending : Ending)
+    → loud tape q ≡ true → 0 < r → IsPiece tape q xs ending → IsAppended old new (copies ending r xs)
+    → IsTaken tape line (Call q r) old new (stop_of ending)
+taken_call tape line q r old new xs ending noisy some piece appended =
+    record {
+      few = appended.few;
+      are = λ n back behind short.
+          ap (λ ys. old ++ ys) (call_gives tape line q r n back xs behind ending noisy some piece short)
+          ∙ joined old new (copies ending r xs) (coming (stop_of ending) back behind) appended.are;
+    }
+
+-- too many already with what is added, whatever follows
+too_long : (old more behind : List Labelled) → most_labels < length old + length more → most_labels < length (old ++ (more ++ behind))
+too_long old more behind h = omega (arith, h, length-append old (more ++ behind), length-append more behind)
+
+pub fails_call : (tape : List ControlProgram) (line q r : ℕ) (old xs : List Labelled) (ending : Ending) (fault : PairFault)
+    → loud tape q ≡ true → 0 < r → IsPiece tape q xs ending → IsTooLong old (copies ending r xs) fault
+    → FailsAt tape line (Call q r) old fault
+fails_call tape line q r old xs ending fault noisy some piece long =
+    record {
+      is = long.is;
+      long = λ n back behind short.
+          subst (λ ys. most_labels < length (old ++ ys)) (sym (call_gives tape line q r n back xs behind ending noisy some piece short))
+          (too_long old (copies ending r xs) (coming (stop_of ending) back behind) long.long);
+    }

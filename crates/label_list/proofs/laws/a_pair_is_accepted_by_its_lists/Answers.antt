@@ -1,0 +1,5 @@
+use Rattle.label_list.proofs.Paired.{paired}
+use Rattle.label_list.proofs.laws.a_pair_is_accepted_by_its_lists.Goals as goal
+
+pub returns : goal.returns
+returns c = paired

@@ -1,0 +1,5 @@
+use Rattle.label_list.proofs.Bare.{bare_path}
+use Rattle.label_list.proofs.laws.labels_are_those_of_the_blocks.Goals as goal
+
+pub returns : goal.returns
+returns c = bare_path

@@ -1,0 +1,25 @@
+//! The labels of a path: what its tape comes to that the other path can tell, in order.
+//!
+//! [`labels`] unfolds every call of a flow, and makes the list of each program once. [`compare`] tells
+//! whether two paths come to the same labels, and where they first differ. Two flows whose lists agree
+//! are an accepted pair: the crates above rest on that.
+#![tactic(auto)]
+
+mod comparison;
+mod fault;
+mod known;
+mod labelled;
+mod laws;
+mod list;
+mod listing;
+mod piece;
+
+pub use comparison::compare;
+pub use fault::PairFault;
+pub use labelled::Labelled;
+pub use laws::{
+    a_pair_is_accepted_by_its_lists, labels_are_those_of_the_blocks,
+    labels_hang_on_no_number_of_calls,
+};
+pub use list::LabelList;
+pub use listing::labels;

@@ -1,0 +1,281 @@
+//! The list of labels of a flow: each program's once, joined by the calls.
+ghost use Rattle.std.specs.Prelude.{◌≡◌, ℕ, ◌≤◌, ◌++◌, ◌∷◌, [], Some, length, IfOk, IfErr, IfSome, IfNone, OnOk};
+ghost use Rattle.std.specs.Option.{option_copied};
+ghost use Rattle.block_order.specs.declared.control.Control.TheVariants as Control;
+ghost use Rattle.block_order.specs.declared.label.Label.TheVariants as Label;
+ghost use Rattle.block_order.specs.Answers.{IfFault};
+ghost use Rattle.block_order.specs.Labels.{IsUnforked};
+ghost use Rattle.block_order.specs.Order.{blocks, program_of};
+ghost use Rattle.tape_flow.specs.Places.{last_line};
+ghost use Rattle.label_list.specs.Lists.{at, most_labels, off_line, path_labels};
+ghost use Rattle.label_list.specs.Pieces.{AreKnown, IsReady, IsShort, IsShortCall, IsPiece, IsCallOf, IsTaken};
+ghost use Rattle.label_list.specs.Pieces.{coming, FailsAt, FailsInCall, FailsLong, IsListTooLong};
+
+use crate::fault::PairFault;
+use crate::known::KnownPieces;
+use crate::labelled::Labelled;
+use crate::list::LabelList;
+use crate::piece::{Ending, Piece, push_at};
+use block_order::{
+    BlockOrder, Control, ControlBlock, ControlProgram, Label, MOST_CALLS,
+    a_tape_without_faults_is_unforked,
+};
+use nc_number::Failing;
+use std::alloc::Global;
+use tape_flow::Flow;
+
+fn program_of(programs: &[ControlProgram], number: u16) -> Option<&ControlProgram>
+    ensures { option_copied result ≡ program_of programs.now number }
+{
+    for program in programs {
+        if program.number == number {
+            return Some(program);
+        }
+    }
+    None
+}
+
+fn last_line(program: &ControlProgram) -> u32
+    ensures { result ≡ last_line program.now }
+{
+    let blocks = program.blocks.as_slice();
+    match blocks.get(blocks.len().saturating_sub(1)) {
+        Some(block) => block.line,
+        None => program.line,
+    }
+}
+
+fn blocks_of(order: &BlockOrder, number: u16) -> &[ControlBlock]
+    ensures { result.now ≡ blocks order.now number }
+{
+    match program_of(order.as_slice(), number) {
+        Some(program) => program.blocks.as_slice(),
+        None => &[],
+    }
+}
+
+/// The line at which a path runs off the program.
+fn off_line(order: &BlockOrder, number: u16) -> u32
+    ensures { result ≡ off_line (program_of order.now number) }
+{
+    match program_of(order.as_slice(), number) {
+        Some(program) => last_line(program),
+        None => 0,
+    }
+}
+
+/// The loud program that a block calls at least once.
+fn loud_call(order: &BlockOrder, control: &Control) -> Option<u16>
+    ensures some { IfSome result (IsCallOf order.now control.now) }
+    ensures none { IfNone result ((program : ℕ) → IsCallOf order.now control.now program → ⊥) }
+{
+    match *control {
+        Control::Call { program, repeats } => if repeats > 0 && order.is_loud(program) {
+            Some(program)
+        } else {
+            None
+        }
+        _ => None,
+    }
+}
+
+/// The same where the labels of that program are still to be made.
+fn unknown_call(order: &BlockOrder, known: &KnownPieces, control: &Control) -> Option<u16>
+    ensures some { IfSome result (IsCallOf order.now control.now) }
+    ensures none { IfNone result (IsReady order.now known.now control.now) }
+{
+    match loud_call(order, control) {
+        Some(program) => match known.get(program) {
+            Some(_) => None,
+            None => Some(program),
+        }
+        None => None,
+    }
+}
+
+/// Adds the labels of a call; how the calling program ends there, if it does.
+fn take_call(
+    order: &BlockOrder,
+    known: &KnownPieces,
+    labels: &mut Vec<Labelled>,
+    line: u32,
+    program: u16,
+    repeats: u16,
+) -> Result<Option<Ending>, Failing<PairFault>>
+    requires known { AreKnown order.now known.now }
+    requires ready { IsReady order.now known.now (Control.Call program repeats) }
+    requires few { length labels.old.items ≤ most_labels }
+    ensures taken { IfOk result (IsTaken order.now line (Control.Call program repeats)
+        labels.old.items labels.new.items) }
+    ensures many { IfErr result (λ error. IfFault error
+        (FailsAt order.now line (Control.Call program repeats) labels.old.items)) }
+{
+    if repeats == 0 || !order.is_loud(program) {
+        return Ok(None);
+    }
+    match known.get(program) {
+        Some(piece) => match piece.append_to(labels, repeats) {
+            Ok(ending) => Ok(ending),
+            Err(error) => Err(error),
+        }
+        None => Ok(None),
+    }
+}
+
+/// Adds what a block gives to the labels of its program; how the program ends there, if it does.
+fn take_block(
+    order: &BlockOrder,
+    known: &KnownPieces,
+    labels: &mut Vec<Labelled>,
+    block: &ControlBlock,
+) -> Result<Option<Ending>, Failing<PairFault>>
+    requires known { AreKnown order.now known.now }
+    requires ready { IsReady order.now known.now block.now.control }
+    requires few { length labels.old.items ≤ most_labels }
+    ensures taken { IfOk result (IsTaken order.now block.now.line block.now.control
+        labels.old.items labels.new.items) }
+    ensures many { IfErr result (λ error. IfFault error
+        (FailsAt order.now block.now.line block.now.control labels.old.items)) }
+{
+    let line = block.line;
+    match block.control {
+        Control::Wait(code) => match push_at(labels, Label::Wait(code), line, None) {
+            Ok(ending) => Ok(ending),
+            Err(error) => Err(error),
+        }
+        Control::End => match push_at(labels, Label::End, line, Some(Ending::Stops)) {
+            Ok(ending) => Ok(ending),
+            Err(error) => Err(error),
+        }
+        Control::Back => Ok(Some(Ending::Returns(line))),
+        Control::Call { program, repeats } => match take_call(
+            order, known, labels, line, program, repeats,
+        ) {
+            Ok(ending) => Ok(ending),
+            Err(error) => Err(error),
+        }
+        _ => Ok(None),
+    }
+}
+
+/// Makes the labels of the program that a block calls, where they are not made yet.
+#[cycle(calls)]
+fn learn_call(
+    alloc: Global,
+    order: &BlockOrder,
+    known: &mut KnownPieces,
+    control: &Control,
+    left: u8,
+) -> Result<(), Failing<PairFault>>
+    requires known { AreKnown order.now known.old }
+    requires short { IsShortCall order.now left control.now }
+    ensures known { OnOk result (AreKnown order.now known.new) }
+    ensures ready { OnOk result (IsReady order.now known.new control.now) }
+    ensures many { IfErr result (λ error. IfFault error (FailsInCall order.now control.now)) }
+{
+    let Some(program) = unknown_call(order, known, control) else {
+        return Ok(());
+    };
+    match piece_of(alloc, order, known, program, left) {
+        Ok(piece) => {
+            known.keep(program, piece)?;
+            Ok(())
+        }
+        Err(error) => Err(error),
+    }
+}
+
+/// The labels of a program in which fewer than so many calls of loud programs follow, one in another.
+#[cycle(calls)]
+fn piece_of(
+    alloc: Global,
+    order: &BlockOrder,
+    known: &mut KnownPieces,
+    number: u16,
+    left: u8,
+) -> Result<Piece, Failing<PairFault>>
+    requires known { AreKnown order.now known.old }
+    requires short { IsShort order.now left number }
+    ensures known { OnOk result (AreKnown order.now known.new) }
+    ensures piece { IfOk result (λ piece. IsPiece order.now number piece.labels.items piece.ending) }
+    ensures many { IfErr result (λ error. IfFault error (FailsLong order.now number)) }
+{
+    let mut labels = Vec::new(alloc);
+    for block in blocks_of(order, number) {
+        match learn_call(alloc, order, known, &block.control, left - 1) {
+            Ok(()) => {}
+            Err(error) => return Err(error),
+        }
+        match take_block(order, known, &mut labels, block) {
+            Ok(None) => {}
+            Ok(Some(ending)) => return Ok(Piece { labels, ending }),
+            Err(error) => return Err(error),
+        }
+    }
+    match push_at(&mut labels, Label::Off, off_line(order, number), None) {
+        Ok(_) => Ok(Piece {
+            labels,
+            ending: Ending::Stops,
+        }),
+        Err(error) => Err(error),
+    }
+}
+
+/// All runs of a flow come to one list of labels.
+fn is_unforked(order: &BlockOrder)
+    ensures { IsUnforked order.now }
+{
+    let _programs = order.as_slice();
+    a_tape_without_faults_is_unforked();
+}
+
+/// The labels of the main program, behind whose M99 the path begins anew.
+fn with_start(piece: Piece) -> Result<Vec<Labelled>, Failing<PairFault>>
+    requires { length piece.labels.items ≤ most_labels }
+    ensures list { IfOk result (λ labels. labels.items ≡ piece.labels.items
+        ++ coming (Some piece.ending) (λ line. at Label.Again line ∷ []) []) }
+    ensures few { IfOk result (λ labels. length labels.items ≤ most_labels) }
+    ensures many { IfErr result (λ error. IfFault error (IsListTooLong (piece.labels.items
+        ++ coming (Some piece.ending) (λ line. at Label.Again line ∷ []) []))) }
+{
+    let Piece { mut labels, ending } = piece;
+    match ending {
+        Ending::Stops => Ok(labels),
+        Ending::Returns(line) => match push_at(&mut labels, Label::Again, line, None) {
+            Ok(_) => Ok(labels),
+            Err(error) => Err(error),
+        },
+    }
+}
+
+/// The labels of the main program, and of what follows its M99.
+fn main_labels(alloc: Global, order: &BlockOrder) -> Result<Vec<Labelled>, Failing<PairFault>>
+    ensures list { IfOk result (λ labels. labels.items ≡ path_labels order.now) }
+    ensures few { IfOk result (λ labels. length labels.items ≤ most_labels) }
+    ensures many { IfErr result (λ error. IfFault error (IsListTooLong (path_labels order.now))) }
+{
+    is_unforked(order);
+    let mut known = KnownPieces::new(alloc);
+    match piece_of(alloc, order, &mut known, order.main(), MOST_CALLS as u8 + 1) {
+        Ok(piece) => match with_start(piece) {
+            Ok(labels) => Ok(labels),
+            Err(error) => Err(error),
+        }
+        Err(error) => Err(error),
+    }
+}
+
+/// The labels of a path: what its tape comes to that the other path can tell.
+///
+/// The list of each program is made once, and repeats of an empty one are skipped.
+///
+/// Errors: 70 where there are more than 65,536 labels; the path is left to the caller.
+pub fn labels(alloc: Global, flow: &Flow) -> Result<LabelList, Failing<PairFault>>
+    ensures list { IfOk result (λ list. list ≡ path_labels flow.now.order) }
+    ensures many { IfErr result (λ error. IfFault error (IsListTooLong (path_labels flow.now.order))) }
+{
+    match main_labels(alloc, &flow.order) {
+        Ok(labels) => Ok(LabelList::of(labels)),
+        Err(error) => Err(error),
+    }
+}

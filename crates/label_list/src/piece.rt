@@ -1,0 +1,126 @@
+//! The labels of one program.
+ghost use Rattle.std.specs.Prelude.{◌≡◌, ◌≤◌, ◌∷◌, [], length, OnOk, IfOk, IfErr};
+ghost use Rattle.block_order.specs.Answers.{IfFault};
+ghost use Rattle.label_list.specs.Lists.{at, most_labels};
+ghost use Rattle.label_list.specs.Pieces.{repeated, copies, stop_of, IsTooLong, IsAppended};
+
+use crate::fault::PairFault;
+use crate::labelled::Labelled;
+use block_order::Label;
+use nc_number::Failing;
+
+/// The most labels that a path may have.
+pub(crate) const MOST_LABELS: usize = 65_536;
+
+/// What comes behind the labels of a program.
+#[derive(Clone, Copy, Debug, PartialEq, Eq)]
+pub(crate) enum Ending {
+    /// Nothing: the path ends there.
+    Stops,
+    /// The caller goes on: the program returns by an M99 at this line.
+    Returns(u32),
+}
+
+/// The labels of a program, and what comes behind them.
+#[derive(Debug, Drop)]
+pub(crate) struct Piece {
+    pub(crate) labels: Vec<Labelled>,
+    pub(crate) ending: Ending,
+}
+
+/// Adds a label, while there may be more.
+pub(crate) fn push_label(
+    labels: &mut Vec<Labelled>,
+    label: Labelled,
+) -> Result<(), Failing<PairFault>>
+    ensures added { OnOk result (IsAppended labels.old.items labels.new.items (label ∷ [])) }
+    ensures many { IfErr result (λ error. IfFault error (IsTooLong labels.old.items (label ∷ []))) }
+{
+    if labels.len() >= MOST_LABELS {
+        return Err(Failing::Fault(PairFault::too_many_labels()));
+    }
+    labels.push(label)?;
+    Ok(())
+}
+
+/// Adds a label at a line, behind which the program ends so, if it does.
+pub(crate) fn push_at(
+    labels: &mut Vec<Labelled>,
+    label: Label,
+    line: u32,
+    ending: Option<Ending>,
+) -> Result<Option<Ending>, Failing<PairFault>>
+    ensures added { OnOk result (IsAppended labels.old.items labels.new.items (at label line ∷ [])) }
+    ensures ending { IfOk result (λ told. told ≡ ending) }
+    ensures many { IfErr result (λ error. IfFault error (IsTooLong labels.old.items (at label line ∷ []))) }
+{
+    match push_label(labels, Labelled { label, line }) {
+        Ok(()) => Ok(ending),
+        Err(error) => Err(error),
+    }
+}
+
+/// Adds the labels of a program.
+fn append(labels: &mut Vec<Labelled>, more: &[Labelled]) -> Result<(), Failing<PairFault>>
+    requires { length labels.old.items ≤ most_labels }
+    ensures added { OnOk result (IsAppended labels.old.items labels.new.items more.now) }
+    ensures many { IfErr result (λ error. IfFault error (IsTooLong labels.old.items more.now)) }
+{
+    for label in more {
+        match push_label(labels, *label) {
+            Ok(()) => {}
+            Err(error) => return Err(error),
+        }
+    }
+    Ok(())
+}
+
+/// Adds the labels of a program so many times. Repeats without a label cost nothing.
+fn append_times(
+    labels: &mut Vec<Labelled>,
+    more: &[Labelled],
+    times: u16,
+) -> Result<(), Failing<PairFault>>
+    requires { length labels.old.items ≤ most_labels }
+    ensures added { OnOk result (IsAppended labels.old.items labels.new.items (repeated times more.now)) }
+    ensures many { IfErr result (λ error. IfFault error (IsTooLong labels.old.items (repeated times more.now))) }
+{
+    if more.is_empty() {
+        return Ok(());
+    }
+    for _time in 0..times {
+        match append(labels, more) {
+            Ok(()) => {}
+            Err(error) => return Err(error),
+        }
+    }
+    Ok(())
+}
+
+impl Piece {
+    /// Adds these labels to those of the program that makes the call so many times, at least once. The
+    /// ending of that program, where nothing comes behind these labels.
+    pub(crate) fn append_to(
+        &self,
+        labels: &mut Vec<Labelled>,
+        times: u16,
+    ) -> Result<Option<Ending>, Failing<PairFault>>
+        requires { length labels.old.items ≤ most_labels }
+        ensures added { OnOk result (IsAppended labels.old.items labels.new.items
+            (copies self.now.ending times self.now.labels.items)) }
+        ensures stops { IfOk result (λ ending. ending ≡ stop_of self.now.ending) }
+        ensures many { IfErr result (λ error. IfFault error (IsTooLong labels.old.items
+            (copies self.now.ending times self.now.labels.items))) }
+    {
+        match self.ending {
+            Ending::Stops => match append(labels, self.labels.as_slice()) {
+                Ok(()) => Ok(Some(Ending::Stops)),
+                Err(error) => Err(error),
+            },
+            Ending::Returns(_) => match append_times(labels, self.labels.as_slice(), times) {
+                Ok(()) => Ok(None),
+                Err(error) => Err(error),
+            },
+        }
+    }
+}
