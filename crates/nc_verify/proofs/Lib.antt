@@ -1,0 +1,4 @@
+pub mod Put
+pub mod Refused
+pub mod NotBoth
+pub mod Named

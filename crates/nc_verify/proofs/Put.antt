@@ -1,0 +1,46 @@
+-- Texts that are put in pieces.
+use Rattle.std.proofs.Common.{ℕ, ◌+◌, ◌≤◌, min, List, ◌++◌, length, take, Result, Ok, Err, sym, subst, ◌∙◌, arith}
+use Rattle.std.proofs.KnownBytes.{Appends-trans}
+use Rattle.std.proofs.Math.Seq.{take-append-add}
+use Rattle.std.proofs.lemmas.List.{take-append-le, take_min}
+use Rattle.nc_outside.specs.declared.sink.PutFault.{PutFault}
+use Rattle.nc_outside.specs.Faults.{Rose}
+use Rattle.nc_outside.specs.Written.{SinkState, Writes}
+use Rattle.nc_verify.specs.Printed.{IsPut}
+
+rose_before : (a b c : ℕ) → a ≤ b → Rose b c → Rose a c
+rose_before a b c le rose = omega arith
+
+-- a piece was put, and then another
+pub put_then : (a b c : SinkState) (front back : List ℕ) (result : Result (Unit {0}) PutFault)
+    → IsPut a b front (Ok tt) → IsPut b c back result → IsPut a c (front ++ back) result
+put_then a b c front back (Ok x) one two = record {
+  ok = Appends-trans a.written b.written c.written front back one.ok two.ok;
+  err = tt;
+  tells = two.tells ∙ one.tells;
+  fault = record { later = omega (arith, one.fault.later, two.fault.later); rose = λ failed. rose_before a.faults b.faults c.faults one.fault.later (two.fault.rose failed) };
+}
+put_then a b c front back (Err fault) one two = record {
+  ok = tt;
+  err = (
+    length front + two.err.0,
+    subst (λ xs. Writes a c xs) (sym (take-append-add front back two.err.0))
+        (Appends-trans a.written b.written c.written front (take two.err.0 back) one.ok two.err.1),
+  );
+  tells = two.tells ∙ one.tells;
+  fault = record { later = omega (arith, one.fault.later, two.fault.later); rose = λ failed. rose_before a.faults b.faults c.faults one.fault.later (two.fault.rose failed) };
+}
+
+-- the first piece was not put whole
+pub put_stops : (a b : SinkState) (front back : List ℕ) (fault : PutFault) → IsPut a b front (Err fault)
+    → IsPut a b (front ++ back) (Err fault)
+put_stops a b front back fault one = record {
+  ok = tt;
+  err = (
+    min one.err.0 (length front),
+    subst (λ xs. Writes a b xs)
+        (sym (take-append-le (min one.err.0 (length front)) front back (omega arith) ∙ take_min one.err.0 front)) one.err.1,
+  );
+  tells = one.tells;
+  fault = one.fault;
+}

@@ -1,0 +1,3 @@
+pub mod Refusals
+pub mod Verdict
+pub mod Printed

@@ -1,0 +1,25 @@
+-- The refusals of a pair, each with what it is about.
+use Rattle.std.specs.Prelude.{ℕ}
+use Rattle.nc_number.specs.declared.cause.Cause.TheVariants.{BadSetting, TooManyLabels}
+use Rattle.nc_number.specs.declared.path.Path.{Path}
+use Rattle.nc_number.specs.Causes.{cause_number}
+use Rattle.nc_number.specs.Path.{number_of}
+use Rattle.label_list.specs.declared.fault.PairFault.{PairFault}
+use Rattle.nc_verify.specs.declared.refusal.Refusal.{Refusal}
+
+-- the settings are refused at a line
+abbrev pub at_setting : ℕ → Refusal
+at_setting line = record { number = cause_number BadSetting; path = 0; line = line; other = 0; after = 0 }
+
+-- the tape of a path is refused at a line by this number
+abbrev pub at_line : Path → ℕ → ℕ → Refusal
+at_line path line number = record { number = number; path = number_of path; line = line; other = 0; after = 0 }
+
+-- a path has too many labels
+abbrev pub too_long : Path → Refusal
+too_long path = record { number = cause_number TooManyLabels; path = number_of path; line = 0; other = 0; after = 0 }
+
+-- the labels of the paths differ
+abbrev pub mismatch : PairFault → Refusal
+mismatch fault =
+    record { number = fault.number; path = fault.path; line = fault.line; other = fault.other; after = fault.after }

@@ -1,0 +1,87 @@
+-- Which three texts are accepted, and the one refusal of all others.
+use Rattle.std.specs.Prelude.{◌≡◌, ℕ, ◌<◌, ◌≤◌, List, length, Ok, Err, slice_index}
+use Rattle.nc_number.specs.declared.path.Path.{Path}
+use Rattle.nc_number.specs.declared.path.Path.TheVariants.{One, Two}
+use Rattle.nc_number.specs.Path.{index_of}
+use Rattle.nc_text.specs.declared.fault.TextFault.{TextFault}
+use Rattle.nc_text.specs.declared.tape.Program.{Program}
+use Rattle.nc_text.specs.Tape.{tape_of}
+use Rattle.cell_settings.specs.Cell.{Cell, settings_of}
+use Rattle.block_forms.specs.declared.waits.WaitCodes.{WaitCodes}
+use Rattle.block_order.specs.declared.program.ControlProgram.{ControlProgram}
+use Rattle.tape_flow.specs.Controls.{controls}
+use Rattle.tape_flow.specs.Exact.{IsAccepted, IsRefused}
+use Rattle.tape_flow.specs.Forms.{ProgramForm}
+use Rattle.label_list.specs.declared.fault.PairFault.{PairFault}
+use Rattle.label_list.specs.Accepted.{IsAcceptedPair}
+use Rattle.label_list.specs.Faults.{IsMismatch}
+use Rattle.label_list.specs.Lists.{path_labels, most_labels}
+use Rattle.nc_verify.specs.declared.refusal.Refusal.{Refusal}
+use Rattle.nc_verify.specs.Refusals.{at_setting, at_line, too_long, mismatch}
+
+-- the texts of a verdict: the tape of path 1, that of path 2, and the settings
+pub record Texts : Type 0 where
+  pub left : List ℕ
+  pub right : List ℕ
+  pub settings : List ℕ
+
+-- the switches of the blocks that a path skips
+abbrev pub skips_of : Path → Cell → ℕ
+skips_of path cell = slice_index cell.skips (index_of path)
+
+-- the waiting codes of the cell
+abbrev pub waits_in : Cell → WaitCodes
+waits_in cell = record { low = cell.wait_low; high = cell.wait_high; bits = cell.bits }
+
+-- the text of a path's tape reads, and these are its programs, in which nothing is wrong
+pub record IsFlowOf (cell : Cell) (path : Path) (text : List ℕ) (programs : List ProgramForm) : Type 0 where
+  pub tape : List Program
+  pub reads : tape_of (skips_of path cell) text ≡ Ok tape
+  pub accepted : IsAccepted (waits_in cell) tape programs
+
+-- the refusal of a path's tape: of its reading, or else of its flow
+pub data IsTapeRefusal (cell : Cell) (path : Path) (text : List ℕ) (refusal : Refusal) : Type 0 where
+  reading : (fault : TextFault) → tape_of (skips_of path cell) text ≡ Err fault → refusal ≡ at_line path fault.line fault.number
+      → IsTapeRefusal cell path text refusal
+  flow : (tape : List Program) (line number : ℕ) → tape_of (skips_of path cell) text ≡ Ok tape
+      → IsRefused (waits_in cell) tape line number → refusal ≡ at_line path line number → IsTapeRefusal cell path text refusal
+
+-- the settings are refused at their first line that is not allowed
+pub record AreRefusedSettings (text : List ℕ) (refusal : Refusal) : Type 0 where
+  pub line : ℕ
+  pub refused : settings_of text ≡ Err line
+  pub is : refusal ≡ at_setting line
+
+-- a path has too many labels
+pub record IsTooLong (path : Path) (tape : List ControlProgram) (refusal : Refusal) : Type 0 where
+  pub long : most_labels < length (path_labels tape)
+  pub is : refusal ≡ too_long path
+
+-- the refusal of two flows that are no accepted pair: path 1 has too many labels, or path 2 has, or the labels differ
+pub data IsPairRefusal (left right : List ControlProgram) (refusal : Refusal) : Type 0 where
+  one : IsTooLong One left refusal → IsPairRefusal left right refusal
+  two : length (path_labels left) ≤ most_labels → IsTooLong Two right refusal → IsPairRefusal left right refusal
+  differ : length (path_labels left) ≤ most_labels → length (path_labels right) ≤ most_labels
+      → (fault : PairFault) → IsMismatch (path_labels left) (path_labels right) fault → refusal ≡ mismatch fault
+      → IsPairRefusal left right refusal
+
+-- the settings are allowed, and both tapes have flows
+pub record AreFlows (texts : Texts) (cell : Cell) (left right : List ProgramForm) : Type 0 where
+  pub settings_are : settings_of texts.settings ≡ Ok cell
+  pub left_is : IsFlowOf cell One texts.left left
+  pub right_is : IsFlowOf cell Two texts.right right
+
+-- Three texts are accepted where besides the flows are an accepted pair.
+pub record AreAccepted (texts : Texts) (cell : Cell) (left right : List ProgramForm) : Type 0 where
+  pub flows : AreFlows texts cell left right
+  pub pair : IsAcceptedPair (controls left) (controls right)
+
+-- The refusal of three texts: of the settings; else of path 1's tape; else of path 2's; else of the two flows as a pair.
+pub data IsRefusalOf (texts : Texts) (refusal : Refusal) : Type 0 where
+  settings : AreRefusedSettings texts.settings refusal → IsRefusalOf texts refusal
+  left : (cell : Cell) → settings_of texts.settings ≡ Ok cell → IsTapeRefusal cell One texts.left refusal
+      → IsRefusalOf texts refusal
+  right : (cell : Cell) (programs : List ProgramForm) → settings_of texts.settings ≡ Ok cell
+      → IsFlowOf cell One texts.left programs → IsTapeRefusal cell Two texts.right refusal → IsRefusalOf texts refusal
+  pair : (cell : Cell) (one two : List ProgramForm) → AreFlows texts cell one two
+      → IsPairRefusal (controls one) (controls two) refusal → IsRefusalOf texts refusal

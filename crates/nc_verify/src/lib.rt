@@ -1,0 +1,19 @@
+//! The verdict of two tapes and the settings of the cell.
+//!
+//! [`verdict`] accepts exactly the texts whose settings are allowed, whose tapes read and whose flows are an
+//! accepted pair, and else tells their one refusal. [`Verified`] is what was accepted: whoever holds one need
+//! not ask again. [`write_verdict`] prints the answer.
+#![tactic(auto)]
+
+mod laws;
+mod refusal;
+mod tape;
+mod verified;
+mod verifying;
+mod writing;
+
+pub use laws::accepted_texts_are_not_refused;
+pub use refusal::Refusal;
+pub use verified::Verified;
+pub use verifying::verdict;
+pub use writing::write_verdict;

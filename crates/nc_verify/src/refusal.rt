@@ -1,0 +1,70 @@
+//! Why a pair is refused.
+ghost use Rattle.std.specs.Prelude.{◌≡◌};
+ghost use Rattle.nc_verify.specs.Refusals.{at_setting, at_line, too_long, mismatch};
+
+use cell_settings::SettingFault;
+use label_list::PairFault;
+use nc_number::{Cause, Path};
+use thiserror::Error;
+
+/// Why a pair is refused, and where.
+#[derive(Clone, Copy, Debug, PartialEq, Eq, Error)]
+#[error("refusal {number} of path {path} at line {line}")]
+pub struct Refusal {
+    /// The number of the refusal.
+    pub number: u8,
+    /// The path whose tape is refused, 1 or 2; 0 where the settings are. 1 where the labels differ.
+    pub path: u8,
+    /// The line that the refusal is about, counted from 1; 0 where a path has too many labels.
+    pub line: u32,
+    /// Where the labels differ, the line of path 2's label; else 0.
+    pub other: u32,
+    /// Where the labels differ, how many labels before are equal; else 0.
+    pub after: u32,
+}
+
+/// A line of the settings is not allowed.
+pub(crate) fn of_settings(fault: SettingFault) -> Refusal
+    ensures { result ≡ at_setting fault.line }
+{
+    Refusal {
+        number: fault.number(),
+        path: 0,
+        line: fault.line,
+        other: 0,
+        after: 0,
+    }
+}
+
+/// The tape of a path is refused at a line.
+pub(crate) fn of_tape(path: Path, line: u32, number: u8) -> Refusal
+    ensures { result ≡ at_line path line number }
+{
+    Refusal {
+        number,
+        path: path.number(),
+        line,
+        other: 0,
+        after: 0,
+    }
+}
+
+/// A path has too many labels.
+pub(crate) fn of_labels(path: Path) -> Refusal
+    ensures { result ≡ too_long path }
+{
+    of_tape(path, 0, Cause::TooManyLabels.number())
+}
+
+/// The labels of the paths differ.
+pub(crate) fn of_pair(fault: PairFault) -> Refusal
+    ensures { result ≡ mismatch fault }
+{
+    Refusal {
+        number: fault.number,
+        path: fault.path,
+        line: fault.line,
+        other: fault.other,
+        after: fault.after,
+    }
+}
