@@ -1,7 +1,8 @@
 -- Bodies in one list of bytes: how many there are, each of them, and one more.
-use Rattle.std.proofs.Common.{◌≡◌, ℕ, ◌+◌, ◌-◌, ◌≤◌, ◌<◌, List, [], ◌∷◌, ◌++◌, length, get_or, take, drop, refl, sym, ◌∙◌, ap, arith, zero, suc, append_assoc, length-append, length-drop}
+use Rattle.std.proofs.Common.{◌≡◌, ℕ, ◌+◌, ◌-◌, ◌≤◌, ◌<◌, List, [], ◌∷◌, ◌++◌, length, get_or, take, drop, refl, sym, ◌∙◌, ap, arith, zero, suc, append_assoc, length-append, length-drop, length-take-le}
 use Rattle.std.proofs.lemmas.List.{take-append-le, drop-append-le, take_all, drop_at}
 use Rattle.gate_file.specs.Bodies.{between, bodies_from, AreEnds}
+use Rattle.gate_file.specs.Chain.{ends_at}
 
 pub length_bodies : (start : ℕ) (ends bytes : List ℕ) → length (bodies_from start ends bytes) ≡ length ends
 length_bodies start [] bytes = refl
@@ -21,6 +22,25 @@ pub body_of : (start : ℕ) (ends bytes : List ℕ) (i : ℕ) → i < length end
 body_of start [] bytes i below = absurd (omega (arith, below))
 body_of start (end ∷ ends) bytes zero below = refl
 body_of start (end ∷ ends) bytes (suc i) below = body_of end ends bytes i (omega (arith, below))
+
+-- a body has as many bytes as there are between its offsets
+length_between : (start end : ℕ) (bytes : List ℕ) → start + 5 ≤ end → end ≤ length bytes → length (between (start + 5) end bytes) + 5 + start ≡ end
+length_between start end bytes room within = omega (arith, length-take-le (end - (start + 5)) (drop (start + 5) bytes) (omega (arith, length-drop (start + 5) bytes, within)), length-drop (start + 5) bytes, room, within)
+
+-- the gate before a body stands where the bodies before it end
+pub starts_at : (start : ℕ) (ends bytes : List ℕ) (i : ℕ) → AreEnds start ends (length bytes) → i ≤ length ends → get_or (start ∷ ends) i 0 ≡ start + ends_at (take i (bodies_from start ends bytes))
+starts_at start ends bytes zero are below = omega arith
+starts_at start [] bytes (suc i) are below = absurd (omega (arith, below))
+starts_at start (end ∷ ends) bytes (suc i) are below =
+    omega (arith, starts_at end ends bytes i are.1 (omega (arith, below)), length_between start end bytes are.0 (start_within end ends (length bytes) are.1))
+
+-- a body, behind its gate and its length, ends inside the bytes
+pub body_ends : (start : ℕ) (ends bytes : List ℕ) (i : ℕ) → AreEnds start ends (length bytes) → i < length ends → get_or (start ∷ ends) i 0 + 5 + length (get_or (bodies_from start ends bytes) i []) ≤ length bytes
+body_ends start [] bytes i are below = absurd (omega (arith, below))
+body_ends start (end ∷ ends) bytes zero are below =
+    let within = start_within end ends (length bytes) are.1 in
+    omega (arith, length_between start end bytes are.0 within, within)
+body_ends start (end ∷ ends) bytes (suc i) are below = body_ends end ends bytes i are.1 (omega (arith, below))
 
 pub ends_more : (start : ℕ) (ends : List ℕ) (len more : ℕ) → AreEnds start ends len → len + 5 ≤ more → AreEnds start (ends ++ more ∷ []) more
 ends_more start [] len more are later = (omega (arith, are, later), refl)

@@ -1,7 +1,7 @@
 // A list of bodies.
 ghost use Rattle.std.specs.Prelude.{◌≡◌, ◌+◌, ◌*◌, ◌^◌, ◌<◌, ◌≤◌, ◌++◌, ◌==◌, [], ◌∷◌, List, ℕ, length, take, drop, get_or, IfOk, IfSome, IfNone, OnOk, OnErr, vec_capacity};
 ghost use Rattle.gate_file.specs.Bodies.{between, bodies_from, AreEnds};
-ghost use Rattle.gate_file.specs.Chain.{Opens};
+ghost use Rattle.gate_file.specs.Chain.{Opens, ends_at};
 
 use crate::open::{FRAME, entry_in};
 use std::alloc::{AllocError, Global};
@@ -73,6 +73,15 @@ impl BodyList {
         let end = self.ends[index];
         let gate = start_of(&self.ends, index);
         stretch(&self.bytes, gate + FRAME as usize, end)
+    }
+
+    /// Where a body of an index below `len` begins in the file, as an offset.
+    pub fn offset(&self, index: usize) -> u64
+        requires { index < length self.now }
+        ensures place { result ≡ ends_at (take index self.now) + 5 }
+        ensures fits { result + length (get_or self.now index []) < 2 ^ 63 }
+    {
+        (start_of(&self.ends, index) + FRAME as usize) as u64
     }
 
     // Takes the entries that lie whole in these bytes, each with the gate behind it, by one copy, and answers where the next gate

@@ -1,5 +1,5 @@
 -- Texts behind their lengths, and headers of three of them.
-use Rattle.std.proofs.Common.{◌≡◌, ℕ, ◌^◌, ◌<◌, List, [], ◌++◌, length, take, drop, refl, sym, ◌∙◌, ap, arith, append_assoc}
+use Rattle.std.proofs.Common.{◌≡◌, ℕ, ◌+◌, ◌^◌, ◌<◌, List, [], ◌++◌, length, take, drop, refl, sym, ◌∙◌, ap, arith, append_assoc, length-append}
 use Rattle.std.proofs.lemmas.List.{take_at, drop_at, append-nil}
 use Rattle.std.proofs.lemmas.Nat.{from_be_bytes-to_be_bytes_4}
 use Rattle.std.specs.Int.{w32, from_be_bytes}
@@ -46,3 +46,14 @@ one_header header other short also same =
     let second = one_text header.left other.left _ _ (omega (arith, short)) (omega (arith, also)) first.1 in
     let third = one_text header.right other.right [] [] (omega (arith, short)) (omega (arith, also)) (append-nil (text_bytes header.right) ∙ second.1 ∙ sym (append-nil (text_bytes other.right))) in
     λ i. record { settings = first.0 i; left = second.0 i; right = third.0 i }
+
+pub length-header : (header : Header) → length (header_bytes header) ≡ 18 + length header.settings + length header.left + length header.right
+length-header header =
+    let first = length-append header_mark (text_bytes header.settings) in
+    let second = length-append (header_mark ++ text_bytes header.settings) (text_bytes header.left) in
+    let third = length-append (header_mark ++ text_bytes header.settings ++ text_bytes header.left) (text_bytes header.right) in
+    omega (arith, first, second, third)
+
+-- a header is short where its bytes are few
+pub short_header : (header : Header) (bytes : List ℕ) → bytes ≡ header_bytes header → length bytes < 2 ^ 32 → IsShort header
+short_header header bytes is few = omega (arith, ap length is, length-header header)

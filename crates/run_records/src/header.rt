@@ -9,6 +9,9 @@ use nc_number::{ByteList, NoMemory};
 use std::alloc::{AllocError, Global};
 use thiserror::Error;
 
+/// The least number of bytes that no header has.
+const TOO_LONG: usize = 1 << 32;
+
 /// `TWIN`, and version 1.
 const MARK: [u8; 6] = [b'T', b'W', b'I', b'N', 0, 1];
 
@@ -65,9 +68,13 @@ fn put_text(into: &mut Vec<u8>, text: &[u8]) -> Result<(), NoMemory>
 /// Reads a header that these bytes spell, all of them.
 pub fn take_header(alloc: Global, bytes: &[u8]) -> Result<Header, HeaderFault>
     ensures header { IfOk result (λ header. bytes.now ≡ header_bytes header) }
+    ensures short { IfOk result IsShort }
     ensures bad { IfErr result (λ fault. fault ≡ HeaderFault.Bad → (header : Header) → IsShort header
         → bytes.now ≡ header_bytes header → ⊥) }
 {
+    if bytes.len() >= TOO_LONG {
+        return Err(HeaderFault::Bad);
+    }
     let Some((settings, left, right)) = texts_of(bytes) else {
         return Err(HeaderFault::Bad);
     };
