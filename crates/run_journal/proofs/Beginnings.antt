@@ -1,0 +1,44 @@
+-- A journal is begun as its file of gates is, with the header as the first body.
+use Rattle.std.proofs.Common.{◌≡◌, inl, inr, ℕ, List, [], refl, subst, Ok, Err}
+use Rattle.disk_model.specs.Device.{DiskState}
+use Rattle.disk_model.proofs.Runs.{widened}
+use Rattle.gate_file.specs.declared.fault.GateFault.{GateFault}
+use Rattle.gate_file.specs.Creation.{Begins}
+use Rattle.gate_file.specs.First.{IsBeginning}
+use Rattle.run_records.specs.declared.header.Header.{Header}
+use Rattle.run_records.specs.Headers.{header_bytes, IsShort}
+use Rattle.run_journal.specs.Batches.{IsRun}
+use Rattle.run_journal.specs.Beginning.{IsRunBeginning, BeginsRun}
+
+no_record : (header : Header) → IsShort header → IsRun header [] []
+no_record header short = record { short = short; are = tt; joins = refl }
+
+begins : (image : List ℕ → Type 0) (header : Header) → IsShort header → (c : List ℕ) → IsBeginning image (header_bytes header) c → IsRunBeginning image header c
+begins image header short c (inl before) = inl before
+begins image header short c (inr (inl none)) = inr (inl none)
+begins image header short c (inr (inr spells)) = inr (inr ([], no_record header short, spells))
+
+module _ {A B : Type 0} (header : Header) (short : IsShort header) (body : List ℕ) (is : body ≡ header_bytes header) (old new : DiskState) where
+  pub begun : (a : A) (b : B) → Begins body old new (Ok b) → BeginsRun header old new (Ok a)
+  begun a b call =
+      let same : Begins (header_bytes header) old new (Ok b) = subst (λ (l : List ℕ). Begins l old new (Ok b)) is call in
+      record {
+        held = λ bytes reads. ([], no_record header short, same.kept bytes reads);
+        vacant = same.vacant;
+        refused = tt;
+        later = same.later;
+        any_moment = λ bytes reads. widened (IsBeginning old.image (header_bytes header)) (IsRunBeginning old.image header) old new (same.any_moment bytes reads) (begins old.image header short);
+        uses = same.uses;
+      }
+
+  pub not_begun : (fault : GateFault) → Begins {A = B} body old new (Err fault) → BeginsRun {A = A} header old new (Err fault)
+  not_begun fault call =
+      let same : Begins {A = B} (header_bytes header) old new (Err fault) = subst (λ (l : List ℕ). Begins {A = B} l old new (Err fault)) is call in
+      record {
+        held = tt;
+        vacant = tt;
+        refused = same.refused;
+        later = same.later;
+        any_moment = λ bytes reads. widened (IsBeginning old.image (header_bytes header)) (IsRunBeginning old.image header) old new (same.any_moment bytes reads) (begins old.image header short);
+        uses = same.uses;
+      }

@@ -1,0 +1,214 @@
+-- An image stands for one thing.
+use Rattle.std.proofs.Common.{◌≡◌, ◌⊎◌, inl, inr, ℕ, ◌+◌, ◌<◌, List, [], ◌∷◌, ◌++◌, length, drop, map, get_or, refl, sym, ◌∙◌, ap, subst, arith, append_assoc, Option, Some, None}
+use Rattle.std.proofs.lemmas.List.{append-nil}
+use Rattle.gate_file.specs.Chain.{IsNoRun, ends_at}
+use Rattle.gate_file.proofs.Unique.{one_list, none_spelled, one_cut, spelled_uncut, none_uncut}
+use Rattle.run_records.specs.declared.bad_record.BadRecord.{BadRecord}
+use Rattle.run_records.specs.declared.entry.Entry.{Entry}
+use Rattle.run_records.specs.declared.header.Header.{Header}
+use Rattle.run_records.specs.Causes.{cause_of}
+use Rattle.run_records.specs.Headers.{header_bytes}
+use Rattle.run_records.specs.Spelling.{entry_bytes, IsEntry}
+use Rattle.run_records.proofs.Stamps.{one_entry, no_cause}
+use Rattle.run_records.proofs.Texts.{one_header}
+use Rattle.run_journal.specs.Bad.{Begins, IsBadBatch, empty, uncounted, unread, late, IsBadRun, unheaded, unbatched, IsBadAt}
+use Rattle.run_journal.specs.Batches.{records_bytes, batch_bytes, bodies_of, records_of, AreEntries, IsBatch, AreBatches, IsRun}
+use Rattle.run_journal.specs.Meaning.{Meaning, no_run, cut_at, bad_at, a_run, StandsFor}
+use Rattle.run_journal.specs.Stands.{Stands}
+
+-- the bytes that begin with a record, and then with others
+behind_first : (e : Entry) (entries : List Entry) (rest : List ℕ) → records_bytes (e ∷ entries) ++ rest ≡ entry_bytes e ++ (records_bytes entries ++ rest)
+behind_first e entries rest = append_assoc (entry_bytes e) (records_bytes entries) rest
+
+one_first : (e f : Entry) (entries others : List Entry) (rest more : List ℕ) → IsEntry e → IsEntry f → records_bytes (e ∷ entries) ++ rest ≡ records_bytes (f ∷ others) ++ more → (e ≡ f) × (records_bytes entries ++ rest ≡ records_bytes others ++ more)
+one_first e f entries others rest more is also same =
+    one_entry e f (records_bytes entries ++ rest) (records_bytes others ++ more) is also (sym (behind_first e entries rest) ∙ same ∙ behind_first f others more)
+
+-- so many records are read in one way
+one_records : (entries others : List Entry) (rest more : List ℕ) → AreEntries entries → AreEntries others → length entries ≡ length others → records_bytes entries ++ rest ≡ records_bytes others ++ more → (entries ≡ others) × (rest ≡ more)
+one_records [] [] rest more are also size same = (refl, same)
+one_records [] (f ∷ others) rest more are also size same = absurd (omega (arith, size))
+one_records (e ∷ entries) [] rest more are also size same = absurd (omega (arith, size))
+one_records (e ∷ entries) (f ∷ others) rest more are also size same =
+    let first = one_first e f entries others rest more are.0 also.0 same in
+    let later = one_records entries others rest more are.1 also.1 (omega (arith, size)) first.1 in
+    ((λ i. first.0 i ∷ later.0 i), later.1)
+
+-- behind fewer of the records that are there stands one more
+more_behind : (entries others : List Entry) (rest more : List ℕ) → AreEntries entries → AreEntries others → length entries < length others → records_bytes entries ++ rest ≡ records_bytes others ++ more → cause_of rest ≡ None
+more_behind entries [] rest more are also fewer same = absurd (omega (arith, fewer))
+more_behind [] (f ∷ others) rest more are also fewer same = ap cause_of (same ∙ behind_first f others more) ∙ no_cause f (records_bytes others ++ more) also.0
+more_behind (e ∷ entries) (f ∷ others) rest more are also fewer same =
+    more_behind entries others rest more are.1 also.1 (omega (arith, fewer)) (one_first e f entries others rest more are.0 also.0 same).1
+
+some_none : (cause : BadRecord) (found : Option BadRecord) → found ≡ Some cause → found ≡ None → ⊥
+some_none cause found some none = let clash : Some cause ≡ None = sym some ∙ none in absurd (cc)
+
+-- the records up to the first place where there is none
+one_end : (entries others : List Entry) (rest more : List ℕ) (cause other : BadRecord) → AreEntries entries → AreEntries others → cause_of rest ≡ Some cause → cause_of more ≡ Some other → records_bytes entries ++ rest ≡ records_bytes others ++ more
+    → (entries ≡ others) × (rest ≡ more)
+one_end [] [] rest more cause other are also bad worse same = (refl, same)
+one_end [] (f ∷ others) rest more cause other are also bad worse same = absurd (some_none cause (cause_of rest) bad (more_behind [] (f ∷ others) rest more are also (omega arith) same))
+one_end (e ∷ entries) [] rest more cause other are also bad worse same = absurd (some_none other (cause_of more) worse (more_behind [] (e ∷ entries) more rest also are (omega arith) (sym same)))
+one_end (e ∷ entries) (f ∷ others) rest more cause other are also bad worse same =
+    let first = one_first e f entries others rest more are.0 also.0 same in
+    let later = one_end entries others rest more cause other are.1 also.1 bad worse first.1 in
+    ((λ i. first.0 i ∷ later.0 i), later.1)
+
+-- bodies that begin with a count
+module _ (count other : ℕ) (whole others : List Entry) (rest more body : List ℕ) (is : Begins count whole rest body) (also : Begins other others more body) where
+  same_count : count ≡ other
+  same_count = ap (λ (l : List ℕ). get_or l 0 0) (sym is.bytes ∙ also.bytes)
+
+  same_records : records_bytes whole ++ rest ≡ records_bytes others ++ more
+  same_records = ap (drop 1) (sym is.bytes ∙ also.bytes)
+
+counted_apart : (count other : ℕ) (whole : List Entry) (records rest body : List ℕ) → body ≡ count ∷ records → (count ≡ 0) ⊎ (64 < count) → Begins other whole rest body → ⊥
+counted_apart count other whole records rest body is (inl none) begins = omega (arith, none, begins.some, ap (λ (l : List ℕ). get_or l 0 0) (sym is ∙ begins.bytes))
+counted_apart count other whole records rest body is (inr many) begins = omega (arith, many, begins.few, ap (λ (l : List ℕ). get_or l 0 0) (sym is ∙ begins.bytes))
+
+empty_apart : (count : ℕ) (records body : List ℕ) → body ≡ [] → body ≡ count ∷ records → ⊥
+empty_apart count records body none some = omega (arith, ap length (sym none ∙ some))
+
+unread_late : (count : ℕ) (whole others : List Entry) (rest more body : List ℕ) (cause : BadRecord) → Begins count whole rest body → length whole < count → cause_of rest ≡ Some cause → Begins (length others) others more body → ⊥
+unread_late count whole others rest more body cause is fewer bad also =
+    let size = same_count count (length others) whole others rest more body is also in
+    some_none cause (cause_of rest) bad (more_behind whole others rest more is.are also.are (omega (arith, fewer, size)) (same_records count (length others) whole others rest more body is also))
+
+-- a body is bad in one way
+one_bad : (body : List ℕ) (place place' : ℕ) (cause cause' : BadRecord) → IsBadBatch body place cause → IsBadBatch body place' cause' → (place ≡ place') × (cause ≡ cause')
+one_bad body _ _ _ _ (empty none) (empty none') = (refl, refl)
+one_bad body _ _ _ _ (empty none) (uncounted count rest is wrong) = (refl, refl)
+one_bad body _ _ _ _ (empty none) (unread count whole rest cause is fewer bad) = absurd (empty_apart count _ body none is.bytes)
+one_bad body _ _ _ _ (empty none) (late whole rest is left) = absurd (empty_apart (length whole) _ body none is.bytes)
+one_bad body _ _ _ _ (uncounted count rest is wrong) (empty none) = (refl, refl)
+one_bad body _ _ _ _ (uncounted count rest is wrong) (uncounted count' rest' is' wrong') = (refl, refl)
+one_bad body _ _ _ _ (uncounted count records is wrong) (unread other whole rest cause begins fewer bad) = absurd (counted_apart count other whole records rest body is wrong begins)
+one_bad body _ _ _ _ (uncounted count records is wrong) (late whole rest begins left) = absurd (counted_apart count (length whole) whole records rest body is wrong begins)
+one_bad body _ _ _ _ (unread count whole rest cause is fewer bad) (empty none) = absurd (empty_apart count _ body none is.bytes)
+one_bad body _ _ _ _ (unread other whole rest cause begins fewer bad) (uncounted count records is wrong) = absurd (counted_apart count other whole records rest body is wrong begins)
+one_bad body _ _ _ _ (unread count whole rest cause is fewer bad) (unread count' others more cause' also fewer' bad') =
+    let same = one_end whole others rest more cause cause' is.are also.are bad bad' (same_records count count' whole others rest more body is also) in
+    let causes : Some cause ≡ Some cause' = sym bad ∙ ap cause_of same.1 ∙ bad' in
+    (ap (λ (l : List Entry). 1 + length (records_bytes l)) same.0, cc)
+one_bad body _ _ _ _ (unread count whole rest cause is fewer bad) (late others more also left) = absurd (unread_late count whole others rest more body cause is fewer bad also)
+one_bad body _ _ _ _ (late whole rest is left) (empty none) = absurd (empty_apart (length whole) _ body none is.bytes)
+one_bad body _ _ _ _ (late whole rest begins left) (uncounted count records is wrong) = absurd (counted_apart count (length whole) whole records rest body is wrong begins)
+one_bad body _ _ _ _ (late others more also left) (unread count whole rest cause is fewer bad) = absurd (unread_late count whole others rest more body cause is fewer bad also)
+one_bad body _ _ _ _ (late whole rest is left) (late others more also left') = (refl, refl)
+
+batch_begins : (batch : List Entry) → IsBatch batch → Begins (length batch) batch [] (batch_bytes batch)
+batch_begins batch is = record { some = is.some; few = is.few; are = is.are; bytes = ap (λ (l : List ℕ). length batch ∷ l) (sym (append-nil (records_bytes batch))) }
+
+-- a batch is not bad
+never_bad : (batch : List Entry) (place : ℕ) (cause : BadRecord) → IsBatch batch → IsBadBatch (batch_bytes batch) place cause → ⊥
+never_bad batch _ _ is (empty none) = empty_apart (length batch) _ (batch_bytes batch) none refl
+never_bad batch _ _ is (uncounted count records counted wrong) = counted_apart count (length batch) batch records [] (batch_bytes batch) counted wrong (batch_begins batch is)
+never_bad batch _ _ is (unread count whole rest cause begins fewer bad) = unread_late count whole batch rest [] (batch_bytes batch) cause begins fewer bad (batch_begins batch is)
+never_bad batch _ _ is (late whole rest begins left) =
+    let size = same_count (length whole) (length batch) whole batch rest [] (batch_bytes batch) begins (batch_begins batch is) in
+    left (one_records whole batch rest [] begins.are is.are size (same_records (length whole) (length batch) whole batch rest [] (batch_bytes batch) begins (batch_begins batch is))).1
+
+one_batch : (batch other : List Entry) → IsBatch batch → IsBatch other → batch_bytes batch ≡ batch_bytes other → batch ≡ other
+one_batch batch other is also same =
+    let size : length batch ≡ length other = ap (λ (l : List ℕ). get_or l 0 0) same in
+    (one_records batch other [] [] is.are also.are size (append-nil (records_bytes batch) ∙ ap (drop 1) same ∙ sym (append-nil (records_bytes other)))).0
+
+-- bodies are batches in one way
+one_batches : (batches others : List (List Entry)) → AreBatches batches → AreBatches others → map batch_bytes batches ≡ map batch_bytes others → batches ≡ others
+one_batches [] [] are also same = refl
+one_batches [] (other ∷ others) are also same = absurd (omega (arith, ap length same))
+one_batches (batch ∷ batches) [] are also same = absurd (omega (arith, ap length same))
+one_batches (batch ∷ batches) (other ∷ others) are also same =
+    let first = one_batch batch other are.0 also.0 (ap (λ (l : List (List ℕ)). get_or l 0 []) same) in
+    let later = one_batches batches others are.1 also.1 (ap (drop 1) same) in
+    λ i. first i ∷ later i
+
+-- batches are no batches up to one that is none
+never_ends : (batches before : List (List Entry)) (body : List ℕ) (after : List (List ℕ)) (place : ℕ) (cause : BadRecord) → AreBatches batches → AreBatches before → map batch_bytes batches ≡ map batch_bytes before ++ body ∷ after → IsBadBatch body place cause → ⊥
+never_ends [] [] body after place cause are also same bad = absurd (omega (arith, ap length same))
+never_ends [] (other ∷ before) body after place cause are also same bad = absurd (omega (arith, ap length same))
+never_ends (batch ∷ batches) [] body after place cause are also same bad =
+    let first : body ≡ batch_bytes batch = sym (ap (λ (l : List (List ℕ)). get_or l 0 []) same) in
+    never_bad batch place cause are.0 (subst (λ (b : List ℕ). IsBadBatch b place cause) first bad)
+never_ends (batch ∷ batches) (other ∷ before) body after place cause are also same bad = never_ends batches before body after place cause are.1 also.1 (ap (drop 1) same) bad
+
+-- the first body that is no batch is one
+one_first_bad : (before others : List (List Entry)) (body other : List ℕ) (after later : List (List ℕ)) (place place' : ℕ) (cause cause' : BadRecord) → AreBatches before → AreBatches others
+    → map batch_bytes before ++ body ∷ after ≡ map batch_bytes others ++ other ∷ later → IsBadBatch body place cause → IsBadBatch other place' cause' → (ends_at (map batch_bytes before) + place ≡ ends_at (map batch_bytes others) + place') × (cause ≡ cause')
+one_first_bad [] [] body other after later place place' cause cause' are also same bad worse =
+    let first : other ≡ body = sym (ap (λ (l : List (List ℕ)). get_or l 0 []) same) in
+    let both = one_bad body place place' cause cause' bad (subst (λ (b : List ℕ). IsBadBatch b place' cause') first worse) in
+    (omega (arith, both.0), both.1)
+one_first_bad [] (batch ∷ others) body other after later place place' cause cause' are also same bad worse =
+    let first : body ≡ batch_bytes batch = ap (λ (l : List (List ℕ)). get_or l 0 []) same in
+    absurd (never_bad batch place cause also.0 (subst (λ (b : List ℕ). IsBadBatch b place cause) first bad))
+one_first_bad (batch ∷ before) [] body other after later place place' cause cause' are also same bad worse =
+    let first : other ≡ batch_bytes batch = sym (ap (λ (l : List (List ℕ)). get_or l 0 []) same) in
+    absurd (never_bad batch place' cause' are.0 (subst (λ (b : List ℕ). IsBadBatch b place' cause') first worse))
+one_first_bad (batch ∷ before) (batch' ∷ others) body other after later place place' cause cause' are also same bad worse =
+    let first : length (batch_bytes batch) ≡ length (batch_bytes batch') = ap (λ (l : List (List ℕ)). length (get_or l 0 [])) same in
+    let rest = one_first_bad before others body other after later place place' cause cause' are.1 also.1 (ap (drop 1) same) bad worse in
+    (omega (arith, first, rest.0), rest.1)
+
+-- bodies are no run in one way
+one_bad_run : (bodies : List (List ℕ)) (offset offset' : ℕ) (cause cause' : BadRecord) → IsBadRun bodies offset cause → IsBadRun bodies offset' cause' → (offset ≡ offset') × (cause ≡ cause')
+one_bad_run bodies _ _ _ _ (unheaded first others is none) (unheaded first' others' is' none') = (refl, refl)
+one_bad_run bodies _ _ _ _ (unheaded first others is none) (unbatched header before body after place cause short are split bad) =
+    absurd (none header short (ap (λ (l : List (List ℕ)). get_or l 0 []) (sym is ∙ split)))
+one_bad_run bodies _ _ _ _ (unbatched header before body after place cause short are split bad) (unheaded first others is none) =
+    absurd (none header short (ap (λ (l : List (List ℕ)). get_or l 0 []) (sym is ∙ split)))
+one_bad_run bodies _ _ _ _ (unbatched header before body after place cause short are split bad) (unbatched header' before' body' after' place' cause' short' are' split' bad') =
+    let same = sym split ∙ split' in
+    let first : length (header_bytes header) ≡ length (header_bytes header') = ap (λ (l : List (List ℕ)). length (get_or l 0 [])) same in
+    let rest = one_first_bad before before' body body' after after' place place' cause cause' are are' (ap (drop 1) same) bad bad' in
+    (omega (arith, first, rest.0), rest.1)
+
+-- a run is not bad
+run_not_bad : (header : Header) (batches : List (List Entry)) (entries : List Entry) (bodies : List (List ℕ)) (offset : ℕ) (cause : BadRecord) → IsRun header batches entries → bodies_of header batches ≡ bodies → IsBadRun bodies offset cause → ⊥
+run_not_bad header batches entries bodies _ _ run same (unheaded first others is none) = none header run.short (ap (λ (l : List (List ℕ)). get_or l 0 []) (sym is ∙ sym same))
+run_not_bad header batches entries bodies _ _ run same (unbatched header' before body after place cause short are split bad) =
+    never_ends batches before body after place cause run.are are (ap (drop 1) (same ∙ split)) bad
+
+one_run : (header header' : Header) (batches batches' : List (List Entry)) (entries entries' : List Entry) → IsRun header batches entries → IsRun header' batches' entries' → bodies_of header batches ≡ bodies_of header' batches' → (header ≡ header') × (entries ≡ entries')
+one_run header header' batches batches' entries entries' run run' same = (
+  one_header header header' run.short run'.short (ap (λ (l : List (List ℕ)). get_or l 0 []) same),
+  run.joins ∙ ap records_of (one_batches batches batches' run.are run'.are (ap (drop 1) same)) ∙ sym run'.joins,
+)
+
+bad_some : (bodies : List (List ℕ)) (offset : ℕ) (cause : BadRecord) → IsBadRun bodies offset cause → bodies ≡ [] → ⊥
+bad_some bodies _ _ (unheaded first others is none) empty_bodies = omega (arith, ap length (sym is ∙ empty_bodies))
+bad_some bodies _ _ (unbatched header before body after place cause short are split bad) empty_bodies = omega (arith, ap length (sym split ∙ empty_bodies))
+
+none_bad : (image : List ℕ) (offset : ℕ) (cause : BadRecord) → IsNoRun image → IsBadAt offset cause image → ⊥
+none_bad image offset cause none bad = bad_some bad.0 offset cause bad.2 (none_spelled image bad.0 none bad.1)
+
+none_stands : (image : List ℕ) (header : Header) (entries : List Entry) → IsNoRun image → Stands header entries image → ⊥
+none_stands image header entries none stands = omega (arith, ap length (none_spelled image (bodies_of header stands.0) none stands.2))
+
+bad_stands : (image : List ℕ) (offset : ℕ) (cause : BadRecord) (header : Header) (entries : List Entry) → IsBadAt offset cause image → Stands header entries image → ⊥
+bad_stands image offset cause header entries bad stands =
+    run_not_bad header stands.0 entries bad.0 offset cause stands.1 (one_list image (bodies_of header stands.0) bad.0 stands.2 bad.1) bad.2
+
+pub one_meaning : (image : List ℕ) (a b : Meaning) → StandsFor a image → StandsFor b image → a ≡ b
+one_meaning image no_run no_run is also = refl
+one_meaning image no_run (cut_at o) is also = absurd (none_uncut image o is also)
+one_meaning image no_run (bad_at o c) is also = absurd (none_bad image o c is also)
+one_meaning image no_run (a_run h es) is also = absurd (none_stands image h es is also)
+one_meaning image (cut_at o) no_run is also = absurd (none_uncut image o also is)
+one_meaning image (cut_at o) (cut_at o') is also = ap cut_at (one_cut image o o' is also)
+one_meaning image (cut_at o) (bad_at o' c) is also = absurd (spelled_uncut image also.0 o also.1 is)
+one_meaning image (cut_at o) (a_run h es) is also = absurd (spelled_uncut image (bodies_of h also.0) o also.2 is)
+one_meaning image (bad_at o c) no_run is also = absurd (none_bad image o c also is)
+one_meaning image (bad_at o c) (cut_at o') is also = absurd (spelled_uncut image is.0 o' is.1 also)
+one_meaning image (bad_at o c) (bad_at o' c') is also =
+    let same = one_list image also.0 is.0 also.1 is.1 in
+    let both = one_bad_run is.0 o o' c c' is.2 (subst (λ (l : List (List ℕ)). IsBadRun l o' c') same also.2) in
+    λ i. bad_at (both.0 i) (both.1 i)
+one_meaning image (bad_at o c) (a_run h es) is also = absurd (bad_stands image o c h es is also)
+one_meaning image (a_run h es) no_run is also = absurd (none_stands image h es also is)
+one_meaning image (a_run h es) (cut_at o) is also = absurd (spelled_uncut image (bodies_of h is.0) o is.2 also)
+one_meaning image (a_run h es) (bad_at o c) is also = absurd (bad_stands image o c h es also is)
+one_meaning image (a_run h es) (a_run h' es') is also =
+    let both = one_run h h' is.0 also.0 es es' is.1 also.1 (one_list image (bodies_of h is.0) (bodies_of h' also.0) is.2 also.2) in
+    λ i. a_run (both.0 i) (both.1 i)

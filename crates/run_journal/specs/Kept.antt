@@ -1,0 +1,37 @@
+-- What callers see of a journal.
+use Rattle.std.specs.Prelude.{◌≡◌, ℕ, ◌+◌, ◌*◌, ◌≤◌, List, [], ◌∷◌, length, slice_index, IsTrue, Result, OnOk, OnErr, is_ok}
+use Rattle.gate_file.specs.Gate.{Gate}
+
+-- the file, the body that is to be written next, and the number of records, those to be written counted
+pub record Log (D : Type 0) : Type 0 where
+  pub file : Gate D
+  pub batch : List ℕ
+  pub count : ℕ
+
+-- how many records are to be written
+abbrev pub pending_in : List ℕ → ℕ
+pending_in batch = slice_index batch 0
+
+-- the body begins with its count, and has no more bytes than so many records may have
+pub record HasBatch (batch : List ℕ) : Type 0 where
+  pub some : 1 ≤ length batch
+  pub few : pending_in batch ≤ 64
+  pub short : length batch ≤ 1 + 131 * pending_in batch
+
+-- how many records a journal may have
+abbrev pub most_records : ℕ
+most_records = 4000000
+
+-- a journal that may be written, of so many records, none of which is to be written
+pub record IsFresh {D : Type 0} (count : ℕ) (log : Log D) : Type 0 where
+  pub live : IsTrue log.file.live
+  pub batch : log.batch ≡ 0 ∷ []
+  pub count_is : log.count ≡ count
+
+-- What a flush makes of the journal itself.
+pub record IsFlushed {D T E : Type 0} (old new : Log D) (result : Result T E) : Type 0 where
+  pub emptied : OnOk result (new.batch ≡ 0 ∷ [])
+  pub stays : OnErr result (new.batch ≡ old.batch)
+  pub moved : OnOk result (1 ≤ pending_in old.batch → new.file.end ≡ old.file.end + 5 + length old.batch)
+  pub live : new.file.live ≡ is_ok result
+  pub count : new.count ≡ old.count

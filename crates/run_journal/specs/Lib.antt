@@ -1,0 +1,9 @@
+pub mod Bad
+pub mod Batches
+pub mod Beginning
+pub mod Kept
+pub mod Meaning
+pub mod Opening
+pub mod Places
+pub mod Reading
+pub mod Stands

@@ -1,0 +1,20 @@
+-- What an image of a journal stands for.
+use Rattle.std.specs.Prelude.{ℕ, List}
+use Rattle.gate_file.specs.Chain.{IsNoRun, IsCutAt}
+use Rattle.run_records.specs.declared.bad_record.BadRecord.{BadRecord}
+use Rattle.run_records.specs.declared.entry.Entry.{Entry}
+use Rattle.run_records.specs.declared.header.Header.{Header}
+use Rattle.run_journal.specs.Stands.{Stands}
+use Rattle.run_journal.specs.Bad.{IsBadAt}
+
+pub data Meaning : Type 0 where
+  no_run : Meaning
+  cut_at : ℕ → Meaning  -- an open gate at this offset has no whole body
+  bad_at : ℕ → BadRecord → Meaning  -- its bodies are no run, for this cause at this offset
+  a_run : Header → List Entry → Meaning
+
+abbrev pub StandsFor : Meaning → List ℕ → Type 0
+StandsFor no_run image = IsNoRun image
+StandsFor (cut_at offset) image = IsCutAt offset image
+StandsFor (bad_at offset cause) image = IsBadAt offset cause image
+StandsFor (a_run header entries) image = Stands header entries image

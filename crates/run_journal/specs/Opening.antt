@@ -1,0 +1,68 @@
+-- How a journal is opened.
+use Rattle.std.specs.Prelude.{◌≡◌, ℕ, ◌+◌, ◌*◌, ◌≤◌, List, length, Result, Ok, Err, IfOk, IfErr}
+use Rattle.disk_model.specs.Device.{DiskState, Reads, Rose, IsSettled}
+use Rattle.disk_model.specs.Moments.{Unwritten, Uses}
+use Rattle.gate_file.specs.declared.fault.GateFault.{GateFault}
+use Rattle.gate_file.specs.declared.fault.GateFault.TheVariants.{DiskFault as GateDisk, NoRun as GateNone, RunThere as GateThere, Cut as GateCut, NoMemory as GateMemory}
+use Rattle.gate_file.specs.Chain.{Spells, IsNoRun, IsCutAt}
+use Rattle.gate_file.specs.Gate.{Keeps, OpeningUses}
+use Rattle.run_records.specs.declared.entry.Entry.{Entry}
+use Rattle.run_records.specs.declared.header.Header.{Header}
+use Rattle.run_records.specs.Headers.{header_bytes}
+use Rattle.run_journal.specs.declared.fault.JournalFault.{JournalFault}
+use Rattle.run_journal.specs.declared.fault.JournalFault.TheVariants.{DiskFault, NoRun, Cut, BadRecord, NoMemory}
+use Rattle.run_journal.specs.declared.opening.Opened.{Opened}
+use Rattle.run_journal.specs.Batches.{bodies_of, IsRun}
+use Rattle.run_journal.specs.Places.{places}
+use Rattle.run_journal.specs.Bad.{IsBadAt}
+
+-- why a journal is not opened; what is said of the file is on the disk
+abbrev pub RefusesRun : JournalFault → DiskState → DiskState → Type 0
+RefusesRun DiskFault old new = Rose old.faults new.faults
+RefusesRun NoRun old new = IsSettled new × ((bytes : List ℕ) → Reads old bytes → IsNoRun bytes)
+RefusesRun (Cut at) old new = IsSettled new × ((bytes : List ℕ) → Reads old bytes → IsCutAt at bytes)
+RefusesRun (BadRecord offset cause) old new =
+    IsSettled new × ((bytes : List ℕ) → Reads old bytes → IsBadAt offset cause bytes)
+RefusesRun NoMemory old new = Unit {0}
+
+-- a journal is refused as its file of gates is
+abbrev pub IsFaultOf : GateFault → JournalFault → Type 0
+IsFaultOf GateDisk fault = fault ≡ DiskFault
+IsFaultOf GateNone fault = fault ≡ NoRun
+IsFaultOf GateThere fault = ⊥
+IsFaultOf (GateCut at) fault = fault ≡ Cut at
+IsFaultOf GateMemory fault = fault ≡ NoMemory
+
+-- what an opening found: the header, the records, where each of them begins, and where the shut gate stands
+pub record Found : Type 0 where
+  pub header : Header
+  pub entries : List Entry
+  pub offsets : List ℕ
+  pub end : ℕ
+
+-- what it found are these batches, which the file spells and the disk keeps
+pub record IsFound (batches : List (List Entry)) (old new : DiskState) (found : Found) : Type 0 where
+  pub run : IsRun found.header batches found.entries
+  pub offsets : found.offsets ≡ places (5 + length (header_bytes found.header)) batches
+  pub file : (bytes : List ℕ) → Reads old bytes → Spells (bodies_of found.header batches) bytes
+      × Keeps (bodies_of found.header batches) new found.end
+  pub uses : Uses (4 * (length batches + 2) + 4) 0 old new
+
+-- What a call that opens a journal promises.
+pub record FindsRun (old new : DiskState) (result : Result Found JournalFault) : Type 0 where
+  pub found : IfOk result (λ found. (batches : List (List Entry)) × IsFound batches old new found)
+  pub refused : IfErr result (λ fault. RefusesRun fault old new)
+  pub later : old.faults ≤ new.faults
+  -- a crash at any moment of the call leaves an image from before it
+  pub unwritten : Unwritten old new
+  pub uses : (bytes : List ℕ) → Reads old bytes → OpeningUses bytes old new
+
+-- the disk in an answer that gives it back either way
+abbrev pub disk_opened : {D : Type 0} → Result (Opened D) (D × JournalFault) → D
+disk_opened (Ok opened) = opened.journal.file.disk
+disk_opened (Err fault) = fault.0
+
+abbrev pub found_with : {D : Type 0} → Result (Opened D) (D × JournalFault) → Result Found JournalFault
+found_with (Ok opened) =
+    Ok (record { header = opened.header; entries = opened.entries.items; offsets = opened.offsets; end = opened.journal.file.end })
+found_with (Err fault) = Err fault.1

@@ -1,0 +1,25 @@
+//! The journal of a run: records that are gathered in batches, and written as bodies behind gates.
+//!
+//! The first body is the header of the run, and each other one is a batch of 1 to 64 records. [`Journal::flush`] writes all
+//! records that are to be written as one batch, so that a crash at any moment leaves the records from before the call, or those
+//! and the whole batch. The layer above leans on that, and on what [`open_journal`] gives: exactly the header and the records that
+//! the file stands for, or the one reason why it stands for none.
+#![tactic(auto)]
+
+mod batch;
+mod fault;
+mod journal;
+mod laws;
+mod offsets;
+mod opening;
+mod reading;
+#[cfg(test)]
+mod tests;
+
+pub use fault::{JournalFault, JournalFull};
+pub use journal::{Journal, MOST_RECORDS};
+pub use laws::{
+    a_held_journal_is_small, a_held_journal_leaves_its_records, a_journal_stands_for_one_thing,
+};
+pub use offsets::OffsetList;
+pub use opening::{Opened, open_journal};
