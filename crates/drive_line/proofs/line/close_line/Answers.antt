@@ -1,0 +1,32 @@
+use Rattle.std.proofs.Common.{◌≡◌, ◌++◌, ◌∙◌, ap, sym}
+use Rattle.drive_line.specs.Line.{moves_among, mark_counts}
+use Rattle.drive_line.proofs.Items.{moves_of_both, whole_of, taken_of}
+use Rattle.drive_line.proofs.line.close_line.Goals as goal
+
+pub returns-clause-moves : goal.returns-clause-moves
+returns-clause-moves g c =
+    let sent = c.args.sending.items in
+    let taken = c.args.taking.items in
+    let rest = c.close_wire.ensures.0 in
+    let e : sent ≡ taken ++ rest = sym c.into_wires-to_drive.ensures.items.0 ∙ c.close_wire.ensures.1 ∙ ap (λ l. l ++ rest) c.into_wires-from_worker.ensures.items in
+    (moves_among rest, ap moves_among e ∙ moves_of_both taken rest)
+
+pub returns-clause-drained : goal.returns-clause-drained
+returns-clause-drained g c =
+    let sent = c.args.sending.items in
+    let taken = c.args.taking.items in
+    let received = c.args.sending.received in
+    let rest = c.close_wire.ensures.0 in
+    let others = c.close_wire-2.ensures.0 in
+    let e : sent ≡ taken ++ rest = sym c.into_wires-to_drive.ensures.items.0 ∙ c.close_wire.ensures.1 ∙ ap (λ l. l ++ rest) c.into_wires-from_worker.ensures.items in
+    let f : mark_counts 0 taken ≡ received ++ others =
+    sym c.into_wires-from_worker.ensures.given ∙ c.close_wire-2.ensures.1 ∙ ap (λ l. l ++ others) c.into_wires-to_drive.ensures.items.1 in
+    taken_of sent taken rest received others e f c.into_wires-to_drive.ensures.answered
+
+pub returns-clause-whole : goal.returns-clause-whole
+returns-clause-whole g c is =
+    let sent = c.args.sending.items in
+    let taken = c.args.taking.items in
+    let rest = c.close_wire.ensures.0 in
+    let e : sent ≡ taken ++ rest = sym c.into_wires-to_drive.ensures.items.0 ∙ c.close_wire.ensures.1 ∙ ap (λ l. l ++ rest) c.into_wires-from_worker.ensures.items in
+    whole_of sent taken rest e c.into_wires-to_drive.ensures.last (sym c.into_wires-from_worker.ensures.ended ∙ is)

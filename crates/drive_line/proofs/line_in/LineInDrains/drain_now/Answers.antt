@@ -1,0 +1,10 @@
+use Rattle.std.proofs.Common.{◌≡◌, false, ap, ◌∙◌}
+use Rattle.drive_line.specs.Line.{has_end}
+use Rattle.drive_line.proofs.Items.{kept_mark}
+use Rattle.drive_line.proofs.line_in.LineInDrains.drain_now.Goals as goal
+
+pub invariant_of-self : goal.invariant_of-self
+invariant_of-self g c =
+    let open_ : has_end c.self.inside.forth.items ≡ false = ap (λ s. has_end s.items) c.self.view_is ∙ c.requires in
+    let answers = c.await_answer.ensures.items in
+    kept_mark _ _ _ _ answers.0 _ c.send.ensures.items answers.1 open_ c.self.invariant

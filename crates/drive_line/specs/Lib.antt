@@ -1,0 +1,4 @@
+-- What callers read.
+pub mod Line
+-- Words of the inside.
+pub mod Wire

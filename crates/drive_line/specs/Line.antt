@@ -1,0 +1,85 @@
+-- What the two ends of a drive line mean.
+use Rattle.std.specs.Prelude.{◌≡◌, ◌≤◌, ℕ, suc, Bool, true, false, MatchBool, List, [], ◌∷◌, ◌++◌, length, take, Option, Some, None, All, Contains}
+use Rattle.nc_outside.specs.declared.motion.Move.{Move as Motion}
+use Rattle.drive_line.specs.declared.item.Item.{Item}
+use Rattle.drive_line.specs.declared.item.Item.TheVariants.{Move, Mark, End}
+use Rattle.drive_line.specs.Wire.{WireId}
+
+-- Which line an end belongs to: the wire of its items, and the wire of the answers back.
+pub record LineId : Type 0 where
+  pub forth : WireId Item
+  pub back : WireId ℕ
+
+-- The end of the worker: the items that it sent, and the answers that it received.
+pub record Sending : Type 0 where
+  pub line : LineId
+  pub items : List Item
+  pub received : List ℕ
+
+-- The end of the drive: the items that it took. It answered each mark among them, as `mark_counts` says.
+pub record Taking : Type 0 where
+  pub line : LineId
+  pub items : List Item
+
+-- the moves among these items
+abbrev pub moves_among : List Item → List Motion
+moves_among [] = []
+moves_among (Move what ∷ items) = what ∷ moves_among items
+moves_among (Mark ∷ items) = moves_among items
+moves_among (End ∷ items) = moves_among items
+
+-- for each mark among these items, how many moves stand before it, where n stand before them all
+abbrev pub mark_counts : ℕ → List Item → List ℕ
+mark_counts n [] = []
+mark_counts n (Move what ∷ items) = mark_counts (suc n) items
+mark_counts n (Mark ∷ items) = n ∷ mark_counts n items
+mark_counts n (End ∷ items) = mark_counts n items
+
+-- the end is among them
+abbrev pub has_end : List Item → Bool
+has_end [] = false
+has_end (Move what ∷ items) = has_end items
+has_end (Mark ∷ items) = has_end items
+has_end (End ∷ items) = true
+
+-- nothing stands behind the end
+abbrev pub EndIsLast : List Item → Type 0
+EndIsLast [] = Unit {0}
+EndIsLast (Move what ∷ items) = EndIsLast items
+EndIsLast (Mark ∷ items) = EndIsLast items
+EndIsLast (End ∷ items) = items ≡ []
+
+-- What the end of the worker keeps, which counts n moves: nothing stands behind the end, and each mark was answered.
+pub record IsSending (n : ℕ) (items : List Item) (received : List ℕ) : Type 0 where
+  pub counted : n ≡ length (moves_among items)
+  pub last : EndIsLast items
+  pub answered : All (Contains received) (mark_counts 0 items)
+
+-- What the end of the drive keeps, which counts n moves and knows whether it took the end: it answered each mark.
+pub record IsTaking (n : ℕ) (is_ended : Bool) (items : List Item) (given : List ℕ) : Type 0 where
+  pub counted : n ≡ length (moves_among items)
+  pub ended : is_ended ≡ has_end items
+  pub given_back : given ≡ mark_counts 0 items
+
+-- A drain behind so many moves: it sent a mark, and received answers up to one with that number.
+pub record IsDrained (old new : Sending) (n : ℕ) : Type 0 where
+  pub line : new.line ≡ old.line
+  pub items : new.items ≡ old.items ++ Mark ∷ []
+  pub count : n ≡ length (moves_among old.items)
+  pub received : (others : List ℕ) × (new.received ≡ old.received ++ (others ++ n ∷ []))
+
+-- these are marks, and behind them the move that is answered, or the end where none is
+abbrev pub IsNext : List Item → Option Motion → Type 0
+IsNext [] answer = ⊥
+IsNext (Move what ∷ items) answer = (items ≡ []) × (answer ≡ Some what)
+IsNext (Mark ∷ items) answer = IsNext items answer
+IsNext (End ∷ items) answer = (items ≡ []) × (answer ≡ None)
+
+-- one `take` reads the next items; behind the end it reads none
+abbrev pub Reads : List Item → List Item → Option Motion → Type 0
+Reads old new answer =
+    MatchBool (has_end old) ((new ≡ old) × (answer ≡ None)) ((next : List Item) × (new ≡ old ++ next) × IsNext next answer)
+
+-- the first n moves that were sent were taken
+abbrev pub AreTaken : List Item → List Item → ℕ → Type 0
+AreTaken sent taken n = (n ≤ length (moves_among taken)) × (take n (moves_among taken) ≡ take n (moves_among sent))

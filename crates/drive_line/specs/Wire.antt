@@ -1,0 +1,38 @@
+-- What goes through a wire: first in, first out, from one end to one other.
+use Rattle.std.specs.Prelude.{◌≡◌, ℕ, Bool, true, List, ◌++◌}
+use mathlib.Core.Option.{some}
+use lib.ListN.{get_elem?}
+use Rattle.atomic_table.specs.Seated.{TableId}
+use Rattle.atomic_table.specs.declared.badge.Badge.{Badge}
+use Rattle.crossbeam_channel.specs.declared.flavors.array.Key.{Key}
+use Rattle.crossbeam_channel.specs.Claims.{Pass}
+use Rattle.drive_line.specs.declared.wire.Log.{Log}
+
+-- what a pass may do, and what it has sent and taken
+abbrev pub log : {T : Type 0} → Bool → Bool → List T → List T → Log T
+log sends takes sent taken = record { sends = sends; takes = takes; sent = sent; taken = taken }
+
+-- What a wire keeps: what was sent is what was taken, and then what the channel holds. One pass alone may send, and has
+-- the list of what was sent; one alone may take, and has the list of what was taken.
+pub record IsInOrder {T : Type 0} (held : List T) (logs : List (Log T)) : Type 0 where
+  pub sender : ℕ  -- the pass that may send
+  pub taker : ℕ  -- the pass that may take
+  pub sent : List T
+  pub taken : List T
+  pub order : sent ≡ taken ++ held
+  pub sends : (pass : ℕ) (v : Log T) → get_elem? logs pass ≡ some v → v.sends ≡ true → (pass ≡ sender) × (v.sent ≡ sent)
+  pub takes : (pass : ℕ) (v : Log T) → get_elem? logs pass ≡ some v → v.takes ≡ true → (pass ≡ taker) × (v.taken ≡ taken)
+
+-- Which wire an end belongs to.
+pub record WireId (T : Type 0) : Type 0 where
+  pub table : TableId
+  pub key : Badge (Key T)
+
+-- What an end of a wire means: which wire it is, and what went through this end.
+pub record WireEnd (T : Type 0) : Type 0 where
+  pub wire : WireId T
+  pub items : List T
+
+-- the wire of a pass
+abbrev pub wire_of : {T : Type 0} → Pass T (Log T) → WireId T
+wire_of pass = record { table = pass.table_id; key = pass.me.0.of }

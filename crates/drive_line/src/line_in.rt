@@ -1,0 +1,135 @@
+//! The end of a line at which the worker of a path sends.
+ghost use Rattle.std.specs.Prelude.{◌≡◌, ℕ, List, false, [], ◌∷◌, ◌+◌, ◌++◌, All, Contains};
+ghost use Rattle.drive_line.specs.Line.{has_end, mark_counts, EndIsLast, IsDrained};
+
+use crate::Item;
+use crate::wire::{WireIn, WireOut};
+use nc_outside::{Drained, Drains, Move};
+use std::marker::Model;
+use std::sync::Wait;
+
+/// The end at which a worker sends. It means its line, the items that it sent and the answers that it received. Nothing is
+/// sent behind the end, and each mark that was sent has been answered.
+#[derive(Drop)]
+pub struct LineIn<'r, R> {
+    rt: &'r R,
+    forth: WireIn<Item>,
+    back: WireOut<u64>,
+    sent: u64,
+}
+
+impl<'r, R> Model for LineIn<'r, R> {
+    ghost use Rattle.drive_line.specs.Line.{Sending, IsSending};
+
+    ghost Value = { Sending };
+
+    ghost view = { λ l. record {
+      line = record { forth = l.forth.wire; back = l.back.wire };
+      items = l.forth.items;
+      received = l.back.items;
+    } };
+
+    ghost invariant = { λ l. IsSending l.sent l.forth.items l.back.items };
+}
+
+impl<'r, R> LineIn<'r, R> {
+    /// The end of a new line over these two wires.
+    pub(crate) fn over(rt: &'r R, forth: WireIn<Item>, back: WireOut<u64>) -> Self
+        requires { (forth.items ≡ []) × (back.items ≡ []) }
+        ensures { result ≡ record {
+          line = record { forth = forth.wire; back = back.wire };
+          items = [];
+          received = [];
+        } }
+    {
+        LineIn {
+            rt,
+            forth,
+            back,
+            sent: 0,
+        }
+    }
+
+    /// The wires that it was made of: that of its items, and that of the answers.
+    pub(crate) fn into_wires(self) -> (WireIn<Item>, WireOut<u64>)
+        ensures line { self.entry.line ≡ record { forth = result.0.wire; back = result.1.wire } }
+        ensures items { (result.0.items ≡ self.entry.items) × (result.1.items ≡ self.entry.received) }
+        ensures last { EndIsLast self.entry.items }
+        ensures answered { All (Contains self.entry.received) (mark_counts 0 self.entry.items) }
+    {
+        (self.forth, self.back)
+    }
+}
+
+impl<'r, R: Wait> LineIn<'r, R> {
+    /// Sends a move behind those that were sent. Where the line is full it waits, and past 2^64 - 1 moves for ever.
+    pub fn send(&mut self, what: Move)
+        requires { has_end self.old.items ≡ false }
+        ensures line { self.new.line ≡ self.old.line }
+        ensures items { self.new.items ≡ self.old.items ++ Item.Move what ∷ [] }
+        ensures open { has_end self.new.items ≡ false }
+        ensures received { self.new.received ≡ self.old.received }
+    {
+        self.sent = next_count(self.rt, self.sent);
+        self.forth.send(self.rt, Item::Move(what));
+    }
+
+    /// Sends a mark, and waits for answers until one has the number of the moves that were sent.
+    pub fn drain(&mut self) -> Drained
+        requires { has_end self.old.items ≡ false }
+        ensures drained { IsDrained self.old self.new result.count }
+        ensures open { has_end self.new.items ≡ false }
+    {
+        Drained::by(self)
+    }
+
+    /// Sends the end. Where the line is full it waits.
+    pub fn end_line(&mut self)
+        requires { has_end self.old.items ≡ false }
+        ensures line { self.new.line ≡ self.old.line }
+        ensures items { self.new.items ≡ self.old.items ++ Item.End ∷ [] }
+        ensures received { self.new.received ≡ self.old.received }
+    {
+        self.forth.send(self.rt, Item::End);
+    }
+}
+
+impl<'r, R: Wait> Drains for LineIn<'r, R> {
+    ghost use Rattle.std.specs.Prelude.{◌≡◌, false};
+    ghost use Rattle.drive_line.specs.Line.{IsDrained, has_end};
+
+    ghost drains = { IsDrained };
+
+    ghost can_drain = { λ l. has_end l.items ≡ false };
+
+    fn drain_now(&mut self) -> u64 {
+        self.forth.send(self.rt, Item::Mark);
+        await_answer(self.rt, &mut self.back, self.sent);
+        self.sent
+    }
+}
+
+// Takes answers until one is this number.
+fn await_answer<R: Wait>(rt: &R, back: &mut WireOut<u64>, count: u64)
+    ensures wire { back.new.wire ≡ back.old.wire }
+    ensures items { (others : List ℕ) × (back.new.items ≡ back.old.items ++ (others ++ count ∷ [])) }
+{
+    for _ in rt.forever() {
+        if back.take(rt) == count {
+            return;
+        }
+    }
+    unreachable!()
+}
+
+/// One more. Past the last number it does not return.
+pub(crate) fn next_count<R: Wait>(rt: &R, count: u64) -> u64
+    ensures { result ≡ count + 1 }
+{
+    for _ in rt.forever() {
+        if let Some(next) = count.checked_add(1) {
+            return next;
+        }
+    }
+    unreachable!()
+}

@@ -1,0 +1,77 @@
+-- The answers of a worker, one after another: its calls, and the items that it sends.
+use Rattle.std.proofs.Common.{arith, ◌≡◌, ◌+◌, ℕ, List, [], ◌∷◌, ◌++◌, length, map, flat_map, refl, ap, sym, ◌∙◌, subst, append_assoc, Option, Some, None}
+use Rattle.std.proofs.lemmas.List.{length-append}
+use Rattle.std.proofs.lemmas.Grind.{flat_map-append}
+use Rattle.nc_number.specs.declared.path.Path.{Path}
+use Rattle.nc_outside.specs.declared.motion.Move.{Move as Motion}
+use Rattle.nc_outside.specs.declared.halt.Next.{Next}
+use Rattle.nc_outside.specs.declared.halt.Next.TheVariants.{Silent, Moves, Drain, Finished, Halted}
+use Rattle.nc_outside.specs.declared.stepper.Call.{Call}
+use Rattle.nc_outside.specs.declared.stepper.Call.TheVariants.{Step}
+use Rattle.nc_outside.specs.Calls.{IsCalled, moves_of, moves_answered}
+use Rattle.drive_line.specs.declared.item.Item.{Item}
+use Rattle.drive_line.specs.declared.item.Item.TheVariants.{Move}
+use Rattle.drive_line.specs.Line.{moves_among}
+use Rattle.drive_line.proofs.Items.{moves_of_both}
+use Rattle.path_worker.specs.Work.{items_at, drained_at, calls_made, Works}
+
+called_more : (a b c : Option (List Call)) (xs ys : List Call) → IsCalled a b xs → IsCalled b c ys → IsCalled a c (xs ++ ys)
+called_more None None c xs ys p q = q
+called_more None (Some was) c xs ys p q = absurd (cc p)
+called_more (Some was) None c xs ys p q = absurd (cc p)
+called_more (Some was) (Some is) c xs ys p q =
+    let e : is ≡ was ++ xs = cc p in q ∙ ap Some (ap (λ l. l ++ ys) e ∙ append_assoc was xs ys)
+
+moves_then : (moves : List Motion) (items : List Item) → moves_among (map Move moves ++ items) ≡ moves ++ moves_among items
+moves_then [] items = refl
+moves_then (what ∷ moves) items = ap (λ l. what ∷ l) (moves_then moves items)
+
+-- the moves that are sent at an answer are those that it gives
+sent_at : (answer : Next) (items : List Item) → moves_among (items_at answer ++ items) ≡ moves_of answer ++ moves_among items
+sent_at Silent items = refl
+sent_at (Moves moves) items = moves_then moves.list items
+sent_at Drain items = refl
+sent_at Finished items = refl
+sent_at (Halted why) items = refl
+
+calls_of_both : (path : Path) (n : ℕ) (xs ys : List Next)
+    → calls_made path n (xs ++ ys) ≡ calls_made path n xs ++ calls_made path (n + length (moves_among (flat_map items_at xs))) ys
+calls_of_both path n [] ys = let e : n ≡ n + 0 = omega arith in ap (λ k. calls_made path k ys) e
+calls_of_both path n (x ∷ xs) ys =
+    let m = n + length (moves_of x) in
+    let all = ap length (sent_at x (flat_map items_at xs)) ∙ length-append (moves_of x) (moves_among (flat_map items_at xs)) in
+    let e : m + length (moves_among (flat_map items_at xs)) ≡ n + length (moves_among (items_at x ++ flat_map items_at xs)) = omega (arith, all) in
+    let drained = drained_at path n x in
+    let first = calls_made path m xs in
+    ap (λ l. Step path x ∷ (drained ++ l)) (calls_of_both path m xs ys ∙ ap (λ k. first ++ calls_made path k ys) e)
+    ∙ ap (λ l. Step path x ∷ l)
+    (sym (append_assoc drained first (calls_made path (n + length (moves_among (items_at x ++ flat_map items_at xs))) ys)))
+
+-- what a worker did first, and what it did then
+pub works_more : (path : Path) (a b c : Option (List Call)) (old mid new : List Item) (xs ys : List Next)
+    → Works path a b old mid xs → Works path b c mid new ys → Works path a c old new (xs ++ ys)
+works_more path a b c old mid new xs ys p q =
+    let n = length (moves_among old) in
+    let first = flat_map items_at xs in
+    let e : length (moves_among mid) ≡ n + length (moves_among first) =
+    ap (λ l. length (moves_among l)) p.items ∙ ap length (moves_of_both old first) ∙ length-append (moves_among old) (moves_among first) in
+    let then : IsCalled b c (calls_made path (n + length (moves_among first)) ys) = subst (λ k. IsCalled b c (calls_made path k ys)) e q.calls in
+    record {
+      calls = subst (IsCalled a c) (sym (calls_of_both path n xs ys)) (called_more a b c (calls_made path n xs) (calls_made path (n + length (moves_among first)) ys) p.calls then);
+      items = q.items ∙ ap (λ l. l ++ flat_map items_at ys) p.items ∙ append_assoc old first (flat_map items_at ys)
+          ∙ ap (λ l. old ++ l) (sym (flat_map-append items_at xs ys));
+    }
+
+no_moves : (path : Path) (n : ℕ) (answer : Next) (calls : List Call) → moves_answered (drained_at path n answer ++ calls) ≡ moves_answered calls
+no_moves path n Silent calls = refl
+no_moves path n (Moves moves) calls = refl
+no_moves path n Drain calls = refl
+no_moves path n Finished calls = refl
+no_moves path n (Halted why) calls = refl
+
+-- the moves that were sent are those that the calls answered
+pub sent_is_answered : (path : Path) (n : ℕ) (answers : List Next) → moves_among (flat_map items_at answers) ≡ moves_answered (calls_made path n answers)
+sent_is_answered path n [] = refl
+sent_is_answered path n (x ∷ xs) =
+    let m = n + length (moves_of x) in
+    sent_at x (flat_map items_at xs) ∙ ap (λ l. moves_of x ++ l) (sent_is_answered path m xs ∙ sym (no_moves path n x (calls_made path m xs)))

@@ -1,0 +1,51 @@
+-- What the worker of a path does at the answers of its stepper.
+use Rattle.std.specs.Prelude.{◌≡◌, ℕ, ◌+◌, List, [], ◌∷◌, ◌++◌, length, map, flat_map, Option, All}
+use Rattle.nc_number.specs.declared.path.Path.{Path}
+use Rattle.nc_outside.specs.declared.halt.Next.{Next}
+use Rattle.nc_outside.specs.declared.halt.Next.TheVariants.{Silent, Moves, Drain, Finished, Halted}
+use Rattle.nc_outside.specs.declared.stepper.Call.{Call}
+use Rattle.nc_outside.specs.declared.stepper.Call.TheVariants.{Step, Drained}
+use Rattle.nc_outside.specs.Calls.{IsCalled, moves_of}
+use Rattle.drive_line.specs.declared.item.Item.{Item}
+use Rattle.drive_line.specs.declared.item.Item.TheVariants.{Move, Mark, End}
+use Rattle.drive_line.specs.Line.{moves_among}
+use Rattle.path_worker.specs.declared.worker.Why.{Why}
+
+-- what a worker sends at an answer: its moves, a mark at Drain, and the end where it is the last
+abbrev pub items_at : Next → List Item
+items_at Silent = []
+items_at (Moves moves) = map Move moves.list
+items_at Drain = Mark ∷ []
+items_at Finished = End ∷ []
+items_at (Halted why) = End ∷ []
+
+-- the call at Drain: the line of the path was drained behind n moves
+abbrev pub drained_at : Path → ℕ → Next → List Call
+drained_at path n Drain = Drained path n ∷ []
+drained_at path n _ = []
+
+-- the calls that got these answers, of a worker whose line had n moves: a step each, and at Drain that it was drained
+abbrev pub calls_made : Path → ℕ → List Next → List Call
+calls_made path n [] = []
+calls_made path n (answer ∷ answers) =
+    Step path answer ∷ (drained_at path n answer ++ calls_made path (n + length (moves_of answer)) answers)
+
+-- A worker of the path got these answers: its calls, one list before and one after, and the items of its line.
+pub record Works (path : Path) (before after : Option (List Call)) (old new : List Item) (answers : List Next) : Type 0 where
+  pub calls : IsCalled before after (calls_made path (length (moves_among old)) answers)
+  pub items : new ≡ old ++ flat_map items_at answers
+
+-- the path goes on behind the answer
+abbrev pub GoesOn : Next → Type 0
+GoesOn Finished = ⊥
+GoesOn (Halted why) = ⊥
+GoesOn _ = Unit {0}
+
+-- it was the last answer of a worker that ended so
+abbrev pub IsAnswerOf : Next → Why → Type 0
+IsAnswerOf answer Why.Finished = answer ≡ Finished
+IsAnswerOf answer (Why.Halted why) = answer ≡ Halted why
+
+-- the answers of a whole run of a worker: the path goes on behind each but the last, by which it ended
+abbrev pub IsWhole : List Next → Why → Type 0
+IsWhole answers why = (before : List Next) × (last : Next) × (answers ≡ before ++ last ∷ []) × All GoesOn before × IsAnswerOf last why

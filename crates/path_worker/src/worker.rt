@@ -1,0 +1,91 @@
+//! The worker of a path.
+ghost use Rattle.std.specs.Prelude.{◌≡◌, ◌++◌, [], ◌∷◌, List, false, map, MatchOption, ⊤};
+ghost use Rattle.nc_outside.specs.declared.halt.Next.{Next as Answer};
+ghost use Rattle.drive_line.specs.Line.{has_end};
+ghost use Rattle.drive_line.specs.declared.item.Item.TheVariants.{Move as Sent};
+ghost use Rattle.path_worker.specs.Work.{Works, GoesOn, IsAnswerOf, IsWhole};
+
+use drive_line::LineIn;
+use nc_number::Path;
+use nc_outside::{Halt, Moves, Next, Stepper};
+use std::sync::Wait;
+
+/// Why a worker ended.
+#[derive(Clone, Copy, Debug, PartialEq, Eq)]
+pub enum Why {
+    /// The path has ended.
+    Finished,
+    /// The run has stopped.
+    Halted(Halt),
+}
+
+// Sends the moves of a block, in order.
+fn send_all<R: Wait>(line: &mut LineIn<'_, R>, moves: &Moves)
+    requires { has_end line.old.items ≡ false }
+    ensures line { line.new.line ≡ line.old.line }
+    ensures items { line.new.items ≡ line.old.items ++ map Sent moves.now.list }
+    ensures open { has_end line.new.items ≡ false }
+{
+    for what in moves.list.as_slice() {
+        line.send(*what);
+    }
+}
+
+// One step of the path, and what follows its answer. It says why the worker ends, where it does.
+fn work_once<R: Wait, S: Stepper>(
+    path: Path,
+    stepper: &mut S,
+    line: &mut LineIn<'_, R>,
+) -> Option<Why>
+    requires { has_end line.old.items ≡ false }
+    ensures line { line.new.line ≡ line.old.line }
+    ensures work { (answer : Answer)
+        × Works path (S.calls stepper.old) (S.calls stepper.new) line.old.items line.new.items (answer ∷ [])
+        × MatchOption result (GoesOn answer) (IsAnswerOf answer) }
+    ensures open { MatchOption result (has_end line.new.items ≡ false) (λ why. ⊤) }
+    ensures origin { S.origin stepper.new ≡ S.origin stepper.old }
+{
+    match stepper.step(path) {
+        Next::Silent => None,
+        Next::Moves(moves) => {
+            send_all(line, &moves);
+            None
+        }
+        Next::Drain => {
+            let proof = line.drain();
+            stepper.drained(path, proof);
+            None
+        }
+        Next::Finished => {
+            line.end_line();
+            Some(Why::Finished)
+        }
+        Next::Halted(why) => {
+            line.end_line();
+            Some(Why::Halted(why))
+        }
+    }
+}
+
+/// Works a path until its stepper answers that it has ended or stopped, and answers which. It sends the moves of each step
+/// in order, and at the end the end; where a step answers Drain it drains the line and tells the stepper.
+pub fn run_path<R: Wait, S: Stepper>(
+    rt: &R,
+    path: Path,
+    stepper: &mut S,
+    line: &mut LineIn<'_, R>,
+) -> Why
+    requires { has_end line.old.items ≡ false }
+    ensures line { line.new.line ≡ line.old.line }
+    ensures work { (answers : List Answer)
+        × Works path (S.calls stepper.old) (S.calls stepper.new) line.old.items line.new.items answers
+        × IsWhole answers result }
+    ensures origin { S.origin stepper.new ≡ S.origin stepper.old }
+{
+    for _ in rt.forever() {
+        if let Some(why) = work_once(path, stepper, line) {
+            return why;
+        }
+    }
+    unreachable!()
+}
