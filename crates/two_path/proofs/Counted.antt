@@ -1,0 +1,153 @@
+-- What the fold of a legal history counts, in words of the history alone.
+use Rattle.std.proofs.Common.{◌≡◌, ℕ, zero, suc, ◌+◌, ◌≤◌, Bool, true, false, ◌==◌, List, [], ◌∷◌, ◌++◌, length, take, Option, Some, None, refl, ap, ◌∙◌, arith, if◌then◌else◌}
+use Rattle.nc_number.specs.declared.path.Path.{Path}
+use Rattle.nc_number.specs.declared.path.Path.TheVariants.{One, Two}
+use Rattle.nc_number.specs.declared.value.Var.{Var}
+use Rattle.common_vars.specs.Writes.{value_after}
+use Rattle.run_records.specs.declared.entry.Entry.{Entry}
+use Rattle.run_records.specs.declared.entry.EntryKind.{EntryKind}
+use Rattle.run_records.specs.declared.entry.EntryKind.TheVariants.{Did, Arrived, Met, Ended, Alarmed}
+use Rattle.path_state.specs.View.{PathView}
+use Rattle.path_state.specs.Statements.{Write as Written}
+use Rattle.path_state.specs.Effect.{Effect, Need, Done, AtWait, AtEnd}
+use Rattle.path_state.specs.Effect as effect
+use Rattle.two_path.specs.declared.turn.Turn.TheVariants as turn
+use Rattle.two_path.specs.Machine.{MachineView, own_first, without_reads, opening}
+use Rattle.two_path.specs.Turns.{Blocks, Tapes, result, behind_meeting, crossed_waits, alarm_result, with_write, result_at_wait, result_by, own_turn, kind_of}
+use Rattle.two_path.specs.Histories.{values_at, with_values, with_reads, IsStep, behind_step, behind_entry, IsNext, fold, IsLegal, is_coming, came_from, Counts, HistoriesAreRuns}
+use Rattle.two_path.proofs.Idle.{own_awake, awake_of}
+use Rattle.two_path.proofs.Lawful.{value_written, opening_sound}
+use Rattle.two_path.proofs.Recorded.{history_from}
+use Rattle.two_path.proofs.Scheduled.{run_of, lawful_of}
+
+-- one record more: the count, when each path came to its block, and what was written
+abbrev pub since_after : Bool → ℕ → ℕ → ℕ
+since_after b count since = if b then count + 1 else since
+
+pub record Grows (n to : MachineView) (mine theirs : Bool) : Type 0 where
+  pub count : to.count ≡ n.count + 1
+  pub first : to.first.since ≡ since_after mine n.count n.first.since
+  pub second : to.second.since ≡ since_after theirs n.count n.second.since
+  pub write : Option Written
+  pub writes : to.writes ≡ with_write (n.count + 1) write n.writes
+
+some_is : {X : Type 0} {a b : X} → Some a ≡ Some b → a ≡ b
+some_is e = cc
+
+grows_wait : (path : Path) (line : ℕ) (n : MachineView) (rs : List Var) (ks : List ℕ) (code : ℕ) (o : Option ℕ) (k : EntryKind)
+    → kind_of (result_at_wait path line (with_values rs ks n) code o).turn ≡ Some k
+    → Grows n (without_reads (result_at_wait path line (with_values rs ks n) code o).machine) (is_coming One k One) (is_coming One k Two)
+grows_wait path line n rs ks code None k e = rw (← some_is e) (record { count = refl; first = refl; second = refl; write = None; writes = refl })
+grows_wait path line n rs ks code (Some there) k e = go (code == there) refl e
+  where
+    go : (b : Bool) → (code == there) ≡ b
+        → kind_of (if b then result (turn.Met code) (behind_meeting (with_values rs ks n)) else alarm_result (crossed_waits path line) (with_values rs ks n)).turn ≡ Some k
+        → Grows n (without_reads (result_at_wait path line (with_values rs ks n) code (Some there)).machine) (is_coming One k One) (is_coming One k Two)
+    go true i e = rw (i, ← some_is e) (record { count = refl; first = refl; second = refl; write = None; writes = refl })
+    go false i e = rw (i, ← some_is e) (record { count = refl; first = refl; second = refl; write = None; writes = refl })
+
+grows_by : (path : Path) (line : ℕ) (n : MachineView) (rs : List Var) (ks : List ℕ) (e : Effect) (k : EntryKind)
+    → kind_of (result_by path line (with_values rs ks n) e).turn ≡ Some k
+    → Grows n (without_reads (result_by path line (with_values rs ks n) e).machine) (is_coming One k One) (is_coming One k Two)
+grows_by path line n rs ks (Need v) k e = absurd cc
+grows_by path line n rs ks (Done to write moves) k e = rw (← some_is e) (record { count = refl; first = refl; second = refl; write = write; writes = refl })
+grows_by path line n rs ks (AtWait code) k e = grows_wait path line n rs ks code n.second.waiting k e
+grows_by path line n rs ks (AtEnd to moves) k e = rw (← some_is e) (record { count = refl; first = refl; second = refl; write = None; writes = refl })
+grows_by path line n rs ks (effect.Alarm number value) k e = rw (← some_is e) (record { count = refl; first = refl; second = refl; write = None; writes = refl })
+
+grows_first : (blocks : Blocks) (path : Path) (n : MachineView) (k : EntryKind) (ks : List ℕ) → IsStep blocks path n k ks
+    → Grows n (behind_step blocks path ks n) (is_coming One k One) (is_coming One k Two)
+grows_first blocks path n k ks i =
+    let rs : List Var = values_at blocks n.first.path n.writes ks in
+    let is = own_awake blocks path (with_reads blocks ks n) (awake_of blocks path (with_reads blocks ks n) k i.is) in
+    rw is (grows_by path (blocks.line n.first.path.place) n rs ks (blocks.effect n.first.path rs) k (rw is at i.is))
+
+same_coming : (k : EntryKind) → (is_coming One k One ≡ is_coming Two k Two) × (is_coming One k Two ≡ is_coming Two k One)
+same_coming Did = (refl, refl)
+same_coming Arrived = (refl, refl)
+same_coming Met = (refl, refl)
+same_coming Ended = (refl, refl)
+same_coming Alarmed = (refl, refl)
+
+pub grows : (tapes : Tapes) (n : MachineView) (e : Entry) → IsNext tapes n e → Grows n (behind_entry tapes e n) (is_coming e.path e.kind One) (is_coming e.path e.kind Two)
+grows tapes n e i = go e.path i
+  where
+    go : (p : Path) → IsNext tapes n (record { path = p; kind = e.kind; stamps = e.stamps })
+        → Grows n (behind_entry tapes (record { path = p; kind = e.kind; stamps = e.stamps }) n) (is_coming p e.kind One) (is_coming p e.kind Two)
+    go One i = grows_first tapes.first One n e.kind e.stamps i
+    go Two i =
+        let g = grows_first tapes.second Two (own_first Two n) e.kind e.stamps i in
+        let same = same_coming e.kind in
+        record {
+          count = g.count;
+          first = g.second ∙ ap (λ b. since_after b n.count n.first.since) same.1;
+          second = g.first ∙ ap (λ b. since_after b n.count n.second.since) same.0;
+          write = g.write;
+          writes = g.writes;
+        }
+
+count_of : (tapes : Tapes) (m : MachineView) (rs : List Entry) → IsLegal tapes m rs → (fold tapes m rs).count ≡ m.count + length rs
+count_of tapes m [] legal = omega arith
+count_of tapes m (e ∷ es) legal =
+    let g = grows tapes m e legal.0 in
+    let rest = count_of tapes (behind_entry tapes e m) es legal.1 in
+    omega (arith, g.count, rest)
+
+first_of_history : (tapes : Tapes) (m : MachineView) (rs : List Entry) → IsLegal tapes m rs
+    → (fold tapes m rs).first.since ≡ came_from m.first.since m.count One rs
+first_of_history tapes m [] legal = refl
+first_of_history tapes m (e ∷ es) legal =
+    let g = grows tapes m e legal.0 in
+    first_of_history tapes (behind_entry tapes e m) es legal.1 ∙ rw (g.count, g.first) refl
+
+second_of_history : (tapes : Tapes) (m : MachineView) (rs : List Entry) → IsLegal tapes m rs
+    → (fold tapes m rs).second.since ≡ came_from m.second.since m.count Two rs
+second_of_history tapes m [] legal = refl
+second_of_history tapes m (e ∷ es) legal =
+    let g = grows tapes m e legal.0 in
+    second_of_history tapes (behind_entry tapes e m) es legal.1 ∙ rw (g.count, g.second) refl
+
+-- what a variable was stays so
+at_later : (tapes : Tapes) (m : MachineView) (rs : List Entry) (k v : ℕ) → IsLegal tapes m rs → k ≤ m.count
+    → value_after k v (fold tapes m rs).writes ≡ value_after k v m.writes
+at_later tapes m [] k v legal h = refl
+at_later tapes m (e ∷ es) k v legal h =
+    let g = grows tapes m e legal.0 in
+    at_later tapes (behind_entry tapes e m) es k v legal.1 (omega (arith, g.count)) ∙ rw (g.writes) (value_written g.write m.writes m.count k v h)
+
+legal_parts : (tapes : Tapes) (m : MachineView) (rs ss : List Entry) → IsLegal tapes m (rs ++ ss) → IsLegal tapes m rs × IsLegal tapes (fold tapes m rs) ss
+legal_parts tapes m [] ss legal = (tt, legal)
+legal_parts tapes m (r ∷ rs) ss legal = let rest = legal_parts tapes (behind_entry tapes r m) rs ss legal.1 in ((legal.0, rest.0), rest.1)
+
+pub fold_parts : (tapes : Tapes) (m : MachineView) (rs ss : List Entry) → fold tapes m (rs ++ ss) ≡ fold tapes (fold tapes m rs) ss
+fold_parts tapes m [] ss = refl
+fold_parts tapes m (r ∷ rs) ss = fold_parts tapes (behind_entry tapes r m) rs ss
+
+values_of : (tapes : Tapes) (m : MachineView) (before after : List Entry) (v : ℕ) → m.count ≡ 0 → IsLegal tapes m (before ++ after)
+    → value_after (length before) v (fold tapes m (before ++ after)).writes ≡ value_after (fold tapes m before).count v (fold tapes m before).writes
+values_of tapes m before after v none legal =
+    let l = legal_parts tapes m before after legal in
+    let same : (fold tapes m before).count ≡ length before = omega (arith, count_of tapes m before l.0, none) in
+    rw (fold_parts tapes m before after, same) (at_later tapes (fold tapes m before) after (length before) v l.1 (omega (arith, same)))
+
+counts_of : (tapes : Tapes) (first second : PathView) (rs : List Entry) → IsLegal tapes (opening first second) rs → Counts tapes (opening first second) rs
+counts_of tapes first second rs legal = record {
+  count = omega (arith, count_of tapes (opening first second) rs legal);
+  first = first_of_history tapes (opening first second) rs legal;
+  second = second_of_history tapes (opening first second) rs legal;
+  values = λ before after v e. rw (← e) (values_of tapes (opening first second) before after v refl (rw (← e) at legal));
+}
+
+pub legal_take : (tapes : Tapes) (m : MachineView) (n : ℕ) (rs : List Entry) → IsLegal tapes m rs → IsLegal tapes m (take n rs)
+legal_take tapes m zero rs legal = tt
+legal_take tapes m (suc n) [] legal = tt
+legal_take tapes m (suc n) (r ∷ rs) legal = (legal.0, legal_take tapes (behind_entry tapes r m) n rs legal.1)
+
+pub histories_run : (tapes : Tapes) (first second : PathView) → HistoriesAreRuns tapes (opening first second)
+histories_run tapes first second = record {
+  run = λ es. history_from tapes (opening first second) es (opening_sound tapes first second);
+  history = run_of tapes first second;
+  lawful = lawful_of tapes first second;
+  counts = counts_of tapes first second;
+  prefix = legal_take tapes (opening first second);
+}

@@ -1,0 +1,167 @@
+-- Whatever happens, what blocks have read is lawful.
+use Rattle.std.proofs.Common.{◌≡◌, ℕ, suc, ◌+◌, ◌≤◌, ◌<◌, Bool, true, false, ◌==◌, ◌||◌, ◌&&◌, nat_le, List, [], ◌∷◌, ◌++◌, Option, Some, None, is_some, refl, sym, ap, ◌∙◌, arith, if◌then◌else◌}
+use Rattle.std.proofs.lemmas.Bool.Decides.{nat_tests}
+use Rattle.nc_number.specs.declared.path.Path.{Path}
+use Rattle.nc_number.specs.declared.path.Path.TheVariants.{One, Two}
+use Rattle.nc_number.specs.declared.value.Var.{Var}
+use Rattle.nc_outside.specs.declared.halt.Alarm.{Alarm}
+use Rattle.common_vars.specs.declared.links.Write.{Write}
+use Rattle.common_vars.specs.Writes.{is_write_of, value_after}
+use Rattle.common_vars.proofs.Laws.{seen_from_its_stamp}
+use Rattle.path_state.specs.View.{PathView}
+use Rattle.path_state.specs.Statements.{Write as Written}
+use Rattle.path_state.specs.Effect.{Effect, Need, Done, AtWait, AtEnd}
+use Rattle.path_state.specs.Effect as effect
+use Rattle.two_path.specs.Machine.{Part, MachineView, own_first, part_without_reads, opening}
+use Rattle.two_path.specs.Turns.{Blocks, Tapes, tape_of, TurnResult, with_write, behind_meeting, with_alarm, crossed_waits, alarm_at, result_at_wait, result_by, own_turn, turn_of}
+use Rattle.two_path.specs.Histories.{Event, TurnOf, behind_event, value_asked, and_next, values_from, AsksFrom, AreInOrder, is_idle, IsLawful, AreLawful}
+use Rattle.two_path.proofs.Idle.{is_still, own_awake, own_still, awake_part}
+
+passes_over : (k v : ℕ) (w : Write) → k < w.stamp → is_write_of k v w ≡ false
+passes_over k v w later = grind (arith, nat_tests)
+
+value_push : (writes : List Write) (w : Write) (k v : ℕ) → k < w.stamp → value_after k v (writes ++ w ∷ []) ≡ value_after k v writes
+value_push writes w k v later = seen_from_its_stamp writes w k v ∙ rw (passes_over k v w later) refl
+
+-- what a variable held early is the same when one record more has written
+pub value_written : (o : Option Written) (writes : List Write) (c k v : ℕ) → k ≤ c → value_after k v (with_write (c + 1) o writes) ≡ value_after k v writes
+value_written None writes c k v h = refl
+value_written (Some w) writes c k v h = value_push writes (record { stamp = c + 1; variable = w.variable; value = w.value }) k v (omega arith)
+
+asked_written : (e : Effect) (o : Option Written) (writes : List Write) (c k : ℕ) → k ≤ c
+    → value_asked e k (with_write (c + 1) o writes) ≡ value_asked e k writes
+asked_written (Need v) o writes c k h = value_written o writes c k v h
+asked_written (Done path write moves) o writes c k h = refl
+asked_written (AtWait code) o writes c k h = refl
+asked_written (AtEnd path moves) o writes c k h = refl
+asked_written (effect.Alarm number value) o writes c k h = refl
+
+pub next_written : (blocks : Blocks) (path : PathView) (o : Option Written) (writes : List Write) (c k : ℕ) (values : List Var) → k ≤ c
+    → and_next blocks path (with_write (c + 1) o writes) k values ≡ and_next blocks path writes k values
+next_written blocks path o writes c k values h = ap (λ v. values ++ v ∷ []) (asked_written (blocks.effect path values) o writes c k h)
+
+pub values_written : (blocks : Blocks) (path : PathView) (o : Option Written) (writes : List Write) (c low : ℕ) (values : List Var) (ks : List ℕ)
+    → AreInOrder low c ks → values_from blocks path (with_write (c + 1) o writes) values ks ≡ values_from blocks path writes values ks
+values_written blocks path o writes c low values [] i = refl
+values_written blocks path o writes c low values (k ∷ ks) i =
+    rw (next_written blocks path o writes c k values i.1) (values_written blocks path o writes c k (and_next blocks path writes k values) ks i.2)
+
+asks_written : (blocks : Blocks) (path : PathView) (o : Option Written) (writes : List Write) (c low : ℕ) (values : List Var) (ks : List ℕ)
+    → AreInOrder low c ks → AsksFrom blocks path writes values ks → AsksFrom blocks path (with_write (c + 1) o writes) values ks
+asks_written blocks path o writes c low values [] i a = tt
+asks_written blocks path o writes c low values (k ∷ ks) i a =
+    (a.0, rw (next_written blocks path o writes c k values i.1) (asks_written blocks path o writes c k (and_next blocks path writes k values) ks i.2 a.1))
+
+order_up : (low high more : ℕ) (ks : List ℕ) → AreInOrder low high ks → high ≤ more → AreInOrder low more ks
+order_up low high more [] i h = tt
+order_up low high more (k ∷ ks) i h = (i.0, omega (arith, i.1), order_up k high more ks i.2 h)
+
+-- one more at the end
+order_push : (low high c : ℕ) (ks : List ℕ) → AreInOrder low high ks → low ≤ c → high ≤ c → AreInOrder low c (ks ++ c ∷ [])
+order_push low high c [] i l h = (l, omega arith, tt)
+order_push low high c (k ∷ ks) i l h = let up : k ≤ c = omega (arith, i.1) in (i.0, up, order_push k high c ks i.2 up h)
+
+pub values_push : (blocks : Blocks) (path : PathView) (writes : List Write) (values : List Var) (ks : List ℕ) (k : ℕ)
+    → values_from blocks path writes values (ks ++ k ∷ []) ≡ and_next blocks path writes k (values_from blocks path writes values ks)
+values_push blocks path writes values [] k = refl
+values_push blocks path writes values (j ∷ ks) k = values_push blocks path writes (and_next blocks path writes j values) ks k
+
+asks_push : (blocks : Blocks) (path : PathView) (writes : List Write) (values : List Var) (ks : List ℕ) (k v : ℕ)
+    → AsksFrom blocks path writes values ks → blocks.effect path (values_from blocks path writes values ks) ≡ Need v
+    → AsksFrom blocks path writes values (ks ++ k ∷ [])
+asks_push blocks path writes values [] k v a e = ((v, e), tt)
+asks_push blocks path writes values (j ∷ ks) k v a e = (a.0, asks_push blocks path writes (and_next blocks path writes j values) ks k v a.1 e)
+
+-- what a path has read stays lawful when the other makes a record
+later : (blocks : Blocks) (m : MachineView) (x : Part) (o : Option Written) (a : Option Alarm) → IsLawful blocks m
+    → IsLawful blocks (record { first = m.first; second = x; writes = with_write (m.count + 1) o m.writes; count = m.count + 1; alarm = a })
+later blocks m x o a l = record {
+  may = record {
+    order = order_up m.first.since m.count (m.count + 1) m.first.stamps l.may.order (omega arith);
+    asks = asks_written blocks m.first.path o m.writes m.count m.first.since [] m.first.stamps l.may.order l.may.asks;
+  };
+  values = l.values ∙ sym (values_written blocks m.first.path o m.writes m.count m.first.since [] m.first.stamps l.may.order);
+  none = l.none;
+  came = omega (arith, l.came);
+}
+
+-- without reads they are lawful
+pub lawful_none : (blocks : Blocks) (m : MachineView) → m.first.values ≡ [] → m.first.stamps ≡ [] → m.first.since ≤ m.count → IsLawful blocks m
+lawful_none blocks m e' e c = record {
+  may = record { order = rw e tt; asks = rw e tt };
+  values = rw (e, e') refl;
+  none = λ _. e;
+  came = c;
+}
+
+abbrev pub Sound : Blocks → Blocks → MachineView → Type 0
+Sound mine theirs m = AreLawful (record { first = mine; second = theirs }) m
+
+sound_swap : (mine theirs : Blocks) (m : MachineView) → Sound mine theirs m → Sound theirs mine (own_first Two m)
+sound_swap mine theirs m s = record { first = s.second; second = s.first }
+
+alarm_sound : (mine theirs : Blocks) (alarm : Alarm) (m : MachineView) → Sound mine theirs m → Sound mine theirs (with_alarm alarm m)
+alarm_sound mine theirs alarm m s = record {
+  first = lawful_none mine (with_alarm alarm m) refl refl (omega (arith, s.first.came));
+  second = later theirs (own_first Two m) (part_without_reads m.first) None (Some alarm) s.second;
+}
+
+wait_sound : (mine theirs : Blocks) (path : Path) (line : ℕ) (m : MachineView) (code : ℕ) (o : Option ℕ) → Sound mine theirs m
+    → Sound mine theirs (result_at_wait path line m code o).machine
+wait_sound mine theirs path line m code None s = record {
+  first = lawful_none mine (result_at_wait path line m code None).machine refl refl (omega (arith, s.first.came));
+  second = later theirs (own_first Two m) (result_at_wait path line m code None).machine.first None m.alarm s.second;
+}
+wait_sound mine theirs path line m code (Some there) s = go (code == there) refl
+  where
+    go : (b : Bool) → (code == there) ≡ b → Sound mine theirs (result_at_wait path line m code (Some there)).machine
+    go true e = rw e (record {
+      first = lawful_none mine (behind_meeting m) refl refl (omega arith);
+      second = lawful_none theirs (own_first Two (behind_meeting m)) refl refl (omega arith);
+    })
+    go false e = rw e (alarm_sound mine theirs (crossed_waits path line) m s)
+
+by_sound : (mine theirs : Blocks) (path : Path) (line : ℕ) (m : MachineView) (e : Effect) → Sound mine theirs m → is_still m ≡ false
+    → mine.effect m.first.path m.first.values ≡ e → Sound mine theirs (result_by path line m e).machine
+by_sound mine theirs path line m (Need v) s awake e = record {
+  first = record {
+    may = record {
+      order = order_push m.first.since m.count m.count m.first.stamps s.first.may.order s.first.came (omega arith);
+      asks = asks_push mine m.first.path m.writes [] m.first.stamps m.count v s.first.may.asks (rw (← s.first.values) e);
+    };
+    values = rw (values_push mine m.first.path m.writes [] m.first.stamps m.count, ← s.first.values, e) refl;
+    none = λ i. absurd (let f : is_idle m.first ≡ false = awake_part m.alarm (is_idle m.first) awake in cc);
+    came = s.first.came;
+  };
+  second = record { may = record { order = s.second.may.order; asks = s.second.may.asks }; values = s.second.values; none = s.second.none; came = s.second.came };
+}
+by_sound mine theirs path line m (Done to write moves) s awake e = record {
+  first = lawful_none mine (result_by path line m (Done to write moves)).machine refl refl (omega arith);
+  second = later theirs (own_first Two m) (result_by path line m (Done to write moves)).machine.first write m.alarm s.second;
+}
+by_sound mine theirs path line m (AtWait code) s awake e = wait_sound mine theirs path line m code m.second.waiting s
+by_sound mine theirs path line m (AtEnd to moves) s awake e = record {
+  first = lawful_none mine (result_by path line m (AtEnd to moves)).machine refl refl (omega (arith, s.first.came));
+  second = later theirs (own_first Two m) (result_by path line m (AtEnd to moves)).machine.first None m.alarm s.second;
+}
+by_sound mine theirs path line m (effect.Alarm number value) s awake e = alarm_sound mine theirs (alarm_at path line number value) m s
+
+turn_sound : (mine theirs : Blocks) (path : Path) (m : MachineView) → Sound mine theirs m → Sound mine theirs (own_turn mine path m).machine
+turn_sound mine theirs path m s = go (is_still m) refl
+  where
+    go : (b : Bool) → is_still m ≡ b → Sound mine theirs (own_turn mine path m).machine
+    go true e = rw ((own_still mine path m e).0) s
+    go false e = rw (own_awake mine path m e)
+        (by_sound mine theirs path (mine.line m.first.path.place) m (mine.effect m.first.path m.first.values) s e refl)
+
+pub event_sound : (tapes : Tapes) (e : Event) (m : MachineView) → AreLawful tapes m → AreLawful tapes (behind_event tapes e m)
+event_sound tapes (TurnOf One) m s = turn_sound tapes.first tapes.second One m s
+event_sound tapes (TurnOf Two) m s =
+    sound_swap tapes.second tapes.first (own_turn tapes.second Two (own_first Two m)).machine
+    (turn_sound tapes.second tapes.first Two (own_first Two m) (sound_swap tapes.first tapes.second m s))
+
+pub opening_sound : (tapes : Tapes) (first second : PathView) → AreLawful tapes (opening first second)
+opening_sound tapes first second = record {
+  first = lawful_none tapes.first (opening first second) refl refl (omega arith);
+  second = lawful_none tapes.second (own_first Two (opening first second)) refl refl (omega arith);
+}

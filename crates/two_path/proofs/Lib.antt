@@ -1,0 +1,11 @@
+mod Idle
+mod Lawful
+mod Recorded
+mod Scheduled
+mod Counted
+mod Kept
+mod Paired
+mod Behind
+mod Stays
+mod Steady
+mod Replayed

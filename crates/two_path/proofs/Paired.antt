@@ -1,0 +1,332 @@
+-- Two paths over tapes whose lists of labels agree: an invariant of both, which each turn keeps, and under which they go on.
+use Rattle.std.proofs.Common.{◌≡◌, ◌≢◌, ℕ, ◌⊎◌, inl, inr, Bool, true, false, ◌==◌, ◌||◌, List, [], ◌∷◌, Option, Some, None, is_some, ℤ, pos, refl, ap, sym, subst, ◌∙◌, arith}
+use Rattle.std.proofs.lemmas.Bool.Decides.{nat_tests}
+use Rattle.nc_number.specs.declared.cause.Cause.TheVariants.{WaitDiffers}
+use Rattle.nc_number.specs.declared.path.Path.{Path}
+use Rattle.nc_number.specs.declared.path.Path.TheVariants.{One, Two}
+use Rattle.nc_number.specs.declared.value.Var.{Var}
+use Rattle.nc_number.specs.Causes.{cause_number}
+use Rattle.nc_outside.specs.declared.halt.Alarm.{Alarm}
+use Rattle.nc_outside.specs.declared.motion.Move.{Move}
+use Rattle.block_order.specs.declared.control.Control.{Control}
+use Rattle.block_order.specs.declared.control.Control.TheVariants as control
+use Rattle.block_order.specs.declared.frame.Frame.{Frame}
+use Rattle.block_order.specs.declared.label.Label.{Label}
+use Rattle.block_order.specs.declared.label.Label.TheVariants as label
+use Rattle.block_order.specs.declared.program.ControlProgram.{ControlProgram}
+use Rattle.block_order.specs.Labels.{ahead, list, start}
+use Rattle.block_order.specs.Steps.{Goes, Step, IsPlace, standing, passed, Kept, KeepsLabels}
+use Rattle.path_state.specs.View.{PathView}
+use Rattle.path_state.specs.Statements.{Write as Written}
+use Rattle.path_state.specs.Effect.{Effect, Need, Done, AtWait, AtEnd}
+use Rattle.path_state.specs.Effect as effect
+use Rattle.path_state.specs.Controlled.{GoesAsOrdered}
+use Rattle.two_path.specs.Machine.{Part, MachineView, own_first, opening}
+use Rattle.two_path.specs.Turns.{Blocks, Tapes, tape_of, crossed_waits, with_alarm, result_at_wait, result_by, own_turn}
+use Rattle.two_path.specs.Histories.{Event, TurnOf, behind_event, run, is_idle}
+use Rattle.two_path.specs.Stuck.{IsStuck, IsCrossed, RaisesNoCrossing, IsFree, IsAccepted}
+use Rattle.two_path.proofs.Idle.{is_still, own_awake, own_still}
+
+-- blocks that go where the order of this tape allows
+abbrev pub AreLed : List ControlProgram → Blocks → Type 0
+AreLed tape blocks = (path : PathView) (values : List Var) → GoesAsOrdered tape path (blocks.effect path values)
+
+-- a path's place, and what its marks say of it
+record IsSide (tape : List ControlProgram) (p : Part) : Type 0 where
+  place : IsPlace tape p.path.place
+  waits : (code : ℕ) → p.waiting ≡ Some code → standing tape p.path.place ≡ Some (control.Wait code)
+  ends : p.finished ≡ true → standing tape p.path.place ≡ Some control.End
+
+-- the labels ahead are the same, or one path has gone back to its start and the other is about to
+abbrev Agree : List Label → List Label → List Label → Type 0
+Agree all xs ys = (xs ≡ ys) ⊎ (((xs ≡ all) × (ys ≡ label.Again ∷ [])) ⊎ ((xs ≡ label.Again ∷ []) × (ys ≡ all)))
+
+record IsSound (left right : List ControlProgram) (all : List Label) (m : MachineView) : Type 0 where
+  first : IsSide left m.first
+  second : IsSide right m.second
+  agree : Agree all (ahead left m.first.path.place) (ahead right m.second.path.place)
+  one : (m.first.waiting ≡ None) ⊎ (m.second.waiting ≡ None)
+
+-- an alarm that blocks raise, and where there is none the state is sound
+record IsPaired (left right : List ControlProgram) (a b : Blocks) (all : List Label) (m : MachineView) : Type 0 where
+  sound : m.alarm ≡ None → IsSound left right all m
+  never : RaisesNoCrossing a → RaisesNoCrossing b → (alarm : Alarm) → m.alarm ≡ Some alarm → alarm.cause ≢ cause_number WaitDiffers
+
+agree_swap : (all xs ys : List Label) → Agree all xs ys → Agree all ys xs
+agree_swap all xs ys (inl e) = inl (sym e)
+agree_swap all xs ys (inr (inl p)) = inr (inr (p.1, p.0))
+agree_swap all xs ys (inr (inr p)) = inr (inl (p.1, p.0))
+
+one_swap : {A B : Type 0} → A ⊎ B → B ⊎ A
+one_swap (inl a) = inr a
+one_swap (inr b) = inl b
+
+sound_swap : (left right : List ControlProgram) (all : List Label) (m : MachineView) → IsSound left right all m → IsSound right left all (own_first Two m)
+sound_swap left right all m s = record {
+  first = s.second;
+  second = s.first;
+  agree = agree_swap all (ahead left m.first.path.place) (ahead right m.second.path.place) s.agree;
+  one = one_swap s.one;
+}
+
+paired_swap : (left right : List ControlProgram) (a b : Blocks) (all : List Label) (m : MachineView) → IsPaired left right a b all m
+    → IsPaired right left b a all (own_first Two m)
+paired_swap left right a b all m k = record { sound = λ e. sound_swap left right all m (k.sound e); never = λ x y. k.never y x }
+
+-- a step leaves the agreement, also one back to the start
+agree_same : (all xs ys xs' : List Label) → xs' ≡ xs → Agree all xs ys → Agree all xs' ys
+agree_same all xs ys xs' e a = subst (λ zs. Agree all zs ys) (sym e) a
+
+agree_again : (all xs ys xs' : List Label) → xs ≡ label.Again ∷ [] → xs' ≡ all → Agree all xs ys → Agree all xs' ys
+agree_again all xs ys xs' again new (inl e) = inr (inl (new, sym e ∙ again))
+agree_again all xs ys xs' again new (inr (inl p)) = inr (inl (new, p.1))
+agree_again all xs ys xs' again new (inr (inr p)) = inl (new ∙ sym p.1)
+
+-- where one begins with a wait and the other with a wait or the end, they are the same
+agree_waits : (all xs ys : List Label) (code other : ℕ) → Agree all (label.Wait code ∷ xs) (label.Wait other ∷ ys) → (code ≡ other) × (xs ≡ ys)
+agree_waits all xs ys code other (inl e) = (cc, cc)
+agree_waits all xs ys code other (inr (inl p)) = absurd (cc (p.1))
+agree_waits all xs ys code other (inr (inr p)) = absurd (cc (p.0))
+
+agree_end : (all xs : List Label) (code : ℕ) → Agree all (label.Wait code ∷ xs) (label.End ∷ []) → ⊥
+agree_end all xs code (inl e) = cc
+agree_end all xs code (inr (inl p)) = cc (p.1)
+agree_end all xs code (inr (inr p)) = cc (p.0)
+
+kept_agree : (tape : List ControlProgram) (ys : List Label) (f : Frame) (stack : List Frame) (c : Control) (to : List Frame)
+    → Kept tape f stack c to → Agree (list tape) (ahead tape (f ∷ stack)) ys → Agree (list tape) (ahead tape to) ys
+kept_agree tape ys f stack control.Next to k a = agree_same (list tape) (ahead tape (f ∷ stack)) ys (ahead tape to) k a
+kept_agree tape ys f stack (control.Goto n) to k a = agree_same (list tape) (ahead tape (f ∷ stack)) ys (ahead tape to) k a
+kept_agree tape ys f stack (control.While m) to k a = agree_same (list tape) (ahead tape (f ∷ stack)) ys (ahead tape to) k a
+kept_agree tape ys f stack (control.Do m) to k a = agree_same (list tape) (ahead tape (f ∷ stack)) ys (ahead tape to) k a
+kept_agree tape ys f stack (control.EndLoop m) to k a = agree_same (list tape) (ahead tape (f ∷ stack)) ys (ahead tape to) k a
+kept_agree tape ys f stack (control.Wait code) to k a = agree_same (list tape) (ahead tape (f ∷ stack)) ys (ahead tape to) k a
+kept_agree tape ys f stack control.End to k a = agree_same (list tape) (ahead tape (f ∷ stack)) ys (ahead tape to) k a
+kept_agree tape ys f stack (control.Call q r) to k a = agree_same (list tape) (ahead tape (f ∷ stack)) ys (ahead tape to) k a
+kept_agree tape ys f stack (control.BackTo n) to k a = agree_same (list tape) (ahead tape (f ∷ stack)) ys (ahead tape to) k a
+kept_agree tape ys f (g ∷ stack) control.Back to k a = agree_same (list tape) (ahead tape (f ∷ g ∷ stack)) ys (ahead tape to) k a
+kept_agree tape ys f [] control.Back to k a = agree_again (list tape) (ahead tape (f ∷ [])) ys (ahead tape to) k.0 k.1 a
+
+-- a step leads to a place, and leaves the agreement
+step_keeps : (tape : List ControlProgram) → KeepsLabels tape → (ys : List Label) (from to : List Frame) → IsPlace tape from → Step tape from to
+    → Agree (list tape) (ahead tape from) ys → IsPlace tape to × Agree (list tape) (ahead tape to) ys
+step_keeps tape law ys [] to place step a = absurd place
+step_keeps tape law ys (f ∷ stack) to place (c, is, goes) a =
+    let k = law.step f stack place c is to goes in (k.0, kept_agree tape ys f stack c to k.1 a)
+
+no_alarm : {A : Type 0} {x : Option Alarm} {alarm : Alarm} → x ≡ None → x ≡ Some alarm → A
+no_alarm e d = absurd cc
+
+-- a machine without an alarm
+calmly : (left right : List ControlProgram) (a b : Blocks) (all : List Label) (m : MachineView) → m.alarm ≡ None → IsSound left right all m → IsPaired left right a b all m
+calmly left right a b all m calm s = record { sound = λ _. s; never = λ x y alarm e. no_alarm calm e }
+
+-- what its block leaves behind
+done_sound : (left right : List ControlProgram) → KeepsLabels left → (path : Path) (line : ℕ) (m : MachineView) (to : PathView) (write : Option Written) (moves : List Move)
+    → IsSound left right (list left) m → m.first.waiting ≡ None → m.first.finished ≡ false → Step left m.first.path.place to.place
+    → IsSound left right (list left) (result_by path line m (Done to write moves)).machine
+done_sound left right law path line m to write moves s awake going step =
+    let k = step_keeps left law (ahead right m.second.path.place) m.first.path.place to.place s.first.place step s.agree in
+    record {
+      first = record { place = k.0; waits = λ code e. absurd cc; ends = λ e. absurd cc };
+      second = s.second;
+      agree = k.1;
+      one = inl awake;
+    }
+
+end_sound : (left right : List ControlProgram) (path : Path) (line : ℕ) (m : MachineView) (to : PathView) (moves : List Move)
+    → IsSound left right (list left) m → m.first.waiting ≡ None → standing left m.first.path.place ≡ Some control.End → to.place ≡ m.first.path.place
+    → IsSound left right (list left) (result_by path line m (AtEnd to moves)).machine
+end_sound left right path line m to moves s awake is stays = record {
+  first = record { place = rw stays (s.first.place); waits = λ code e. absurd cc; ends = λ e. rw stays is };
+  second = s.second;
+  agree = rw stays (s.agree);
+  one = inl awake;
+}
+
+-- a wait of the first path, and one at which the other waits: both are the next label
+meeting : (left right : List ControlProgram) → KeepsLabels left → KeepsLabels right → (m : MachineView) → IsSound left right (list left) m → (code there : ℕ)
+    → standing left m.first.path.place ≡ Some (control.Wait code) → m.second.waiting ≡ Some there
+    → (code ≡ there) × (ahead left (passed m.first.path.place) ≡ ahead right (passed m.second.path.place))
+meeting left right here_law there_law m s code there is waits =
+    let here = (here_law.wait m.first.path.place code s.first.place is).1 in
+    let other = (there_law.wait m.second.path.place there s.second.place (s.second.waits there waits)).1 in
+    agree_waits (list left) (ahead left (passed m.first.path.place)) (ahead right (passed m.second.path.place)) code there (rw (← here, ← other) (s.agree))
+
+some_is : {x y : ℕ} → Some x ≡ Some y → x ≡ y
+some_is p = cc
+
+wait_paired : (left right : List ControlProgram) (a b : Blocks) → KeepsLabels left → KeepsLabels right → (path : Path) (line : ℕ) (m : MachineView) → m.alarm ≡ None
+    → IsSound left right (list left) m → m.first.finished ≡ false → (code : ℕ) → standing left m.first.path.place ≡ Some (control.Wait code)
+    → (o : Option ℕ) → m.second.waiting ≡ o → IsPaired left right a b (list left) (result_at_wait path line m code o).machine
+wait_paired left right a b law law' path line m calm s going code is None e =
+    calmly left right a b (list left) (result_at_wait path line m code None).machine calm (record {
+      first = record { place = s.first.place; waits = λ c same. is ∙ ap (λ k. Some (control.Wait k)) (some_is same); ends = s.first.ends };
+      second = s.second;
+      agree = s.agree;
+      one = inr e;
+    })
+wait_paired left right a b law law' path line m calm s going code is (Some there) e = go (code == there) refl
+  where
+    both : (code ≡ there) × (ahead left (passed m.first.path.place) ≡ ahead right (passed m.second.path.place))
+    both = meeting left right law law' m s code there is e
+
+    go : (x : Bool) → (code == there) ≡ x → IsPaired left right a b (list left) (result_at_wait path line m code (Some there)).machine
+    go false n = absurd (let same : code ≡ there = both.0 in grind (arith, nat_tests))
+    go true y = rw y (record {
+      sound = λ _. record {
+        first = record { place = (law.wait m.first.path.place code s.first.place is).0; waits = λ c none. absurd cc; ends = λ f. absurd cc };
+        second = record {
+          place = (law'.wait m.second.path.place there s.second.place (s.second.waits there e)).0;
+          waits = λ c none. absurd cc;
+          ends = λ f. absurd (cc (s.second.waits there e, s.second.ends f));
+        };
+        agree = inl both.1;
+        one = inl refl;
+      };
+      never = λ x y alarm e. no_alarm calm e;
+    })
+
+-- an alarm of a block is no other than it raises
+alarm_paired : (left right : List ControlProgram) (a b : Blocks) (all : List Label) (path : Path) (line : ℕ) (m : MachineView) (number : ℕ) (value : ℤ) (x : PathView) (values : List Var)
+    → a.effect x values ≡ effect.Alarm number value → IsPaired left right a b all (result_by path line m (effect.Alarm number value)).machine
+alarm_paired left right a b all path line m number value x values is = record {
+  sound = λ e. absurd cc;
+  never = λ mine theirs alarm e same.
+      let cause : alarm.cause ≡ number = ap cause_in (sym e) in
+      mine x values value (is ∙ ap (λ n. effect.Alarm n value) (sym cause ∙ same));
+}
+  where
+    cause_in : Option Alarm → ℕ
+    cause_in None = 0
+    cause_in (Some alarm) = alarm.cause
+
+by_paired : (left right : List ControlProgram) (a b : Blocks) → KeepsLabels left → KeepsLabels right → (path : Path) (line : ℕ) (m : MachineView) → m.alarm ≡ None
+    → IsSound left right (list left) m → m.first.waiting ≡ None → m.first.finished ≡ false → (e : Effect) → GoesAsOrdered left m.first.path e
+    → a.effect m.first.path m.first.values ≡ e → IsPaired left right a b (list left) (result_by path line m e).machine
+by_paired left right a b law law' path line m calm s awake going (Need v) goes is =
+    calmly left right a b (list left) (result_by path line m (Need v)).machine calm (record {
+      first = record { place = s.first.place; waits = s.first.waits; ends = s.first.ends };
+      second = s.second;
+      agree = s.agree;
+      one = s.one;
+    })
+by_paired left right a b law law' path line m calm s awake going (Done to write moves) goes is =
+    calmly left right a b (list left) (result_by path line m (Done to write moves)).machine calm
+    (done_sound left right law path line m to write moves s awake going goes)
+by_paired left right a b law law' path line m calm s awake going (AtWait code) goes is =
+    wait_paired left right a b law law' path line m calm s going code goes m.second.waiting refl
+by_paired left right a b law law' path line m calm s awake going (AtEnd to moves) goes is =
+    calmly left right a b (list left) (result_by path line m (AtEnd to moves)).machine calm
+    (end_sound left right path line m to moves s awake goes.0 goes.1)
+by_paired left right a b law law' path line m calm s awake going (effect.Alarm number value) goes is =
+    alarm_paired left right a b (list left) path line m number value m.first.path m.first.values is
+
+awake_all : (x : Option Alarm) (f : Bool) (o : Option ℕ) → (is_some x || (f || is_some o)) ≡ false → (x ≡ None) × (f ≡ false) × (o ≡ None)
+awake_all (Some x) f o e = absurd cc
+awake_all None true o e = absurd cc
+awake_all None false (Some n) e = absurd cc
+awake_all None false None e = (refl, refl, refl)
+
+turn_paired : (left right : List ControlProgram) (a b : Blocks) → KeepsLabels left → KeepsLabels right → AreLed left a → (path : Path) (m : MachineView)
+    → IsPaired left right a b (list left) m → IsPaired left right a b (list left) (own_turn a path m).machine
+turn_paired left right a b law law' led path m k = go (is_still m) refl
+  where
+    go : (x : Bool) → is_still m ≡ x → IsPaired left right a b (list left) (own_turn a path m).machine
+    go true e = rw ((own_still a path m e).0) k
+    go false e =
+        let all = awake_all m.alarm m.first.finished m.first.waiting e in
+        rw (own_awake a path m e) (by_paired left right a b law law' path (a.line m.first.path.place) m all.0 (k.sound all.0) all.2 all.1
+        (a.effect m.first.path m.first.values) (led m.first.path m.first.values) refl)
+
+-- the laws of both tapes, and that their lists are equal
+pub record IsLawfulPair (left right : List ControlProgram) (tapes : Tapes) : Type 0 where
+  pub first : KeepsLabels left
+  pub second : KeepsLabels right
+  pub first_led : AreLed left tapes.first
+  pub second_led : AreLed right tapes.second
+  pub equal : list left ≡ list right
+
+event_paired : (left right : List ControlProgram) (tapes : Tapes) → IsLawfulPair left right tapes → (e : Event) (m : MachineView)
+    → IsPaired left right tapes.first tapes.second (list left) m → IsPaired left right tapes.first tapes.second (list left) (behind_event tapes e m)
+event_paired left right tapes pair (TurnOf One) m k = turn_paired left right tapes.first tapes.second pair.first pair.second pair.first_led One m k
+event_paired left right tapes pair (TurnOf Two) m k =
+    let turned : IsPaired right left tapes.second tapes.first (list right) (own_first Two m) =
+    subst (λ all. IsPaired right left tapes.second tapes.first all (own_first Two m)) pair.equal (paired_swap left right tapes.first tapes.second (list left) m k) in
+    let to : MachineView = (own_turn tapes.second Two (own_first Two m)).machine in
+    let done : IsPaired right left tapes.second tapes.first (list right) to =
+    turn_paired right left tapes.second tapes.first pair.second pair.first pair.second_led Two (own_first Two m) turned in
+    subst (λ all. IsPaired left right tapes.first tapes.second all (own_first Two to)) (sym pair.equal)
+    (paired_swap right left tapes.second tapes.first (list right) to done)
+
+run_paired : (left right : List ControlProgram) (tapes : Tapes) → IsLawfulPair left right tapes → (es : List Event) (m : MachineView)
+    → IsPaired left right tapes.first tapes.second (list left) m → IsPaired left right tapes.first tapes.second (list left) (run tapes m es)
+run_paired left right tapes pair [] m k = k
+run_paired left right tapes pair (e ∷ es) m k =
+    run_paired left right tapes pair es (behind_event tapes e m) (event_paired left right tapes pair e m k)
+
+opening_paired : (left right : List ControlProgram) (tapes : Tapes) → IsLawfulPair left right tapes → (first second : PathView)
+    → first.place ≡ start left → second.place ≡ start right
+    → IsPaired left right tapes.first tapes.second (list left) (opening first second)
+opening_paired left right tapes pair first second at at' =
+    calmly left right tapes.first tapes.second (list left) (opening first second) refl (record {
+      first = record { place = rw at (refl, refl); waits = λ c e. absurd cc; ends = λ e. absurd cc };
+      second = record { place = rw at' (refl, refl); waits = λ c e. absurd cc; ends = λ e. absurd cc };
+      agree = inl (rw (at, at') (pair.equal));
+      one = inl refl;
+    })
+
+-- an unfinished path that waits, and another that waits or is finished
+waiting_stuck : (left right : List ControlProgram) → KeepsLabels left → KeepsLabels right → (all : List Label) (m : MachineView) → IsSound left right all m
+    → (f : Bool) → m.first.finished ≡ f → (o : Option ℕ) → m.first.waiting ≡ o → f ≡ false → (f || is_some o) ≡ true
+    → (f' : Bool) → m.second.finished ≡ f' → (o' : Option ℕ) → m.second.waiting ≡ o' → (f' || is_some o') ≡ true → ⊥
+waiting_stuck left right law law' all m s true fe o oe un i f' fe' o' oe' i' = absurd cc
+waiting_stuck left right law law' all m s false fe None oe un i f' fe' o' oe' i' = absurd cc
+waiting_stuck left right law law' all m s false fe (Some code) oe un i true fe' o' oe' i' =
+    agree_end all (ahead left (passed m.first.path.place)) code
+    (rw (← (law.wait m.first.path.place code s.first.place (s.first.waits code oe)).1, ← law'.ends m.second.path.place s.second.place (s.second.ends fe')) (s.agree))
+waiting_stuck left right law law' all m s false fe (Some code) oe un i false fe' None oe' i' = absurd cc
+waiting_stuck left right law law' all m s false fe (Some code) oe un i false fe' (Some other) oe' i' = go s.one
+  where
+    go : (m.first.waiting ≡ None) ⊎ (m.second.waiting ≡ None) → ⊥
+    go (inl e) = absurd cc
+    go (inr e) = absurd cc
+
+first_stuck : (left right : List ControlProgram) → KeepsLabels left → KeepsLabels right → (all : List Label) (m : MachineView) → IsSound left right all m
+    → m.first.finished ≡ false → is_idle m.first ≡ true → is_idle m.second ≡ true → ⊥
+first_stuck left right law law' all m s un i i' =
+    waiting_stuck left right law law' all m s m.first.finished refl m.first.waiting refl un i m.second.finished refl m.second.waiting refl i'
+
+not_stuck : (left right : List ControlProgram) → KeepsLabels left → KeepsLabels right → (all : List Label) (m : MachineView)
+    → (m.alarm ≡ None → IsSound left right all m) → IsStuck m → ⊥
+not_stuck left right law law' all m sound stuck = go stuck.unfinished
+  where
+    go : (m.first.finished ≡ false) ⊎ (m.second.finished ≡ false) → ⊥
+    go (inl un) = first_stuck left right law law' all m (sound stuck.calm) un stuck.first stuck.second
+    go (inr un) = first_stuck right left law' law all (own_first Two m) (sound_swap left right all m (sound stuck.calm)) un stuck.second stuck.first
+
+not_crossed : (left right : List ControlProgram) (a : Blocks) → KeepsLabels left → KeepsLabels right → AreLed left a → (m : MachineView)
+    → (m.alarm ≡ None → IsSound left right (list left) m) → IsCrossed a m → ⊥
+not_crossed left right a law law' led m sound x =
+    let goes : GoesAsOrdered left m.first.path (AtWait x.code) = subst (GoesAsOrdered left m.first.path) x.comes (led m.first.path m.first.values) in
+    x.differs (meeting left right law law' m (sound x.calm) x.code x.there goes x.waits).0
+
+free : (left right : List ControlProgram) (tapes : Tapes) → IsLawfulPair left right tapes → (m : MachineView)
+    → IsPaired left right tapes.first tapes.second (list left) m → IsFree tapes m
+free left right tapes pair m k = record {
+  stuck = not_stuck left right pair.first pair.second (list left) m k.sound;
+  crossed = λ path. crossed path;
+  alarm = k.never;
+}
+  where
+    crossed : (path : Path) → IsCrossed (tape_of tapes path) (own_first path m) → ⊥
+    crossed One x = not_crossed left right tapes.first pair.first pair.second pair.first_led m k.sound x
+    crossed Two x = not_crossed right left tapes.second pair.second pair.first pair.second_led (own_first Two m)
+        (λ e. subst (λ all. IsSound right left all (own_first Two m)) pair.equal (sound_swap left right (list left) m (k.sound e))) x
+
+-- whatever the order of events
+pub run_free : (left right : List ControlProgram) (tapes : Tapes) → IsLawfulPair left right tapes → (first second : PathView)
+    → first.place ≡ start left → second.place ≡ start right → (es : List Event) → IsFree tapes (run tapes (opening first second) es)
+run_free left right tapes pair first second at at' es =
+    free left right tapes pair (run tapes (opening first second) es)
+    (run_paired left right tapes pair es (opening first second) (opening_paired left right tapes pair first second at at'))

@@ -1,0 +1,131 @@
+-- Whatever happens, the records are a legal history, whose fold is the machine but for block reads.
+use Rattle.std.proofs.Common.{◌≡◌, ℕ, Bool, true, false, ◌==◌, List, [], ◌∷◌, ◌++◌, Option, Some, None, refl, sym, ap, ◌∙◌, if◌then◌else◌}
+use Rattle.nc_number.specs.declared.path.Path.{Path}
+use Rattle.nc_number.specs.declared.path.Path.TheVariants.{One, Two}
+use Rattle.run_records.specs.declared.entry.Entry.{Entry}
+use Rattle.run_records.specs.declared.entry.EntryKind.{EntryKind}
+use Rattle.path_state.specs.Effect.{Effect, Need, Done, AtWait, AtEnd}
+use Rattle.path_state.specs.Effect as effect
+use Rattle.two_path.specs.declared.turn.Turn.TheVariants as turn
+use Rattle.two_path.specs.Machine.{MachineView, own_first, without_reads}
+use Rattle.two_path.specs.Turns.{Blocks, Tapes, tape_of, result, behind_meeting, crossed_waits, alarm_result, result_at_wait, result_by, own_turn, turn_of, kind_of, entry_with}
+use Rattle.two_path.specs.Histories.{Event, TurnOf, behind_event, list_of, records_of, run, history, with_values, with_reads, IsStep, behind_step, behind_entry, IsNext, fold, IsLegal, IsLawful, AreLawful, IsHistory}
+use Rattle.two_path.proofs.Idle.{is_still, own_awake, own_still}
+use Rattle.two_path.proofs.Lawful.{event_sound}
+
+-- the machine in which only the first path's block has read
+abbrev alone : MachineView → MachineView
+alone m = with_values m.first.values m.first.stamps (without_reads m)
+
+-- two turns that answer the same and lead to the same machine but for block reads
+abbrev Alike : Path → ℕ → MachineView → Effect → Type 0
+Alike path line m e =
+    ((result_by path line (alone m) e).turn ≡ (result_by path line m e).turn)
+    × (without_reads (result_by path line (alone m) e).machine ≡ without_reads (result_by path line m e).machine)
+
+wait_alike : (path : Path) (line : ℕ) (m : MachineView) (code : ℕ) (o : Option ℕ)
+    → ((result_at_wait path line (alone m) code o).turn ≡ (result_at_wait path line m code o).turn)
+    × (without_reads (result_at_wait path line (alone m) code o).machine ≡ without_reads (result_at_wait path line m code o).machine)
+wait_alike path line m code None = (refl, refl)
+wait_alike path line m code (Some there) = go (code == there) refl
+  where
+    go : (b : Bool) → (code == there) ≡ b
+        → ((result_at_wait path line (alone m) code (Some there)).turn ≡ (result_at_wait path line m code (Some there)).turn)
+        × (without_reads (result_at_wait path line (alone m) code (Some there)).machine ≡ without_reads (result_at_wait path line m code (Some there)).machine)
+    go true e = rw e (refl, refl)
+    go false e = rw e (refl, refl)
+
+-- a turn does not see what the other path's block has read
+by_alike : (path : Path) (line : ℕ) (m : MachineView) (e : Effect) → Alike path line m e
+by_alike path line m (Need v) = (refl, refl)
+by_alike path line m (Done to write moves) = (refl, refl)
+by_alike path line m (AtWait code) = wait_alike path line m code m.second.waiting
+by_alike path line m (AtEnd to moves) = (refl, refl)
+by_alike path line m (effect.Alarm number value) = (refl, refl)
+
+wait_records : (path : Path) (line : ℕ) (m : MachineView) (code : ℕ) (o : Option ℕ) → kind_of (result_at_wait path line m code o).turn ≡ None → ⊥
+wait_records path line m code None e = cc
+wait_records path line m code (Some there) e = go (code == there) e
+  where
+    go : (b : Bool) → kind_of (if b then result (turn.Met code) (behind_meeting m) else alarm_result (crossed_waits path line) m).turn ≡ None → ⊥
+    go true e = cc
+    go false e = cc
+
+-- without a record nothing changes but for block reads
+by_none : (path : Path) (line : ℕ) (m : MachineView) (e : Effect) → kind_of (result_by path line m e).turn ≡ None
+    → without_reads (result_by path line m e).machine ≡ without_reads m
+by_none path line m (Need v) e = refl
+by_none path line m (Done to write moves) e = absurd cc
+by_none path line m (AtWait code) e = absurd (wait_records path line m code m.second.waiting e)
+by_none path line m (AtEnd to moves) e = absurd cc
+by_none path line m (effect.Alarm number value) e = absurd cc
+
+-- what a turn of the first path makes: nothing, or a record that follows
+abbrev MakesFirst : Blocks → Path → MachineView → MachineView → Option EntryKind → List ℕ → Type 0
+MakesFirst blocks path b to None stamps = to ≡ b
+MakesFirst blocks path b to (Some kind) stamps = IsStep blocks path b kind stamps × (behind_step blocks path stamps b ≡ to)
+
+turn_makes : (blocks : Blocks) (path : Path) (m : MachineView) → IsLawful blocks m → (k : Option EntryKind) → kind_of (own_turn blocks path m).turn ≡ k
+    → MakesFirst blocks path (without_reads m) (without_reads (own_turn blocks path m).machine) k m.first.stamps
+turn_makes blocks path m l k e = go (is_still m) refl k e
+  where
+    go : (b : Bool) → is_still m ≡ b → (k : Option EntryKind) → kind_of (own_turn blocks path m).turn ≡ k
+        → MakesFirst blocks path (without_reads m) (without_reads (own_turn blocks path m).machine) k m.first.stamps
+    go true i None e = rw ((own_still blocks path m i).0) refl
+    go true i (Some k) e = absurd (let none : kind_of (own_turn blocks path m).turn ≡ None = (own_still blocks path m i).1 in cc)
+    go false i None e =
+        let is = own_awake blocks path m i in
+        rw is (by_none path (blocks.line m.first.path.place) m (blocks.effect m.first.path m.first.values) (rw is at e))
+    go false i (Some k) e =
+        let is = own_awake blocks path m i in
+        let alike = by_alike path (blocks.line m.first.path.place) m (blocks.effect m.first.path m.first.values) in
+        let same = own_awake blocks path (alone m) i in (
+          record {
+            reads = record { order = l.may.order; asks = l.may.asks };
+            is = rw (← l.values) (ap (λ r. kind_of r.turn) same ∙ ap kind_of alike.0 ∙ rw (← is) e);
+          },
+          rw (← l.values) (ap (λ r. without_reads r.machine) same ∙ alike.1 ∙ ap (λ r. without_reads r.machine) (sym is)),
+        )
+
+Makes : Tapes → MachineView → MachineView → Path → Option EntryKind → List ℕ → Type 0
+Makes tapes b to path None stamps = to ≡ b
+Makes tapes b to path (Some kind) stamps =
+    IsNext tapes b (record { path = path; kind = kind; stamps = stamps })
+    × (behind_entry tapes (record { path = path; kind = kind; stamps = stamps }) b ≡ to)
+
+makes_first : (tapes : Tapes) (b to : MachineView) (k : Option EntryKind) (ks : List ℕ) → MakesFirst tapes.first One b to k ks → Makes tapes b to One k ks
+unfolding Makes
+makes_first tapes b to None ks h = h
+makes_first tapes b to (Some k) ks h = h
+
+makes_second : (tapes : Tapes) (b to : MachineView) (k : Option EntryKind) (ks : List ℕ) → MakesFirst tapes.second Two (own_first Two b) to k ks → Makes tapes b (own_first Two to) Two k ks
+unfolding Makes
+makes_second tapes b to None ks h = ap (own_first Two) h
+makes_second tapes b to (Some k) ks h = (h.0, ap (own_first Two) h.1)
+
+joins : (tapes : Tapes) (b to end : MachineView) (p : Path) (k : Option EntryKind) (ks : List ℕ) (rs : List Entry) → Makes tapes b to p k ks
+    → IsLegal tapes to rs → fold tapes to rs ≡ end
+    → IsLegal tapes b (list_of (entry_with p ks k) ++ rs) × (fold tapes b (list_of (entry_with p ks k) ++ rs) ≡ end)
+unfolding Makes
+joins tapes b to end p None ks rs may legal folds = rw (← may) (legal, folds)
+joins tapes b to end p (Some k) ks rs may legal folds = ((may.0, rw may.1 legal), rw may.1 folds)
+
+pub joins_event : (tapes : Tapes) (m end : MachineView) (e : Event) (rs : List Entry) → AreLawful tapes m
+    → IsLegal tapes (without_reads (behind_event tapes e m)) rs → fold tapes (without_reads (behind_event tapes e m)) rs ≡ end
+    → IsLegal tapes (without_reads m) (records_of tapes e m ++ rs) × (fold tapes (without_reads m) (records_of tapes e m ++ rs) ≡ end)
+joins_event tapes m end (TurnOf One) rs s =
+    joins tapes (without_reads m) (without_reads (behind_event tapes (TurnOf One) m)) end One (kind_of (own_turn tapes.first One m).turn) m.first.stamps rs
+    (makes_first tapes (without_reads m) (without_reads (own_turn tapes.first One m).machine) (kind_of (own_turn tapes.first One m).turn) m.first.stamps
+    (turn_makes tapes.first One m s.first (kind_of (own_turn tapes.first One m).turn) refl))
+joins_event tapes m end (TurnOf Two) rs s =
+    let o : MachineView = own_first Two m in
+    joins tapes (without_reads m) (without_reads (behind_event tapes (TurnOf Two) m)) end Two (kind_of (own_turn tapes.second Two o).turn) m.second.stamps rs
+    (makes_second tapes (without_reads m) (without_reads (own_turn tapes.second Two o).machine) (kind_of (own_turn tapes.second Two o).turn) m.second.stamps
+    (turn_makes tapes.second Two o s.second (kind_of (own_turn tapes.second Two o).turn) refl))
+
+pub history_from : (tapes : Tapes) (m : MachineView) (es : List Event) → AreLawful tapes m → IsHistory tapes m es
+history_from tapes m [] s = record { legal = tt; folds = refl; lawful = s }
+history_from tapes m (e ∷ es) s =
+    let h = history_from tapes (behind_event tapes e m) es (event_sound tapes e m s) in
+    let j = joins_event tapes m (without_reads (run tapes (behind_event tapes e m) es)) e (history tapes (behind_event tapes e m) es) s h.legal h.folds in
+    record { legal = j.0; folds = j.1; lawful = h.lawful }

@@ -1,0 +1,429 @@
+-- Each legal history is recorded by some list of events: the reads of each record are taken as soon as there are as many records as their stamps say.
+use Rattle.std.proofs.Common.{◌≡◌, ℕ, suc, ◌+◌, ◌≤◌, ◌<◌, Bool, true, false, ◌==◌, ◌||◌, ◌⊎◌, inl, inr, List, [], ◌∷◌, ◌++◌, Option, Some, None, is_some, refl, sym, ap, subst, ◌∙◌, append_assoc, append-nil, arith}
+use Rattle.std.proofs.lemmas.Bool.Decides.{nat_tests}
+use Rattle.nc_number.specs.declared.path.Path.{Path}
+use Rattle.nc_number.specs.declared.path.Path.TheVariants.{One, Two}
+use Rattle.nc_number.specs.declared.value.Var.{Var}
+use Rattle.nc_outside.specs.declared.halt.Alarm.{Alarm}
+use Rattle.common_vars.specs.declared.links.Write.{Write}
+use Rattle.run_records.specs.declared.entry.Entry.{Entry}
+use Rattle.run_records.specs.declared.entry.EntryKind.{EntryKind}
+use Rattle.path_state.specs.View.{PathView}
+use Rattle.path_state.specs.Statements.{Write as Written}
+use Rattle.path_state.specs.Effect.{Effect, Need, Done, AtWait, AtEnd}
+use Rattle.path_state.specs.Effect as effect
+use Rattle.two_path.specs.Machine.{Part, MachineView, own_first, part_without_reads, without_reads, opening}
+use Rattle.two_path.specs.Turns.{Blocks, Tapes, tape_of, with_write, part_at, crossed_waits, result_at_wait, result_by, own_turn, turn_of, kind_of}
+use Rattle.two_path.specs.Histories.{Event, TurnOf, behind_event, records_of, run, history, and_next, values_from, values_at, AsksFrom, AreInOrder, MayRead, with_values, with_reads, IsStep, behind_step, behind_entry, IsNext, fold, IsLegal, is_idle, IsLawful, AreLawful, IsReached, IsRun}
+use Rattle.two_path.proofs.Idle.{is_still, own_awake, awake_of}
+use Rattle.two_path.proofs.Lawful.{next_written, values_written, values_push}
+
+-- a list from its end
+pub from_end : {X : Type 0} (P : List X → Type 0) → P [] → ((xs : List X) (x : X) → P xs → P (xs ++ x ∷ [])) → (xs : List X) → P xs
+from_end P none more [] = none
+from_end P none more (x ∷ xs) = from_end (λ ys. P (x ∷ ys)) (more [] x none) (λ ys y p. more (x ∷ ys) y p) xs
+
+-- one more at the end
+pub fold_push : (tapes : Tapes) (m : MachineView) (rs : List Entry) (e : Entry) → fold tapes m (rs ++ e ∷ []) ≡ behind_entry tapes e (fold tapes m rs)
+fold_push tapes m [] e = refl
+fold_push tapes m (r ∷ rs) e = fold_push tapes (behind_entry tapes r m) rs e
+
+pub legal_front : (tapes : Tapes) (m : MachineView) (rs : List Entry) (e : Entry) → IsLegal tapes m (rs ++ e ∷ []) → IsLegal tapes m rs × IsNext tapes (fold tapes m rs) e
+legal_front tapes m [] e legal = (tt, legal.0)
+legal_front tapes m (r ∷ rs) e legal = let rest = legal_front tapes (behind_entry tapes r m) rs e legal.1 in ((legal.0, rest.0), rest.1)
+
+pub legal_push : (tapes : Tapes) (m : MachineView) (rs : List Entry) (e : Entry) → IsLegal tapes m rs → IsNext tapes (fold tapes m rs) e → IsLegal tapes m (rs ++ e ∷ [])
+legal_push tapes m [] e legal next = (next, tt)
+legal_push tapes m (r ∷ rs) e legal next = (legal.0, legal_push tapes (behind_entry tapes r m) rs e legal.1 next)
+
+run_push : (tapes : Tapes) (m : MachineView) (es : List Event) (e : Event) → run tapes m (es ++ e ∷ []) ≡ behind_event tapes e (run tapes m es)
+run_push tapes m [] e = refl
+run_push tapes m (f ∷ es) e = run_push tapes (behind_event tapes f m) es e
+
+history_push : (tapes : Tapes) (m : MachineView) (es : List Event) (e : Event)
+    → history tapes m (es ++ e ∷ []) ≡ history tapes m es ++ records_of tapes e (run tapes m es)
+history_push tapes m [] e = append-nil (records_of tapes e m)
+history_push tapes m (f ∷ es) e =
+    ap (λ rs. records_of tapes f m ++ rs) (history_push tapes (behind_event tapes f m) es e)
+    ∙ sym (append_assoc (records_of tapes f m) (history tapes (behind_event tapes f m) es) (records_of tapes e (run tapes m (f ∷ es))))
+
+-- with these stamps the first path's block may have read, and where the path is still it has not
+record Ready (blocks : Blocks) (m : MachineView) (ks : List ℕ) : Type 0 where
+  may : MayRead blocks m ks
+  idle : is_still m ≡ true → ks ≡ []
+
+abbrev Below : ℕ → List ℕ → Type 0
+Below c [] = Unit {0}
+Below c (k ∷ ks) = (k < c) × Below c ks
+
+abbrev reading : List Var → List ℕ → Part → Part
+reading values ks p = record p { values = values; stamps = ks }
+
+-- with these values read, whatever the stamps, and the other's
+abbrev both : List Var → List ℕ → List Var → List ℕ → MachineView → MachineView
+both values ks others ko m = record m { first = reading values ks m.first; second = reading others ko m.second }
+
+abbrev loaded : Blocks → Blocks → List ℕ → List ℕ → MachineView → MachineView
+loaded a b ks ko m = both (values_at a m.first.path m.writes ks) ks (values_at b m.second.path m.writes ko) ko m
+
+asks_before : (blocks : Blocks) (path : PathView) (o : Option Written) (ws : List Write) (c low : ℕ) (rs : List Var) (ks : List ℕ)
+    → AreInOrder low c ks → AsksFrom blocks path (with_write (c + 1) o ws) rs ks → AsksFrom blocks path ws rs ks
+asks_before blocks path o ws c low rs [] i a = tt
+asks_before blocks path o ws c low rs (k ∷ ks) i a = (
+  a.0,
+  asks_before blocks path o ws c k (and_next blocks path ws k rs) ks i.2
+      (subst (λ xs. AsksFrom blocks path (with_write (c + 1) o ws) xs ks) (next_written blocks path o ws c k rs i.1) a.1),
+)
+
+asks_front : (blocks : Blocks) (path : PathView) (ws : List Write) (rs : List Var) (ks : List ℕ) (k : ℕ) → AsksFrom blocks path ws rs (ks ++ k ∷ [])
+    → AsksFrom blocks path ws rs ks × ((v : ℕ) × (blocks.effect path (values_from blocks path ws rs ks) ≡ Need v))
+asks_front blocks path ws rs [] k a = (tt, a.0)
+asks_front blocks path ws rs (j ∷ ks) k a = let rest = asks_front blocks path ws (and_next blocks path ws j rs) ks k a.1 in ((a.0, rest.0), rest.1)
+
+order_front : (low high : ℕ) (ks : List ℕ) (k : ℕ) → AreInOrder low high (ks ++ k ∷ []) → AreInOrder low high ks × (low ≤ k) × (k ≤ high)
+order_front low high [] k i = (tt, i.0, i.1)
+order_front low high (j ∷ ks) k i =
+    let rest = order_front j high ks k i.2 in
+    let le : low ≤ k = omega (arith, i.0, rest.1) in
+    ((i.0, i.1, rest.0), le, rest.2)
+
+below_push : (low high c : ℕ) (ks : List ℕ) (k : ℕ) → AreInOrder low high (ks ++ k ∷ []) → k < c → Below c (ks ++ k ∷ [])
+below_push low high c [] k i h = (h, tt)
+below_push low high c (j ∷ ks) k i h =
+    let rest = order_front j high ks k i.2 in
+    let le : j < c = omega (arith, rest.1) in
+    (le, below_push j high c ks k i.2 h)
+
+order_below : (low c : ℕ) (ks : List ℕ) → AreInOrder low (c + 1) ks → Below (c + 1) ks → AreInOrder low c ks
+order_below low c [] i b = tt
+order_below low c (k ∷ ks) i b = (i.0, omega (arith, b.0), order_below k c ks i.2 b.1)
+
+order_none : (c high : ℕ) (ks : List ℕ) → AreInOrder c high ks → Below c ks → ks ≡ []
+order_none c high [] i b = refl
+order_none c high (k ∷ ks) i b = absurd (omega (arith, i.0, b.0))
+
+or_true : (b x : Bool) → x ≡ true → (b || x) ≡ true
+or_true true x e = refl
+or_true false x e = e
+
+-- from n a record of the first path leads to this machine, whatever the other has read: what either path may have read since, and before
+record StepsTo (a b : Blocks) (n to : MachineView) (from_reads : List Var → List ℕ → MachineView) : Type 0 where
+  count : to.count ≡ n.count + 1
+  mine : (ks : List ℕ) → Ready a to ks → Below (n.count + 1) ks → ks ≡ []
+  theirs : (ko : List ℕ) → Ready b (own_first Two to) ko → Below (n.count + 1) ko
+      → Ready b (own_first Two n) ko
+      × (from_reads (values_at b n.second.path n.writes ko) ko ≡ both [] [] (values_at b to.second.path to.writes ko) ko to)
+
+ready_none : (blocks : Blocks) (m : MachineView) → Ready blocks m []
+ready_none blocks m = record { may = record { order = tt; asks = tt }; idle = λ _. refl }
+
+-- what the other path reads before a record of this one
+before : (b : Blocks) (n : MachineView) (x : Part) (o : Option Written) (al : Option Alarm) (ko : List ℕ) → is_still n ≡ false
+    → Ready b (record { first = part_without_reads n.second; second = x; writes = with_write (n.count + 1) o n.writes; count = n.count + 1; alarm = al }) ko → Below (n.count + 1) ko
+    → Ready b (own_first Two n) ko × (values_at b n.second.path n.writes ko ≡ values_at b n.second.path (with_write (n.count + 1) o n.writes) ko)
+before b n x o al ko awake r below =
+    let order : AreInOrder n.second.since n.count ko = order_below n.second.since n.count ko r.may.order below in (
+      record {
+        may = record { order = order; asks = asks_before b n.second.path o n.writes n.count n.second.since [] ko order r.may.asks };
+        idle = λ i. r.idle (or_true (is_some al) (is_idle n.second) (calm n.alarm (is_idle n.first) (is_idle n.second) awake i));
+      },
+      sym (values_written b n.second.path o n.writes n.count n.second.since [] ko order),
+    )
+  where
+    calm : (a : Option Alarm) (f g : Bool) → (is_some a || f) ≡ false → (is_some a || g) ≡ true → g ≡ true
+    calm (Some t) f g e i = absurd cc
+    calm None f g e i = i
+
+stepped_wait : (a b : Blocks) (path : Path) (line : ℕ) (n : MachineView) (rs : List Var) (ks : List ℕ) (code : ℕ) (o : Option ℕ) → is_still n ≡ false
+    → StepsTo a b n (without_reads (result_at_wait path line (with_values rs ks n) code o).machine) (λ ro ko. (result_at_wait path line (both rs ks ro ko n) code o).machine)
+stepped_wait a b path line n rs ks code None awake = record {
+  count = refl;
+  mine = λ ks' r below. r.idle (or_true (is_some n.alarm) (n.first.finished || true) (or_true n.first.finished true refl));
+  theirs = λ ko r below.
+      let p = before b n (without_reads (result_at_wait path line (with_values rs ks n) code None).machine).first None n.alarm ko awake r below in (p.0, refl);
+}
+stepped_wait a b path line n rs ks code (Some there) awake = go (code == there) refl
+  where
+    go : (y : Bool) → (code == there) ≡ y
+        → StepsTo a b n (without_reads (result_at_wait path line (with_values rs ks n) code (Some there)).machine)
+        (λ ro ko. (result_at_wait path line (both rs ks ro ko n) code (Some there)).machine)
+    go false e = rw e (record {
+      count = refl;
+      mine = λ ks' r below. r.idle refl;
+      theirs = λ ko r below. let p = before b n (part_without_reads n.first) None (Some (crossed_waits path line)) ko awake r below in (p.0, refl);
+    })
+    go true e = rw e (record {
+      count = refl;
+      mine = λ ks' r below. order_none (n.count + 1) (n.count + 1) ks' r.may.order below;
+      theirs = λ ko r below. rw (order_none (n.count + 1) (n.count + 1) ko r.may.order below) (ready_none b (own_first Two n), refl);
+    })
+
+stepped : (a b : Blocks) (path : Path) (line : ℕ) (n : MachineView) (rs : List Var) (ks : List ℕ) (e : Effect) (k : EntryKind) → is_still n ≡ false
+    → kind_of (result_by path line (with_values rs ks n) e).turn ≡ Some k
+    → StepsTo a b n (without_reads (result_by path line (with_values rs ks n) e).machine) (λ ro ko. (result_by path line (both rs ks ro ko n) e).machine)
+stepped a b path line n rs ks (Need v) k awake e = absurd cc
+stepped a b path line n rs ks (Done to write moves) k awake e = record {
+  count = refl;
+  mine = λ ks' r below. order_none (n.count + 1) (n.count + 1) ks' r.may.order below;
+  theirs = λ ko r below.
+      let p = before b n (part_at to (n.count + 1) n.first) write n.alarm ko awake r below in
+      (p.0, ap (λ ro. (result_by path line (both rs ks ro ko n) (Done to write moves)).machine) p.1);
+}
+stepped a b path line n rs ks (AtWait code) k awake e = stepped_wait a b path line n rs ks code n.second.waiting awake
+stepped a b path line n rs ks (AtEnd to moves) k awake e = record {
+  count = refl;
+  mine = λ ks' r below. r.idle (or_true (is_some n.alarm) true refl);
+  theirs = λ ko r below.
+      let p = before b n (without_reads (result_by path line (with_values rs ks n) (AtEnd to moves)).machine).first None n.alarm ko awake r below in (p.0, refl);
+}
+stepped a b path line n rs ks (effect.Alarm number value) k awake e = record {
+  count = refl;
+  mine = λ ks' r below. r.idle refl;
+  theirs = λ ko r below.
+      let p = before b n (part_without_reads n.first) None (result_by path line n (effect.Alarm number value)).machine.alarm ko awake r below in (p.0, refl);
+}
+
+read_kind : (a b : Blocks) (path : Path) (n : MachineView) (ks ko : List ℕ) (v : ℕ) → is_still n ≡ false → a.effect n.first.path (values_at a n.first.path n.writes ks) ≡ Need v
+    → kind_of (own_turn a path (loaded a b ks ko n)).turn ≡ None
+read_kind a b path n ks ko v awake e = rw (own_awake a path (loaded a b ks ko n) awake, e) refl
+
+read_turn : (a b : Blocks) (path : Path) (n : MachineView) (ks ko : List ℕ) (v : ℕ) → is_still n ≡ false → a.effect n.first.path (values_at a n.first.path n.writes ks) ≡ Need v
+    → (own_turn a path (loaded a b ks ko n)).machine ≡ loaded a b (ks ++ n.count ∷ []) ko n
+read_turn a b path n ks ko v awake e =
+    rw (own_awake a path (loaded a b ks ko n) awake, values_push a n.first.path n.writes [] ks n.count, e) refl
+
+-- the kind of a record does not hang on what the other has read
+wait_kind : (path : Path) (line : ℕ) (m n : MachineView) (code : ℕ) (o : Option ℕ)
+    → kind_of (result_at_wait path line m code o).turn ≡ kind_of (result_at_wait path line n code o).turn
+wait_kind path line m n code None = refl
+wait_kind path line m n code (Some there) = go (code == there) refl
+  where
+    go : (b : Bool) → (code == there) ≡ b
+        → kind_of (result_at_wait path line m code (Some there)).turn ≡ kind_of (result_at_wait path line n code (Some there)).turn
+    go true e = rw e refl
+    go false e = rw e refl
+
+kind_alike : (path : Path) (line : ℕ) (m n : MachineView) (e : Effect) → m.second.waiting ≡ n.second.waiting
+    → kind_of (result_by path line m e).turn ≡ kind_of (result_by path line n e).turn
+kind_alike path line m n (Need v) w = refl
+kind_alike path line m n (Done to write moves) w = refl
+kind_alike path line m n (AtWait code) w =
+    wait_kind path line m n code m.second.waiting ∙ ap (λ o. kind_of (result_at_wait path line n code o).turn) w
+kind_alike path line m n (AtEnd to moves) w = refl
+kind_alike path line m n (effect.Alarm number value) w = refl
+
+step_awake : (a : Blocks) (path : Path) (n : MachineView) (k : EntryKind) (ks : List ℕ) → IsStep a path n k ks → is_still n ≡ false
+step_awake a path n k ks i = awake_of a path (with_reads a ks n) k i.is
+
+step_kind : (a b : Blocks) (path : Path) (n : MachineView) (k : EntryKind) (ks ko : List ℕ) → IsStep a path n k ks
+    → kind_of (own_turn a path (loaded a b ks ko n)).turn ≡ Some k
+step_kind a b path n k ks ko i =
+    let awake = step_awake a path n k ks i in
+    let e : Effect = a.effect n.first.path (values_at a n.first.path n.writes ks) in
+    ap (λ r. kind_of r.turn) (own_awake a path (loaded a b ks ko n) awake)
+    ∙ kind_alike path (a.line n.first.path.place) (loaded a b ks ko n) (with_reads a ks n) e refl
+    ∙ sym (ap (λ r. kind_of r.turn) (own_awake a path (with_reads a ks n) awake))
+    ∙ i.is
+
+-- the same of a whole step
+applied_steps : (a b : Blocks) (path : Path) (n : MachineView) (k : EntryKind) (ks : List ℕ) → IsStep a path n k ks
+    → StepsTo a b n (behind_step a path ks n) (λ ro ko. (own_turn a path (both (values_at a n.first.path n.writes ks) ks ro ko n)).machine)
+applied_steps a b path n k ks i =
+    let awake = step_awake a path n k ks i in
+    let rs : List Var = values_at a n.first.path n.writes ks in
+    let is = own_awake a path (with_reads a ks n) awake in
+    let st = stepped a b path (a.line n.first.path.place) n rs ks (a.effect n.first.path rs) k awake (rw is at i.is) in
+    let there : StepsTo a b n (behind_step a path ks n) (λ ro ko. (result_by path (a.line n.first.path.place) (both rs ks ro ko n) (a.effect n.first.path rs)).machine) =
+    subst (λ r. StepsTo a b n (without_reads r.machine) (λ ro ko. (result_by path (a.line n.first.path.place) (both rs ks ro ko n) (a.effect n.first.path rs)).machine)) (sym is) st in
+    record {
+      count = there.count;
+      mine = there.mine;
+      theirs = λ ko r below.
+          let p = there.theirs ko r below in
+          (p.0, ap (λ r. r.machine) (own_awake a path (both rs ks (values_at b n.second.path n.writes ko) ko n) awake) ∙ p.1);
+    }
+
+not_none : (ks : List ℕ) (k : ℕ) → ks ++ k ∷ [] ≡ [] → ⊥
+not_none [] k e = cc
+not_none (j ∷ ks) k e = cc
+
+ready_front : (blocks : Blocks) (m : MachineView) (ks : List ℕ) (k : ℕ) → Ready blocks m (ks ++ k ∷ []) → Ready blocks m ks
+ready_front blocks m ks k r = record {
+  may = record {
+    order = (order_front m.first.since m.count ks k r.may.order).0;
+    asks = (asks_front blocks m.first.path m.writes [] ks k r.may.asks).0;
+  };
+  idle = λ i. absurd (not_none ks k (r.idle i));
+}
+
+ready_awake : (blocks : Blocks) (m : MachineView) (ks : List ℕ) (k : ℕ) → Ready blocks m (ks ++ k ∷ []) → is_still m ≡ false
+ready_awake blocks m ks k r = go (is_still m) refl
+  where
+    go : (b : Bool) → is_still m ≡ b → b ≡ false
+    go true e = absurd (not_none ks k (r.idle e))
+    go false e = refl
+
+-- one more event
+more : (tapes : Tapes) (m n to : MachineView) (rs : List Entry) (e : Event) (made : List Entry) → IsReached tapes m rs n → records_of tapes e n ≡ made
+    → behind_event tapes e n ≡ to → IsReached tapes m (rs ++ made) to
+more tapes m n to rs e made x new is = record {
+  events = x.events ++ e ∷ [];
+  records = rw (history_push tapes m x.events e, x.records, x.reaches, new) refl;
+  reaches = rw (run_push tapes m x.events e, x.reaches) is;
+}
+
+more_none : (tapes : Tapes) (m n to : MachineView) (rs : List Entry) (e : Event) → IsReached tapes m rs n → records_of tapes e n ≡ []
+    → behind_event tapes e n ≡ to → IsReached tapes m rs to
+more_none tapes m n to rs e x new is = subst (λ es. IsReached tapes m es to) (append-nil rs) (more tapes m n to rs e [] x new is)
+
+-- one more read of either path
+read_first : (tapes : Tapes) (m n : MachineView) (rs : List Entry) (ks ko : List ℕ) → Ready tapes.first n (ks ++ n.count ∷ [])
+    → IsReached tapes m rs (loaded tapes.first tapes.second ks ko n)
+    → IsReached tapes m rs (loaded tapes.first tapes.second (ks ++ n.count ∷ []) ko n)
+read_first tapes m n rs ks ko r x =
+    let awake = ready_awake tapes.first n ks n.count r in
+    let need = (asks_front tapes.first n.first.path n.writes [] ks n.count r.may.asks).1 in
+    more_none tapes m (loaded tapes.first tapes.second ks ko n)
+    (loaded tapes.first tapes.second (ks ++ n.count ∷ []) ko n) rs (TurnOf One) x
+    (rw (read_kind tapes.first tapes.second One n ks ko need.0 awake need.1) refl)
+    (read_turn tapes.first tapes.second One n ks ko need.0 awake need.1)
+
+read_second : (tapes : Tapes) (m n : MachineView) (rs : List Entry) (ks ko : List ℕ) → Ready tapes.second (own_first Two n) (ko ++ n.count ∷ [])
+    → IsReached tapes m rs (loaded tapes.first tapes.second ks ko n)
+    → IsReached tapes m rs (loaded tapes.first tapes.second ks (ko ++ n.count ∷ []) n)
+read_second tapes m n rs ks ko r x =
+    let awake = ready_awake tapes.second (own_first Two n) ko n.count r in
+    let need = (asks_front tapes.second n.second.path n.writes [] ko n.count r.may.asks).1 in
+    more_none tapes m (loaded tapes.first tapes.second ks ko n)
+    (loaded tapes.first tapes.second ks (ko ++ n.count ∷ []) n) rs (TurnOf Two) x
+    (rw (read_kind tapes.second tapes.first Two (own_first Two n) ko ks need.0 awake need.1) refl)
+    (ap (own_first Two) (read_turn tapes.second tapes.first Two (own_first Two n) ko ks need.0 awake need.1))
+
+-- each machine that is the fold of the history but for reads that may have been made is reached
+abbrev Claim : Tapes → MachineView → List Entry → MachineView → Type 0
+Claim tapes m rs n =
+    (ks ko : List ℕ) → Ready tapes.first n ks → Ready tapes.second (own_first Two n) ko
+    → IsReached tapes m rs (loaded tapes.first tapes.second ks ko n)
+
+-- the same where no read has been made since the last record
+abbrev Base : Tapes → MachineView → List Entry → MachineView → Type 0
+Base tapes m rs n =
+    (ks ko : List ℕ) → Ready tapes.first n ks → Ready tapes.second (own_first Two n) ko → Below n.count ks → Below n.count ko
+    → IsReached tapes m rs (loaded tapes.first tapes.second ks ko n)
+
+below_or : (k c : ℕ) → k ≤ c → (k ≡ c) ⊎ (k < c)
+below_or k c h = go (k == c) refl
+  where
+    go : (b : Bool) → (k == c) ≡ b → (k ≡ c) ⊎ (k < c)
+    go true e = inl (grind (arith, nat_tests))
+    go false e = inr (grind (arith, nat_tests))
+
+extend_second : (tapes : Tapes) (m n : MachineView) (rs : List Entry) → Base tapes m rs n → (ks : List ℕ) → Ready tapes.first n ks → Below n.count ks
+    → (ko : List ℕ) → Ready tapes.second (own_first Two n) ko → IsReached tapes m rs (loaded tapes.first tapes.second ks ko n)
+extend_second tapes m n rs base ks r b =
+    from_end (λ ko. Ready tapes.second (own_first Two n) ko → IsReached tapes m rs (loaded tapes.first tapes.second ks ko n))
+    (λ s. base ks [] r s b tt)
+    (λ ko k rest s. go ko k (rest (ready_front tapes.second (own_first Two n) ko k s)) s (below_or k n.count (order_front n.second.since n.count ko k s.may.order).2))
+  where
+    go : (ko : List ℕ) (k : ℕ) → IsReached tapes m rs (loaded tapes.first tapes.second ks ko n) → Ready tapes.second (own_first Two n) (ko ++ k ∷ [])
+        → (k ≡ n.count) ⊎ (k < n.count) → IsReached tapes m rs (loaded tapes.first tapes.second ks (ko ++ k ∷ []) n)
+    go ko k x s (inl e) = rw e (read_second tapes m n rs ks ko (rw e at s) x)
+    go ko k x s (inr lt) = base ks (ko ++ k ∷ []) r s b (below_push n.second.since n.count n.count ko k s.may.order lt)
+
+extend_first : (tapes : Tapes) (m n : MachineView) (rs : List Entry) → Base tapes m rs n → Claim tapes m rs n
+extend_first tapes m n rs base ks ko r s = from_end
+    (λ ks. Ready tapes.first n ks → IsReached tapes m rs (loaded tapes.first tapes.second ks ko n))
+    (λ r. extend_second tapes m n rs base [] r tt ko s)
+    (λ ks k rest r. go ks k (rest (ready_front tapes.first n ks k r)) r (below_or k n.count (order_front n.first.since n.count ks k r.may.order).2))
+    ks r
+  where
+    go : (ks : List ℕ) (k : ℕ) → IsReached tapes m rs (loaded tapes.first tapes.second ks ko n) → Ready tapes.first n (ks ++ k ∷ [])
+        → (k ≡ n.count) ⊎ (k < n.count) → IsReached tapes m rs (loaded tapes.first tapes.second (ks ++ k ∷ []) ko n)
+    go ks k x r (inl e) = rw e (read_first tapes m n rs ks ko (rw e at r) x)
+    go ks k x r (inr lt) = extend_second tapes m n rs base (ks ++ k ∷ []) r (below_push n.first.since n.count n.count ks k r.may.order lt) ko s
+
+step_ready : (blocks : Blocks) (path : Path) (m : MachineView) (k : EntryKind) (ks : List ℕ) → IsStep blocks path m k ks → Ready blocks m ks
+step_ready blocks path m k ks i = record { may = i.reads; idle = λ e. absurd (let awake : is_still m ≡ false = step_awake blocks path m k ks i in cc) }
+
+abbrev entry : Path → EntryKind → List ℕ → Entry
+entry p k ks = record { path = p; kind = k; stamps = ks }
+
+turned_first : (tapes : Tapes) (m n : MachineView) (rs : List Entry) (k : EntryKind) (ks : List ℕ) → Claim tapes m rs n → IsStep tapes.first One n k ks
+    → Base tapes m (rs ++ entry One k ks ∷ []) (behind_step tapes.first One ks n)
+turned_first tapes m n rs k ks claim i ks' ko r s b b' =
+    let a : Blocks = tapes.first in
+    let c : Blocks = tapes.second in
+    let st = applied_steps a c One n k ks i in
+    let none : ks' ≡ [] = st.mine ks' r (rw (st.count) at b) in
+    let th = st.theirs ko s (rw (st.count) at b') in
+    rw none (more tapes m (loaded a c ks ko n) (loaded a c [] ko (behind_step a One ks n)) rs (TurnOf One) (entry One k ks ∷ [])
+    (claim ks ko (step_ready a One n k ks i) th.0)
+    (rw (step_kind a c One n k ks ko i) refl) th.1)
+
+turned_second : (tapes : Tapes) (m n : MachineView) (rs : List Entry) (k : EntryKind) (ks : List ℕ) → Claim tapes m rs n → IsStep tapes.second Two (own_first Two n) k ks
+    → Base tapes m (rs ++ entry Two k ks ∷ []) (own_first Two (behind_step tapes.second Two ks (own_first Two n)))
+turned_second tapes m n rs k ks claim i ko ks' s r b' b =
+    let a : Blocks = tapes.second in
+    let c : Blocks = tapes.first in
+    let st = applied_steps a c Two (own_first Two n) k ks i in
+    let none : ks' ≡ [] = st.mine ks' r (rw (st.count) at b) in
+    let th = st.theirs ko s (rw (st.count) at b') in
+    rw none (more tapes m (loaded c a ko ks n) (own_first Two (loaded a c [] ko (behind_step a Two ks (own_first Two n)))) rs (TurnOf Two) (entry Two k ks ∷ [])
+    (claim ko ks th.0 (step_ready a Two (own_first Two n) k ks i))
+    (rw (step_kind a c Two (own_first Two n) k ks ko i) refl) (ap (own_first Two) th.1))
+
+base_of : (tapes : Tapes) (m n : MachineView) (rs : List Entry) (p : Path) (k : EntryKind) (ks : List ℕ) → Claim tapes m rs n
+    → IsNext tapes n (entry p k ks) → Base tapes m (rs ++ entry p k ks ∷ []) (behind_entry tapes (entry p k ks) n)
+base_of tapes m n rs One k ks claim i = turned_first tapes m n rs k ks claim i
+base_of tapes m n rs Two k ks claim i = turned_second tapes m n rs k ks claim i
+
+-- at the opening no read has been made
+base_none : (tapes : Tapes) (first second : PathView) → Base tapes (opening first second) [] (opening first second)
+base_none tapes first second [] [] r r' b b' = record { events = []; records = refl; reaches = refl }
+base_none tapes first second (k ∷ ks) ko r r' b b' = absurd (omega (arith, b.0))
+base_none tapes first second [] (k ∷ ko) r r' b b' = absurd (omega (arith, b'.0))
+
+reached : (tapes : Tapes) (first second : PathView) (rs : List Entry) → IsLegal tapes (opening first second) rs
+    → Claim tapes (opening first second) rs (fold tapes (opening first second) rs)
+reached tapes first second =
+    let m : MachineView = opening first second in
+    from_end (λ rs. IsLegal tapes m rs → Claim tapes m rs (fold tapes m rs))
+    (λ legal. extend_first tapes m m [] (base_none tapes first second))
+    (λ rs e rest legal. let l = legal_front tapes m rs e legal in
+    extend_first tapes m (fold tapes m (rs ++ e ∷ [])) (rs ++ e ∷ [])
+    (rw (fold_push tapes m rs e) (base_of tapes m (fold tapes m rs) rs e.path e.kind e.stamps (rest l.0) l.1)))
+
+pub entry_bare : (tapes : Tapes) (e : Entry) (m : MachineView) → without_reads (behind_entry tapes e m) ≡ behind_entry tapes e m
+entry_bare tapes e m = go e.path
+  where
+    go : (p : Path) → without_reads (own_first p (behind_step (tape_of tapes p) p e.stamps (own_first p m))) ≡ own_first p (behind_step (tape_of tapes p) p e.stamps (own_first p m))
+    go One = refl
+    go Two = refl
+
+pub fold_bare : (tapes : Tapes) (m : MachineView) (rs : List Entry) → without_reads m ≡ m → without_reads (fold tapes m rs) ≡ fold tapes m rs
+fold_bare tapes m [] h = h
+fold_bare tapes m (e ∷ es) h = fold_bare tapes (behind_entry tapes e m) es (entry_bare tapes e m)
+
+pub run_of : (tapes : Tapes) (first second : PathView) (rs : List Entry) → IsLegal tapes (opening first second) rs
+    → IsRun tapes (opening first second) rs (fold tapes (opening first second) rs)
+run_of tapes first second rs legal =
+    let n : MachineView = fold tapes (opening first second) rs in
+    let x = reached tapes first second rs legal [] [] (ready_none tapes.first n) (ready_none tapes.second (own_first Two n)) in
+    record { events = x.events; records = x.records; reaches = rw x.reaches (fold_bare tapes (opening first second) rs refl) }
+
+pub lawful_of : (tapes : Tapes) (first second : PathView) (rs : List Entry) (to : MachineView) → IsLegal tapes (opening first second) rs
+    → fold tapes (opening first second) rs ≡ without_reads to → to.alarm ≡ None → AreLawful tapes to → IsReached tapes (opening first second) rs to
+lawful_of tapes first second rs to legal folds calm l =
+    let x = reached tapes first second rs legal to.first.stamps to.second.stamps
+    (rw folds (lawful_ready tapes.first to calm l.first)) (rw folds (lawful_ready tapes.second (own_first Two to) calm l.second)) in
+    record { events = x.events; records = x.records; reaches = x.reaches ∙ rw (folds, ← l.first.values, ← l.second.values) refl }
+  where
+    only : (a : Option Alarm) (f : Bool) → a ≡ None → (is_some a || f) ≡ true → f ≡ true
+    only None f e i = i
+    only (Some t) f e i = absurd cc
+
+    lawful_ready : (blocks : Blocks) (m : MachineView) → m.alarm ≡ None → IsLawful blocks m → Ready blocks (without_reads m) m.first.stamps
+    lawful_ready blocks m calm l = record {
+      may = record { order = l.may.order; asks = l.may.asks };
+      idle = λ i. l.none (only m.alarm (is_idle m.first) calm i);
+    }

@@ -1,0 +1,5 @@
+use Rattle.two_path.proofs.Counted.{histories_run}
+use Rattle.two_path.proofs.laws.histories_are_runs.Goals as goal
+
+pub returns : goal.returns
+returns c = histories_run

@@ -1,0 +1,232 @@
+-- Runs and histories: any list of events, the records of it, and which lists of records are legal.
+use Rattle.std.specs.Prelude.{◌≡◌, ℕ, suc, ◌+◌, ◌≤◌, Bool, true, false, ◌||◌, List, [], ◌∷◌, ◌++◌, length, take, Option, Some, None, is_some, if◌then◌else◌}
+use Rattle.nc_number.specs.declared.path.Path.{Path}
+use Rattle.nc_number.specs.declared.path.Path.TheVariants.{One, Two}
+use Rattle.nc_number.specs.declared.value.Var.{Var}
+use Rattle.nc_number.specs.declared.value.Var.TheVariants.{Vacant}
+use Rattle.common_vars.specs.declared.links.Write.{Write}
+use Rattle.common_vars.specs.Writes.{value_after}
+use Rattle.run_records.specs.declared.entry.Entry.{Entry}
+use Rattle.run_records.specs.declared.entry.EntryKind.{EntryKind}
+use Rattle.run_records.specs.declared.entry.EntryKind.TheVariants.{Did, Arrived, Met, Ended, Alarmed}
+use Rattle.path_state.specs.View.{PathView}
+use Rattle.path_state.specs.Effect.{Effect, Need}
+use Rattle.two_path.specs.Machine.{Part, MachineView, own_first, without_reads}
+use Rattle.two_path.specs.Turns.{Blocks, Tapes, tape_of, own_turn, turn_of, kind_of, entry_of}
+
+-- an event: a turn of a path
+pub data Event : Type 0 where
+  TurnOf : (path : Path) → Event
+
+-- the machine behind an event
+abbrev pub behind_event : Tapes → Event → MachineView → MachineView
+behind_event tapes (TurnOf path) m = (turn_of tapes path m).machine
+
+abbrev pub list_of : Option Entry → List Entry
+list_of None = []
+list_of (Some entry) = entry ∷ []
+
+-- the records of an event: one, or none
+abbrev pub records_of : Tapes → Event → MachineView → List Entry
+records_of tapes (TurnOf path) m = list_of (entry_of tapes path m)
+
+-- the machine behind any list of events
+abbrev pub run : Tapes → MachineView → List Event → MachineView
+run tapes m [] = m
+run tapes m (e ∷ events) = run tapes (behind_event tapes e m) events
+
+-- all records of these events
+abbrev pub history : Tapes → MachineView → List Event → List Entry
+history tapes m [] = []
+history tapes m (e ∷ events) = records_of tapes e m ++ history tapes (behind_event tapes e m) events
+
+-- what the block asks for, after so many records
+abbrev pub value_asked : Effect → ℕ → List Write → Var
+value_asked (Need variable) stamp writes = value_after stamp variable writes
+value_asked other stamp writes = Vacant
+
+-- with one value more: of the variable that the block asks for when it has those before
+abbrev pub and_next : Blocks → PathView → List Write → ℕ → List Var → List Var
+and_next blocks path writes stamp values = values ++ value_asked (blocks.effect path values) stamp writes ∷ []
+
+-- the values that these stamps stand for, behind those before
+abbrev pub values_from : Blocks → PathView → List Write → List Var → List ℕ → List Var
+values_from blocks path writes values [] = values
+values_from blocks path writes values (stamp ∷ stamps) =
+    values_from blocks path writes (and_next blocks path writes stamp values) stamps
+
+abbrev pub values_at : Blocks → PathView → List Write → List ℕ → List Var
+values_at blocks path writes stamps = values_from blocks path writes [] stamps
+
+-- the block asks for each of these reads when it has those before
+abbrev pub AsksFrom : Blocks → PathView → List Write → List Var → List ℕ → Type 0
+AsksFrom blocks path writes values [] = Unit {0}
+AsksFrom blocks path writes values (stamp ∷ stamps) =
+    ((variable : ℕ) × (blocks.effect path values ≡ Need variable))
+    × AsksFrom blocks path writes (and_next blocks path writes stamp values) stamps
+
+-- they do not fall, none is below the lowest, and none is above the highest
+abbrev pub AreInOrder : ℕ → ℕ → List ℕ → Type 0
+AreInOrder lowest highest [] = Unit {0}
+AreInOrder lowest highest (stamp ∷ stamps) = (lowest ≤ stamp) × (stamp ≤ highest) × AreInOrder stamp highest stamps
+
+-- With these stamps the first path's block may have read up to now: none is from before the path came to the
+-- block, and none is later than the last record.
+pub record MayRead (blocks : Blocks) (m : MachineView) (stamps : List ℕ) : Type 0 where
+  pub order : AreInOrder m.first.since m.count stamps
+  pub asks : AsksFrom blocks m.first.path m.writes [] stamps
+
+-- the machine in which the first path's block has read just these
+abbrev pub with_values : List Var → List ℕ → MachineView → MachineView
+with_values values stamps m = record m { first = record m.first { values = values; stamps = stamps } }
+
+abbrev pub with_reads : Blocks → List ℕ → MachineView → MachineView
+with_reads blocks stamps m = with_values (values_at blocks m.first.path m.writes stamps) stamps m
+
+-- the first path's turn with exactly these reads makes a record of this kind
+pub record IsStep (blocks : Blocks) (path : Path) (m : MachineView) (kind : EntryKind) (stamps : List ℕ) : Type 0 where
+  pub reads : MayRead blocks m stamps
+  pub is : kind_of (own_turn blocks path (with_reads blocks stamps m)).turn ≡ Some kind
+
+-- behind a record of the first path with these stamps
+abbrev pub behind_step : Blocks → Path → List ℕ → MachineView → MachineView
+behind_step blocks path stamps m = without_reads (own_turn blocks path (with_reads blocks stamps m)).machine
+
+-- behind a record
+abbrev pub behind_entry : Tapes → Entry → MachineView → MachineView
+behind_entry tapes entry m =
+    own_first entry.path (behind_step (tape_of tapes entry.path) entry.path entry.stamps (own_first entry.path m))
+
+-- the record is legal there: it is the machine's step with exactly its reads
+abbrev pub IsNext : Tapes → MachineView → Entry → Type 0
+IsNext tapes m entry = IsStep (tape_of tapes entry.path) entry.path (own_first entry.path m) entry.kind entry.stamps
+
+-- the machine behind a history
+abbrev pub fold : Tapes → MachineView → List Entry → MachineView
+fold tapes m [] = m
+fold tapes m (e ∷ entries) = fold tapes (behind_entry tapes e m) entries
+
+-- each record is legal at its place
+abbrev pub IsLegal : Tapes → MachineView → List Entry → Type 0
+IsLegal tapes m [] = Unit {0}
+IsLegal tapes m (e ∷ entries) = IsNext tapes m e × IsLegal tapes (behind_entry tapes e m) entries
+
+-- the path waits or has ended
+abbrev pub is_idle : Part → Bool
+is_idle part = part.finished || is_some part.waiting
+
+-- What the first path's block has read is lawful: it may have read with these stamps, each value is that of its
+-- stamp, a path that waits or has ended has no reads, and the path came to its block by a record that was made.
+pub record IsLawful (blocks : Blocks) (m : MachineView) : Type 0 where
+  pub may : MayRead blocks m m.first.stamps
+  pub values : m.first.values ≡ values_at blocks m.first.path m.writes m.first.stamps
+  pub none : is_idle m.first ≡ true → m.first.stamps ≡ []
+  pub came : m.first.since ≤ m.count
+
+-- what both paths' blocks have read is lawful
+pub record AreLawful (tapes : Tapes) (m : MachineView) : Type 0 where
+  pub first : IsLawful tapes.first m
+  pub second : IsLawful tapes.second (own_first Two m)
+
+-- the records of these events are a legal history, whose fold is the machine but for lawful reads
+pub record IsHistory (tapes : Tapes) (m : MachineView) (events : List Event) : Type 0 where
+  pub legal : IsLegal tapes (without_reads m) (history tapes m events)
+  pub folds : fold tapes (without_reads m) (history tapes m events) ≡ without_reads (run tapes m events)
+  pub lawful : AreLawful tapes (run tapes m events)
+
+-- some events make these records, and lead to this machine
+pub record IsReached (tapes : Tapes) (m : MachineView) (entries : List Entry) (to : MachineView) : Type 0 where
+  pub events : List Event
+  pub records : history tapes m events ≡ entries
+  pub reaches : run tapes m events ≡ to
+
+-- some events make these records, and lead to this machine but for block reads
+pub record IsRun (tapes : Tapes) (m : MachineView) (entries : List Entry) (to : MachineView) : Type 0 where
+  pub events : List Event
+  pub records : history tapes m events ≡ entries
+  pub reaches : without_reads (run tapes m events) ≡ to
+
+abbrev pub is_same : Path → Path → Bool
+is_same One One = true
+is_same One Two = false
+is_same Two One = false
+is_same Two Two = true
+
+-- a record of this path and kind brings that path to its next block
+abbrev pub is_coming : Path → EntryKind → Path → Bool
+is_coming path Did to = is_same path to
+is_coming path Arrived to = false
+is_coming path Met to = true
+is_coming path Ended to = false
+is_coming path Alarmed to = false
+
+-- how many records there were just after the one by which the path came to its block, counted on from here
+abbrev pub came_from : ℕ → ℕ → Path → List Entry → ℕ
+came_from since count path [] = since
+came_from since count path (e ∷ entries) =
+    came_from (if is_coming e.path e.kind path then count + 1 else since) (count + 1) path entries
+
+-- What the fold of a history counts: its records, when each path came to its block, and what each variable held
+-- after each number of records.
+pub record Counts (tapes : Tapes) (m : MachineView) (entries : List Entry) : Type 0 where
+  pub count : (fold tapes m entries).count ≡ length entries
+  pub first : (fold tapes m entries).first.since ≡ came_from 0 0 One entries
+  pub second : (fold tapes m entries).second.since ≡ came_from 0 0 Two entries
+  pub values : (before after : List Entry) (variable : ℕ) → before ++ after ≡ entries
+      → value_after (length before) variable (fold tapes m entries).writes
+      ≡ value_after (fold tapes m before).count variable (fold tapes m before).writes
+
+-- Each run's records are a legal history, and each legal history is the records of some run. Its fold is the
+-- machine but for block reads, and each machine with lawful reads is reached.
+pub record HistoriesAreRuns (tapes : Tapes) (m : MachineView) : Type 0 where
+  pub run : (events : List Event) → IsHistory tapes m events
+  pub history : (entries : List Entry) → IsLegal tapes m entries → IsRun tapes m entries (fold tapes m entries)
+  pub lawful : (entries : List Entry) (to : MachineView) → IsLegal tapes m entries
+      → fold tapes m entries ≡ without_reads to → to.alarm ≡ None → AreLawful tapes to → IsReached tapes m entries to
+  pub counts : (entries : List Entry) → IsLegal tapes m entries → Counts tapes m entries
+  pub prefix : (n : ℕ) (entries : List Entry) → IsLegal tapes m entries → IsLegal tapes m (take n entries)
+
+-- the machine is the fold of a legal history, with lawful block reads
+pub record IsKept (tapes : Tapes) (m : MachineView) (entries : List Entry) (now : MachineView) : Type 0 where
+  pub legal : IsLegal tapes m entries
+  pub folds : fold tapes m entries ≡ without_reads now
+  pub lawful : AreLawful tapes now
+
+-- it stays so with each event more, and with each record that is done again
+pub record Keeps (tapes : Tapes) (m : MachineView) : Type 0 where
+  pub opening : IsKept tapes m [] m
+  pub event : (entries : List Entry) (now : MachineView) (e : Event) → IsKept tapes m entries now
+      → IsKept tapes m (entries ++ records_of tapes e now) (behind_event tapes e now)
+  pub entry : (entries : List Entry) (now : MachineView) (e : Entry) → IsKept tapes m entries now
+      → IsNext tapes (without_reads now) e → IsKept tapes m (entries ++ e ∷ []) (behind_entry tapes e (without_reads now))
+
+-- an event, or a restart that finds the first so many records
+pub data Episode : Type 0 where
+  Happens : (event : Event) → Episode
+  Restarts : (kept : ℕ) → Episode
+
+-- a machine and all records so far
+pub record Recorded : Type 0 where
+  pub machine : MachineView
+  pub history : List Entry
+
+-- A restart makes the machine anew of the records that it finds, and what blocks had read is lost.
+abbrev pub behind_episode : Tapes → MachineView → Episode → Recorded → Recorded
+behind_episode tapes m (Happens e) now = record {
+  machine = behind_event tapes e now.machine;
+  history = now.history ++ records_of tapes e now.machine;
+}
+behind_episode tapes m (Restarts kept) now = record {
+  machine = fold tapes m (take kept now.history);
+  history = take kept now.history;
+}
+
+abbrev pub behind_episodes : Tapes → MachineView → List Episode → Recorded → Recorded
+behind_episodes tapes m [] now = now
+behind_episodes tapes m (e ∷ episodes) now = behind_episodes tapes m episodes (behind_episode tapes m e now)
+
+-- over any events and restarts the records are one legal history, and the machine is its fold with lawful reads
+abbrev pub IsKeptOverRestarts : Tapes → MachineView → Type 0
+IsKeptOverRestarts tapes m = (episodes : List Episode)
+    → IsKept tapes m (behind_episodes tapes m episodes (record { machine = m; history = [] })).history
+    (behind_episodes tapes m episodes (record { machine = m; history = [] })).machine

@@ -1,0 +1,56 @@
+-- The machine in the parts that the code keeps.
+use Rattle.std.specs.Prelude.{◌≡◌, ℕ, ◌+◌, ◌≤◌, List, Option, Some, None}
+use Rattle.nc_outside.specs.declared.halt.Alarm.{Alarm}
+use Rattle.common_vars.specs.Writes.{Writes}
+use Rattle.block_order.specs.declared.control.Control.TheVariants.{Wait}
+use Rattle.block_order.specs.declared.program.ControlProgram.{ControlProgram}
+use Rattle.block_order.specs.Steps.{standing}
+use Rattle.two_path.specs.Machine.{Part, MachineView}
+use Rattle.two_path.specs.Turns.{Blocks}
+use Rattle.two_path.specs.Histories.{values_at}
+
+-- what both paths have in common
+pub record JointView : Type 0 where
+  pub shared : Writes
+  pub count : ℕ
+  pub alarm : Option Alarm
+
+-- a machine, and for how many turns it has room
+pub record RoomyMachine : Type 0 where
+  pub machine : MachineView
+  pub room : ℕ
+
+abbrev pub machine_of : Part → Part → JointView → MachineView
+machine_of first second joint = record {
+  first = first;
+  second = second;
+  writes = joint.shared.writes;
+  count = joint.count;
+  alarm = joint.alarm;
+}
+
+-- a path whose block has read what these stamps stand for
+abbrev pub read_part : Blocks → Part → JointView → List ℕ → Part
+read_part blocks part joint stamps = record part {
+  values = values_at blocks part.path joint.shared.writes stamps;
+  stamps = stamps;
+}
+
+-- the path shares just the variables that the joint part holds
+pub record AreShared (part : Part) (joint : JointView) : Type 0 where
+  pub hundreds : joint.shared.shared100 ≡ part.path.fixed.shared100
+  pub upper : joint.shared.shared500 ≡ part.path.fixed.shared500
+
+-- what a turn leaves: which variables are shared, and the room but for its record
+pub record IsLasting (before after : JointView) : Type 0 where
+  pub hundreds : after.shared.shared100 ≡ before.shared.shared100
+  pub upper : after.shared.shared500 ≡ before.shared.shared500
+  pub room : before.count + before.shared.room ≤ after.count + after.shared.room
+
+-- a path that waits stands on a wait of its tape
+abbrev pub IsAtItsWait : List ControlProgram → Part → Type 0
+IsAtItsWait tape part = (code : ℕ) → part.waiting ≡ Some code → standing tape part.path.place ≡ Some (Wait code)
+
+pub record AreAtTheirWaits (left right : List ControlProgram) (m : MachineView) : Type 0 where
+  pub first : IsAtItsWait left m.first
+  pub second : IsAtItsWait right m.second

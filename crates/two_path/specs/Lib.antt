@@ -1,0 +1,6 @@
+pub mod Machine
+pub mod Turns
+pub mod Histories
+pub mod Stuck
+pub mod Joined
+pub mod Again

@@ -1,0 +1,58 @@
+-- The machine: two paths, and what they share.
+use Rattle.std.specs.Prelude.{ℕ, Bool, false, List, [], ◌∷◌, ◌++◌, Option, Some, None}
+use Rattle.nc_number.specs.declared.path.Path.{Path}
+use Rattle.nc_number.specs.declared.path.Path.TheVariants.{One, Two}
+use Rattle.nc_number.specs.declared.value.Var.{Var}
+use Rattle.nc_outside.specs.declared.halt.Alarm.{Alarm}
+use Rattle.common_vars.specs.declared.links.Write.{Write}
+use Rattle.path_state.specs.View.{PathView}
+
+-- one path in the machine
+pub record Part : Type 0 where
+  -- its state as its block begins
+  pub path : PathView
+  -- what its block has read, and how many records there were at each read
+  pub values : List Var
+  pub stamps : List ℕ
+  -- the code of the wait at which it waits
+  pub waiting : Option ℕ
+  pub finished : Bool
+  -- how many records there were just after the one by which it came to its block
+  pub since : ℕ
+
+pub record MachineView : Type 0 where
+  pub first : Part
+  pub second : Part
+  -- the writes to shared variables
+  pub writes : List Write
+  -- how many records there are
+  pub count : ℕ
+  -- the alarm that stopped both paths
+  pub alarm : Option Alarm
+
+-- the machine with this path's part first
+abbrev pub own_first : Path → MachineView → MachineView
+own_first One m = m
+own_first Two m = record m { first = m.second; second = m.first }
+
+-- a path that has not begun
+abbrev pub opening_part : PathView → Part
+opening_part path = record { path = path; values = []; stamps = []; waiting = None; finished = false; since = 0 }
+
+-- the machine before its first turn
+abbrev pub opening : PathView → PathView → MachineView
+opening first second = record {
+  first = opening_part first;
+  second = opening_part second;
+  writes = [];
+  count = 0;
+  alarm = None;
+}
+
+-- a path as if its block had read nothing
+abbrev pub part_without_reads : Part → Part
+part_without_reads part = record part { values = []; stamps = [] }
+
+-- the machine but for what unfinished blocks have read
+abbrev pub without_reads : MachineView → MachineView
+without_reads m = record m { first = part_without_reads m.first; second = part_without_reads m.second }

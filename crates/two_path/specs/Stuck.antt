@@ -1,0 +1,75 @@
+-- When two paths can't go on, and the pairs of tapes over which that never happens.
+use Rattle.std.specs.Prelude.{◌≡◌, ◌≢◌, ℕ, ◌⊎◌, Bool, true, false, List, Option, Some, None, ℤ}
+use Rattle.nc_number.specs.declared.cause.Cause.TheVariants.{WaitDiffers}
+use Rattle.nc_number.specs.declared.path.Path.{Path}
+use Rattle.nc_number.specs.declared.value.Var.{Var}
+use Rattle.nc_number.specs.Causes.{cause_number}
+use Rattle.nc_outside.specs.declared.halt.Alarm.{Alarm}
+use Rattle.block_order.specs.declared.frame.Frame.{Frame}
+use Rattle.block_order.specs.declared.program.ControlProgram.{ControlProgram}
+use Rattle.block_order.specs.Labels.{list, start, IsUnforked}
+use Rattle.run_records.specs.declared.entry.Entry.{Entry}
+use Rattle.tape_flow.specs.declared.flow.Flow.{Flow}
+use Rattle.path_state.specs.View.{PathView}
+use Rattle.path_state.specs.Effect.{AtWait}
+use Rattle.path_state.specs.Effect as effect
+use Rattle.path_state.specs.Controlled.{IsControlled}
+use Rattle.two_path.specs.Machine.{MachineView, own_first, opening}
+use Rattle.two_path.specs.Turns.{Blocks, Tapes, tapes_of, tape_of}
+use Rattle.two_path.specs.Histories.{Event, run, fold, IsLegal, is_idle}
+
+-- some path has not ended, there is no alarm, and each path waits or has ended
+pub record IsStuck (m : MachineView) : Type 0 where
+  pub calm : m.alarm ≡ None
+  pub unfinished : (m.first.finished ≡ false) ⊎ (m.second.finished ≡ false)
+  pub first : is_idle m.first ≡ true
+  pub second : is_idle m.second ≡ true
+
+-- the first path comes to a wait while the other waits at another
+pub record IsCrossed (blocks : Blocks) (m : MachineView) : Type 0 where
+  pub code : ℕ
+  pub there : ℕ
+  pub calm : m.alarm ≡ None
+  pub comes : blocks.effect m.first.path m.first.values ≡ AtWait code
+  pub waits : m.second.waiting ≡ Some there
+  pub differs : code ≢ there
+
+-- no block raises the alarm of two paths that wait at different codes
+abbrev pub RaisesNoCrossing : Blocks → Type 0
+RaisesNoCrossing blocks = (path : PathView) (values : List Var) (value : ℤ)
+    → blocks.effect path values ≢ effect.Alarm (cause_number WaitDiffers) value
+
+-- The paths are not stuck, and no wait meets another. So no alarm is 74, where blocks don't raise it themselves.
+pub record IsFree (tapes : Tapes) (m : MachineView) : Type 0 where
+  pub stuck : IsStuck m → ⊥
+  pub crossed : (path : Path) → IsCrossed (tape_of tapes path) (own_first path m) → ⊥
+  pub alarm : RaisesNoCrossing tapes.first → RaisesNoCrossing tapes.second → (alarm : Alarm) → m.alarm ≡ Some alarm
+      → alarm.cause ≢ cause_number WaitDiffers
+
+-- both tapes have one list of labels, whatever the variables hold, and these are equal
+pub record IsAccepted (left right : List ControlProgram) : Type 0 where
+  pub left_unforked : IsUnforked left
+  pub right_unforked : IsUnforked right
+  pub equal : list left ≡ list right
+
+-- the same of flows, whose blocks go as their order allows
+pub record IsPair (left right : Flow) : Type 0 where
+  pub left_controlled : IsControlled left
+  pub right_controlled : IsControlled right
+  pub accepted : IsAccepted left.order right.order
+
+-- both paths begin their main programs
+pub record AreAtStart (left right : List ControlProgram) (first second : PathView) : Type 0 where
+  pub one : first.place ≡ start left
+  pub two : second.place ≡ start right
+
+-- whatever the order of events
+abbrev pub IsNeverStuck : Flow → Flow → Type 0
+IsNeverStuck left right = (first second : PathView) → AreAtStart left.order right.order first second
+    → (events : List Event) → IsFree (tapes_of left right) (run (tapes_of left right) (opening first second) events)
+
+-- whoever made the records, and wherever they were cut off
+abbrev pub IsNeverStuckBehindRecords : Flow → Flow → Type 0
+IsNeverStuckBehindRecords left right = (first second : PathView) → AreAtStart left.order right.order first second
+    → (entries : List Entry) → IsLegal (tapes_of left right) (opening first second) entries
+    → IsFree (tapes_of left right) (fold (tapes_of left right) (opening first second) entries)

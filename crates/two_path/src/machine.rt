@@ -1,0 +1,160 @@
+//! The machine of two paths.
+ghost use Rattle.std.specs.Prelude.{◌≡◌, ◌≤◌, ◌<◌, ◌+◌, Some, None, IfOk, OnOk};
+ghost use Rattle.nc_number.specs.declared.path.Path.TheVariants as Path;
+ghost use Rattle.common_vars.specs.Writes.{IsShared, value_after};
+ghost use Rattle.path_state.specs.Opening.{opening_path};
+ghost use Rattle.two_path.specs.Machine.{opening, own_first};
+ghost use Rattle.two_path.specs.Turns.{tapes_of, turn_of, entry_of};
+ghost use Rattle.two_path.specs.Joined.{AreAtTheirWaits};
+
+use crate::joint::Joint;
+use crate::part::Part;
+use crate::turn::Turned;
+use crate::turning::take_turn;
+use cell_settings::Settings;
+use nc_number::{NoMemory, Path, Var};
+use nc_outside::Alarm;
+use path_state::{PathState, control_goes_as_the_flow_orders};
+use std::alloc::Global;
+use std::marker::Model;
+use tape_flow::Flow;
+
+/// The machine: two paths that take turns, and what they share.
+///
+/// It is used with the flows of which it was made, the left one for path 1 and the right one for path
+/// 2.
+#[derive(Debug, Drop)]
+pub struct Machine {
+    first: Part,
+    second: Part,
+    joint: Joint,
+}
+
+impl Model for Machine {
+    ghost use Rattle.two_path.specs.Joined.{RoomyMachine, AreShared, machine_of};
+
+    ghost Value = { RoomyMachine };
+
+    ghost view = { λ m. record { machine = machine_of m.first m.second m.joint; room = m.joint.shared.room } };
+
+    ghost invariant = { λ m. AreShared m.first m.joint × AreShared m.second m.joint };
+}
+
+impl Machine {
+    /// Both paths at the first block of their main programs, as the settings have them.
+    pub fn new(
+        alloc: Global,
+        left: &Flow,
+        right: &Flow,
+        settings: &Settings,
+    ) -> Result<Machine, NoMemory>
+        ensures { IfOk result (λ m. m.machine
+            ≡ opening (opening_path left.now settings.now Path.One) (opening_path right.now settings.now Path.Two)) }
+    {
+        let first = PathState::new(alloc, left, settings, Path::One)?;
+        let second = PathState::new(alloc, right, settings, Path::Two)?;
+        let joint = Joint::new(alloc, settings.shared100, settings.shared500)?;
+        Ok(Machine {
+            first: Part::new(first),
+            second: Part::new(second),
+            joint,
+        })
+    }
+
+    /// Makes room for `n` more records.
+    pub fn reserve(&mut self, n: usize) -> Result<(), NoMemory>
+        ensures machine { self.new.machine ≡ self.old.machine }
+        ensures room { OnOk result (n ≤ self.new.room) }
+        ensures no_less { self.old.room ≤ self.new.room }
+    {
+        self.joint.reserve(n)
+    }
+
+    /// One turn of the path, with its record where it makes one. It takes no memory.
+    ///
+    /// It asks for room for a record, and for fewer than 4,000,000 records.
+    pub fn turn(&mut self, left: &Flow, right: &Flow, path: Path) -> Turned
+        requires room { 0 < self.old.room }
+        requires few { self.old.machine.count < 4000000 }
+        requires waits { AreAtTheirWaits left.now.order right.now.order self.old.machine }
+        ensures machine { self.new.machine ≡ (turn_of (tapes_of left.now right.now) path self.old.machine).machine }
+        ensures turn { result.turn ≡ (turn_of (tapes_of left.now right.now) path self.old.machine).turn }
+        ensures entry { result.entry ≡ entry_of (tapes_of left.now right.now) path self.old.machine }
+        ensures room { self.old.machine.count + self.old.room ≤ self.new.machine.count + self.new.room }
+        ensures waits { AreAtTheirWaits left.now.order right.now.order self.new.machine }
+    {
+        control_goes_as_the_flow_orders();
+        match path {
+            Path::One => take_turn(
+                &mut self.first,
+                &mut self.second,
+                &mut self.joint,
+                left,
+                right,
+                Path::One,
+            ),
+            Path::Two => take_turn(
+                &mut self.second,
+                &mut self.first,
+                &mut self.joint,
+                right,
+                left,
+                Path::Two,
+            ),
+        }
+    }
+
+    /// The path's part.
+    fn part(&self, path: Path) -> &Part
+        ensures { result.now ≡ (own_first path self.now.machine).first }
+    {
+        match path {
+            Path::One => &self.first,
+            Path::Two => &self.second,
+        }
+    }
+
+    /// The path's state, as its block begins.
+    pub fn path(&self, path: Path) -> &PathState
+        ensures { result.now ≡ (own_first path self.now.machine).first.path }
+    {
+        self.part(path).path()
+    }
+
+    /// The code of the wait at which the path waits.
+    pub fn waiting(&self, path: Path) -> Option<u16>
+        ensures { result ≡ (own_first path self.now.machine).first.waiting }
+    {
+        self.part(path).waiting()
+    }
+
+    /// Whether the path has ended.
+    pub fn finished(&self, path: Path) -> bool
+        ensures { result ≡ (own_first path self.now.machine).first.finished }
+    {
+        self.part(path).finished()
+    }
+
+    /// The alarm that stopped both paths.
+    pub fn alarm(&self) -> Option<Alarm>
+        ensures { result ≡ self.now.machine.alarm }
+    {
+        self.joint.alarm()
+    }
+
+    /// What the shared variable `#v` holds.
+    pub fn shared(&self, v: u32) -> Var
+        requires { IsShared self.now.machine.first.path.fixed.shared100
+            self.now.machine.first.path.fixed.shared500 v }
+        ensures { result ≡ value_after self.now.machine.count v self.now.machine.writes }
+    {
+        self.joint.at(self.joint.count(), v)
+    }
+
+    /// How many records there are.
+    pub fn count(&self) -> u32
+        ensures { result ≡ self.now.machine.count }
+    {
+        self.joint.count()
+    }
+}

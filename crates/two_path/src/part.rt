@@ -1,0 +1,178 @@
+//! One path in the machine.
+ghost use Rattle.std.specs.Prelude.{◌≡◌, ◌<◌, ℕ, [], ◌∷◌, ◌++◌, Some, None, true, length};
+ghost use Rattle.block_order.specs.declared.control.Control.TheVariants.{Wait};
+ghost use Rattle.block_order.specs.Steps.{standing};
+ghost use Rattle.tape_flow.specs.Places.{line_at};
+ghost use Rattle.path_state.specs.Advances.{effect_seen, path_after, StaysUnlessDone, AreMovesAt};
+ghost use Rattle.path_state.specs.Effect.{effect_of};
+ghost use Rattle.two_path.specs.Machine.{opening_part, part_without_reads};
+ghost use Rattle.two_path.specs.Turns.{part_at, part_behind_wait};
+
+use arrayvec::ArrayVec;
+use nc_number::{Path, Var};
+use path_state::{Advance, PathState};
+use run_records::{Entry, EntryKind, StampList};
+use std::marker::Model;
+use std::mem;
+use tape_flow::Flow;
+
+/// The most values that one block reads.
+const MOST_READS: usize = 32;
+
+/// One path in the machine, with what its block has read so far.
+#[derive(Debug, Drop)]
+pub(crate) struct Part {
+    path: PathState,
+    values: ArrayVec<Var, MOST_READS>,
+    stamps: StampList,
+    waiting: Option<u16>,
+    finished: bool,
+    since: u32,
+}
+
+impl Model for Part {
+    ghost use Rattle.std.specs.Prelude.{◌≤◌, length};
+    ghost use Rattle.two_path.specs.Machine;
+
+    ghost Value = { Machine.Part };
+
+    ghost view = { λ p. record {
+      path = p.path;
+      values = p.values.items;
+      stamps = p.stamps;
+      waiting = p.waiting;
+      finished = p.finished;
+      since = p.since;
+    } };
+
+    ghost invariant = { λ p. length p.stamps ≤ length p.values.items };
+}
+
+impl Part {
+    /// A path that has not begun.
+    pub(crate) fn new(path: PathState) -> Part
+        ensures { result ≡ opening_part path }
+    {
+        Part {
+            path,
+            values: ArrayVec::new(),
+            stamps: StampList::empty(),
+            waiting: None,
+            finished: false,
+            since: 0,
+        }
+    }
+
+    /// Its state.
+    pub(crate) fn path(&self) -> &PathState
+        ensures { result.now ≡ self.now.path }
+    {
+        &self.path
+    }
+
+    /// The code of the wait at which it waits.
+    pub(crate) fn waiting(&self) -> Option<u16>
+        ensures { result ≡ self.now.waiting }
+    {
+        self.waiting
+    }
+
+    /// Whether it has ended.
+    pub(crate) fn finished(&self) -> bool
+        ensures { result ≡ self.now.finished }
+    {
+        self.finished
+    }
+
+    /// How many records there were just after the one by which it came to its block.
+    pub(crate) fn since(&self) -> u32
+        ensures { result ≡ self.now.since }
+    {
+        self.since
+    }
+
+    /// What its block comes to with what it has read. Its state is then behind the block.
+    pub(crate) fn advance(&mut self, flow: &Flow) -> Advance
+        ensures effect { effect_seen result self.new.path ≡ effect_of flow.now self.old.path self.old.values }
+        ensures stays { StaysUnlessDone result self.old.path self.new.path }
+        ensures moves { AreMovesAt (line_at flow.now.order self.old.path.place) result }
+        ensures rest { self.new ≡ record self.old { path = self.new.path } }
+    {
+        self.path.advance(flow, self.values.as_slice())
+    }
+
+    /// What its block would come to.
+    pub(crate) fn peek(&self, flow: &Flow) -> Advance
+        ensures effect { effect_seen result (path_after self.now.path (effect_of flow.now self.now.path self.now.values))
+            ≡ effect_of flow.now self.now.path self.now.values }
+        ensures moves { AreMovesAt (line_at flow.now.order self.now.path.place) result }
+    {
+        self.path.peek(flow, self.values.as_slice())
+    }
+
+    /// One read more of its block: a value, and how many records there were.
+    pub(crate) fn read(&mut self, value: Var, stamp: u32)
+        requires { length self.old.values < 32 }
+        ensures { self.new ≡ record self.old {
+          values = self.old.values ++ value ∷ [];
+          stamps = self.old.stamps ++ stamp ∷ [];
+        } }
+    {
+        self.values.push(value);
+        self.stamps.push(stamp);
+    }
+
+    /// Forgets what its block has read.
+    pub(crate) fn forget(&mut self) -> StampList
+        ensures stamps { result ≡ self.old.stamps }
+        ensures path { self.new ≡ part_without_reads self.old }
+    {
+        self.values.clear();
+        mem::replace(&mut self.stamps, StampList::empty())
+    }
+
+    /// The record of what its block did, with the stamps of its reads, which it forgets.
+    pub(crate) fn entry(&mut self, path: Path, kind: EntryKind) -> Entry
+        ensures entry { result ≡ record { path = path; kind = kind; stamps = self.old.stamps } }
+        ensures path { self.new ≡ part_without_reads self.old }
+    {
+        Entry {
+            path,
+            kind,
+            stamps: self.forget(),
+        }
+    }
+
+    /// It has come to its block by the last of so many records.
+    pub(crate) fn come(&mut self, since: u32)
+        ensures { self.new ≡ record self.old { since = since } }
+    {
+        self.since = since;
+    }
+
+    /// It waits at this code.
+    pub(crate) fn wait(&mut self, code: u16)
+        ensures { self.new ≡ record self.old { waiting = Some code } }
+    {
+        self.waiting = Some(code);
+    }
+
+    /// It has ended.
+    pub(crate) fn end(&mut self)
+        ensures { self.new ≡ record self.old { finished = true } }
+    {
+        self.finished = true;
+    }
+
+    /// It goes on behind its wait, by the last of so many records.
+    pub(crate) fn pass(&mut self, flow: &Flow, since: u32)
+        requires { (code : ℕ) × (standing flow.now.order self.old.path.place ≡ Some (Wait code)) }
+        ensures { self.new ≡ part_behind_wait since self.old }
+    {
+        self.path.pass_wait(flow);
+        self.values.clear();
+        self.stamps = StampList::empty();
+        self.waiting = None;
+        self.since = since;
+    }
+}

@@ -1,0 +1,277 @@
+//! A turn of a path, over its own part, the other's, and what both have in common.
+ghost use Rattle.std.specs.Prelude.{◌≡◌, ◌≤◌, ◌<◌, ◌+◌, ℕ, Some, None, length, IfSome};
+ghost use Rattle.block_order.specs.declared.control.Control.TheVariants.{Wait};
+ghost use Rattle.block_order.specs.Steps.{standing};
+ghost use Rattle.common_vars.specs.Writes.{IsShared};
+ghost use Rattle.run_records.specs.declared.entry.EntryKind.TheVariants as Kind;
+ghost use Rattle.path_state.specs.View.{PathView};
+ghost use Rattle.path_state.specs.StatementSteps.{write_seen};
+ghost use Rattle.path_state.specs.Effect.{Need, Done, AtWait, AtEnd};
+ghost use Rattle.two_path.specs.declared.turn.Turn.TheVariants as Turn;
+ghost use Rattle.two_path.specs.Machine as Machine;
+ghost use Rattle.two_path.specs.Joined.{machine_of, AreShared, IsAtItsWait, IsLasting};
+ghost use Rattle.two_path.specs.Turns.{with_alarm, with_arrival, behind_meeting, blocks_of, own_turn, block_turn, result_at_wait, result_by, kind_of, entry_with};
+ghost use Rattle.tape_flow.specs.Places.{line_at};
+
+use crate::joint::Joint;
+use crate::part::Part;
+use crate::turn::{Turn, Turned};
+use nc_number::{Cause, Path, Value, Var};
+use nc_outside::{Alarm, Moves};
+use path_state::{
+    Advance, a_block_asks_for_each_variable_once_at_most, control_goes_as_the_flow_orders,
+    what_is_written_is_shared,
+};
+use run_records::EntryKind;
+use tape_flow::Flow;
+
+/// Its block reads a shared variable.
+fn read(me: &mut Part, joint: &Joint, variable: u32) -> Turned
+    requires few { length me.old.values < 32 }
+    requires shared { IsShared joint.now.shared.shared100 joint.now.shared.shared500 variable }
+    ensures turn { (path : Path) (line : ℕ) (other : Machine.Part)
+        → result.turn ≡ (result_by path line (machine_of me.old other joint.now) (Need variable)).turn }
+    ensures machine { (path : Path) (line : ℕ) (other : Machine.Part)
+        → machine_of me.new other joint.now
+        ≡ (result_by path line (machine_of me.old other joint.now) (Need variable)).machine }
+    ensures entry { result.entry ≡ None }
+{
+    let stamp = joint.count();
+    me.read(joint.at(stamp, variable), stamp);
+    Turned {
+        turn: Turn::Read { variable, stamp },
+        entry: None,
+    }
+}
+
+/// Its block is done, and it stands behind it.
+fn did(
+    me: &mut Part,
+    joint: &mut Joint,
+    path: Path,
+    write: Option<(u32, Var)>,
+    moves: Moves,
+) -> Turned
+    requires room { 0 < joint.old.shared.room }
+    requires few { joint.old.count ≤ 4000000 }
+    requires shared { IfSome write (λ w. IsShared joint.old.shared.shared100 joint.old.shared.shared500 w.0) }
+    ensures turn { result.turn ≡ Turn.Did moves }
+    ensures machine { (before : PathView) (line : ℕ) (other : Machine.Part) → machine_of me.new other joint.new
+        ≡ (result_by path line (machine_of (record me.old { path = before }) other joint.old)
+        (Done me.old.path (write_seen write) moves.list)).machine }
+    ensures entry { result.entry ≡ entry_with path me.old.stamps (Some Kind.Did) }
+    ensures lasting { IsLasting joint.old joint.new }
+{
+    let entry = me.entry(path, EntryKind::Did);
+    joint.add(write);
+    me.come(joint.count());
+    Turned {
+        turn: Turn::Did { moves },
+        entry: Some(entry),
+    }
+}
+
+/// It has ended.
+fn ended(me: &mut Part, joint: &mut Joint, path: Path, moves: Moves) -> Turned
+    requires room { 0 < joint.old.shared.room }
+    requires few { joint.old.count ≤ 4000000 }
+    ensures turn { result.turn ≡ Turn.Ended moves }
+    ensures machine { (before : PathView) (line : ℕ) (other : Machine.Part) → machine_of me.new other joint.new
+        ≡ (result_by path line (machine_of (record me.old { path = before }) other joint.old)
+        (AtEnd me.old.path moves.list)).machine }
+    ensures entry { result.entry ≡ entry_with path me.old.stamps (Some Kind.Ended) }
+    ensures lasting { IsLasting joint.old joint.new }
+{
+    let entry = me.entry(path, EntryKind::Ended);
+    joint.add(None);
+    me.end();
+    Turned {
+        turn: Turn::Ended { moves },
+        entry: Some(entry),
+    }
+}
+
+/// It raises an alarm, which stops both paths.
+fn alarmed(me: &mut Part, joint: &mut Joint, alarm: &Alarm) -> Turned
+    requires few { joint.old.count ≤ 4000000 }
+    ensures turn { result.turn ≡ Turn.Alarm alarm.now }
+    ensures machine { (other : Machine.Part) → machine_of me.new other joint.new
+        ≡ with_alarm alarm.now (machine_of me.old other joint.old) }
+    ensures entry { result.entry ≡ entry_with alarm.now.path me.old.stamps (Some Kind.Alarmed) }
+    ensures lasting { IsLasting joint.old joint.new }
+{
+    let entry = me.entry(alarm.path, EntryKind::Alarmed);
+    joint.raise(*alarm);
+    Turned {
+        turn: Turn::Alarm { alarm: *alarm },
+        entry: Some(entry),
+    }
+}
+
+/// It arrives at a wait, where it waits.
+fn arrived(me: &mut Part, joint: &mut Joint, path: Path, code: u16) -> Turned
+    requires room { 0 < joint.old.shared.room }
+    requires few { joint.old.count ≤ 4000000 }
+    ensures turn { result.turn ≡ Turn.Arrived code }
+    ensures machine { (other : Machine.Part) → machine_of me.new other joint.new
+        ≡ with_arrival code (machine_of me.old other joint.old) }
+    ensures entry { result.entry ≡ entry_with path me.old.stamps (Some Kind.Arrived) }
+    ensures lasting { IsLasting joint.old joint.new }
+{
+    let entry = me.entry(path, EntryKind::Arrived);
+    joint.add(None);
+    me.wait(code);
+    Turned {
+        turn: Turn::Arrived { code },
+        entry: Some(entry),
+    }
+}
+
+/// It meets the other path, which waits at the same code, and both go on.
+fn met(
+    me: &mut Part,
+    other: &mut Part,
+    joint: &mut Joint,
+    flow: &Flow,
+    other_flow: &Flow,
+    path: Path,
+    code: u16,
+) -> Turned
+    requires room { 0 < joint.old.shared.room }
+    requires few { joint.old.count ≤ 4000000 }
+    requires here { (c : ℕ) × (standing flow.now.order me.old.path.place ≡ Some (Wait c)) }
+    requires there { (c : ℕ) × (standing other_flow.now.order other.old.path.place ≡ Some (Wait c)) }
+    ensures turn { result.turn ≡ Turn.Met code }
+    ensures machine { machine_of me.new other.new joint.new ≡ behind_meeting (machine_of me.old other.old joint.old) }
+    ensures entry { result.entry ≡ entry_with path me.old.stamps (Some Kind.Met) }
+    ensures lasting { IsLasting joint.old joint.new }
+{
+    let entry = me.entry(path, EntryKind::Met);
+    joint.add(None);
+    me.pass(flow, joint.count());
+    other.pass(other_flow, joint.count());
+    Turned {
+        turn: Turn::Met { code },
+        entry: Some(entry),
+    }
+}
+
+/// It is at a wait. The other path waits at the same code, at another, or not at all.
+fn came_to_wait(
+    me: &mut Part,
+    other: &mut Part,
+    joint: &mut Joint,
+    flow: &Flow,
+    other_flow: &Flow,
+    path: Path,
+    code: u16,
+) -> Turned
+    requires room { 0 < joint.old.shared.room }
+    requires few { joint.old.count ≤ 4000000 }
+    requires here { standing flow.now.order me.old.path.place ≡ Some (Wait code) }
+    requires there { IsAtItsWait other_flow.now.order other.old }
+    ensures turn { result.turn ≡ (result_at_wait path (line_at flow.now.order me.old.path.place)
+        (machine_of me.old other.old joint.old) code other.old.waiting).turn }
+    ensures machine { machine_of me.new other.new joint.new ≡ (result_at_wait path (line_at flow.now.order me.old.path.place)
+        (machine_of me.old other.old joint.old) code other.old.waiting).machine }
+    ensures entry { result.entry ≡ entry_with path me.old.stamps (kind_of (result_at_wait path
+        (line_at flow.now.order me.old.path.place) (machine_of me.old other.old joint.old) code other.old.waiting).turn) }
+    ensures lasting { IsLasting joint.old joint.new }
+{
+    match other.waiting() {
+        None => arrived(me, joint, path, code),
+        Some(there) => if code == there {
+            met(me, other, joint, flow, other_flow, path, code)
+        } else {
+            let alarm = Alarm {
+                path,
+                line: me.path().line(flow),
+                cause: Cause::WaitDiffers.number(),
+                value: Value::zero(),
+            };
+            alarmed(me, joint, &alarm)
+        },
+    }
+}
+
+/// Its block runs, with what it has read so far.
+pub(crate) fn run_block(
+    me: &mut Part,
+    other: &mut Part,
+    joint: &mut Joint,
+    flow: &Flow,
+    other_flow: &Flow,
+    path: Path,
+) -> Turned
+    requires room { 0 < joint.old.shared.room }
+    requires few { joint.old.count ≤ 4000000 }
+    requires shared { AreShared me.old joint.old }
+    requires there { IsAtItsWait other_flow.now.order other.old }
+    ensures turn { result.turn ≡ (block_turn (blocks_of flow.now) path (machine_of me.old other.old joint.old)).turn }
+    ensures machine { machine_of me.new other.new joint.new
+        ≡ (block_turn (blocks_of flow.now) path (machine_of me.old other.old joint.old)).machine }
+    ensures entry { result.entry ≡ entry_with path me.old.stamps
+        (kind_of (block_turn (blocks_of flow.now) path (machine_of me.old other.old joint.old)).turn) }
+    ensures lasting { IsLasting joint.old joint.new }
+{
+    control_goes_as_the_flow_orders();
+    a_block_asks_for_each_variable_once_at_most();
+    what_is_written_is_shared();
+    let line = me.path().line(flow);
+    match me.advance(flow) {
+        Advance::Need(variable) => read(me, joint, variable),
+        Advance::Effect { write, moves } => did(me, joint, path, write, moves),
+        Advance::AtWait(code) => came_to_wait(me, other, joint, flow, other_flow, path, code),
+        Advance::AtEnd { moves } => ended(me, joint, path, moves),
+        Advance::Alarm { cause, value } => {
+            let alarm = Alarm {
+                path,
+                line,
+                cause,
+                value,
+            };
+            alarmed(me, joint, &alarm)
+        }
+    }
+}
+
+/// A turn of the path: nothing once there is an alarm, once it has ended, and while it waits; else
+/// its block runs.
+pub(crate) fn take_turn(
+    me: &mut Part,
+    other: &mut Part,
+    joint: &mut Joint,
+    flow: &Flow,
+    other_flow: &Flow,
+    path: Path,
+) -> Turned
+    requires room { 0 < joint.old.shared.room }
+    requires few { joint.old.count ≤ 4000000 }
+    requires shared { AreShared me.old joint.old }
+    requires there { IsAtItsWait other_flow.now.order other.old }
+    ensures turn { result.turn ≡ (own_turn (blocks_of flow.now) path (machine_of me.old other.old joint.old)).turn }
+    ensures machine { machine_of me.new other.new joint.new
+        ≡ (own_turn (blocks_of flow.now) path (machine_of me.old other.old joint.old)).machine }
+    ensures entry { result.entry ≡ entry_with path me.old.stamps
+        (kind_of (own_turn (blocks_of flow.now) path (machine_of me.old other.old joint.old)).turn) }
+    ensures lasting { IsLasting joint.old joint.new }
+{
+    if let Some(alarm) = joint.alarm() {
+        return idle(Turn::Halted { alarm });
+    }
+    if me.finished() {
+        return idle(Turn::Finished);
+    }
+    if let Some(code) = me.waiting() {
+        return idle(Turn::Waiting { code });
+    }
+    run_block(me, other, joint, flow, other_flow, path)
+}
+
+/// A turn in which nothing happens.
+fn idle(turn: Turn) -> Turned
+    ensures turn { result.turn ≡ turn }
+    ensures entry { result.entry ≡ None }
+{
+    Turned { turn, entry: None }
+}
