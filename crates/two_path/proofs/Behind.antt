@@ -18,7 +18,7 @@ fold_free tapes first second free rs legal =
     record {
       stuck = λ s. (calmly s.calm).stuck s;
       crossed = crossed;
-      alarm = λ a b alarm e. (free x.events).alarm a b alarm (ap (λ (m : MachineView). m.alarm) (x.reaches) ∙ e);
+      alarm = λ alarm e. (free x.events).alarm alarm (ap (λ (m : MachineView). m.alarm) (x.reaches) ∙ e);
     }
   where
     calmly : (fold tapes (opening first second) rs).alarm ≡ None → IsFree tapes (fold tapes (opening first second) rs)

@@ -13,7 +13,7 @@ use Rattle.path_state.specs.Effect.{Effect, Need, Done, AtWait, AtEnd}
 use Rattle.path_state.specs.Effect as effect
 use Rattle.two_path.specs.declared.turn.Turn.TheVariants as turn
 use Rattle.two_path.specs.Machine.{MachineView, own_first, without_reads, opening}
-use Rattle.two_path.specs.Turns.{Blocks, Tapes, result, behind_meeting, crossed_waits, alarm_result, with_write, result_at_wait, result_by, own_turn, kind_of}
+use Rattle.two_path.specs.Turns.{Blocks, Tapes, result, behind_meeting, crossed_waits, alarm_result, with_write, result_at_wait, result_by, kind_of}
 use Rattle.two_path.specs.Histories.{values_at, with_values, with_reads, IsStep, behind_step, behind_entry, IsNext, fold, IsLegal, is_coming, came_from, Counts, HistoriesAreRuns}
 use Rattle.two_path.proofs.Idle.{own_awake, awake_of}
 use Rattle.two_path.proofs.Lawful.{value_written, opening_sound}

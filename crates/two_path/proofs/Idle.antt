@@ -1,5 +1,5 @@
 -- What a turn is where something may happen, and where nothing may.
-use Rattle.std.proofs.Common.{◌≡◌, ℕ, Bool, true, false, ◌||◌, Option, Some, None, is_some, refl, ap, ◌∙◌}
+use Rattle.std.proofs.Common.{◌≡◌, ℕ, Bool, true, false, ◌||◌, Option, Some, None, is_some, refl}
 use Rattle.nc_number.specs.declared.path.Path.{Path}
 use Rattle.nc_outside.specs.declared.halt.Alarm.{Alarm}
 use Rattle.run_records.specs.declared.entry.EntryKind.{EntryKind}

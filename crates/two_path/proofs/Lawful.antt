@@ -1,5 +1,5 @@
 -- Whatever happens, what blocks have read is lawful.
-use Rattle.std.proofs.Common.{◌≡◌, ℕ, suc, ◌+◌, ◌≤◌, ◌<◌, Bool, true, false, ◌==◌, ◌||◌, ◌&&◌, nat_le, List, [], ◌∷◌, ◌++◌, Option, Some, None, is_some, refl, sym, ap, ◌∙◌, arith, if◌then◌else◌}
+use Rattle.std.proofs.Common.{◌≡◌, ℕ, ◌+◌, ◌≤◌, ◌<◌, Bool, true, false, ◌==◌, List, [], ◌∷◌, ◌++◌, Option, Some, None, refl, sym, ap, ◌∙◌, arith}
 use Rattle.std.proofs.lemmas.Bool.Decides.{nat_tests}
 use Rattle.nc_number.specs.declared.path.Path.{Path}
 use Rattle.nc_number.specs.declared.path.Path.TheVariants.{One, Two}
@@ -13,7 +13,7 @@ use Rattle.path_state.specs.Statements.{Write as Written}
 use Rattle.path_state.specs.Effect.{Effect, Need, Done, AtWait, AtEnd}
 use Rattle.path_state.specs.Effect as effect
 use Rattle.two_path.specs.Machine.{Part, MachineView, own_first, part_without_reads, opening}
-use Rattle.two_path.specs.Turns.{Blocks, Tapes, tape_of, TurnResult, with_write, behind_meeting, with_alarm, crossed_waits, alarm_at, result_at_wait, result_by, own_turn, turn_of}
+use Rattle.two_path.specs.Turns.{Blocks, Tapes, with_write, behind_meeting, with_alarm, crossed_waits, alarm_at, result_at_wait, result_by, own_turn}
 use Rattle.two_path.specs.Histories.{Event, TurnOf, behind_event, value_asked, and_next, values_from, AsksFrom, AreInOrder, is_idle, IsLawful, AreLawful}
 use Rattle.two_path.proofs.Idle.{is_still, own_awake, own_still, awake_part}
 

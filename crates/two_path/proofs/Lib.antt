@@ -4,8 +4,15 @@ mod Recorded
 mod Scheduled
 mod Counted
 mod Kept
+mod NoCrossing
+mod NoCrossingPlaces
+mod NoCrossingStatements
+mod NoCrossingMotion
+mod NoCrossingBlocks
 mod Paired
 mod Behind
 mod Stays
 mod Steady
 mod Replayed
+mod Redone
+mod Ready

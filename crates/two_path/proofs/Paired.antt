@@ -1,5 +1,5 @@
 -- Two paths over tapes whose lists of labels agree: an invariant of both, which each turn keeps, and under which they go on.
-use Rattle.std.proofs.Common.{◌≡◌, ◌≢◌, ℕ, ◌⊎◌, inl, inr, Bool, true, false, ◌==◌, ◌||◌, List, [], ◌∷◌, Option, Some, None, is_some, ℤ, pos, refl, ap, sym, subst, ◌∙◌, arith}
+use Rattle.std.proofs.Common.{◌≡◌, ◌≢◌, ℕ, ◌⊎◌, inl, inr, Bool, true, false, ◌==◌, ◌||◌, List, [], ◌∷◌, Option, Some, None, is_some, ℤ, refl, ap, sym, subst, ◌∙◌, arith}
 use Rattle.std.proofs.lemmas.Bool.Decides.{nat_tests}
 use Rattle.nc_number.specs.declared.cause.Cause.TheVariants.{WaitDiffers}
 use Rattle.nc_number.specs.declared.path.Path.{Path}
@@ -15,16 +15,16 @@ use Rattle.block_order.specs.declared.label.Label.{Label}
 use Rattle.block_order.specs.declared.label.Label.TheVariants as label
 use Rattle.block_order.specs.declared.program.ControlProgram.{ControlProgram}
 use Rattle.block_order.specs.Labels.{ahead, list, start}
-use Rattle.block_order.specs.Steps.{Goes, Step, IsPlace, standing, passed, Kept, KeepsLabels}
+use Rattle.block_order.specs.Steps.{Step, IsPlace, standing, passed, Kept, KeepsLabels}
 use Rattle.path_state.specs.View.{PathView}
 use Rattle.path_state.specs.Statements.{Write as Written}
 use Rattle.path_state.specs.Effect.{Effect, Need, Done, AtWait, AtEnd}
 use Rattle.path_state.specs.Effect as effect
 use Rattle.path_state.specs.Controlled.{GoesAsOrdered}
 use Rattle.two_path.specs.Machine.{Part, MachineView, own_first, opening}
-use Rattle.two_path.specs.Turns.{Blocks, Tapes, tape_of, crossed_waits, with_alarm, result_at_wait, result_by, own_turn}
+use Rattle.two_path.specs.Turns.{Blocks, Tapes, tape_of, result_at_wait, result_by, own_turn}
 use Rattle.two_path.specs.Histories.{Event, TurnOf, behind_event, run, is_idle}
-use Rattle.two_path.specs.Stuck.{IsStuck, IsCrossed, RaisesNoCrossing, IsFree, IsAccepted}
+use Rattle.two_path.specs.Stuck.{IsStuck, IsCrossed, RaisesNoCrossing, IsFree}
 use Rattle.two_path.proofs.Idle.{is_still, own_awake, own_still}
 
 -- blocks that go where the order of this tape allows
@@ -47,10 +47,10 @@ record IsSound (left right : List ControlProgram) (all : List Label) (m : Machin
   agree : Agree all (ahead left m.first.path.place) (ahead right m.second.path.place)
   one : (m.first.waiting ≡ None) ⊎ (m.second.waiting ≡ None)
 
--- an alarm that blocks raise, and where there is none the state is sound
-record IsPaired (left right : List ControlProgram) (a b : Blocks) (all : List Label) (m : MachineView) : Type 0 where
+-- without an alarm the state is sound, and an alarm is another than that of paths that wait at different codes
+record IsPaired (left right : List ControlProgram) (all : List Label) (m : MachineView) : Type 0 where
   sound : m.alarm ≡ None → IsSound left right all m
-  never : RaisesNoCrossing a → RaisesNoCrossing b → (alarm : Alarm) → m.alarm ≡ Some alarm → alarm.cause ≢ cause_number WaitDiffers
+  never : (alarm : Alarm) → m.alarm ≡ Some alarm → alarm.cause ≢ cause_number WaitDiffers
 
 agree_swap : (all xs ys : List Label) → Agree all xs ys → Agree all ys xs
 agree_swap all xs ys (inl e) = inl (sym e)
@@ -69,9 +69,9 @@ sound_swap left right all m s = record {
   one = one_swap s.one;
 }
 
-paired_swap : (left right : List ControlProgram) (a b : Blocks) (all : List Label) (m : MachineView) → IsPaired left right a b all m
-    → IsPaired right left b a all (own_first Two m)
-paired_swap left right a b all m k = record { sound = λ e. sound_swap left right all m (k.sound e); never = λ x y. k.never y x }
+paired_swap : (left right : List ControlProgram) (all : List Label) (m : MachineView) → IsPaired left right all m
+    → IsPaired right left all (own_first Two m)
+paired_swap left right all m k = record { sound = λ e. sound_swap left right all m (k.sound e); never = k.never }
 
 -- a step leaves the agreement, also one back to the start
 agree_same : (all xs ys xs' : List Label) → xs' ≡ xs → Agree all xs ys → Agree all xs' ys
@@ -118,8 +118,8 @@ no_alarm : {A : Type 0} {x : Option Alarm} {alarm : Alarm} → x ≡ None → x 
 no_alarm e d = absurd cc
 
 -- a machine without an alarm
-calmly : (left right : List ControlProgram) (a b : Blocks) (all : List Label) (m : MachineView) → m.alarm ≡ None → IsSound left right all m → IsPaired left right a b all m
-calmly left right a b all m calm s = record { sound = λ _. s; never = λ x y alarm e. no_alarm calm e }
+calmly : (left right : List ControlProgram) (all : List Label) (m : MachineView) → m.alarm ≡ None → IsSound left right all m → IsPaired left right all m
+calmly left right all m calm s = record { sound = λ _. s; never = λ alarm e. no_alarm calm e }
 
 -- what its block leaves behind
 done_sound : (left right : List ControlProgram) → KeepsLabels left → (path : Path) (line : ℕ) (m : MachineView) (to : PathView) (write : Option Written) (moves : List Move)
@@ -156,22 +156,22 @@ meeting left right here_law there_law m s code there is waits =
 some_is : {x y : ℕ} → Some x ≡ Some y → x ≡ y
 some_is p = cc
 
-wait_paired : (left right : List ControlProgram) (a b : Blocks) → KeepsLabels left → KeepsLabels right → (path : Path) (line : ℕ) (m : MachineView) → m.alarm ≡ None
+wait_paired : (left right : List ControlProgram) → KeepsLabels left → KeepsLabels right → (path : Path) (line : ℕ) (m : MachineView) → m.alarm ≡ None
     → IsSound left right (list left) m → m.first.finished ≡ false → (code : ℕ) → standing left m.first.path.place ≡ Some (control.Wait code)
-    → (o : Option ℕ) → m.second.waiting ≡ o → IsPaired left right a b (list left) (result_at_wait path line m code o).machine
-wait_paired left right a b law law' path line m calm s going code is None e =
-    calmly left right a b (list left) (result_at_wait path line m code None).machine calm (record {
+    → (o : Option ℕ) → m.second.waiting ≡ o → IsPaired left right (list left) (result_at_wait path line m code o).machine
+wait_paired left right law law' path line m calm s going code is None e =
+    calmly left right (list left) (result_at_wait path line m code None).machine calm (record {
       first = record { place = s.first.place; waits = λ c same. is ∙ ap (λ k. Some (control.Wait k)) (some_is same); ends = s.first.ends };
       second = s.second;
       agree = s.agree;
       one = inr e;
     })
-wait_paired left right a b law law' path line m calm s going code is (Some there) e = go (code == there) refl
+wait_paired left right law law' path line m calm s going code is (Some there) e = go (code == there) refl
   where
     both : (code ≡ there) × (ahead left (passed m.first.path.place) ≡ ahead right (passed m.second.path.place))
     both = meeting left right law law' m s code there is e
 
-    go : (x : Bool) → (code == there) ≡ x → IsPaired left right a b (list left) (result_at_wait path line m code (Some there)).machine
+    go : (x : Bool) → (code == there) ≡ x → IsPaired left right (list left) (result_at_wait path line m code (Some there)).machine
     go false n = absurd (let same : code ≡ there = both.0 in grind (arith, nat_tests))
     go true y = rw y (record {
       sound = λ _. record {
@@ -184,43 +184,43 @@ wait_paired left right a b law law' path line m calm s going code is (Some there
         agree = inl both.1;
         one = inl refl;
       };
-      never = λ x y alarm e. no_alarm calm e;
+      never = λ alarm e. no_alarm calm e;
     })
 
--- an alarm of a block is no other than it raises
-alarm_paired : (left right : List ControlProgram) (a b : Blocks) (all : List Label) (path : Path) (line : ℕ) (m : MachineView) (number : ℕ) (value : ℤ) (x : PathView) (values : List Var)
-    → a.effect x values ≡ effect.Alarm number value → IsPaired left right a b all (result_by path line m (effect.Alarm number value)).machine
-alarm_paired left right a b all path line m number value x values is = record {
+-- an alarm of a block is one that it raises
+alarm_paired : (left right : List ControlProgram) (a : Blocks) → RaisesNoCrossing a → (all : List Label) (path : Path) (line : ℕ) (m : MachineView) (number : ℕ) (value : ℤ) (x : PathView) (values : List Var)
+    → a.effect x values ≡ effect.Alarm number value → IsPaired left right all (result_by path line m (effect.Alarm number value)).machine
+alarm_paired left right a raises all path line m number value x values is = record {
   sound = λ e. absurd cc;
-  never = λ mine theirs alarm e same.
+  never = λ alarm e same.
       let cause : alarm.cause ≡ number = ap cause_in (sym e) in
-      mine x values value (is ∙ ap (λ n. effect.Alarm n value) (sym cause ∙ same));
+      raises x values value (is ∙ ap (λ n. effect.Alarm n value) (sym cause ∙ same));
 }
   where
     cause_in : Option Alarm → ℕ
     cause_in None = 0
     cause_in (Some alarm) = alarm.cause
 
-by_paired : (left right : List ControlProgram) (a b : Blocks) → KeepsLabels left → KeepsLabels right → (path : Path) (line : ℕ) (m : MachineView) → m.alarm ≡ None
+by_paired : (left right : List ControlProgram) (a : Blocks) → RaisesNoCrossing a → KeepsLabels left → KeepsLabels right → (path : Path) (line : ℕ) (m : MachineView) → m.alarm ≡ None
     → IsSound left right (list left) m → m.first.waiting ≡ None → m.first.finished ≡ false → (e : Effect) → GoesAsOrdered left m.first.path e
-    → a.effect m.first.path m.first.values ≡ e → IsPaired left right a b (list left) (result_by path line m e).machine
-by_paired left right a b law law' path line m calm s awake going (Need v) goes is =
-    calmly left right a b (list left) (result_by path line m (Need v)).machine calm (record {
+    → a.effect m.first.path m.first.values ≡ e → IsPaired left right (list left) (result_by path line m e).machine
+by_paired left right a raises law law' path line m calm s awake going (Need v) goes is =
+    calmly left right (list left) (result_by path line m (Need v)).machine calm (record {
       first = record { place = s.first.place; waits = s.first.waits; ends = s.first.ends };
       second = s.second;
       agree = s.agree;
       one = s.one;
     })
-by_paired left right a b law law' path line m calm s awake going (Done to write moves) goes is =
-    calmly left right a b (list left) (result_by path line m (Done to write moves)).machine calm
+by_paired left right a raises law law' path line m calm s awake going (Done to write moves) goes is =
+    calmly left right (list left) (result_by path line m (Done to write moves)).machine calm
     (done_sound left right law path line m to write moves s awake going goes)
-by_paired left right a b law law' path line m calm s awake going (AtWait code) goes is =
-    wait_paired left right a b law law' path line m calm s going code goes m.second.waiting refl
-by_paired left right a b law law' path line m calm s awake going (AtEnd to moves) goes is =
-    calmly left right a b (list left) (result_by path line m (AtEnd to moves)).machine calm
+by_paired left right a raises law law' path line m calm s awake going (AtWait code) goes is =
+    wait_paired left right law law' path line m calm s going code goes m.second.waiting refl
+by_paired left right a raises law law' path line m calm s awake going (AtEnd to moves) goes is =
+    calmly left right (list left) (result_by path line m (AtEnd to moves)).machine calm
     (end_sound left right path line m to moves s awake goes.0 goes.1)
-by_paired left right a b law law' path line m calm s awake going (effect.Alarm number value) goes is =
-    alarm_paired left right a b (list left) path line m number value m.first.path m.first.values is
+by_paired left right a raises law law' path line m calm s awake going (effect.Alarm number value) goes is =
+    alarm_paired left right a raises (list left) path line m number value m.first.path m.first.values is
 
 awake_all : (x : Option Alarm) (f : Bool) (o : Option ℕ) → (is_some x || (f || is_some o)) ≡ false → (x ≡ None) × (f ≡ false) × (o ≡ None)
 awake_all (Some x) f o e = absurd cc
@@ -228,48 +228,50 @@ awake_all None true o e = absurd cc
 awake_all None false (Some n) e = absurd cc
 awake_all None false None e = (refl, refl, refl)
 
-turn_paired : (left right : List ControlProgram) (a b : Blocks) → KeepsLabels left → KeepsLabels right → AreLed left a → (path : Path) (m : MachineView)
-    → IsPaired left right a b (list left) m → IsPaired left right a b (list left) (own_turn a path m).machine
-turn_paired left right a b law law' led path m k = go (is_still m) refl
+turn_paired : (left right : List ControlProgram) (a : Blocks) → RaisesNoCrossing a → KeepsLabels left → KeepsLabels right → AreLed left a → (path : Path) (m : MachineView)
+    → IsPaired left right (list left) m → IsPaired left right (list left) (own_turn a path m).machine
+turn_paired left right a raises law law' led path m k = go (is_still m) refl
   where
-    go : (x : Bool) → is_still m ≡ x → IsPaired left right a b (list left) (own_turn a path m).machine
+    go : (x : Bool) → is_still m ≡ x → IsPaired left right (list left) (own_turn a path m).machine
     go true e = rw ((own_still a path m e).0) k
     go false e =
         let all = awake_all m.alarm m.first.finished m.first.waiting e in
-        rw (own_awake a path m e) (by_paired left right a b law law' path (a.line m.first.path.place) m all.0 (k.sound all.0) all.2 all.1
+        rw (own_awake a path m e) (by_paired left right a raises law law' path (a.line m.first.path.place) m all.0 (k.sound all.0) all.2 all.1
         (a.effect m.first.path m.first.values) (led m.first.path m.first.values) refl)
 
--- the laws of both tapes, and that their lists are equal
+-- the laws of both tapes, that their lists are equal, and that no block raises the alarm of waits that differ
 pub record IsLawfulPair (left right : List ControlProgram) (tapes : Tapes) : Type 0 where
   pub first : KeepsLabels left
   pub second : KeepsLabels right
   pub first_led : AreLed left tapes.first
   pub second_led : AreLed right tapes.second
+  pub first_raises : RaisesNoCrossing tapes.first
+  pub second_raises : RaisesNoCrossing tapes.second
   pub equal : list left ≡ list right
 
 event_paired : (left right : List ControlProgram) (tapes : Tapes) → IsLawfulPair left right tapes → (e : Event) (m : MachineView)
-    → IsPaired left right tapes.first tapes.second (list left) m → IsPaired left right tapes.first tapes.second (list left) (behind_event tapes e m)
-event_paired left right tapes pair (TurnOf One) m k = turn_paired left right tapes.first tapes.second pair.first pair.second pair.first_led One m k
+    → IsPaired left right (list left) m → IsPaired left right (list left) (behind_event tapes e m)
+event_paired left right tapes pair (TurnOf One) m k = turn_paired left right tapes.first pair.first_raises pair.first pair.second pair.first_led One m k
 event_paired left right tapes pair (TurnOf Two) m k =
-    let turned : IsPaired right left tapes.second tapes.first (list right) (own_first Two m) =
-    subst (λ all. IsPaired right left tapes.second tapes.first all (own_first Two m)) pair.equal (paired_swap left right tapes.first tapes.second (list left) m k) in
+    let turned : IsPaired right left (list right) (own_first Two m) =
+    subst (λ all. IsPaired right left all (own_first Two m)) pair.equal (paired_swap left right (list left) m k) in
     let to : MachineView = (own_turn tapes.second Two (own_first Two m)).machine in
-    let done : IsPaired right left tapes.second tapes.first (list right) to =
-    turn_paired right left tapes.second tapes.first pair.second pair.first pair.second_led Two (own_first Two m) turned in
-    subst (λ all. IsPaired left right tapes.first tapes.second all (own_first Two to)) (sym pair.equal)
-    (paired_swap right left tapes.second tapes.first (list right) to done)
+    let done : IsPaired right left (list right) to =
+    turn_paired right left tapes.second pair.second_raises pair.second pair.first pair.second_led Two (own_first Two m) turned in
+    subst (λ all. IsPaired left right all (own_first Two to)) (sym pair.equal)
+    (paired_swap right left (list right) to done)
 
 run_paired : (left right : List ControlProgram) (tapes : Tapes) → IsLawfulPair left right tapes → (es : List Event) (m : MachineView)
-    → IsPaired left right tapes.first tapes.second (list left) m → IsPaired left right tapes.first tapes.second (list left) (run tapes m es)
+    → IsPaired left right (list left) m → IsPaired left right (list left) (run tapes m es)
 run_paired left right tapes pair [] m k = k
 run_paired left right tapes pair (e ∷ es) m k =
     run_paired left right tapes pair es (behind_event tapes e m) (event_paired left right tapes pair e m k)
 
 opening_paired : (left right : List ControlProgram) (tapes : Tapes) → IsLawfulPair left right tapes → (first second : PathView)
     → first.place ≡ start left → second.place ≡ start right
-    → IsPaired left right tapes.first tapes.second (list left) (opening first second)
+    → IsPaired left right (list left) (opening first second)
 opening_paired left right tapes pair first second at at' =
-    calmly left right tapes.first tapes.second (list left) (opening first second) refl (record {
+    calmly left right (list left) (opening first second) refl (record {
       first = record { place = rw at (refl, refl); waits = λ c e. absurd cc; ends = λ e. absurd cc };
       second = record { place = rw at' (refl, refl); waits = λ c e. absurd cc; ends = λ e. absurd cc };
       agree = inl (rw (at, at') (pair.equal));
@@ -312,7 +314,7 @@ not_crossed left right a law law' led m sound x =
     x.differs (meeting left right law law' m (sound x.calm) x.code x.there goes x.waits).0
 
 free : (left right : List ControlProgram) (tapes : Tapes) → IsLawfulPair left right tapes → (m : MachineView)
-    → IsPaired left right tapes.first tapes.second (list left) m → IsFree tapes m
+    → IsPaired left right (list left) m → IsFree tapes m
 free left right tapes pair m k = record {
   stuck = not_stuck left right pair.first pair.second (list left) m k.sound;
   crossed = λ path. crossed path;

@@ -8,8 +8,8 @@ use Rattle.path_state.specs.Effect.{Effect, Need, Done, AtWait, AtEnd}
 use Rattle.path_state.specs.Effect as effect
 use Rattle.two_path.specs.declared.turn.Turn.TheVariants as turn
 use Rattle.two_path.specs.Machine.{MachineView, own_first, without_reads}
-use Rattle.two_path.specs.Turns.{Blocks, Tapes, tape_of, result, behind_meeting, crossed_waits, alarm_result, result_at_wait, result_by, own_turn, turn_of, kind_of, entry_with}
-use Rattle.two_path.specs.Histories.{Event, TurnOf, behind_event, list_of, records_of, run, history, with_values, with_reads, IsStep, behind_step, behind_entry, IsNext, fold, IsLegal, IsLawful, AreLawful, IsHistory}
+use Rattle.two_path.specs.Turns.{Blocks, Tapes, result, behind_meeting, crossed_waits, alarm_result, result_at_wait, result_by, own_turn, kind_of, entry_with}
+use Rattle.two_path.specs.Histories.{Event, TurnOf, behind_event, list_of, records_of, run, history, with_values, IsStep, behind_step, behind_entry, IsNext, fold, IsLegal, IsLawful, AreLawful, IsHistory}
 use Rattle.two_path.proofs.Idle.{is_still, own_awake, own_still}
 use Rattle.two_path.proofs.Lawful.{event_sound}
 

@@ -1,5 +1,5 @@
 -- What is read so far, and what the stamps that are left stand for, is what all stamps stand for.
-use Rattle.std.proofs.Common.{◌≡◌, ℕ, ◌≤◌, ◌+◌, ◌<◌, Bool, true, false, ◌&&◌, ◌||◌, nat_le, nat_lt, List, [], ◌∷◌, ◌++◌, length, drop, Option, Some, None, IfSome, refl, sym, ap, subst, ◌∙◌, append_assoc, append-nil, arith, if◌then◌else◌}
+use Rattle.std.proofs.Common.{◌≡◌, ℕ, ◌≤◌, Bool, true, false, ◌&&◌, nat_le, List, [], ◌∷◌, ◌++◌, Option, Some, None, IfSome, refl, sym, ap, subst, ◌∙◌, append_assoc, append-nil, arith, if◌then◌else◌}
 use Rattle.std.proofs.lemmas.Bool.Decides.{nat_tests}
 use Rattle.nc_number.specs.declared.value.Var.{Var}
 use Rattle.common_vars.specs.declared.links.Write.{Write}
@@ -10,8 +10,7 @@ use Rattle.nc_outside.specs.declared.motion.Move.{Move}
 use Rattle.path_state.specs.StatementSteps.{write_seen}
 use Rattle.path_state.specs.Statements.{Write as Written}
 use Rattle.path_state.specs.Effect.{Effect, Need, Done}
-use Rattle.path_state.specs.Controlled.{AsksForShared}
-use Rattle.two_path.specs.Machine.{Part, MachineView, part_without_reads}
+use Rattle.two_path.specs.Machine.{Part, part_without_reads}
 use Rattle.two_path.specs.Turns.{Blocks}
 use Rattle.two_path.specs.Histories.{value_asked, and_next, values_from, values_at, AsksFrom, AreInOrder, MayRead}
 use Rattle.two_path.specs.Again.{variable_asked, variable_due}

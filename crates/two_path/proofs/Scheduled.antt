@@ -1,5 +1,5 @@
 -- Each legal history is recorded by some list of events: the reads of each record are taken as soon as there are as many records as their stamps say.
-use Rattle.std.proofs.Common.{◌≡◌, ℕ, suc, ◌+◌, ◌≤◌, ◌<◌, Bool, true, false, ◌==◌, ◌||◌, ◌⊎◌, inl, inr, List, [], ◌∷◌, ◌++◌, Option, Some, None, is_some, refl, sym, ap, subst, ◌∙◌, append_assoc, append-nil, arith}
+use Rattle.std.proofs.Common.{◌≡◌, ℕ, ◌+◌, ◌≤◌, ◌<◌, Bool, true, false, ◌==◌, ◌||◌, ◌⊎◌, inl, inr, List, [], ◌∷◌, ◌++◌, Option, Some, None, is_some, refl, sym, ap, subst, ◌∙◌, append_assoc, append-nil, arith}
 use Rattle.std.proofs.lemmas.Bool.Decides.{nat_tests}
 use Rattle.nc_number.specs.declared.path.Path.{Path}
 use Rattle.nc_number.specs.declared.path.Path.TheVariants.{One, Two}
@@ -13,7 +13,7 @@ use Rattle.path_state.specs.Statements.{Write as Written}
 use Rattle.path_state.specs.Effect.{Effect, Need, Done, AtWait, AtEnd}
 use Rattle.path_state.specs.Effect as effect
 use Rattle.two_path.specs.Machine.{Part, MachineView, own_first, part_without_reads, without_reads, opening}
-use Rattle.two_path.specs.Turns.{Blocks, Tapes, tape_of, with_write, part_at, crossed_waits, result_at_wait, result_by, own_turn, turn_of, kind_of}
+use Rattle.two_path.specs.Turns.{Blocks, Tapes, tape_of, with_write, part_at, crossed_waits, result_at_wait, result_by, own_turn, kind_of}
 use Rattle.two_path.specs.Histories.{Event, TurnOf, behind_event, records_of, run, history, and_next, values_from, values_at, AsksFrom, AreInOrder, MayRead, with_values, with_reads, IsStep, behind_step, behind_entry, IsNext, fold, IsLegal, is_idle, IsLawful, AreLawful, IsReached, IsRun}
 use Rattle.two_path.proofs.Idle.{is_still, own_awake, awake_of}
 use Rattle.two_path.proofs.Lawful.{next_written, values_written, values_push}

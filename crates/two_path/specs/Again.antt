@@ -1,14 +1,28 @@
 -- A record that is done again.
-use Rattle.std.specs.Prelude.{◌≡◌, ℕ, ◌==◌, ◌&&◌, nat_le, List, Option, Some, None, if◌then◌else◌}
+use Rattle.std.specs.Prelude.{◌≡◌, ℕ, ◌==◌, ◌&&◌, nat_le, List, [], ◌∷◌, ◌++◌, Option, Some, None, if◌then◌else◌}
 use Rattle.run_records.specs.declared.entry.Entry.{Entry}
 use Rattle.run_records.specs.declared.entry.EntryKind.{EntryKind}
 use Rattle.run_records.specs.declared.entry.EntryKind.TheVariants as kind
 use Rattle.nc_number.specs.declared.path.Path.{Path}
-use Rattle.path_state.specs.Effect.{Effect, Need}
+use Rattle.block_order.specs.declared.program.ControlProgram.{ControlProgram}
+use Rattle.path_state.specs.Effect.{Effect, Need, Done, AtWait, AtEnd}
+use Rattle.path_state.specs.Effect as effect
 use Rattle.two_path.specs.declared.turn.Turn.{Turn}
-use Rattle.two_path.specs.Machine.{MachineView, own_first}
+use Rattle.common_vars.specs.Writes.{value_after}
+use Rattle.two_path.specs.Machine.{Part, MachineView, own_first, part_without_reads}
 use Rattle.two_path.specs.Turns.{Blocks, Tapes, tape_of, own_turn}
-use Rattle.two_path.specs.Histories.{with_reads, IsStep, behind_step, IsNext, behind_entry}
+use Rattle.two_path.specs.Histories.{MayRead, with_reads, IsStep, behind_step, IsNext, behind_entry}
+use Rattle.two_path.specs.Joined.{JointView, machine_of, read_part, AreShared, IsAtItsWait}
+
+-- Two paths of which records can be done again: both share the same variables, a path that waits stands on a wait, and no
+-- block has read anything.
+pub record AreReady (tape other_tape : List ControlProgram) (me other : Part) (joint : JointView) : Type 0 where
+  pub my_shared : AreShared me joint
+  pub other_shared : AreShared other joint
+  pub my_wait : IsAtItsWait tape me
+  pub other_wait : IsAtItsWait other_tape other
+  pub my_reads : part_without_reads me ≡ me
+  pub other_reads : part_without_reads other ≡ other
 
 -- the shared variable that a block needs next
 abbrev pub variable_asked : Effect → Option ℕ
@@ -24,6 +38,48 @@ variable_due lowest highest stamp effect =
 abbrev pub kind_at_wait : ℕ → Option ℕ → EntryKind
 kind_at_wait code None = kind.Arrived
 kind_at_wait code (Some there) = if code == there then kind.Met else kind.Alarmed
+
+-- the kind of the record of a block that comes to this, where the other path waits at this code, or not
+abbrev pub kind_of_effect : Effect → Option ℕ → Option EntryKind
+kind_of_effect (Need variable) other = None
+kind_of_effect (Done path write moves) other = Some kind.Did
+kind_of_effect (AtWait code) other = Some (kind_at_wait code other)
+kind_of_effect (AtEnd path moves) other = Some kind.Ended
+kind_of_effect (effect.Alarm number value) other = Some kind.Alarmed
+
+-- the block read once more, with this stamp
+pub record IsReadAgain (blocks : Blocks) (joint : JointView) (lowest stamp : ℕ) (before after : Part) : Type 0 where
+  pub variable : ℕ
+  pub due : variable_due lowest joint.count stamp (blocks.effect before.path before.values) ≡ Some variable
+  pub part : after ≡ record before {
+    values = before.values ++ value_after stamp variable joint.shared.writes ∷ [];
+    stamps = before.stamps ++ stamp ∷ [];
+  }
+
+-- no read with this stamp was due, and nothing changed
+pub record IsUnread (blocks : Blocks) (joint : JointView) (lowest stamp : ℕ) (before after : Part) : Type 0 where
+  pub due : variable_due lowest joint.count stamp (blocks.effect before.path before.values) ≡ None
+  pub unchanged : after ≡ before
+
+-- the block may have read with these stamps, and has read what they stand for
+pub record HasRead (blocks : Blocks) (joint : JointView) (stamps : List ℕ) (before after : Part) : Type 0 where
+  pub legal : (other : Part) → MayRead blocks (machine_of before other joint) stamps
+  pub part : after ≡ read_part blocks before joint stamps
+
+-- the block may not have read with these stamps; but for what it read now, the path is as it was
+pub record MayNotRead (blocks : Blocks) (joint : JointView) (stamps : List ℕ) (before after : Part) : Type 0 where
+  pub illegal : (other : Part) → MayRead blocks (machine_of before other joint) stamps → ⊥
+  pub rest : part_without_reads after ≡ before
+
+-- the record is legal there, and the block has read what its stamps stand for
+pub record IsFit (blocks : Blocks) (entry : Entry) (other : Part) (joint : JointView) (before after : Part) : Type 0 where
+  pub legal : IsStep blocks entry.path (machine_of before other joint) entry.kind entry.stamps
+  pub part : after ≡ read_part blocks before joint entry.stamps
+
+-- the record is not legal there; but for what its block read now, the path is as it was
+pub record IsUnfit (blocks : Blocks) (entry : Entry) (other : Part) (joint : JointView) (before after : Part) : Type 0 where
+  pub illegal : IsStep blocks entry.path (machine_of before other joint) entry.kind entry.stamps → ⊥
+  pub rest : part_without_reads after ≡ before
 
 -- what the turn of a record answers
 abbrev pub turn_of_entry : Tapes → Entry → MachineView → Turn

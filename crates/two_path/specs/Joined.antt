@@ -1,5 +1,5 @@
 -- The machine in the parts that the code keeps.
-use Rattle.std.specs.Prelude.{◌≡◌, ℕ, ◌+◌, ◌≤◌, List, Option, Some, None}
+use Rattle.std.specs.Prelude.{◌≡◌, ℕ, ◌+◌, ◌≤◌, List, Option, Some}
 use Rattle.nc_outside.specs.declared.halt.Alarm.{Alarm}
 use Rattle.common_vars.specs.Writes.{Writes}
 use Rattle.block_order.specs.declared.control.Control.TheVariants.{Wait}

@@ -1,11 +1,10 @@
 -- When two paths can't go on, and the pairs of tapes over which that never happens.
-use Rattle.std.specs.Prelude.{◌≡◌, ◌≢◌, ℕ, ◌⊎◌, Bool, true, false, List, Option, Some, None, ℤ}
+use Rattle.std.specs.Prelude.{◌≡◌, ◌≢◌, ℕ, ◌⊎◌, true, false, List, Some, None, ℤ}
 use Rattle.nc_number.specs.declared.cause.Cause.TheVariants.{WaitDiffers}
 use Rattle.nc_number.specs.declared.path.Path.{Path}
 use Rattle.nc_number.specs.declared.value.Var.{Var}
 use Rattle.nc_number.specs.Causes.{cause_number}
 use Rattle.nc_outside.specs.declared.halt.Alarm.{Alarm}
-use Rattle.block_order.specs.declared.frame.Frame.{Frame}
 use Rattle.block_order.specs.declared.program.ControlProgram.{ControlProgram}
 use Rattle.block_order.specs.Labels.{list, start, IsUnforked}
 use Rattle.run_records.specs.declared.entry.Entry.{Entry}
@@ -39,12 +38,11 @@ abbrev pub RaisesNoCrossing : Blocks → Type 0
 RaisesNoCrossing blocks = (path : PathView) (values : List Var) (value : ℤ)
     → blocks.effect path values ≢ effect.Alarm (cause_number WaitDiffers) value
 
--- The paths are not stuck, and no wait meets another. So no alarm is 74, where blocks don't raise it themselves.
+-- the paths are not stuck, no wait meets another, and no alarm is that of paths that wait at different codes
 pub record IsFree (tapes : Tapes) (m : MachineView) : Type 0 where
   pub stuck : IsStuck m → ⊥
   pub crossed : (path : Path) → IsCrossed (tape_of tapes path) (own_first path m) → ⊥
-  pub alarm : RaisesNoCrossing tapes.first → RaisesNoCrossing tapes.second → (alarm : Alarm) → m.alarm ≡ Some alarm
-      → alarm.cause ≢ cause_number WaitDiffers
+  pub alarm : (alarm : Alarm) → m.alarm ≡ Some alarm → alarm.cause ≢ cause_number WaitDiffers
 
 -- both tapes have one list of labels, whatever the variables hold, and these are equal
 pub record IsAccepted (left right : List ControlProgram) : Type 0 where

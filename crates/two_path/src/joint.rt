@@ -1,5 +1,5 @@
 //! What both paths have in common.
-ghost use Rattle.std.specs.Prelude.{◌≡◌, ◌≤◌, ◌<◌, ◌+◌, [], Some, None, IfOk, OnOk, IsOk, IfSome};
+ghost use Rattle.std.specs.Prelude.{◌≡◌, ◌≤◌, ◌<◌, ◌+◌, ◌↔◌, IsTrue, [], Some, None, IfOk, OnOk, IsOk, IfSome};
 ghost use Rattle.common_vars.specs.Writes.{IsShared, value_after};
 ghost use Rattle.path_state.specs.StatementSteps.{write_seen};
 ghost use Rattle.two_path.specs.Joined.{IsLasting};
@@ -77,6 +77,13 @@ impl Joint {
         ensures { result ≡ self.now.alarm }
     {
         self.alarm
+    }
+
+    /// Whether both paths share `#v`.
+    pub(crate) fn holds(&self, v: u32) -> bool
+        ensures { IsTrue result ↔ IsShared self.now.shared.shared100 self.now.shared.shared500 v }
+    {
+        self.shared.holds(v)
     }
 
     /// What `#v` held after so many records.

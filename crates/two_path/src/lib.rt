@@ -6,6 +6,7 @@
 //! turns ends where neither path can go on.
 #![tactic(auto)]
 
+mod again;
 mod joint;
 mod laws;
 mod machine;
@@ -13,9 +14,11 @@ mod part;
 mod turn;
 mod turning;
 
+pub use again::Illegal;
 pub use joint::MOST_RECORDS;
 pub use laws::{
-    each_event_keeps_the_history, histories_are_runs, no_legal_history_is_stuck, no_pair_is_stuck,
+    a_machine_begins_without_waits, each_event_keeps_the_history, histories_are_runs,
+    no_block_says_that_waits_differ, no_legal_history_is_stuck, no_pair_is_stuck,
     restarts_keep_the_history,
 };
 pub use machine::Machine;

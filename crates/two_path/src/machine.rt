@@ -1,20 +1,23 @@
 //! The machine of two paths.
-ghost use Rattle.std.specs.Prelude.{◌≡◌, ◌≤◌, ◌<◌, ◌+◌, Some, None, IfOk, OnOk};
+ghost use Rattle.std.specs.Prelude.{◌≡◌, ◌≤◌, ◌<◌, ◌+◌, ◌↔◌, IsTrue, Some, None, IfOk, OnOk, OnErr};
 ghost use Rattle.nc_number.specs.declared.path.Path.TheVariants as Path;
 ghost use Rattle.common_vars.specs.Writes.{IsShared, value_after};
 ghost use Rattle.path_state.specs.Opening.{opening_path};
-ghost use Rattle.two_path.specs.Machine.{opening, own_first};
+ghost use Rattle.two_path.specs.Machine.{opening, own_first, without_reads};
 ghost use Rattle.two_path.specs.Turns.{tapes_of, turn_of, entry_of};
 ghost use Rattle.two_path.specs.Joined.{AreAtTheirWaits};
+ghost use Rattle.two_path.specs.Again.{IsDoneAgain, IsRefused};
 
+use crate::again::{Illegal, do_again};
 use crate::joint::Joint;
 use crate::part::Part;
-use crate::turn::Turned;
+use crate::turn::{Turn, Turned};
 use crate::turning::take_turn;
 use cell_settings::Settings;
 use nc_number::{NoMemory, Path, Var};
 use nc_outside::Alarm;
 use path_state::{PathState, control_goes_as_the_flow_orders};
+use run_records::Entry;
 use std::alloc::Global;
 use std::marker::Model;
 use tape_flow::Flow;
@@ -104,6 +107,43 @@ impl Machine {
         }
     }
 
+    /// Does the record again, and answers what its turn answered. It takes no memory.
+    ///
+    /// It asks for room for a record, for at most 4,000,000 records, and for a machine whose blocks have
+    /// read nothing. A record that can't follow those before it is illegal, and nothing changes.
+    pub fn apply(&mut self, left: &Flow, right: &Flow, entry: &Entry) -> Result<Turn, Illegal>
+        requires room { 0 < self.old.room }
+        requires few { self.old.machine.count ≤ 4000000 }
+        requires no_reads { without_reads self.old.machine ≡ self.old.machine }
+        requires waits { AreAtTheirWaits left.now.order right.now.order self.old.machine }
+        ensures done { IfOk result (λ turn. IsDoneAgain (tapes_of left.now right.now) entry.now
+            self.old.machine self.new.machine turn) }
+        ensures refused { OnErr result (IsRefused (tapes_of left.now right.now) entry.now
+            self.old.machine self.new.machine) }
+        ensures room { self.old.machine.count + self.old.room ≤ self.new.machine.count + self.new.room }
+        ensures no_reads { without_reads self.new.machine ≡ self.new.machine }
+        ensures waits { AreAtTheirWaits left.now.order right.now.order self.new.machine }
+    {
+        match entry.path {
+            Path::One => do_again(
+                &mut self.first,
+                &mut self.second,
+                &mut self.joint,
+                left,
+                right,
+                entry,
+            ),
+            Path::Two => do_again(
+                &mut self.second,
+                &mut self.first,
+                &mut self.joint,
+                right,
+                left,
+                entry,
+            ),
+        }
+    }
+
     /// The path's part.
     fn part(&self, path: Path) -> &Part
         ensures { result.now ≡ (own_first path self.now.machine).first }
@@ -140,6 +180,14 @@ impl Machine {
         ensures { result ≡ self.now.machine.alarm }
     {
         self.joint.alarm()
+    }
+
+    /// Whether both paths share the variable `#v`.
+    pub fn is_shared(&self, v: u32) -> bool
+        ensures { IsTrue result ↔ IsShared self.now.machine.first.path.fixed.shared100
+            self.now.machine.first.path.fixed.shared500 v }
+    {
+        self.joint.holds(v)
     }
 
     /// What the shared variable `#v` holds.

@@ -172,10 +172,12 @@ fn came_to_wait(
     requires there { IsAtItsWait other_flow.now.order other.old }
     ensures turn { result.turn ≡ (result_at_wait path (line_at flow.now.order me.old.path.place)
         (machine_of me.old other.old joint.old) code other.old.waiting).turn }
-    ensures machine { machine_of me.new other.new joint.new ≡ (result_at_wait path (line_at flow.now.order me.old.path.place)
+    ensures machine { machine_of me.new other.new joint.new
+        ≡ (result_at_wait path (line_at flow.now.order me.old.path.place)
         (machine_of me.old other.old joint.old) code other.old.waiting).machine }
-    ensures entry { result.entry ≡ entry_with path me.old.stamps (kind_of (result_at_wait path
-        (line_at flow.now.order me.old.path.place) (machine_of me.old other.old joint.old) code other.old.waiting).turn) }
+    ensures entry { result.entry ≡ entry_with path me.old.stamps
+        (kind_of (result_at_wait path (line_at flow.now.order me.old.path.place)
+        (machine_of me.old other.old joint.old) code other.old.waiting).turn) }
     ensures lasting { IsLasting joint.old joint.new }
 {
     match other.waiting() {

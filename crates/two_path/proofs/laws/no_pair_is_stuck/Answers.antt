@@ -10,6 +10,8 @@ returns c = λ left right pair first second at events.
       second = c.each_step_keeps_the_labels.ensures right.order pair.accepted.right_unforked;
       first_led = pair.left_controlled;
       second_led = pair.right_controlled;
+      first_raises = c.no_block_says_that_waits_differ.ensures left;
+      second_raises = c.no_block_says_that_waits_differ.ensures right;
       equal = pair.accepted.equal;
     })
     first second at.one at.two events

@@ -1,4 +1,4 @@
-use Rattle.std.proofs.Common.{rules, ◌≡◌, ◌==◌, false, Some, None, refl, sym, ap, ◌∙◌}
+use Rattle.std.proofs.Common.{rules, ◌≡◌, ◌==◌, false, Some, None, sym, ap, ◌∙◌}
 use Rattle.nc_outside.specs.declared.halt.Alarm.{Alarm}
 use Rattle.tape_flow.specs.Places.{line_at}
 use Rattle.two_path.specs.Machine.{MachineView}

@@ -1,9 +1,9 @@
-use Rattle.std.proofs.Common.{rules, ◌≡◌, ℕ, refl, sym, ap, ◌∙◌}
+use Rattle.std.proofs.Common.{rules, ◌≡◌, ℕ, ap, ◌∙◌}
 use Rattle.nc_outside.specs.declared.halt.Alarm.{Alarm}
 use Rattle.tape_flow.specs.Places.{line_at}
-use Rattle.path_state.specs.Effect.{Effect, Need, Done, AtEnd, effect_of}
+use Rattle.path_state.specs.Effect.{Need, Done, AtEnd, effect_of}
 use Rattle.path_state.specs.StatementSteps.{write_seen}
-use Rattle.two_path.specs.Machine.{Part, MachineView}
+use Rattle.two_path.specs.Machine.{Part}
 use Rattle.two_path.specs.Joined.{machine_of}
 use Rattle.two_path.specs.Turns.{result_by, with_alarm, alarm_at}
 use Rattle.two_path.proofs.Stays.{stays, else_same}

@@ -1,4 +1,4 @@
-use Rattle.std.proofs.Common.{◌≡◌, sym, subst}
+use Rattle.std.proofs.Common.{sym, subst}
 use Rattle.nc_number.specs.declared.path.Path.TheVariants.{One, Two}
 use Rattle.two_path.specs.Machine.{MachineView, own_first}
 use Rattle.two_path.specs.Joined.{RoomyMachine, machine_of, AreAtTheirWaits}

@@ -1,0 +1,181 @@
+-- No block raises the alarm of waits that differ.
+use Rattle.std.proofs.Common.{◌≡◌, ℕ, Bool, true, false, not, List, [], ◌∷◌, codes, Option, Some, None, Result, Ok, Err, refl, subst}
+use Rattle.nc_number.specs.declared.cause.Cause.{Cause}
+use Rattle.nc_number.specs.declared.cause.Cause.TheVariants.{UnknownCode, WordRange, OffsetNumber}
+use Rattle.nc_number.specs.declared.literal.Literal.{Literal}
+use Rattle.nc_number.specs.declared.value.Var.{Var}
+use Rattle.nc_number.specs.declared.value.Var.TheVariants.{Vacant, Is}
+use Rattle.local_levels.specs.Stack.{all_vacant}
+use Rattle.modal_state.specs.declared.fault.ModalFault.{ModalFault}
+use Rattle.modal_state.specs.View.{ModalView}
+use Rattle.modal_state.specs.Faults.{fault}
+use Rattle.modal_state.specs.Modal.{with_codes}
+use Rattle.modal_state.specs.Words.{has_tool_offset, with_words}
+use Rattle.block_order.specs.declared.control.Control.{Control}
+use Rattle.block_order.specs.declared.control.Control.TheVariants as control
+use Rattle.block_order.specs.declared.program.ControlProgram.{ControlProgram}
+use Rattle.block_forms.specs.declared.word.FlowWord.{FlowWord}
+use Rattle.block_forms.specs.declared.word.WordValue.{WordValue}
+use Rattle.block_forms.specs.declared.word.WordValue.TheVariants.{Fixed as Written, Computed}
+use Rattle.block_forms.specs.declared.block.FlowBlock.{FlowBlock}
+use Rattle.block_forms.specs.declared.body.FlowBody.{FlowBody}
+use Rattle.block_forms.specs.declared.body.FlowBody.TheVariants.{Words, Statement}
+use Rattle.block_forms.specs.declared.purpose.Purpose.{Purpose}
+use Rattle.block_forms.specs.declared.purpose.Purpose.TheVariants.{MacroCall}
+use Rattle.block_forms.specs.Codes.{rows, one_shot, gives, is_limit}
+use Rattle.block_forms.specs.Ranges.{range_of, fits}
+use Rattle.block_forms.specs.Words.{has}
+use Rattle.macro_expr.specs.Tree.{sentence_of}
+use Rattle.tape_flow.specs.declared.flow.Flow.{Flow}
+use Rattle.path_state.specs.View.{Fixed, PathView}
+use Rattle.path_state.specs.Outcomes.{Outcome, Gives, Needs, Alarms, evaluated}
+use Rattle.path_state.specs.Values.{Values, Sense, nothing_said, sense_of, is_meant, with_word, taken, computed, taken_var, word_taken, words_taken}
+use Rattle.path_state.specs.Arguments.{argument_taken, arguments_taken}
+use Rattle.path_state.specs.Motion.{Motion, motion_kind, motion_of}
+use Rattle.path_state.specs.Places.{Standing, goes_on}
+use Rattle.path_state.specs.Statements.{After, standing_of, statement_effect}
+use Rattle.path_state.specs.Effect.{Effect, Moved, modal_words, unless_fault, modal_after, after_motion, motion_with, acted, done_by, controlled, of_moved, of_values, of_arguments, of_purpose, block_of_words, of_after, effect_of_body, effect_of_block, block_at, effect_of}
+use Rattle.path_state.specs.Effect as effect
+use Rattle.two_path.specs.Turns.{blocks_of}
+use Rattle.two_path.specs.Stuck.{RaisesNoCrossing}
+use Rattle.two_path.proofs.NoCrossing.{IsOther, IsOtherError, IsOtherCause, IsOtherAlarm, either, alarm_behind, none_other, tree_other}
+use Rattle.two_path.proofs.NoCrossingPlaces.{goes_on_other}
+use Rattle.two_path.proofs.NoCrossingStatements.{statement_other}
+use Rattle.two_path.proofs.NoCrossingMotion.{itself, motion_other}
+
+abbrev IsOtherNumber : {A : Type 0} → Result A ℕ → Type 0
+IsOtherNumber r = IsOtherError itself r
+
+-- the alarm of a block, if it raises one, is another
+abbrev IsOtherEffect : Effect → Type 0
+IsOtherEffect (effect.Alarm number value) = IsOther number
+IsOtherEffect _ = Unit {0}
+
+taken_other : (sense : Sense) (letter : ℕ) (literal : Literal) (values : Values) → IsOtherCause (taken sense letter literal values)
+taken_other sense letter literal values =
+    either (λ (r : Result Values Cause). IsOtherCause r) (not (is_meant sense letter)) (Err UnknownCode) _ refl
+    (either (λ (r : Result Values Cause). IsOtherCause r) (fits (range_of sense.purpose letter) literal)
+    (Ok (with_word sense letter literal values)) (Err WordRange) tt refl)
+
+taken_var_other : (sense : Sense) (letter : ℕ) (minus : Bool) (value : Var) (values : Values)
+    → IsOtherCause (taken_var sense letter minus value values)
+taken_var_other sense letter minus Vacant values = tt
+taken_var_other sense letter minus (Is value) values = taken_other sense letter (computed minus value) values
+
+-- the codes and words of a block, and its motion
+modal_other : (modal : ModalView) (words : List FlowWord) (values : Values) → IsOtherNumber (modal_after modal words values)
+modal_other modal words values =
+    let after : ModalView = with_words (with_codes modal (rows words)) (modal_words (gives is_limit words) values) in
+    either (λ (f : Option ModalFault). IsOtherNumber (unless_fault f after)) (has_tool_offset values.tool) None (Some (fault OffsetNumber)) tt refl
+
+after_motion_other : (path : PathView) (modal : ModalView) (words : List FlowWord) (values : Values) (motion : Result Motion ℕ)
+    → IsOtherNumber motion → IsOtherNumber (after_motion path modal words values motion)
+after_motion_other path modal words values (Ok motion) other = tt
+after_motion_other path modal words values (Err number) other = other
+
+motion_with_other : (fixed : Fixed) (path : PathView) (words : List FlowWord) (values : Values) (modal : Result ModalView ℕ)
+    → IsOtherNumber modal → IsOtherNumber (motion_with fixed path words values modal)
+motion_with_other fixed path words values (Ok modal) other =
+    after_motion_other path modal words values
+    (motion_of fixed path modal (motion_kind modal (one_shot words)) (has (codes "L") words) values)
+    (motion_other fixed path modal (motion_kind modal (one_shot words)) (has (codes "L") words) values)
+motion_with_other fixed path words values (Err number) other = other
+
+acted_other : (fixed : Fixed) (path : PathView) (words : List FlowWord) (values : Values)
+    → IsOtherNumber (acted fixed path words values)
+acted_other fixed path words values =
+    motion_with_other fixed path words values (modal_after path.modal words values) (modal_other path.modal words values)
+
+module _ (fixed : Fixed) (path : PathView) where
+  word_other : (sense : Sense) (letter : ℕ) (value : WordValue) (values : Values) (reads : List Var)
+      → IsOtherAlarm (word_taken fixed path sense letter value values reads)
+  word_other sense letter (Written literal) values reads =
+      none_other (taken sense letter literal values) (taken_other sense letter literal values) reads
+  word_other sense letter (Computed minus tree) values reads =
+      alarm_behind (evaluated fixed path tree reads) _ (tree_other fixed path tree reads)
+      (λ value left. none_other (taken_var sense letter minus value values) (taken_var_other sense letter minus value values) left)
+
+  words_other : (sense : Sense) (words : List FlowWord) (values : Values) (reads : List Var)
+      → IsOtherAlarm (words_taken fixed path sense words values reads)
+  words_other sense [] values reads = tt
+  words_other sense (word ∷ words) values reads =
+      alarm_behind (word_taken fixed path sense word.letter word.value values reads) _
+      (word_other sense word.letter word.value values reads) (λ next left. words_other sense words next left)
+
+  argument_other : (letter : ℕ) (value : WordValue) (arguments reads : List Var)
+      → IsOtherAlarm (argument_taken fixed path letter value arguments reads)
+  argument_other letter (Written literal) arguments reads = tt
+  argument_other letter (Computed minus tree) arguments reads =
+      alarm_behind (evaluated fixed path tree reads) _ (tree_other fixed path tree reads) (λ value left. tt)
+
+  arguments_other : (words : List FlowWord) (arguments reads : List Var)
+      → IsOtherAlarm (arguments_taken fixed path words arguments reads)
+  arguments_other [] arguments reads = tt
+  arguments_other (word ∷ words) arguments reads =
+      alarm_behind (argument_taken fixed path word.letter word.value arguments reads) _
+      (argument_other word.letter word.value arguments reads) (λ next left. arguments_other words next left)
+
+module _ (tape : List ControlProgram) where
+  done_other : (moved : Moved) (to : Result Standing Cause) → IsOtherCause to → IsOtherEffect (done_by moved to)
+  done_other moved (Ok to) other = tt
+  done_other moved (Err cause) other = other
+
+  controlled_other : (moved : Moved) (arguments : Option (List Var)) (c : Control)
+      → IsOtherEffect (controlled tape moved arguments c)
+  controlled_other moved arguments control.End = tt
+  controlled_other moved arguments c =
+      done_other moved (goes_on tape (standing_of moved.path) arguments c) (goes_on_other tape (standing_of moved.path) arguments c)
+
+  moved_other : (c : Control) (moved : Result Moved ℕ) → IsOtherNumber moved → IsOtherEffect (of_moved tape c moved)
+  moved_other c (Ok moved) other = controlled_other moved None c
+  moved_other c (Err number) other = other
+
+  values_other : (fixed : Fixed) (path : PathView) (words : List FlowWord) (c : Control) (values : Outcome Values)
+      → IsOtherAlarm values → IsOtherEffect (of_values tape fixed path words c values)
+  values_other fixed path words c (Gives values left) other =
+      moved_other c (acted fixed path words values) (acted_other fixed path words values)
+  values_other fixed path words c (Needs variable) other = tt
+  values_other fixed path words c (Alarms number value) other = other
+
+  of_arguments_other : (path : PathView) (c : Control) (arguments : Outcome (List Var)) → IsOtherAlarm arguments
+      → IsOtherEffect (of_arguments tape path c arguments)
+  of_arguments_other path c (Gives arguments left) other =
+      controlled_other (record { path = path; moves = [] }) (Some arguments) c
+  of_arguments_other path c (Needs variable) other = tt
+  of_arguments_other path c (Alarms number value) other = other
+
+  purpose_other : (fixed : Fixed) (path : PathView) (purpose : Purpose) (words : List FlowWord) (c : Control) (reads : List Var)
+      → IsOtherEffect (of_purpose tape fixed path purpose words c reads)
+  purpose_other fixed path MacroCall words c reads =
+      of_arguments_other path c (arguments_taken fixed path words all_vacant reads) (arguments_other fixed path words all_vacant reads)
+  purpose_other fixed path purpose words c reads =
+      values_other fixed path words c (words_taken fixed path (sense_of path purpose words) words nothing_said reads)
+      (words_other fixed path (sense_of path purpose words) words nothing_said reads)
+
+  block_other : (fixed : Fixed) (path : PathView) (purpose : Purpose) (words : List FlowWord) (c : Control) (reads : List Var)
+      → IsOtherEffect (block_of_words tape fixed path purpose words c reads)
+  block_other fixed path purpose words (control.Wait code) reads = tt
+  block_other fixed path purpose words c reads = purpose_other fixed path purpose words c reads
+
+  after_other : (after : Outcome After) → IsOtherAlarm after → IsOtherEffect (of_after after)
+  after_other (Gives after left) other = tt
+  after_other (Needs variable) other = tt
+  after_other (Alarms number value) other = other
+
+  body_other : (fixed : Fixed) (path : PathView) (body : FlowBody) (c : Control) (reads : List Var)
+      → IsOtherEffect (effect_of_body tape fixed path body c reads)
+  body_other fixed path (Words words) c reads = block_other fixed path words.purpose words.words c reads
+  body_other fixed path (Statement statement) c reads =
+      after_other (statement_effect tape fixed path (sentence_of statement.statement) reads)
+      (statement_other fixed path tape (sentence_of statement.statement) reads)
+
+  found_other : (path : PathView) (found : Option FlowBlock) (reads : List Var)
+      → IsOtherEffect (effect_of_block tape path found reads)
+  found_other path None reads = refl
+  found_other path (Some block) reads = body_other path.fixed path block.body block.control reads
+
+-- at every state of a path, also at one that no run comes to
+pub raises_none : (flow : Flow) → RaisesNoCrossing (blocks_of flow)
+raises_none flow path values value is =
+    let other : true ≡ false =
+    subst IsOtherEffect is (found_other flow.order path (block_at flow.programs path.place) values) in cc

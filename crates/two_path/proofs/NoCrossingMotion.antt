@@ -1,0 +1,151 @@
+-- No motion raises the alarm of waits that differ.
+use Rattle.std.proofs.Common.{ℕ, Bool, true, false, List, [], Option, Some, None, Result, Ok, Err, ok_or, ℤ, refl}
+use Rattle.nc_number.specs.declared.cause.Cause.TheVariants.{PositionRange, ArcRadius, FeedZero, OffsetNumber}
+use Rattle.nc_number.specs.declared.point.Point.{Point}
+use Rattle.nc_number.specs.Arithmetic.{is_zero}
+use Rattle.nc_number.specs.Results.{◌>>=◌}
+use Rattle.nc_number.specs.Position.{is_position}
+use Rattle.nc_outside.specs.declared.motion.Move.{Move}
+use Rattle.nc_outside.specs.declared.motion.Centre.{Centre}
+use Rattle.code_tables.specs.declared.kind.CodeKind.{CodeKind}
+use Rattle.code_tables.specs.declared.kind.CodeKind.TheVariants as kind
+use Rattle.modal_state.specs.View.{ModalView}
+use Rattle.motion_track.specs.declared.block.BlockMotion.{BlockMotion}
+use Rattle.motion_track.specs.declared.fault.MotionFault.{MotionFault}
+use Rattle.motion_track.specs.Block.{names_axis, is_move_due, target_in, arc_in, origin, moves_due, moves_of}
+use Rattle.motion_track.specs.Centre.{centre_of}
+use Rattle.motion_track.specs.Circle.{misses, arc_of}
+use Rattle.motion_track.specs.Cut.{at_feed, line_of, thread_of}
+use Rattle.motion_track.specs.Faults.{fault}
+use Rattle.motion_track.specs.Target.{in_travel, target_of, reached}
+use Rattle.turn_cycles.specs.declared.pass.CyclePass.{CyclePass}
+use Rattle.turn_cycles.specs.declared.rectangle.CycleKind.{CycleKind}
+use Rattle.turn_cycles.specs.Cycles.{cycle_of, cycle_moves}
+use Rattle.turn_cycles.specs.End.{cycle_end_of, end_point}
+use Rattle.turn_cycles.specs.Pass.{cycle_kind_of, pass_to_end, pass_of}
+use Rattle.offset_store.specs.declared.fault.OffsetFault.{OffsetFault}
+use Rattle.offset_store.specs.declared.slot.Slot.{Slot}
+use Rattle.offset_store.specs.Changes.{point_at, changed_point, in_range}
+use Rattle.offset_store.specs.Faults.{fault as offset_fault}
+use Rattle.offset_store.specs.Slots.{slot_of, slot_named}
+use Rattle.offset_store.specs.Table.{OffsetTable}
+use Rattle.path_state.specs.View.{Fixed, PathView}
+use Rattle.path_state.specs.Values.{Values}
+use Rattle.path_state.specs.Motion.{Motion, motion_number, offset_number, x_axis, z_axis, block_motion, form_of, setting_of, set_motion, passed_motion, tracked, cut_motion, motion_of}
+use Rattle.two_path.proofs.NoCrossing.{IsOtherError, either}
+use Rattle.two_path.proofs.NoCrossingStatements.{offset_alarm, in_range_other}
+
+-- one step behind another
+error_behind : {A B E : Type 0} (number : E → ℕ) (r : Result A E) (next : A → Result B E) → IsOtherError number r
+    → ((value : A) → IsOtherError number (next value)) → IsOtherError number (r >>= next)
+error_behind number (Ok value) next first further = further value
+error_behind number (Err error) next first further = first
+
+abbrev motion_alarm : MotionFault → ℕ
+motion_alarm f = f.number
+
+abbrev pub itself : ℕ → ℕ
+itself number = number
+
+abbrev IsOtherMotion : {A : Type 0} → Result A MotionFault → Type 0
+IsOtherMotion r = IsOtherError motion_alarm r
+
+abbrev IsOtherOffset : {A : Type 0} → Result A OffsetFault → Type 0
+IsOtherOffset r = IsOtherError offset_alarm r
+
+travel_other : (to : Point) → IsOtherMotion (in_travel to)
+travel_other to =
+    either (λ (r : Result Point MotionFault). IsOtherMotion r) (is_position to) (Ok to) (Err (fault PositionRange)) tt refl
+
+feed_other : {X : Type 0} (feed : ℤ) (what : X) → IsOtherMotion (at_feed feed what)
+feed_other {X} feed what =
+    either (λ (r : Result X MotionFault). IsOtherMotion r) (is_zero feed) (Err (fault FeedZero)) (Ok what) refl tt
+
+arc_other : (at to : Point) (clockwise : Bool) (centre : Option Centre) (feed : ℤ) (per_rev : Bool)
+    → IsOtherMotion (arc_of at to clockwise centre feed per_rev)
+arc_other at to clockwise None feed per_rev = refl
+arc_other at to clockwise (Some centre) feed per_rev =
+    either (λ (r : Result Move MotionFault). IsOtherMotion r) (misses at to centre) (Err (fault ArcRadius)) _ refl (feed_other feed _)
+
+target_other : (block : BlockMotion) → IsOtherMotion (target_in block)
+target_other block = travel_other (reached block.start block.shift block.x block.z)
+
+arc_in_other : (clockwise : Bool) (block : BlockMotion) → IsOtherMotion (arc_in clockwise block)
+arc_in_other clockwise block =
+    error_behind motion_alarm (target_in block) _ (target_other block)
+    (λ to. arc_other block.start to clockwise (centre_of block.i block.k block.r) block.feed block.per_rev)
+
+due_other : (k : CodeKind) (block : BlockMotion) → IsOtherMotion (moves_due k block)
+due_other kind.Rapid block = error_behind motion_alarm (target_in block) _ (target_other block) (λ to. tt)
+due_other kind.Feed block =
+    error_behind motion_alarm (target_in block) _ (target_other block)
+    (λ to. error_behind motion_alarm (line_of to block.feed block.per_rev) _ (feed_other block.feed _) (λ cut. tt))
+due_other kind.ArcCw block = error_behind motion_alarm (arc_in true block) _ (arc_in_other true block) (λ cut. tt)
+due_other kind.ArcCcw block = error_behind motion_alarm (arc_in false block) _ (arc_in_other false block) (λ cut. tt)
+due_other kind.Thread block =
+    error_behind motion_alarm (target_in block) _ (target_other block)
+    (λ to. error_behind motion_alarm (thread_of to block.feed) _ (feed_other block.feed _) (λ cut. tt))
+due_other kind.Home block = error_behind motion_alarm (target_in block) _ (target_other block) (λ to. tt)
+due_other kind.Machine block =
+    error_behind motion_alarm (target_of block.start origin block.x block.z) _
+    (travel_other (reached block.start origin block.x block.z)) (λ to. tt)
+due_other _ block = tt
+
+moves_other : (k : CodeKind) (block : BlockMotion) → IsOtherMotion (moves_of k block)
+moves_other k block =
+    either (λ (r : Result (List Move) MotionFault). IsOtherMotion r) (is_move_due k block) (moves_due k block) (Ok [])
+    (due_other k block) tt
+
+to_end_other : (cycle : CycleKind) (kept : Option Point) (block : BlockMotion) → IsOtherMotion (pass_to_end cycle kept block)
+to_end_other cycle kept block =
+    error_behind motion_alarm (cycle_end_of block.start kept block.shift block.x block.z) _
+    (travel_other (end_point block.start kept block.shift block.x block.z))
+    (λ end. error_behind motion_alarm (cycle_of cycle block.start end block.feed block.per_rev) _
+    (feed_other block.feed (cycle_moves cycle block.start end block.feed block.per_rev)) (λ moves. tt))
+
+pass_other : (cycle : CycleKind) (kept : Option Point) (block : BlockMotion) → IsOtherMotion (pass_of cycle kept block)
+pass_other cycle kept block =
+    either (λ (r : Result CyclePass MotionFault). IsOtherMotion r) (names_axis block) (pass_to_end cycle kept block) _
+    (to_end_other cycle kept block) tt
+
+passed_other : (r : Result CyclePass MotionFault) → IsOtherMotion r → IsOtherMotion (passed_motion r)
+passed_other (Ok pass) other = tt
+passed_other (Err f) other = other
+
+tracked_other : (kept : Option Point) (r : Result (List Move) MotionFault) → IsOtherMotion r → IsOtherMotion (tracked kept r)
+tracked_other kept (Ok moves) other = tt
+tracked_other kept (Err f) other = other
+
+cut_other : (cycle : Option CycleKind) (k : CodeKind) (kept : Option Point) (block : BlockMotion)
+    → IsOtherMotion (cut_motion cycle k kept block)
+cut_other (Some cycle) k kept block = passed_other (pass_of cycle kept block) (pass_other cycle kept block)
+cut_other None k kept block = tracked_other kept (moves_of k block) (moves_other k block)
+
+motion_number_other : (r : Result Motion MotionFault) → IsOtherMotion r → IsOtherError itself (motion_number r)
+motion_number_other (Ok motion) other = tt
+motion_number_other (Err f) other = other
+
+ok_or_other : (slot : Option Slot) → IsOtherOffset (ok_or slot (offset_fault OffsetNumber))
+ok_or_other (Some slot) = tt
+ok_or_other None = refl
+
+setting_other : (offsets : OffsetTable) (has_l : Bool) (values : Values) → IsOtherOffset (setting_of offsets has_l values)
+setting_other offsets has_l values =
+    error_behind offset_alarm (slot_named (form_of has_l) values.number) _ (ok_or_other (slot_of (form_of has_l) values.number))
+    (λ slot. error_behind offset_alarm (in_range (changed_point (point_at offsets slot) (x_axis values) (z_axis values))) _
+    (in_range_other (changed_point (point_at offsets slot) (x_axis values) (z_axis values))) (λ to. tt))
+
+set_number_other : (cycle : Option Point) (r : Result (Slot × Point) OffsetFault) → IsOtherOffset r
+    → IsOtherError itself (offset_number (set_motion cycle r))
+set_number_other cycle (Ok set) other = tt
+set_number_other cycle (Err f) other = other
+
+-- the motion of a block
+pub motion_other : (fixed : Fixed) (path : PathView) (modal : ModalView) (k : CodeKind) (has_l : Bool) (values : Values)
+    → IsOtherError itself (motion_of fixed path modal k has_l values)
+motion_other fixed path modal kind.Dwell has_l values = tt
+motion_other fixed path modal kind.Setting has_l values =
+    set_number_other modal.cycle (setting_of path.offsets has_l values) (setting_other path.offsets has_l values)
+motion_other fixed path modal k has_l values =
+    let block : BlockMotion = block_motion fixed path modal values in
+    motion_number_other (cut_motion (cycle_kind_of k) k modal.cycle block) (cut_other (cycle_kind_of k) k modal.cycle block)

@@ -1,0 +1,125 @@
+-- No statement raises the alarm of waits that differ.
+use Rattle.std.proofs.Common.{ℕ, List, Option, Some, None, Result, Ok, Err, ℤ, pos, negsuc, refl, if◌then◌else◌}
+use Rattle.nc_number.specs.declared.cause.Cause.{Cause}
+use Rattle.nc_number.specs.declared.cause.Cause.TheVariants.{PositionRange}
+use Rattle.nc_number.specs.declared.point.Point.{Point}
+use Rattle.nc_number.specs.declared.value.Var.{Var}
+use Rattle.nc_number.specs.Position.{is_position}
+use Rattle.common_vars.specs.declared.variable.Variable.{Variable}
+use Rattle.common_vars.specs.declared.variable.Variable.TheVariants as variable
+use Rattle.common_vars.specs.Variables.{variable_of}
+use Rattle.offset_store.specs.declared.slot.Slot.{Slot}
+use Rattle.offset_store.specs.declared.slot.Slot.TheVariants.{Work}
+use Rattle.offset_store.specs.declared.fault.OffsetFault.{OffsetFault}
+use Rattle.offset_store.specs.Changes.{in_range, point_at}
+use Rattle.offset_store.specs.Faults.{fault}
+use Rattle.block_order.specs.declared.program.ControlProgram.{ControlProgram}
+use Rattle.macro_expr.specs.Tree.{Tree, Named, Fixed as Numbered, Computed, Test, Aim, ToNumber, ToNumberOf, Sentence, Assign, Goto, IfGoto, IfThen, WhileDo, DoOnly, EndLoop}
+use Rattle.macro_eval.specs.Meaning.{whole_number, variable_number}
+use Rattle.path_state.specs.View.{Fixed, PathView}
+use Rattle.path_state.specs.Outcomes.{Outcome, ◌>>=◌, evaluated}
+use Rattle.path_state.specs.Places.{Standing, jumped, loop_left, loop_again}
+use Rattle.path_state.specs.Statements.{After, standing_of, existing, number_named, length_of, along, with_offset, written_path, written, named, assigned, tested, sequence_number, aimed, moved, gone_to, gone_next, assigned_next, statement_effect}
+use Rattle.two_path.proofs.NoCrossing.{IsOtherError, IsOtherCause, IsOtherAlarm, either, alarm_behind, none_other, whole_number_other, variable_number_other, tree_other}
+use Rattle.two_path.proofs.NoCrossingPlaces.{jumped_other, left_other, again_other}
+
+abbrev pub offset_alarm : OffsetFault → ℕ
+offset_alarm f = f.number
+
+-- a point that an offset may have
+pub in_range_other : (to : Point) → IsOtherError offset_alarm (in_range to)
+in_range_other to =
+    either (λ (r : Result Point OffsetFault). IsOtherError offset_alarm r) (is_position to) (Ok to) (Err (fault PositionRange)) tt refl
+
+existing_other : (v : Option Variable) → IsOtherCause (existing v)
+existing_other None = refl
+existing_other (Some v) = tt
+
+number_named_other : (n : Result ℕ Cause) → IsOtherCause n → IsOtherCause (number_named n)
+number_named_other (Ok n) other = existing_other (variable_of n)
+number_named_other (Err cause) other = other
+
+sequence_other : (n : Result ℤ Cause) → IsOtherCause n → IsOtherCause (sequence_number n)
+sequence_other (Ok (pos n)) other = tt
+sequence_other (Ok (negsuc n)) other = refl
+sequence_other (Err cause) other = other
+
+module _ (fixed : Fixed) (path : PathView) where
+  named_other : (name : Named) (reads : List Var) → IsOtherAlarm (named fixed path name reads)
+  named_other (Numbered n) reads = none_other (existing (variable_of n)) (existing_other (variable_of n)) reads
+  named_other (Computed tree) reads =
+      alarm_behind (evaluated fixed path tree reads) _ (tree_other fixed path tree reads)
+      (λ value left. none_other (number_named (variable_number value))
+      (number_named_other (variable_number value) (variable_number_other value)) left)
+
+  offset_other : (slot : Slot) (to : Result Point OffsetFault) → IsOtherError offset_alarm to → (left : List Var)
+      → IsOtherAlarm (written_path (with_offset path slot to) left)
+  offset_other slot (Ok to) other left = tt
+  offset_other slot (Err f) other left = other
+
+  written_other : (v : Variable) (value : Var) (left : List Var) → IsOtherAlarm (written fixed path v value left)
+  written_other (variable.Local i) value left = tt
+  written_other (variable.Common v) value left = tt
+  written_other (variable.Work n axis) value left =
+      let to : Point = along axis (length_of value) (point_at path.offsets (Work n)) in
+      offset_other (Work n) (in_range to) (in_range_other to) left
+  written_other variable.Raise value left = refl
+  written_other _ value left = refl
+
+  assigned_other : (name : Named) (tree : Tree) (reads : List Var) → IsOtherAlarm (assigned fixed path name tree reads)
+  assigned_other name tree reads =
+      alarm_behind (named fixed path name reads) _ (named_other name reads)
+      (λ v behind_name. alarm_behind (evaluated fixed path tree behind_name) _ (tree_other fixed path tree behind_name)
+      (λ value left. written_other v value left))
+
+  assigned_next_other : (name : Named) (tree : Tree) (reads : List Var)
+      → IsOtherAlarm (assigned_next fixed path name tree reads)
+  assigned_next_other name tree reads =
+      alarm_behind (assigned fixed path name tree reads) _ (assigned_other name tree reads) (λ after left. tt)
+
+  tested_other : (test : Test) (reads : List Var) → IsOtherAlarm (tested fixed path test reads)
+  tested_other test reads =
+      alarm_behind (evaluated fixed path test.left reads) _ (tree_other fixed path test.left reads)
+      (λ left behind_left. alarm_behind (evaluated fixed path test.right behind_left) _
+      (tree_other fixed path test.right behind_left) (λ right rest. tt))
+
+  aimed_other : (aim : Aim) (reads : List Var) → IsOtherAlarm (aimed fixed path aim reads)
+  aimed_other (ToNumber n) reads = tt
+  aimed_other (ToNumberOf tree) reads =
+      alarm_behind (evaluated fixed path tree reads) _ (tree_other fixed path tree reads)
+      (λ value left. none_other (sequence_number (whole_number value))
+      (sequence_other (whole_number value) (whole_number_other value)) left)
+
+  moved_other : (to : Result Standing Cause) → IsOtherCause to → (left : List Var) → IsOtherAlarm (moved path to left)
+  moved_other (Ok to) other left = tt
+  moved_other (Err cause) other left = other
+
+  gone_to_other : (tape : List ControlProgram) (aim : Aim) (reads : List Var)
+      → IsOtherAlarm (gone_to tape fixed path aim reads)
+  gone_to_other tape aim reads =
+      alarm_behind (aimed fixed path aim reads) _ (aimed_other aim reads)
+      (λ n left. moved_other (jumped tape (standing_of path) n) (jumped_other tape (standing_of path) n) left)
+
+  -- by what a condition comes to
+  test_other : (test : Test) (reads : List Var) (one other : List Var → Outcome After)
+      → ((left : List Var) → IsOtherAlarm (one left)) → ((left : List Var) → IsOtherAlarm (other left))
+      → IsOtherAlarm (tested fixed path test reads >>= λ holds left. if holds then one left else other left)
+  test_other test reads one other first second =
+      alarm_behind (tested fixed path test reads) _ (tested_other test reads)
+      (λ holds left. either (λ (step : Outcome After). IsOtherAlarm step) holds (one left) (other left) (first left) (second left))
+
+  -- a statement
+  pub statement_other : (tape : List ControlProgram) (sentence : Sentence) (reads : List Var)
+      → IsOtherAlarm (statement_effect tape fixed path sentence reads)
+  statement_other tape (Assign name tree) reads = assigned_next_other name tree reads
+  statement_other tape (Goto aim) reads = gone_to_other tape aim reads
+  statement_other tape (IfGoto test aim) reads =
+      test_other test reads (gone_to tape fixed path aim) (gone_next path) (gone_to_other tape aim) (λ left. tt)
+  statement_other tape (IfThen test name tree) reads =
+      test_other test reads (assigned_next fixed path name tree) (gone_next path) (assigned_next_other name tree) (λ left. tt)
+  statement_other tape (WhileDo test name) reads =
+      test_other test reads (gone_next path) (λ left. moved path (loop_left tape (standing_of path)) left) (λ left. tt)
+      (moved_other (loop_left tape (standing_of path)) (left_other tape (standing_of path)))
+  statement_other tape (DoOnly name) reads = tt
+  statement_other tape (EndLoop name) reads =
+      moved_other (loop_again tape (standing_of path)) (again_other tape (standing_of path)) reads

@@ -1,0 +1,5 @@
+use Rattle.two_path.proofs.NoCrossingBlocks.{raises_none}
+use Rattle.two_path.proofs.laws.no_block_says_that_waits_differ.Goals as goal
+
+pub returns : goal.returns
+returns c = raises_none

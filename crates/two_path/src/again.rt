@@ -1,0 +1,159 @@
+//! A record that is done again, over the path's own part, the other's, and what both have in common.
+ghost use Rattle.std.specs.Prelude.{◌≡◌, ◌≤◌, ◌<◌, ◌||◌, is_some, OnOk, OnErr, IfOk};
+ghost use Rattle.path_state.specs.Effect.{effect_of};
+ghost use Rattle.two_path.specs.Machine.{part_without_reads};
+ghost use Rattle.two_path.specs.Turns.{blocks_of};
+ghost use Rattle.two_path.specs.Histories.{is_idle};
+ghost use Rattle.two_path.specs.Joined.{machine_of, AreShared, IsLasting};
+ghost use Rattle.two_path.specs.Again.{AreReady, variable_due, kind_at_wait, kind_of_effect, IsReadAgain, IsUnread, HasRead, MayNotRead, IsFit, IsUnfit, IsStepDone, IsStepRefused};
+
+use crate::joint::Joint;
+use crate::part::Part;
+use crate::turn::Turn;
+use crate::turning::run_block;
+use path_state::{
+    Advance, a_block_asks_for_each_variable_once_at_most, control_goes_as_the_flow_orders,
+};
+use run_records::{Entry, EntryKind};
+use tape_flow::Flow;
+use thiserror::Error;
+
+/// The record can't follow those before it.
+#[derive(Clone, Copy, Debug, PartialEq, Eq, Error)]
+#[error("not legal")]
+pub struct Illegal;
+
+/// The variable that the block reads with this stamp, where it asks for one and the stamp is in order.
+fn variable_due(me: &Part, flow: &Flow, lowest: u32, highest: u32, stamp: u32) -> Option<u32>
+    ensures { result ≡ variable_due lowest highest stamp (effect_of flow.now me.now.path me.now.values) }
+{
+    if stamp < lowest || stamp > highest {
+        return None;
+    }
+    match me.peek(flow) {
+        Advance::Need(variable) => Some(variable),
+        _ => None,
+    }
+}
+
+/// The block reads once more: what the variable that it asks for was after so many records.
+fn read_again(
+    me: &mut Part,
+    joint: &Joint,
+    flow: &Flow,
+    lowest: u32,
+    stamp: u32,
+) -> Result<(), Illegal>
+    requires shared { AreShared me.old joint.now }
+    ensures read { OnOk result (IsReadAgain (blocks_of flow.now) joint.now lowest stamp me.old me.new) }
+    ensures refused { OnErr result (IsUnread (blocks_of flow.now) joint.now lowest stamp me.old me.new) }
+{
+    a_block_asks_for_each_variable_once_at_most();
+    let Some(variable) = variable_due(me, flow, lowest, joint.count(), stamp) else {
+        return Err(Illegal);
+    };
+    me.read(joint.at(stamp, variable), stamp);
+    Ok(())
+}
+
+/// The block reads again what these stamps stand for, up to the first that is not legal.
+fn read_all_again(me: &mut Part, joint: &Joint, flow: &Flow, stamps: &[u32]) -> Result<(), Illegal>
+    requires shared { AreShared me.old joint.now }
+    requires no_reads { part_without_reads me.old ≡ me.old }
+    ensures read { OnOk result (HasRead (blocks_of flow.now) joint.now stamps.now me.old me.new) }
+    ensures refused { OnErr result (MayNotRead (blocks_of flow.now) joint.now stamps.now me.old me.new) }
+{
+    let mut lowest = me.since();
+    for stamp in stamps {
+        read_again(me, joint, flow, lowest, *stamp)?;
+        lowest = *stamp;
+    }
+    Ok(())
+}
+
+/// The kind of the record of a path at a wait, where the other waits at this code, or not.
+fn kind_at_wait(code: u16, other: Option<u16>) -> EntryKind
+    ensures { result ≡ kind_at_wait code other }
+{
+    match other {
+        None => EntryKind::Arrived,
+        Some(there) => if code == there {
+            EntryKind::Met
+        } else {
+            EntryKind::Alarmed
+        },
+    }
+}
+
+/// The kind of the record that the block would make, with what it has read.
+fn kind_due(me: &Part, other: &Part, flow: &Flow) -> Option<EntryKind>
+    ensures { result ≡ kind_of_effect (effect_of flow.now me.now.path me.now.values) other.now.waiting }
+{
+    match me.peek(flow) {
+        Advance::Need(_) => None,
+        Advance::Effect { .. } => Some(EntryKind::Did),
+        Advance::AtWait(code) => Some(kind_at_wait(code, other.waiting())),
+        Advance::AtEnd { .. } => Some(EntryKind::Ended),
+        Advance::Alarm { .. } => Some(EntryKind::Alarmed),
+    }
+}
+
+/// Whether a turn of the path would do nothing.
+fn is_still(me: &Part, joint: &Joint) -> bool
+    ensures { result ≡ (is_some joint.now.alarm || is_idle me.now) }
+{
+    joint.alarm().is_some() || me.finished() || me.waiting().is_some()
+}
+
+/// The block reads again what the record's stamps stand for, and would then make that record.
+fn fits(
+    me: &mut Part,
+    other: &Part,
+    joint: &Joint,
+    flow: &Flow,
+    entry: &Entry,
+) -> Result<(), Illegal>
+    requires shared { AreShared me.old joint.now }
+    requires no_reads { part_without_reads me.old ≡ me.old }
+    ensures fit { OnOk result (IsFit (blocks_of flow.now) entry.now other.now joint.now me.old me.new) }
+    ensures refused { OnErr result (IsUnfit (blocks_of flow.now) entry.now other.now joint.now me.old me.new) }
+{
+    if is_still(me, joint) {
+        return Err(Illegal);
+    }
+    read_all_again(me, joint, flow, entry.stamps.as_slice())?;
+    if kind_due(me, other, flow) == Some(entry.kind) {
+        Ok(())
+    } else {
+        Err(Illegal)
+    }
+}
+
+/// Does the record again: the path's block reads what its stamps stand for, and runs.
+pub(crate) fn do_again(
+    me: &mut Part,
+    other: &mut Part,
+    joint: &mut Joint,
+    flow: &Flow,
+    other_flow: &Flow,
+    entry: &Entry,
+) -> Result<Turn, Illegal>
+    requires room { 0 < joint.old.shared.room }
+    requires few { joint.old.count ≤ 4000000 }
+    requires ready { AreReady flow.now.order other_flow.now.order me.old other.old joint.old }
+    ensures done { IfOk result (λ turn. IsStepDone (blocks_of flow.now) entry.now.path entry.now.kind entry.now.stamps
+        (machine_of me.old other.old joint.old) (machine_of me.new other.new joint.new) turn) }
+    ensures refused { OnErr result (IsStepRefused (blocks_of flow.now) entry.now.path entry.now.kind entry.now.stamps
+        (machine_of me.old other.old joint.old) (machine_of me.new other.new joint.new)) }
+    ensures lasting { IsLasting joint.old joint.new }
+    ensures ready { AreReady flow.now.order other_flow.now.order me.new other.new joint.new }
+{
+    control_goes_as_the_flow_orders();
+    match fits(me, other, joint, flow, entry) {
+        Ok(()) => Ok(run_block(me, other, joint, flow, other_flow, entry.path).turn),
+        Err(illegal) => {
+            me.forget();
+            Err(illegal)
+        }
+    }
+}
