@@ -1,0 +1,90 @@
+//! Moves as text, in the notation of the report, so that a table of tests has them written out by hand.
+use nc_number::{Point, Value, length_text, text};
+use nc_outside::{Centre, Move};
+use std::alloc::AllocError;
+
+pub(crate) fn put_value(out: &mut String, value: Value) -> Result<(), AllocError> {
+    let mut room = [0; 24];
+    let length = text(value, &mut room);
+    put_bytes(out, &room[..length])
+}
+
+fn put_length(out: &mut String, length: i64) -> Result<(), AllocError> {
+    let mut room = [0; 24];
+    let length = length_text(length, &mut room);
+    put_bytes(out, &room[..length])
+}
+
+fn put_bytes(out: &mut String, bytes: &[u8]) -> Result<(), AllocError> {
+    for byte in bytes {
+        out.push(char::from(*byte))?;
+    }
+    Ok(())
+}
+
+pub(crate) fn put_point(out: &mut String, to: Point) -> Result<(), AllocError> {
+    out.push_str(" X")?;
+    put_length(out, to.x)?;
+    out.push_str(" Z")?;
+    put_length(out, to.z)
+}
+
+fn put_feed(out: &mut String, feed: Value, per_rev: bool) -> Result<(), AllocError> {
+    out.push_str(" F")?;
+    put_value(out, feed)?;
+    out.push_str(if per_rev { " rev" } else { " min" })
+}
+
+fn put_centre(out: &mut String, centre: Centre) -> Result<(), AllocError> {
+    match centre {
+        Centre::Offset { i, k } => {
+            out.push_str(" I")?;
+            put_length(out, i)?;
+            out.push_str(" K")?;
+            put_length(out, k)
+        }
+        Centre::Radius { r } => {
+            out.push_str(" R")?;
+            put_length(out, r)
+        }
+    }
+}
+
+/// A move that leads somewhere, or a setting of the machine.
+pub(crate) fn put_move(out: &mut String, what: &Move) -> Result<(), AllocError> {
+    match *what {
+        Move::Rapid { to } => {
+            out.push_str("rapid")?;
+            put_point(out, to)
+        }
+        Move::Feed { to, feed, per_rev } => {
+            out.push_str("feed")?;
+            put_point(out, to)?;
+            put_feed(out, feed, per_rev)
+        }
+        Move::Thread { to, lead } => {
+            out.push_str("thread")?;
+            put_point(out, to)?;
+            out.push_str(" F")?;
+            put_value(out, lead)
+        }
+        Move::Arc {
+            clockwise,
+            to,
+            centre,
+            feed,
+            per_rev,
+        } => {
+            out.push_str(if clockwise { "cw" } else { "ccw" })?;
+            put_point(out, to)?;
+            put_centre(out, centre)?;
+            put_feed(out, feed, per_rev)
+        }
+        Move::Dwell { ms } => write!(out, "dwell {ms}"),
+        Move::Speed { surface: true, s } => write!(out, "speed G96 S{s}"),
+        Move::Speed { surface: false, s } => write!(out, "speed G97 S{s}"),
+        Move::Limit { s } => write!(out, "limit S{s}"),
+        Move::Tool { t } => write!(out, "tool T{t:04}"),
+        Move::Aux { m } => write!(out, "aux M{m:02}"),
+    }
+}
