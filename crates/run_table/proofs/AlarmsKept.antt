@@ -1,0 +1,70 @@
+-- The alarm of a machine behind a turn, and what the turn shows.
+use Rattle.std.proofs.Common.{◌≡◌, ℕ, ◌==◌, Bool, true, false, List, length, refl, Option, Some, None}
+use Rattle.nc_number.specs.declared.path.Path.{Path}
+use Rattle.nc_number.specs.declared.path.Path.TheVariants.{One, Two}
+use Rattle.nc_outside.specs.declared.halt.Alarm.{Alarm}
+use Rattle.path_state.specs.Effect.{Effect, Need, Done, AtWait, AtEnd}
+use Rattle.path_state.specs.Effect as effect
+use Rattle.two_path.specs.declared.turn.Turn.{Turn}
+use Rattle.two_path.specs.declared.turn.Turn.TheVariants as turn
+use Rattle.two_path.specs.Machine.{MachineView, own_first}
+use Rattle.two_path.specs.Turns.{Blocks, Tapes, TurnResult, result_at_wait, result_by, unless_idle, block_turn, own_turn, turn_of, kind_of, entry_with}
+use Rattle.two_path.specs.Histories.{list_of}
+use Rattle.run_table.specs.Stepping.{is_shown}
+
+-- the alarm that a turn answers, or the one from before
+abbrev pub alarm_behind : Option Alarm → Turn → Option Alarm
+alarm_behind before (turn.Alarm alarm) = Some alarm
+alarm_behind before (turn.Read variable stamp) = before
+alarm_behind before (turn.Did moves) = before
+alarm_behind before (turn.Arrived code) = before
+alarm_behind before (turn.Met code) = before
+alarm_behind before (turn.Ended moves) = before
+alarm_behind before (turn.Waiting code) = before
+alarm_behind before turn.Finished = before
+alarm_behind before (turn.Halted alarm) = before
+
+wait_alarm : (path : Path) (line : ℕ) (m : MachineView) (code : ℕ) (o : Option ℕ)
+    → (result_at_wait path line m code o).machine.alarm ≡ alarm_behind m.alarm (result_at_wait path line m code o).turn
+wait_alarm path line m code None = refl
+wait_alarm path line m code (Some there) = go (code == there) refl
+  where
+    go : (b : Bool) → (code == there) ≡ b → (result_at_wait path line m code (Some there)).machine.alarm ≡ alarm_behind m.alarm (result_at_wait path line m code (Some there)).turn
+    go true e = rw e refl
+    go false e = rw e refl
+
+by_alarm : (path : Path) (line : ℕ) (m : MachineView) (e : Effect)
+    → (result_by path line m e).machine.alarm ≡ alarm_behind m.alarm (result_by path line m e).turn
+by_alarm path line m (Need variable) = refl
+by_alarm path line m (Done after write moves) = refl
+by_alarm path line m (AtWait code) = wait_alarm path line m code m.second.waiting
+by_alarm path line m (AtEnd after moves) = refl
+by_alarm path line m (effect.Alarm number value) = refl
+
+idle_alarm : (m : MachineView) (a : Option Alarm) (f : Bool) (w : Option ℕ) (rest : TurnResult) → rest.machine.alarm ≡ alarm_behind m.alarm rest.turn
+    → (unless_idle m a f w rest).machine.alarm ≡ alarm_behind m.alarm (unless_idle m a f w rest).turn
+idle_alarm m (Some alarm) f w rest is = refl
+idle_alarm m None true w rest is = refl
+idle_alarm m None false (Some code) rest is = refl
+idle_alarm m None false None rest is = is
+
+own_alarm : (blocks : Blocks) (path : Path) (m : MachineView) → (own_turn blocks path m).machine.alarm ≡ alarm_behind m.alarm (own_turn blocks path m).turn
+own_alarm blocks path m =
+    idle_alarm m m.alarm m.first.finished m.first.waiting (block_turn blocks path m)
+    (by_alarm path (blocks.line m.first.path.place) m (blocks.effect m.first.path m.first.values))
+
+pub turn_alarm : (tapes : Tapes) (path : Path) (m : MachineView) → (turn_of tapes path m).machine.alarm ≡ alarm_behind m.alarm (turn_of tapes path m).turn
+turn_alarm tapes One m = own_alarm tapes.first One m
+turn_alarm tapes Two m = own_alarm tapes.second Two (own_first Two m)
+
+-- what shows something has a record
+pub shown_made : (path : Path) (stamps : List ℕ) (t : Turn) → is_shown t ≡ true → length (list_of (entry_with path stamps (kind_of t))) ≡ 1
+shown_made path stamps (turn.Read variable stamp) shown = absurd cc
+shown_made path stamps (turn.Did moves) shown = refl
+shown_made path stamps (turn.Arrived code) shown = refl
+shown_made path stamps (turn.Met code) shown = refl
+shown_made path stamps (turn.Ended moves) shown = refl
+shown_made path stamps (turn.Waiting code) shown = absurd cc
+shown_made path stamps turn.Finished shown = absurd cc
+shown_made path stamps (turn.Alarm alarm) shown = refl
+shown_made path stamps (turn.Halted alarm) shown = absurd cc

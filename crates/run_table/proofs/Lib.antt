@@ -1,0 +1,6 @@
+mod AlarmsKept
+mod JournalsOn
+mod OtherGoesOn
+mod StepsTaken
+mod TablesBegin
+mod TablesKept

@@ -1,0 +1,149 @@
+-- Records that are added, and a flush behind them, as one call.
+use Rattle.std.proofs.Common.{rules, ◌≡◌, ℕ, ◌+◌, ◌≤◌, ◌<◌, Bool, true, false, List, [], ◌++◌, length, drop, refl, sym, ◌∙◌, ap, subst, arith, length-append, append-nil, ◌==◌, ◌||◌, Option, Some}
+use Rattle.std.specs.Prelude.{IsTrue, nat_lt}
+use Rattle.disk_model.specs.Device.{DiskState, IsCoherent, Reads, Rose}
+use Rattle.disk_model.specs.Moments.{LeavesOnly, Uses}
+use Rattle.disk_model.proofs.Runs.{no_call, uses_none}
+use Rattle.gate_file.specs.Gate.{Gate}
+use Rattle.run_records.specs.declared.entry.Entry.{Entry}
+use Rattle.run_records.specs.declared.header.Header.{Header}
+use Rattle.run_journal.specs.Batches.{batch_bytes}
+use Rattle.nc_number.specs.declared.path.Path.{Path}
+use Rattle.nc_outside.specs.declared.halt.Halt.{Halt}
+use Rattle.two_path.specs.declared.turn.Turn.{Turn}
+use Rattle.run_table.specs.declared.answer.TableStep.{TableStep}
+use Rattle.run_table.specs.declared.answer.TableStep.TheVariants.{DiskFault, Halted}
+use Rattle.run_table.specs.Kept.{TableView}
+use Rattle.run_table.specs.Stepping.{Answers, is_shown, is_due, step_by, step_of, bound_of, IsStep}
+use Rattle.run_table.specs.Stepping.Answers.{at_once, flushed, failed}
+use Rattle.run_table.specs.Recording.{RecordingView, StandsForPrefix, Records, IsNoted}
+
+-- no call of the disk
+pub noted_only : {D : Type 0} (state : D → DiskState) (made : List Entry) (old new : RecordingView D)
+    → ((disk : D) → IsCoherent (state disk)) → IsNoted state made old new → Records state made old new
+noted_only state made old new coherent noted = record {
+  history = noted.history;
+  room = noted.room;
+  journal = λ header j.
+      let k = noted.journal header j in
+      record {
+        journaled = k;
+        any_moment = λ bytes reads.
+            let here : LeavesOnly (StandsForPrefix header new.flushed new.history) (state old.log.file.disk) (state old.log.file.disk) =
+            no_call (StandsForPrefix header new.flushed new.history) (state old.log.file.disk) (coherent old.log.file.disk)
+            (subst (λ (f : Gate _). (c : List ℕ) → (state f.disk).image c → StandsForPrefix header new.flushed new.history c) noted.file
+            (k.left bytes (subst (λ (f : Gate _). Reads (state f.disk) bytes) (sym noted.file) reads))) in
+            subst (λ (f : Gate _). LeavesOnly (StandsForPrefix header old.flushed new.history) (state old.log.file.disk) (state f.disk)) (sym noted.file)
+            (subst (λ (n : ℕ). LeavesOnly (StandsForPrefix header n new.history) (state old.log.file.disk) (state old.log.file.disk)) noted.flushed here);
+      };
+  uses = subst (λ (f : Gate _). Uses 4 (old.log.file.end + length (batch_bytes (drop old.flushed new.history)) + 6) (state old.log.file.disk) (state f.disk)) (sym noted.file)
+      (uses_none 4 (old.log.file.end + length (batch_bytes (drop old.flushed new.history)) + 6) (state old.log.file.disk));
+  later = subst (λ (f : Gate _). (state old.log.file.disk).faults ≤ (state f.disk).faults) (sym noted.file) (omega arith);
+}
+
+-- nothing is done
+pub nothing : {D : Type 0} (state : D → DiskState) (r : RecordingView D) → ((disk : D) → IsCoherent (state disk)) → Records state [] r r
+nothing state r coherent =
+    noted_only state [] r r coherent (record { within = λ (some : 1 ≤ 0). absurd (omega (arith, some)); history = sym (append-nil r.history); file = refl; flushed = refl; room = refl; journal = λ header j. j })
+
+-- what is said of a start that has this file and this number of flushed records
+abbrev IsRecorded : {D : Type 0} → (D → DiskState) → Header → RecordingView D → Gate D → ℕ → Type 0
+IsRecorded state header new file count = (bytes : List ℕ) → Reads (state file.disk) bytes
+    → LeavesOnly (StandsForPrefix header count new.history) (state file.disk) (state new.log.file.disk)
+
+abbrev IsUsed : {D : Type 0} → (D → DiskState) → RecordingView D → Gate D → ℕ → Type 0
+IsUsed state new file count =
+    Uses 4 (file.end + length (batch_bytes (drop count new.history)) + 6) (state file.disk) (state new.log.file.disk)
+
+pub noted_then : {D : Type 0} (state : D → DiskState) (made : List Entry) (old mid new : RecordingView D)
+    → IsNoted state made old mid → Records state [] mid new → Records state made old new
+noted_then state made old mid new noted then = record {
+  history = then.history ∙ append-nil mid.history ∙ noted.history;
+  room = then.room ∙ noted.room;
+  journal = λ header j.
+      let k = then.journal header (noted.journal header j) in
+      record {
+        journaled = k.journaled;
+        any_moment = subst (λ (n : ℕ). IsRecorded state header new old.log.file n) noted.flushed
+            (subst (λ (f : Gate _). IsRecorded state header new f mid.flushed) noted.file k.any_moment);
+      };
+  uses = subst (λ (n : ℕ). IsUsed state new old.log.file n) noted.flushed (subst (λ (f : Gate _). IsUsed state new f mid.flushed) noted.file then.uses);
+  later = subst (λ (f : Gate _). (state f.disk).faults ≤ (state new.log.file.disk).faults) noted.file then.later;
+}
+
+-- a flush before an answer
+pub answer_flushed : {D : Type 0} (state : D → DiskState) (answer : TableStep) (old new : RecordingView D) → old.flushed ≤ length old.history
+    → new.history ≡ old.history ++ [] → new.flushed ≡ length old.history → new.log.file.live ≡ true → (old.flushed ≡ length old.history → new.log.file ≡ old.log.file)
+    → Answers state (nat_lt old.flushed (length old.history)) answer old new answer
+answer_flushed state answer old new within history all live idle = go (nat_lt old.flushed (length old.history)) refl
+  where
+    go : (b : Bool) → nat_lt old.flushed (length old.history) ≡ b → Answers state b answer old new answer
+    go true is = flushed refl refl (subst IsTrue (sym live) (search rules)) (all ∙ ap length (sym (history ∙ append-nil old.history)))
+    go false is =
+        let none : old.flushed ≡ length old.history = grind arith in
+        at_once refl refl (idle none) (all ∙ sym none)
+
+pub answer_failed : {D : Type 0} (state : D → DiskState) (answer : TableStep) (old new : RecordingView D) → old.flushed ≤ length old.history
+    → new.flushed ≡ old.flushed → IsTrue old.log.file.live → new.log.file.live ≡ false → (old.flushed ≡ length old.history → new.log.file ≡ old.log.file)
+    → Rose (state old.log.file.disk).faults (state new.log.file.disk).faults
+    → Answers state (nat_lt old.flushed (length old.history)) answer old new DiskFault
+answer_failed state answer old new within stays live dead idle rose = go (nat_lt old.flushed (length old.history)) refl
+  where
+    go : (b : Bool) → nat_lt old.flushed (length old.history) ≡ b → Answers state b answer old new DiskFault
+    go true is = failed refl refl dead stays rose
+    go false is =
+        let none : old.flushed ≡ length old.history = grind arith in
+        let still : IsTrue new.log.file.live = subst (λ (f : Gate _). IsTrue f.live) (sym (idle none)) live in
+        absurd (let clash : IsTrue false = subst IsTrue dead still in cc)
+
+-- a record, and a flush before its answer
+pub noted_answer : {D : Type 0} (state : D → DiskState) (made : List Entry) (due : Bool) (answer result : TableStep) (old mid new : RecordingView D) → IsNoted state made old mid
+    → due ≡ true → nat_lt mid.flushed (length mid.history) ≡ true → Answers state (nat_lt mid.flushed (length mid.history)) answer mid new result
+    → Answers state due answer old new result
+noted_answer state made due answer result old mid new noted is some (at_once not_due same file stays) = absurd (let clash : true ≡ false = sym some ∙ not_due in cc)
+noted_answer state made due answer result old mid new noted is some (flushed yes_due same live all) = flushed is same live all
+noted_answer state made due answer result old mid new noted is some (failed yes_due same dead stays rose) =
+    failed is same dead (stays ∙ noted.flushed)
+    (subst (λ (f : Gate _). Rose (state f.disk).faults (state new.log.file.disk).faults) noted.file rose)
+
+-- a record that shows something pends
+pub some_pends : {D : Type 0} (state : D → DiskState) (made : List Entry) (old mid : RecordingView D) → IsNoted state made old mid → length made ≡ 1
+    → nat_lt mid.flushed (length mid.history) ≡ true
+some_pends state made old mid noted one =
+    let within = noted.within (omega (arith, one)) in
+    let less : mid.flushed < length mid.history = omega (arith, within, one, noted.flushed, ap length noted.history, length-append old.history made) in
+    grind arith
+
+pub many_pend : {D : Type 0} (mid : RecordingView D) (pending : ℕ) → mid.flushed + pending ≡ length mid.history → pending ≡ 64
+    → nat_lt mid.flushed (length mid.history) ≡ true
+many_pend mid pending sum full =
+    let less : mid.flushed < length mid.history = omega (arith, sum, full) in
+    grind arith
+
+-- why it is due
+pub due_shown : {D : Type 0} (made : List Entry) (t : Turn) (old : RecordingView D) → is_shown t ≡ true → is_due old made t ≡ true
+due_shown made t old shown = rw shown refl
+
+second_true : (a b : Bool) → b ≡ true → (a || b) ≡ true
+second_true true b is = refl
+second_true false b is = is
+
+pub due_is : {D : Type 0} (state : D → DiskState) (made : List Entry) (t : Turn) (old mid : RecordingView D) (pending : ℕ) → IsNoted state made old mid
+    → pending ≡ 64 → mid.flushed + pending ≡ length mid.history → is_due old made t ≡ true
+due_is state made t old mid pending noted full sum =
+    let long : old.flushed + 64 ≡ length (old.history ++ made) = omega (arith, noted.flushed, full, sum, ap length noted.history) in
+    second_true (is_shown t) (old.flushed + 64 == length (old.history ++ made)) (grind arith)
+
+-- nothing stopped the table, so it stays as it is
+pub kept_step : {D : Type 0} (state : D → DiskState) (t : TableView D) (path : Path) (why : Halt) → t.halt ≡ Some why → ((disk : D) → IsCoherent (state disk))
+    → IsStep state (step_of t path) t t (Halted why)
+kept_step state t path why is coherent =
+    subst (λ (h : Option Halt). IsStep state (step_by t path h (bound_of t)) (record t { halt = h }) (record t { halt = h }) (Halted why)) (sym is)
+    (record {
+      answer = at_once refl refl refl refl;
+      records = nothing state t.recording coherent;
+      machine = refl;
+      budget = omega arith;
+      halt = refl;
+      verified = refl;
+    })

@@ -1,0 +1,143 @@
+-- A table that begins, anew or behind a recovery, is a table.
+use Rattle.std.proofs.Common.{◌≡◌, ℕ, ◌+◌, ◌≤◌, ◌<◌, List, [], ◌∷◌, ◌++◌, length, take, refl, sym, subst, arith, append_assoc, append-nil, Option, Some, None, Ok, Err, inl}
+use Rattle.std.specs.Prelude.{IsTrue}
+use Rattle.std.proofs.lemmas.List.{take_all}
+use Rattle.disk_model.specs.Device.{DiskState, IsCoherent}
+use Rattle.disk_model.proofs.Runs.{no_call, told_before, unwritten_none, uses_none}
+use Rattle.gate_file.specs.declared.fault.GateFault.{GateFault}
+use Rattle.gate_file.specs.declared.fault.GateFault.TheVariants.{NoMemory}
+use Rattle.nc_number.specs.declared.path.Path.{Path}
+use Rattle.nc_number.specs.declared.path.Path.TheVariants.{One, Two}
+use Rattle.nc_outside.specs.declared.halt.Alarm.{Alarm}
+use Rattle.nc_verify.specs.declared.verified.Verified.{Verified}
+use Rattle.block_order.specs.declared.program.ControlProgram.{ControlProgram}
+use Rattle.run_records.specs.declared.entry.Entry.{Entry}
+use Rattle.run_records.specs.declared.header.Header.{Header}
+use Rattle.run_records.specs.Room.{Entries}
+use Rattle.run_records.specs.Headers.{header_bytes}
+use Rattle.run_journal.specs.Beginning.{BeginsRun, IsRunBeginning}
+use Rattle.run_journal.specs.Kept.{Log, IsFresh}
+use Rattle.run_journal.specs.Stands.{Stands, Holds}
+use Rattle.path_state.specs.View.{PathView}
+use Rattle.two_path.specs.Machine.{MachineView, own_first, without_reads, opening}
+use Rattle.two_path.specs.Turns.{Tapes, tape_of, own_turn}
+use Rattle.two_path.specs.Joined.{RoomyMachine, AreAtTheirWaits}
+use Rattle.two_path.specs.Histories.{behind_entry, with_reads, IsNext, IsLegal, IsKept, Keeps, fold}
+use Rattle.run_table.specs.Recording.{RecordingView, IsJournaled}
+use Rattle.run_table.specs.Kept.{tapes_in, opening_of, IsVerdictOf, HasReason, IsTable}
+use Rattle.run_table.specs.Begun.{reason_in, recovered_table}
+use Rattle.run_table.specs.Recovered.{IsRecovered, HoldsAll}
+
+-- a path behind a record has no block reads
+bare_first : (path : Path) (m : MachineView) → without_reads (own_first path (without_reads m)) ≡ own_first path (without_reads m)
+bare_first One m = refl
+bare_first Two m = refl
+
+bare_entry : (tapes : Tapes) (e : Entry) (m : MachineView) → without_reads (behind_entry tapes e m) ≡ behind_entry tapes e m
+bare_entry tapes e m =
+    bare_first e.path (own_turn (tape_of tapes e.path) e.path (with_reads (tape_of tapes e.path) e.stamps (own_first e.path m))).machine
+
+-- a legal history keeps its fold
+legal_kept : (tapes : Tapes) (start : MachineView) → Keeps tapes start → (after before : List Entry) (now : MachineView)
+    → IsKept tapes start before now → without_reads now ≡ now → IsLegal tapes now after → IsKept tapes start (before ++ after) (fold tapes now after)
+legal_kept tapes start keeps [] before now k bare legal = subst (λ (l : List Entry). IsKept tapes start l now) (sym (append-nil before)) k
+legal_kept tapes start keeps (e ∷ after) before now k bare legal =
+    let next : IsNext tapes (without_reads now) e = subst (λ (x : MachineView). IsNext tapes x e) (sym bare) legal.0 in
+    let then : IsKept tapes start (before ++ e ∷ []) (behind_entry tapes e now) =
+    subst (λ (x : MachineView). IsKept tapes start (before ++ e ∷ []) (behind_entry tapes e x)) bare (keeps.entry before now e k next) in
+    subst (λ (l : List Entry). IsKept tapes start l (fold tapes (behind_entry tapes e now) after)) (append_assoc before (e ∷ []) after)
+    (legal_kept tapes start keeps after (before ++ e ∷ []) (behind_entry tapes e now) then (bare_entry tapes e now) legal.1)
+
+-- where the disk holds all records, the journal is that of the history
+pub all_held : {D : Type 0} (state : D → DiskState) (header : Header) (entries : List Entry) (room : ℕ) (log : Log D)
+    → ((disk : D) (header : Header) (entries : List Entry) (end : ℕ) → Holds header entries (state disk) end → (c : List ℕ) → (state disk).image c → Stands header entries c)
+    → HoldsAll state header entries log → IsJournaled state header (record { history = entries; room = room; flushed = length entries; log = log })
+all_held state header entries room log law holds =
+    let all : entries ≡ take (length entries) entries = sym (take_all (length entries) entries (omega arith)) in
+    record {
+      held = λ bytes reads live. subst (λ (l : List Entry). Holds header l (state log.file.disk) log.file.end) all (holds bytes reads);
+      left = λ bytes reads c image. (
+        length entries,
+        omega arith,
+        omega arith,
+        subst (λ (l : List Entry). Stands header l c) all (law log.file.disk header entries log.file.end (holds bytes reads) c image),
+      );
+    }
+
+-- the reason of an alarm
+alarm_reason : {D : Type 0} (m : MachineView) (r : RecordingView D) (alarm : Option Alarm) → m.alarm ≡ alarm → IsTrue r.log.file.live
+    → length r.history < r.flushed + 64 → HasReason m r (reason_in alarm)
+alarm_reason m r None is live few = record { calm = is; live = live; few = few }
+alarm_reason m r (Some alarm) is live few = (is, live)
+
+-- a table of which all is flushed
+begun_table : {D : Type 0} (state : D → DiskState) (v : Verified) (m : RoomyMachine) (entries : Entries) (log : Log D)
+    → IsKept (tapes_in v) (opening_of v) entries.items m.machine → AreAtTheirWaits v.left.order v.right.order m.machine
+    → length entries.items ≤ v.settings.records → IsFresh (length entries.items) log
+    → (header : Header) × IsVerdictOf header v × IsJournaled state header (record { history = entries.items; room = entries.room; flushed = length entries.items; log = log })
+    → IsTable state (recovered_table v m entries log)
+begun_table state v m entries log kept waits few fresh journaled = record {
+  kept = kept;
+  waits = waits;
+  few = few;
+  turns = omega arith;
+  room = λ (some : 1 ≤ 0). absurd (omega (arith, some));
+  reason = alarm_reason m.machine (record { history = entries.items; room = entries.room; flushed = length entries.items; log = log }) m.machine.alarm refl fresh.live (omega arith);
+  journaled = journaled;
+}
+
+pub recovered_is : {D : Type 0} (state : D → DiskState) (v : Verified) (m : RoomyMachine) (entries : Entries) (log : Log D) → Keeps (tapes_in v) (opening_of v)
+    → ((disk : D) (header : Header) (entries : List Entry) (end : ℕ) → Holds header entries (state disk) end → (c : List ℕ) → (state disk).image c → Stands header entries c)
+    → IsRecovered state v m.machine entries.items log → IsTable state (recovered_table v m entries log)
+recovered_is state v m entries log keeps law found =
+    let legal = legal_kept (tapes_in v) (opening_of v) keeps entries.items [] (opening_of v) keeps.opening refl found.legal in
+    let kept = subst (λ (x : MachineView). IsKept (tapes_in v) (opening_of v) entries.items x) (sym found.machine_is) legal in
+    begun_table state v m entries log kept found.waits found.few found.fresh
+    (found.stands.0, found.stands.1, all_held state found.stands.0 entries.items entries.room log law found.stands.2)
+
+-- no path of a machine that has not begun waits
+opening_waits : (left right : List ControlProgram) (first second : PathView) → AreAtTheirWaits left right (opening first second)
+opening_waits left right first second = record { first = λ code is. absurd cc; second = λ code is. absurd cc }
+
+-- a new journal is what a recovery of no record finds
+pub nothing_found : {D : Type 0} (state : D → DiskState) (v : Verified) (machine : MachineView) (entries : List Entry) (log : Log D) (header : Header)
+    → machine ≡ opening_of v → entries ≡ [] → IsFresh 0 log → IsVerdictOf header v → HoldsAll state header [] log
+    → IsRecovered state v machine entries log
+nothing_found state v machine entries log header machine_is empty fresh verdict holds =
+    let none : IsRecovered state v machine [] log = record {
+      legal = tt;
+      few = omega arith;
+      machine_is = machine_is;
+      waits = subst (λ (x : MachineView). AreAtTheirWaits v.left.order v.right.order x) (sym machine_is) (opening_waits v.left.order v.right.order _ _);
+      fresh = fresh;
+      stands = (header, verdict, holds);
+    } in
+    subst (λ (l : List Entry). IsRecovered state v machine l log) (sym empty) none
+
+-- where the journal is begun, so is the table
+module _ {A B : Type 0} (header : Header) (old new : DiskState) where
+  pub begun : (a : A) (b : B) → BeginsRun header old new (Ok a) → BeginsRun header old new (Ok b)
+  begun a b call =
+      record { held = call.held; vacant = call.vacant; refused = tt; later = call.later; any_moment = call.any_moment; uses = call.uses }
+
+  pub not_begun : (fault : GateFault) → BeginsRun {A = A} header old new (Err fault) → BeginsRun {A = B} header old new (Err fault)
+  not_begun fault call =
+      record { held = tt; vacant = tt; refused = call.refused; later = call.later; any_moment = call.any_moment; uses = call.uses }
+
+-- the disk was not touched
+pub untouched : {A : Type 0} (header : Header) (disk : DiskState) → IsCoherent disk → BeginsRun {A = A} header disk disk (Err NoMemory)
+untouched header disk coherent = record {
+  held = tt;
+  vacant = tt;
+  refused = unwritten_none disk coherent;
+  later = omega arith;
+  any_moment = λ bytes reads. no_call (IsRunBeginning disk.image header) disk coherent (λ c here. inl here);
+  uses = uses_none 12 _ disk;
+}
+
+-- the new journal holds its header and no record
+pub new_holds : {D A : Type 0} (state : D → DiskState) (header : Header) (old : DiskState) (a : A) (log : Log D)
+    → BeginsRun header old (state log.file.disk) (Ok a) → log.file.end ≡ 5 + length (header_bytes header) → HoldsAll state header [] log
+new_holds state header old a log call end bytes reads =
+    let told = told_before 12 _ old (state log.file.disk) call.uses bytes reads in
+    subst (λ (n : ℕ). Holds header [] (state log.file.disk) n) (sym end) (call.held told.0 told.1)

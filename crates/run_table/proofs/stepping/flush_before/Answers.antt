@@ -1,0 +1,15 @@
+use Rattle.std.proofs.Common.{rules, ◌≡◌, true, false}
+use Rattle.run_table.proofs.StepsTaken.{answer_flushed, answer_failed}
+use Rattle.run_table.proofs.stepping.flush_before.Goals as goal
+
+pub returns-in-Ok-clause-answer : goal.returns-in-Ok-clause-answer
+returns-in-Ok-clause-answer g c =
+    let live : c.flush.new.self.log.file.live ≡ true = search rules in
+    answer_flushed g.D.Disk.state c.args.answer c.args.recording.now c.flush.new.self c.flush.ensures.flushed.within c.flush.ensures.records.history
+    c.in-Ok.ensures.flushed.flushed live c.flush.ensures.flushed.idle
+
+pub returns-in-Err-clause-answer : goal.returns-in-Err-clause-answer
+returns-in-Err-clause-answer g c =
+    let dead : c.flush.new.self.log.file.live ≡ false = search rules in
+    answer_failed g.D.Disk.state c.args.answer c.args.recording.now c.flush.new.self c.flush.ensures.flushed.within
+    c.in-Err.ensures.flushed.stays c.requires dead c.flush.ensures.flushed.idle (search rules)

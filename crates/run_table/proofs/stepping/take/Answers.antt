@@ -1,0 +1,31 @@
+use Rattle.std.proofs.Common.{◌≡◌, true, List, length, sym, ◌∙◌}
+use Rattle.std.specs.Prelude.{nat_lt}
+use Rattle.run_records.specs.declared.entry.Entry.{Entry}
+use Rattle.two_path.specs.Histories.{list_of}
+use Rattle.run_table.specs.declared.answer.TableStep.TheVariants.{Turned as Shown}
+use Rattle.run_table.specs.Stepping.{is_due}
+use Rattle.run_table.proofs.StepsTaken.{noted_only, noted_answer, due_is, due_shown, some_pends, many_pend}
+use Rattle.run_table.proofs.stepping.take.Goals.{then-is_shown-via-then-is_shown, then-is_shown-via-else-is_shown+then-pending-eq-MOST_PENDING}
+use Rattle.run_table.proofs.stepping.take.Goals as goal
+
+pub returns-then-is_shown-clause-answer : goal.returns-then-is_shown-clause-answer
+returns-then-is_shown-clause-answer g c =
+    let d = g.D.Disk.state in
+    let made : List Entry = list_of c.args.turned.entry in
+    let both : (is_due c.args.recording.now made c.args.turned.turn ≡ true) × (nat_lt c.note.new.recording.flushed (length c.note.new.recording.history) ≡ true) =
+    elim c.then-is_shown.branch [
+      | then-is_shown-via-then-is_shown w ↦ (
+        due_shown made c.args.turned.turn c.args.recording.now (sym c.is_shown.ensures ∙ w.if-is_shown.true),
+        some_pends d made c.args.recording.now c.note.new.recording c.note.ensures.noted (c.requires.made (sym c.is_shown.ensures ∙ w.if-is_shown.true)),
+      )
+      | then-is_shown-via-else-is_shown+then-pending-eq-MOST_PENDING w ↦ (
+        due_is d made c.args.turned.turn c.args.recording.now c.note.new.recording w.pending.result c.note.ensures.noted w.if-pending-eq-MOST_PENDING.true w.pending.ensures.count,
+        many_pend c.note.new.recording w.pending.result w.pending.ensures.count w.if-pending-eq-MOST_PENDING.true,
+      )
+    ] in
+    noted_answer d made (is_due c.args.recording.now made c.args.turned.turn) (Shown c.args.turned.turn) c.flush_before.result c.args.recording.now c.note.new.recording c.flush_before.new.recording
+    c.note.ensures.noted both.0 both.1 c.flush_before.ensures.answer
+
+pub returns-clause-records : goal.returns-clause-records
+returns-clause-records g c =
+    noted_only g.D.Disk.state (list_of c.args.turned.entry) c.args.recording.now c.note.new.recording g.met.D.Disk.coherent c.note.ensures.noted

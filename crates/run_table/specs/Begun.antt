@@ -1,0 +1,64 @@
+-- How a table begins, anew or behind a recovery.
+use Rattle.std.specs.Prelude.{◌≡◌, ℕ, [], length, Option, Some, None, Result, Ok, Err, OnOk, OnErr}
+use Rattle.nc_outside.specs.declared.halt.Alarm.{Alarm}
+use Rattle.nc_outside.specs.declared.halt.Halt.{Halt}
+use Rattle.nc_outside.specs.declared.halt.Halt.TheVariants as halt
+use Rattle.gate_file.specs.declared.fault.GateFault.{GateFault}
+use Rattle.run_records.specs.Room.{Entries}
+use Rattle.run_journal.specs.Kept.{Log}
+use Rattle.nc_verify.specs.declared.verified.Verified.{Verified}
+use Rattle.two_path.specs.Joined.{RoomyMachine}
+use Rattle.run_table.specs.Kept.{TableView, opening_of}
+
+-- a table without records, with no leave to make any
+pub record IsBegun {D : Type 0} (verified : Verified) (t : TableView D) : Type 0 where
+  pub pair : t.verified ≡ verified
+  pub machine : t.machine ≡ opening_of verified
+  pub history : t.recording.history ≡ []
+  pub halt : t.halt ≡ None
+  pub budget : t.budget ≡ 0
+
+-- the disk in an answer that gives it back either way
+abbrev pub disk_in : {D : Type 0} → Result (TableView D) (D × GateFault) → D
+disk_in (Ok t) = t.recording.log.file.disk
+disk_in (Err fault) = fault.0
+
+-- the reason that an alarm is
+abbrev pub reason_in : Option Alarm → Option Halt
+reason_in None = None
+reason_in (Some alarm) = Some (halt.Alarm alarm)
+
+-- the table of what a recovery found
+abbrev pub recovered_table : {D : Type 0} → Verified → RoomyMachine → Entries → Log D → TableView D
+recovered_table verified m entries log = record {
+  verified = verified;
+  machine = m.machine;
+  turns = m.room;
+  recording = record { history = entries.items; room = entries.room; flushed = length entries.items; log = log };
+  halt = reason_in m.machine.alarm;
+  budget = 0;
+}
+
+-- The room for so many records more, and leave to make them. Where there is no memory for it there is no leave for more than before.
+pub record IsPrepared {D T E : Type 0} (n : ℕ) (old new : TableView D) (result : Result T E) : Type 0 where
+  pub budget : OnOk result (new.budget ≡ n)
+  pub stays : OnErr result (new.budget ≡ old.budget)
+  pub verified : new.verified ≡ old.verified
+  pub machine : new.machine ≡ old.machine
+  pub history : new.recording.history ≡ old.recording.history
+  pub flushed : new.recording.flushed ≡ old.recording.flushed
+  pub log : new.recording.log ≡ old.recording.log
+  pub halt : new.halt ≡ old.halt
+
+-- the first reason stays
+abbrev pub first_reason : Option Halt → Halt → Option Halt
+first_reason None why = Some why
+first_reason (Some first) why = Some first
+
+-- what is left of a table
+pub record IsLeft {D : Type 0} (t : TableView D) (verified : Verified) (m : RoomyMachine) (entries : Entries) (halt : Option Halt) (disk : D) : Type 0 where
+  pub verified_is : verified ≡ t.verified
+  pub machine : m.machine ≡ t.machine
+  pub entries_are : entries.items ≡ t.recording.history
+  pub halt_is : halt ≡ t.halt
+  pub disk_is : disk ≡ t.recording.log.file.disk

@@ -1,0 +1,66 @@
+-- What callers see of a table, and what is true of it.
+use Rattle.std.specs.Prelude.{◌≡◌, ℕ, ◌+◌, ◌≤◌, ◌<◌, false, length, map, Option, Some, None, IsTrue}
+use Rattle.disk_model.specs.Device.{DiskState}
+use Rattle.nc_number.specs.declared.path.Path.TheVariants.{One, Two}
+use Rattle.nc_outside.specs.declared.halt.Halt.{Halt}
+use Rattle.nc_outside.specs.declared.halt.Halt.TheVariants.{Alarm, Disk, Turret, Full, Budget}
+use Rattle.cell_settings.specs.View.{view}
+use Rattle.tape_flow.specs.Forms.{program_form}
+use Rattle.nc_verify.specs.declared.verified.Verified.{Verified}
+use Rattle.nc_verify.specs.Verdict.{AreAccepted}
+use Rattle.run_records.specs.declared.header.Header.{Header}
+use Rattle.path_state.specs.Opening.{opening_path}
+use Rattle.two_path.specs.Machine.{MachineView, opening}
+use Rattle.two_path.specs.Turns.{Tapes, tapes_of}
+use Rattle.two_path.specs.Joined.{AreAtTheirWaits}
+use Rattle.two_path.specs.Histories.{IsKept}
+use Rattle.run_table.specs.Recording.{RecordingView, IsJournaled}
+
+pub record TableView (D : Type 0) : Type 0 where
+  pub verified : Verified
+  pub machine : MachineView
+  pub turns : ℕ  -- for how many turns the machine has room
+  pub recording : RecordingView D
+  pub halt : Option Halt  -- why the table has stopped
+  pub budget : ℕ  -- how many records it may still make
+
+abbrev pub tapes_in : Verified → Tapes
+tapes_in verified = tapes_of verified.left verified.right
+
+-- the machine before its first turn
+abbrev pub opening_of : Verified → MachineView
+opening_of verified =
+    opening (opening_path verified.left verified.settings One) (opening_path verified.right verified.settings Two)
+
+-- the verdict of the header's three texts is this pair
+abbrev pub IsVerdictOf : Header → Verified → Type 0
+IsVerdictOf header verified =
+    AreAccepted (record { left = header.left; right = header.right; settings = header.settings }) (view verified.settings)
+    (map program_form verified.left.programs) (map program_form verified.right.programs)
+
+-- a table that has not stopped: no path has raised an alarm, the journal may be written, and the batch is not full
+pub record MayGoOn {D : Type 0} (machine : MachineView) (r : RecordingView D) : Type 0 where
+  pub calm : machine.alarm ≡ None
+  pub live : IsTrue r.log.file.live
+  pub few : length r.history < r.flushed + 64
+
+-- Why a table has stopped: for an alarm of the machine, for a fault of the disk, or as a turret was said to fail. A full journal
+-- and a spent budget are no reasons that a table keeps.
+abbrev pub HasReason : {D : Type 0} → MachineView → RecordingView D → Option Halt → Type 0
+HasReason machine r None = MayGoOn machine r
+HasReason machine r (Some (Alarm alarm)) = (machine.alarm ≡ Some alarm) × IsTrue r.log.file.live
+HasReason machine r (Some Disk) = r.log.file.live ≡ false
+HasReason machine r (Some (Turret path)) = (machine.alarm ≡ None) × IsTrue r.log.file.live
+HasReason machine r (Some Full) = ⊥
+HasReason machine r (Some Budget) = ⊥
+
+-- What is true of every table. Its machine is the fold of the legal history, with lawful block reads. There is room for what it
+-- may still record. The journal is that of some header whose texts are the pair's.
+pub record IsTable {D : Type 0} (state : D → DiskState) (t : TableView D) : Type 0 where
+  pub kept : IsKept (tapes_in t.verified) (opening_of t.verified) t.recording.history t.machine
+  pub waits : AreAtTheirWaits t.verified.left.order t.verified.right.order t.machine
+  pub few : length t.recording.history ≤ t.verified.settings.records
+  pub turns : t.budget ≤ t.turns
+  pub room : 1 ≤ t.budget → length t.recording.history + t.budget ≤ t.recording.room
+  pub reason : HasReason t.machine t.recording t.halt
+  pub journaled : (header : Header) × IsVerdictOf header t.verified × IsJournaled state header t.recording

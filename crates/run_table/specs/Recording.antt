@@ -1,0 +1,77 @@
+-- The history of a run, and the journal that holds a beginning of it.
+use Rattle.std.specs.Prelude.{◌≡◌, ℕ, ◌+◌, ◌≤◌, ◌<◌, ◌++◌, List, length, take, drop, IsTrue, Result, OnOk, OnErr, is_ok}
+use Rattle.disk_model.specs.Device.{DiskState, Reads}
+use Rattle.disk_model.specs.Moments.{LeavesOnly, Uses}
+use Rattle.run_records.specs.declared.entry.Entry.{Entry}
+use Rattle.run_records.specs.declared.header.Header.{Header}
+use Rattle.run_journal.specs.Batches.{batch_bytes}
+use Rattle.run_journal.specs.Kept.{Log}
+use Rattle.run_journal.specs.Stands.{Stands, Holds, Pends}
+
+-- the records of a run, for how many there is room, how many of them the journal has written, and the journal
+pub record RecordingView (D : Type 0) : Type 0 where
+  pub history : List Entry
+  pub room : ℕ
+  pub flushed : ℕ
+  pub log : Log D
+
+-- The history is the part that is flushed and the part that pends, which has 64 records at most.
+pub record IsGathered {D : Type 0} (r : RecordingView D) : Type 0 where
+  pub within : r.flushed ≤ length r.history
+  pub few : length r.history ≤ r.flushed + 64
+  pub pends : Pends (drop r.flushed r.history) r.log.batch
+  pub counted : r.log.count ≡ length r.history
+
+-- the image stands for a beginning of the history, of so many records at least
+abbrev pub StandsForPrefix : Header → ℕ → List Entry → List ℕ → Type 0
+StandsForPrefix header least history image =
+    (n : ℕ) × (least ≤ n) × (n ≤ length history) × Stands header (take n history) image
+
+-- The disk holds the header and the flushed part of the history, until it has failed. What a crash may leave of it stands, at any
+-- time, for a beginning of the history that has the flushed part.
+pub record IsJournaled {D : Type 0} (state : D → DiskState) (header : Header) (r : RecordingView D) : Type 0 where
+  pub held : (bytes : List ℕ) → Reads (state r.log.file.disk) bytes → IsTrue r.log.file.live
+      → Holds header (take r.flushed r.history) (state r.log.file.disk) r.log.file.end
+  pub left : (bytes : List ℕ) → Reads (state r.log.file.disk) bytes
+      → (c : List ℕ) → (state r.log.file.disk).image c → StandsForPrefix header r.flushed r.history c
+
+-- What a call keeps of the journal of a run with this header. A crash at any moment of the call leaves a beginning of the history
+-- that has all that was flushed before.
+pub record KeepsJournal {D : Type 0} (state : D → DiskState) (header : Header) (old new : RecordingView D) : Type 0 where
+  pub journaled : IsJournaled state header new
+  pub any_moment : (bytes : List ℕ) → Reads (state old.log.file.disk) bytes
+      → LeavesOnly (StandsForPrefix header old.flushed new.history) (state old.log.file.disk) (state new.log.file.disk)
+
+-- What a call does that adds these records to the history, and may flush.
+pub record Records {D : Type 0} (state : D → DiskState) (made : List Entry) (old new : RecordingView D) : Type 0 where
+  pub history : new.history ≡ old.history ++ made
+  pub room : new.room ≡ old.room
+  pub journal : (header : Header) → IsJournaled state header old → KeepsJournal state header old new
+  -- it makes four calls of the disk at most, and writes no further than the one batch of all that pends reaches
+  pub uses : Uses 4 (old.log.file.end + length (batch_bytes (drop old.flushed new.history)) + 6)
+      (state old.log.file.disk) (state new.log.file.disk)
+  pub later : (state old.log.file.disk).faults ≤ (state new.log.file.disk).faults
+
+-- these records more, which pend
+pub record IsNoted {D : Type 0} (state : D → DiskState) (made : List Entry) (old new : RecordingView D) : Type 0 where
+  pub within : 1 ≤ length made → old.flushed ≤ length old.history
+  pub history : new.history ≡ old.history ++ made
+  pub file : new.log.file ≡ old.log.file
+  pub flushed : new.flushed ≡ old.flushed
+  pub room : new.room ≡ old.room
+  pub journal : (header : Header) → IsJournaled state header old → IsJournaled state header new
+
+-- a recording to which one record more may be added
+pub record MayNote {D : Type 0} (r : RecordingView D) : Type 0 where
+  pub live : IsTrue r.log.file.live
+  pub few : length r.history < r.flushed + 64
+  pub most : length r.history < 4000000
+  pub room : length r.history < r.room
+
+-- What a flush makes of the recording: all is flushed, or the disk failed.
+pub record IsFlush {D T E : Type 0} (old new : RecordingView D) (result : Result T E) : Type 0 where
+  pub within : old.flushed ≤ length old.history
+  pub flushed : OnOk result (new.flushed ≡ length old.history)
+  pub stays : OnErr result (new.flushed ≡ old.flushed)
+  pub live : new.log.file.live ≡ is_ok result
+  pub idle : old.flushed ≡ length old.history → new.log.file ≡ old.log.file

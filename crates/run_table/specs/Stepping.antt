@@ -1,0 +1,105 @@
+-- What a step of a table comes to.
+use Rattle.std.specs.Prelude.{◌≡◌, ℕ, ◌+◌, ◌==◌, ◌||◌, not, nat_lt, Bool, true, false, List, [], ◌++◌, length, Option, Some, None, IsTrue, if◌then◌else◌}
+use Rattle.disk_model.specs.Device.{DiskState, Rose}
+use Rattle.nc_number.specs.declared.path.Path.{Path}
+use Rattle.nc_outside.specs.declared.halt.Halt.{Halt}
+use Rattle.nc_outside.specs.declared.halt.Halt.TheVariants as halt
+use Rattle.run_records.specs.declared.entry.Entry.{Entry}
+use Rattle.two_path.specs.declared.turn.Turn.{Turn}
+use Rattle.two_path.specs.declared.turn.Turn.TheVariants as turn
+use Rattle.two_path.specs.Machine.{MachineView}
+use Rattle.two_path.specs.Turns.{Tapes, TurnResult, turn_of, entry_of}
+use Rattle.two_path.specs.Histories.{list_of}
+use Rattle.run_table.specs.declared.answer.TableStep.{TableStep}
+use Rattle.run_table.specs.declared.answer.TableStep.TheVariants.{Turned, DiskFault, Halted}
+use Rattle.run_table.specs.Recording.{RecordingView, Records}
+use Rattle.run_table.specs.Kept.{TableView, tapes_in}
+
+-- what a turn shows: moves, that a path waits, goes on or has ended, or an alarm; a block without moves shows nothing
+abbrev pub is_shown : Turn → Bool
+is_shown (turn.Read variable stamp) = false
+is_shown (turn.Did moves) = not (length moves.list == 0)
+is_shown (turn.Arrived code) = true
+is_shown (turn.Met code) = true
+is_shown (turn.Ended moves) = true
+is_shown (turn.Waiting code) = false
+is_shown turn.Finished = false
+is_shown (turn.Alarm alarm) = true
+is_shown (turn.Halted alarm) = false
+
+-- why no turn comes though nothing stopped the table: it has as many records as it may have, or no budget is left
+abbrev pub bound_of : {D : Type 0} → TableView D → Option Halt
+bound_of t =
+    if length t.recording.history == t.verified.settings.records then Some halt.Full
+    else if t.budget == 0 then Some halt.Budget
+    else None
+
+-- what a step comes to where the disk does not fail: its answer, the machine and the records that it makes, and whether all
+-- records are to be on the disk before the answer
+pub record StepResult : Type 0 where
+  pub answer : TableStep
+  pub machine : MachineView
+  pub made : List Entry
+  pub due : Bool
+
+-- all records are to be on the disk before an answer that shows something, and at 64 that pend
+abbrev pub is_due : {D : Type 0} → RecordingView D → List Entry → Turn → Bool
+is_due r made turn = is_shown turn || r.flushed + 64 == length (r.history ++ made)
+
+abbrev pub turn_step : {D : Type 0} → TableView D → TurnResult → List Entry → StepResult
+turn_step t result made = record {
+  answer = Turned result.turn;
+  machine = result.machine;
+  made = made;
+  due = is_due t.recording made result.turn;
+}
+
+-- a reason that is kept goes before a full journal, that before a spent budget, and each of them before a turn
+abbrev pub step_by : {D : Type 0} → TableView D → Path → Option Halt → Option Halt → StepResult
+step_by t path (Some why) bound = record { answer = Halted why; machine = t.machine; made = []; due = false }
+step_by t path None (Some why) = record {
+  answer = Halted why;
+  machine = t.machine;
+  made = [];
+  due = nat_lt t.recording.flushed (length t.recording.history);
+}
+step_by t path None None =
+    turn_step t (turn_of (tapes_in t.verified) path t.machine) (list_of (entry_of (tapes_in t.verified) path t.machine))
+
+abbrev pub step_of : {D : Type 0} → TableView D → Path → StepResult
+step_of t path = step_by t path t.halt (bound_of t)
+
+-- The answer that comes where the disk does not fail, with all records flushed before it where that is due, or a fault of the disk,
+-- which failed in that.
+pub data Answers {D : Type 0} (state : D → DiskState) (due : Bool) (answer : TableStep) (old new : RecordingView D) (result : TableStep) : Type 0 where
+  at_once : due ≡ false → result ≡ answer → new.log.file ≡ old.log.file → new.flushed ≡ old.flushed
+      → Answers state due answer old new result
+  flushed : due ≡ true → result ≡ answer → IsTrue new.log.file.live → new.flushed ≡ length new.history
+      → Answers state due answer old new result
+  failed : due ≡ true → result ≡ DiskFault → new.log.file.live ≡ false → new.flushed ≡ old.flushed
+      → Rose (state old.log.file.disk).faults (state new.log.file.disk).faults → Answers state due answer old new result
+
+-- the reason that a table keeps of an answer, where it kept none before
+abbrev pub reason_of : TableStep → Option Halt
+reason_of (Turned (turn.Alarm alarm)) = Some (halt.Alarm alarm)
+reason_of (Turned _) = None
+reason_of DiskFault = Some halt.Disk
+reason_of (Halted why) = None
+
+abbrev pub reason_behind : Option Halt → TableStep → Option Halt
+reason_behind (Some why) answer = Some why
+reason_behind None answer = reason_of answer
+
+-- What a step does to the table. Where the disk failed the records that it made are among those that pend.
+pub record IsStep {D : Type 0} (state : D → DiskState) (step : StepResult) (old new : TableView D) (result : TableStep) : Type 0 where
+  pub answer : Answers state step.due step.answer old.recording new.recording result
+  pub records : Records state step.made old.recording new.recording
+  pub machine : new.machine ≡ step.machine
+  pub budget : new.budget + length step.made ≡ old.budget
+  pub halt : new.halt ≡ reason_behind old.halt result
+  pub verified : new.verified ≡ old.verified
+
+-- the path's turn is that of a block
+pub record GoesOn (tapes : Tapes) (path : Path) (m : MachineView) : Type 0 where
+  pub waits : (code : ℕ) → (turn_of tapes path m).turn ≡ turn.Waiting code → ⊥
+  pub ended : (turn_of tapes path m).turn ≡ turn.Finished → ⊥

@@ -1,0 +1,18 @@
+//! The table of a run: the accepted pair, the machine, the history with its journal, and why it
+//! stopped.
+//!
+//! A step is one turn of a path. Its record joins the history, and what the step shows to the
+//! outside, as moves for a turret, is answered only once all records are on the disk. The machine
+//! is the fold of the history at any time, and what a crash may leave stands for a beginning of it
+//! that has all that was flushed. The layer above leans on that, whatever the disk.
+#![tactic(auto)]
+
+mod answer;
+mod laws;
+mod recording;
+mod stepping;
+mod table;
+
+pub use answer::{Parts, TableStep};
+pub use laws::who_is_waited_for_goes_on;
+pub use table::Table;

@@ -1,0 +1,227 @@
+//! The table of a run.
+ghost use Rattle.std.specs.Prelude.{◌≡◌, ℕ, IfOk};
+ghost use Rattle.gate_file.specs.Creation.{without_disk};
+ghost use Rattle.nc_number.specs.declared.path.Path.{Path};
+ghost use Rattle.nc_number.specs.Path.{other_of};
+ghost use Rattle.nc_outside.specs.declared.halt.Halt.TheVariants as halt;
+ghost use Rattle.run_records.specs.declared.header.Header.{Header};
+ghost use Rattle.run_records.specs.Headers.{IsShort};
+ghost use Rattle.run_journal.specs.Beginning.{BeginsRun};
+ghost use Rattle.two_path.specs.declared.turn.Turn.TheVariants as turn;
+ghost use Rattle.two_path.specs.Histories.{IsKept};
+ghost use Rattle.run_table.specs.declared.answer.TableStep.TheVariants as step;
+ghost use Rattle.run_table.specs.Recording.{IsJournaled};
+ghost use Rattle.run_table.specs.Kept.{tapes_in, opening_of, IsVerdictOf};
+ghost use Rattle.run_table.specs.Stepping.{bound_of, step_of, IsStep, GoesOn};
+ghost use Rattle.run_table.specs.Begun.{IsBegun, disk_in, recovered_table, IsPrepared, first_reason, IsLeft};
+ghost use Rattle.run_table.specs.Recovered.{IsRecovered, HoldsAll};
+
+use crate::answer::{Parts, TableStep};
+use crate::laws::who_is_waited_for_goes_on;
+use crate::recording::Recording;
+use crate::stepping::{flush_before, reason_of, take};
+use disk_model::Disk;
+use gate_file::GateFault;
+use nc_number::{NoMemory, Path};
+use nc_outside::Halt;
+use nc_verify::Verified;
+use run_journal::{Journal, a_held_journal_leaves_its_records};
+use run_records::{EntryList, Header};
+use std::alloc::Global;
+use std::marker::Model;
+use two_path::{Machine, each_event_keeps_the_history, histories_are_runs};
+
+/// The table of a run: an accepted pair, the machine, the history with its journal, and why it
+/// stopped.
+///
+/// The machine is the fold of the history, which is legal. A path waits only while the other one
+/// can go on.
+#[derive(Drop)]
+pub struct Table<D: Disk> {
+    verified: Verified,
+    machine: Machine,
+    recording: Recording<D>,
+    halt: Option<Halt>,
+    budget: u32,
+}
+
+impl<D: Disk> Model for Table<D> {
+    ghost use Rattle.std.specs.Coded.{codes};
+    ghost use Rattle.nc_verify.specs.contracts.verified.Verified.{the_row};
+    ghost use Rattle.run_table.specs.Kept.{TableView, IsTable};
+
+    ghost Value = { TableView D };
+
+    ghost coded = { Prim.hlevel (codes, the_row.coded) };
+
+    ghost view = { λ t. record {
+      verified = t.verified;
+      machine = t.machine.machine;
+      turns = t.machine.room;
+      recording = t.recording;
+      halt = t.halt;
+      budget = t.budget;
+    } };
+
+    ghost invariant = { λ t. IsTable D.state (record {
+      verified = t.verified;
+      machine = t.machine.machine;
+      turns = t.machine.room;
+      recording = t.recording;
+      halt = t.halt;
+      budget = t.budget;
+    }) };
+}
+
+impl<D: Disk> Table<D> {
+    /// Begins a run of the pair on the disk, by a new journal with this header, whose three texts
+    /// were accepted. `RunThere` comes exactly where the disk has a run already. An error gives the
+    /// disk back, and unless it is `DiskFault` nothing was written.
+    pub fn begin(
+        alloc: Global,
+        verified: Verified,
+        disk: D,
+        header: &Header,
+    ) -> Result<Table<D>, (D, GateFault)>
+        requires short { IsShort header.now }
+        requires verdict { IsVerdictOf header.now verified }
+        ensures begun { BeginsRun header.now (D.state disk) (D.state (disk_in result)) (without_disk result) }
+        ensures empty { IfOk result (IsBegun verified) }
+        ensures journal { IfOk result (λ t. IsJournaled D.state header.now t.recording) }
+    {
+        let Ok(machine) = Machine::new(
+            alloc,
+            verified.left(),
+            verified.right(),
+            verified.settings(),
+        ) else {
+            return Err((disk, GateFault::NoMemory));
+        };
+        match Journal::begin(alloc, disk, header) {
+            Ok(journal) => Ok(Table::from_recovered(
+                verified,
+                machine,
+                EntryList::empty(alloc),
+                journal,
+            )),
+            Err(refused) => Err(refused),
+        }
+    }
+
+    /// The table of what one recovery found. Where the history ends with an alarm, that has stopped
+    /// it.
+    pub fn from_recovered(
+        verified: Verified,
+        machine: Machine,
+        entries: EntryList,
+        journal: Journal<D>,
+    ) -> Table<D>
+        requires { IsRecovered D.state verified machine.machine entries.items journal }
+        ensures table { result ≡ recovered_table verified machine entries journal }
+        ensures journal { (header : Header) → HoldsAll D.state header entries.items journal
+            → IsJournaled D.state header result.recording }
+    {
+        each_event_keeps_the_history();
+        a_held_journal_leaves_its_records::<D>();
+        let halt = match machine.alarm() {
+            Some(alarm) => Some(Halt::Alarm(alarm)),
+            None => None,
+        };
+        Table {
+            verified,
+            machine,
+            recording: Recording::over(entries, journal),
+            halt,
+            budget: 0,
+        }
+    }
+
+    /// Makes room for `n` records more, which take no memory then. So many may be made before the
+    /// next call of this.
+    pub fn prepare(&mut self, n: u32) -> Result<(), NoMemory>
+        ensures { IsPrepared n self.old self.new result }
+    {
+        self.machine.reserve(n as usize)?;
+        self.recording.reserve(n as usize)?;
+        self.budget = n;
+        Ok(())
+    }
+
+    /// Why no turn comes though nothing has stopped the table: its journal is full, or its budget
+    /// spent.
+    fn bound(&self) -> Option<Halt>
+        ensures { result ≡ bound_of self.now }
+    {
+        if self.recording.len() == self.verified.settings().records as usize {
+            return Some(Halt::Full);
+        }
+        if self.budget == 0 {
+            return Some(Halt::Budget);
+        }
+        None
+    }
+
+    /// One turn of the path, unless the table has stopped, its journal is full, or its budget
+    /// spent. It takes no memory.
+    ///
+    /// Its record joins the history. A block without moves shows nothing, so its record may pend.
+    /// All that pends is on the disk before an answer that shows more, before `Full` and `Budget`,
+    /// and at 64 that pend. Where the disk failed in that, the answer is `DiskFault`, and
+    /// `Halted(Disk)` from then on.
+    pub fn step(&mut self, path: Path) -> TableStep
+        ensures step { IsStep D.state (step_of self.old path) self.old self.new result }
+        // Where the path waits, the other one has a turn of a block.
+        ensures goes_on { (code : ℕ) → result ≡ step.Turned (turn.Waiting code)
+            → GoesOn (tapes_in self.new.verified) (other_of path) self.new.machine }
+    {
+        each_event_keeps_the_history();
+        histories_are_runs();
+        who_is_waited_for_goes_on();
+        if let Some(why) = self.halt {
+            return TableStep::Halted(why);
+        }
+        if let Some(why) = self.bound() {
+            let answer = flush_before(&mut self.recording, TableStep::Halted(why));
+            self.halt = reason_of(&answer);
+            return answer;
+        }
+        let turned = self
+            .machine
+            .turn(self.verified.left(), self.verified.right(), path);
+        let answer = take(&mut self.recording, &mut self.budget, turned);
+        self.halt = reason_of(&answer);
+        answer
+    }
+
+    /// Stops the table for a turret that failed, unless it has stopped already.
+    pub fn halt(&mut self, why: Halt)
+        requires { (path : Path) × (why ≡ halt.Turret path) }
+        ensures { self.new ≡ record self.old { halt = first_reason self.old.halt why } }
+    {
+        if self.halt.is_none() {
+            self.halt = Some(why);
+        }
+    }
+
+    /// What the table is made of. Records that pend are not written any more.
+    pub fn into_parts(self) -> Parts<D>
+        ensures parts { IsLeft self result.verified result.machine result.entries result.halt result.disk }
+        ensures kept { IsKept (tapes_in self.verified) (opening_of self.verified) self.recording.history self.machine }
+    {
+        let Table {
+            verified,
+            machine,
+            recording,
+            halt,
+            budget: _,
+        } = self;
+        let (entries, disk) = recording.into_parts();
+        Parts {
+            verified,
+            machine,
+            entries,
+            halt,
+            disk,
+        }
+    }
+}
