@@ -1,0 +1,9 @@
+mod Forms
+mod SamePair
+mod Parted
+mod OneRun
+mod Replays
+mod Recoveries
+mod Prefixes
+mod OneHistory
+mod NeverStuck

@@ -1,0 +1,31 @@
+-- No history of an accepted pair leads to paths that can't go on.
+use Rattle.std.proofs.Common.{List, refl, sym, ap, subst, ◌∙◌}
+use Rattle.nc_number.specs.declared.path.Path.TheVariants.{One, Two}
+use Rattle.block_order.specs.Labels.{IsUnforked, list}
+use Rattle.tape_flow.specs.declared.flow.Flow.{Flow}
+use Rattle.run_records.specs.declared.entry.Entry.{Entry}
+use Rattle.path_state.specs.Controlled.{IsControlled}
+use Rattle.path_state.specs.Opening.{opening_path}
+use Rattle.two_path.specs.Stuck.{IsPair, IsFree, IsNeverStuckBehindRecords}
+use Rattle.nc_verify.specs.declared.verified.Verified.{Verified}
+use Rattle.nc_verify.specs.Verdict.{Texts}
+use Rattle.nc_restart.specs.Pair.{IsPairOf, tapes_in, machine_behind}
+use Rattle.nc_restart.specs.History.{IsHistory}
+
+accepted_pair : (texts : Texts) (pair : Verified) → ((flow : Flow) → IsControlled flow) → IsPairOf texts pair → IsPair pair.left pair.right
+accepted_pair texts pair controlled is = record {
+  left_controlled = controlled pair.left;
+  right_controlled = controlled pair.right;
+  accepted = record {
+    left_unforked = subst IsUnforked (sym pair.left.agrees) is.pair.left_unforked;
+    right_unforked = subst IsUnforked (sym pair.right.agrees) is.pair.right_unforked;
+    equal = ap list pair.left.agrees ∙ is.pair.same ∙ sym (ap list pair.right.agrees);
+  };
+}
+
+pub never_stuck : ((flow : Flow) → IsControlled flow) → ((left right : Flow) → IsPair left right → IsNeverStuckBehindRecords left right)
+    → (texts : Texts) (pair : Verified) (entries : List Entry) → IsPairOf texts pair → IsHistory pair entries
+    → IsFree (tapes_in pair) (machine_behind pair entries)
+never_stuck controlled free texts pair entries is history =
+    free pair.left pair.right (accepted_pair texts pair controlled is) (opening_path pair.left pair.settings One) (opening_path pair.right pair.settings Two)
+    (record { one = refl; two = refl }) entries history.legal

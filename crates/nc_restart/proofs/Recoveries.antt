@@ -1,0 +1,107 @@
+-- A run is recovered as its journal is opened, and its records are done again.
+use Rattle.std.proofs.Common.{◌≡◌, ℕ, ◌+◌, ◌*◌, ◌≤◌, List, [], ◌∷◌, length, sym, ap, subst, ◌∙◌, arith, Some, Ok, Err, length-append}
+use Rattle.disk_model.specs.Device.{DiskState, Reads, Only, IsSettled}
+use Rattle.disk_model.specs.Moments.{Uses}
+use Rattle.gate_file.specs.Gate.{Keeps}
+use Rattle.run_records.specs.declared.entry.Entry.{Entry}
+use Rattle.run_journal.specs.declared.fault.JournalFault.{JournalFault}
+use Rattle.run_journal.specs.declared.fault.JournalFault.TheVariants as journal
+use Rattle.run_journal.specs.Batches.{bodies_of, records_of, AreBatches}
+use Rattle.run_journal.specs.Stands.{Holds}
+use Rattle.run_journal.specs.Opening.{RefusesRun, Found, FindsRun}
+use Rattle.nc_verify.specs.declared.verified.Verified.{Verified}
+use Rattle.nc_restart.specs.declared.fault.RestartFault.{RestartFault}
+use Rattle.nc_restart.specs.declared.fault.RestartFault.TheVariants.{DiskFault, NoRun, Cut, BadRecord, NoMemory}
+use Rattle.nc_restart.specs.Pair.{texts_of, IsPairOf}
+use Rattle.nc_restart.specs.History.{IsHistory}
+use Rattle.nc_restart.specs.Meaning.{IsBadReading, unread, misread}
+use Rattle.nc_restart.specs.Reading.{RefusesReading}
+use Rattle.nc_restart.specs.Recovered.{fault_of, RefusesRecovery, Recovers}
+
+-- each batch has a record
+few_batches : (batches : List (List Entry)) → AreBatches batches → length batches ≤ length (records_of batches)
+few_batches [] are = omega arith
+few_batches (batch ∷ batches) are =
+    omega (arith, few_batches batches are.1, are.0.some, length-append batch (records_of batches))
+
+uses_more : (count more : ℕ) (old new : DiskState) → count ≤ more → Uses count 0 old new → Uses more 0 old new
+uses_more count more old new less uses = record {
+  calls = λ bytes reads. omega (arith, less, uses.calls bytes reads);
+  reach = uses.reach;
+  told = uses.told;
+  untold = uses.untold;
+  allows = uses.allows;
+}
+
+kept_settled : (bodies : List (List ℕ)) (disk : DiskState) (end : ℕ) (bytes : List ℕ) → Keeps bodies disk end → Reads disk bytes → Only bytes disk.image
+kept_settled bodies disk end bytes keeps reads =
+    let both : Some keeps.bytes ≡ Some bytes = sym keeps.reads ∙ reads in
+    let same : keeps.bytes ≡ bytes = cc in
+    subst (λ (l : List ℕ). Only l disk.image) same keeps.only
+
+refused_alike : (old new : DiskState) (fault : JournalFault) → RefusesRun fault old new → RefusesRecovery (fault_of fault) old new
+refused_alike old new journal.DiskFault refused = refused
+refused_alike old new journal.NoRun refused = refused
+refused_alike old new (journal.Cut at) refused = refused
+refused_alike old new (journal.BadRecord offset cause) refused = (refused.0, λ bytes reads. unread (refused.1 bytes reads))
+refused_alike old new journal.NoMemory refused = tt
+
+pub not_opened : (old new : DiskState) (fault : JournalFault) → FindsRun old new (Err fault) → Recovers old new (Err (fault_of fault))
+not_opened old new fault finds = record {
+  found = tt;
+  refused = refused_alike old new fault finds.refused;
+  later = finds.later;
+  unwritten = finds.unwritten;
+  uses = finds.uses;
+}
+
+module _ (old new : DiskState) (found : Found) (finds : FindsRun old new (Ok found)) where
+  settled : IsSettled new
+  settled bytes reads =
+      let is = finds.found in
+      let keeps = (is.1.file bytes (sym finds.unwritten.same ∙ reads)).1 in
+      kept_settled (bodies_of found.header is.0) new found.end bytes keeps reads
+
+  refused_reading : (fault : RestartFault) → RefusesReading found.header found.entries found.offsets fault → RefusesRecovery fault old new
+  refused_reading (BadRecord offset cause) bad =
+      let is = finds.found in (
+        settled,
+        λ bytes reads. misread found.header is.0 found.entries is.1.run (is.1.file bytes reads).0
+            (subst (λ (begins : List ℕ). IsBadReading found.header found.entries begins offset cause) (is.1.offsets) bad),
+      )
+  refused_reading NoMemory bad = tt
+  refused_reading DiskFault bad = absurd bad
+  refused_reading NoRun bad = absurd bad
+  refused_reading (Cut at) bad = absurd bad
+
+  pub not_rebuilt : (fault : RestartFault) → RefusesReading found.header found.entries found.offsets fault → Recovers old new (Err fault)
+  not_rebuilt fault bad = record {
+    found = tt;
+    refused = refused_reading fault bad;
+    later = finds.later;
+    unwritten = finds.unwritten;
+    uses = finds.uses;
+  }
+
+  -- where the disk tells its content now it did so before
+  pub held : (bytes : List ℕ) → Reads new bytes → Holds found.header found.entries new found.end
+  held bytes reads =
+      let is = finds.found in
+      (is.0, is.1.run, (is.1.file bytes (sym finds.unwritten.same ∙ reads)).1)
+
+  pub rebuilt : (pair : Verified) → IsPairOf (texts_of found.header) pair → IsHistory pair found.entries
+      → Recovers old new (Ok (record { header = found.header; entries = found.entries }))
+  rebuilt pair accepted history =
+      let is = finds.found in
+      let joined : length found.entries ≡ length (records_of is.0) = ap length is.1.run.joins in
+      let batches = few_batches is.0 is.1.run.are in
+      record {
+        found = record {
+          means = λ bytes reads. ((is.0, is.1.run, (is.1.file bytes reads).0), record { pair = pair; accepted = accepted; history = history });
+          uses = uses_more (4 * (length is.0 + 2) + 4) (4 * length found.entries + 12) old new (omega (arith, joined, batches)) is.1.uses;
+        };
+        refused = tt;
+        later = finds.later;
+        unwritten = finds.unwritten;
+        uses = finds.uses;
+      }

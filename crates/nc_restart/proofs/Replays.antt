@@ -1,0 +1,117 @@
+-- Records that are done again one by one: the machine is the fold of those that are done.
+use Rattle.std.proofs.Common.{◌≡◌, ℕ, suc, ◌+◌, ◌≤◌, ◌<◌, List, [], ◌∷◌, ◌++◌, length, take, drop, get_or, refl, sym, ap, subst, ◌∙◌, arith, length-append}
+use Rattle.std.proofs.lemmas.List.{take_more, take_all, length-take-le, take-append-drop}
+use Rattle.std.proofs.Math.Seq.{drop-cons}
+use Rattle.run_records.specs.declared.bad_record.BadRecord.{BadRecord}
+use Rattle.run_records.specs.declared.bad_record.BadRecord.TheVariants.{NotLegal, TooManyRecords}
+use Rattle.run_records.specs.declared.entry.Entry.{Entry}
+use Rattle.nc_number.specs.declared.path.Path.{Path}
+use Rattle.nc_number.specs.declared.path.Path.TheVariants.{One, Two}
+use Rattle.two_path.specs.declared.turn.Turn.{Turn}
+use Rattle.two_path.specs.Machine.{MachineView, own_first, without_reads}
+use Rattle.two_path.specs.Turns.{Tapes, tape_of, own_turn}
+use Rattle.two_path.specs.Histories.{with_reads, behind_entry, fold, IsLegal, IsNext, Counts}
+use Rattle.two_path.specs.Joined.{RoomyMachine, AreAtTheirWaits}
+use Rattle.two_path.specs.Again.{IsDoneAgain, IsRefused}
+use Rattle.nc_verify.specs.declared.verified.Verified.{Verified}
+use Rattle.nc_restart.specs.Pair.{tapes_in, opening_of, machine_behind}
+use Rattle.nc_restart.specs.History.{IsBehind, IsOutOfPlace, illegal, beyond, IsOutOfPlaceAt}
+use Rattle.nc_restart.specs.Reading.{AreDone}
+
+fold_push : (tapes : Tapes) (m : MachineView) (entries : List Entry) (e : Entry) → fold tapes m (entries ++ e ∷ []) ≡ behind_entry tapes e (fold tapes m entries)
+fold_push tapes m [] e = refl
+fold_push tapes m (r ∷ entries) e = fold_push tapes (behind_entry tapes r m) entries e
+
+legal_push : (tapes : Tapes) (m : MachineView) (entries : List Entry) (e : Entry) → IsLegal tapes m entries → IsNext tapes (fold tapes m entries) e
+    → IsLegal tapes m (entries ++ e ∷ [])
+legal_push tapes m [] e legal next = (next, tt)
+legal_push tapes m (r ∷ entries) e legal next = (legal.0, legal_push tapes (behind_entry tapes r m) entries e legal.1 next)
+
+-- behind a record no block has read anything
+bare_behind : (path : Path) (m : MachineView) → without_reads (own_first path (without_reads m)) ≡ own_first path (without_reads m)
+bare_behind One m = refl
+bare_behind Two m = refl
+
+pub entry_bare : (tapes : Tapes) (e : Entry) (m : MachineView) → without_reads (behind_entry tapes e m) ≡ behind_entry tapes e m
+entry_bare tapes e m =
+    let blocks = tape_of tapes e.path in
+    bare_behind e.path (own_turn blocks e.path (with_reads blocks e.stamps (own_first e.path m))).machine
+
+module _ (pair : Verified) (before : List Entry) (e : Entry) (m n : MachineView) (is : IsBehind pair before m) where
+  pub next_illegal : IsRefused (tapes_in pair) e m n → IsOutOfPlace pair before e NotLegal
+  next_illegal refused = illegal (λ next. refused.illegal (subst (λ (x : MachineView). IsNext (tapes_in pair) x e) (sym is.folds) next))
+
+  next_may : (turn : Turn) → IsDoneAgain (tapes_in pair) e m n turn → IsNext (tapes_in pair) (machine_behind pair before) e
+  next_may turn done = subst (λ (x : MachineView). IsNext (tapes_in pair) x e) (is.folds) done.legal
+
+  pub next_beyond : (turn : Turn) → IsDoneAgain (tapes_in pair) e m n turn → pair.settings.records ≤ m.count → IsOutOfPlace pair before e TooManyRecords
+  next_beyond turn done full = beyond (next_may turn done) (omega (arith, full, is.counts, is.history.few))
+
+  pub next_done : (turn : Turn) → ((entries : List Entry) → IsLegal (tapes_in pair) (opening_of pair) entries → Counts (tapes_in pair) (opening_of pair) entries)
+      → IsDoneAgain (tapes_in pair) e m n turn → m.count < pair.settings.records
+      → AreAtTheirWaits pair.left.order pair.right.order n → IsBehind pair (before ++ e ∷ []) n
+  next_done turn counts done room waits =
+      let legal = legal_push (tapes_in pair) (opening_of pair) before e is.history.legal (next_may turn done) in
+      let folds : n ≡ machine_behind pair (before ++ e ∷ []) =
+      done.machine ∙ ap (behind_entry (tapes_in pair) e) (is.folds) ∙ sym (fold_push (tapes_in pair) (opening_of pair) before e) in
+      record {
+        history = record { legal = legal; few = omega (arith, length-append before (e ∷ []), is.counts, room) };
+        folds = folds;
+        bare = subst (λ (x : MachineView). without_reads x ≡ x) (sym done.machine) (entry_bare (tapes_in pair) e m);
+        counts = ap (λ (x : MachineView). x.count) folds ∙ (counts (before ++ e ∷ []) legal).count;
+        waits = waits;
+      }
+
+-- before the first record
+pub none_done : (pair : Verified) (entries : List Entry) (now : RoomyMachine) → now.machine ≡ opening_of pair → length entries ≤ now.room → AreDone pair entries 0 now
+none_done pair entries now opens room = record {
+  behind = record {
+    history = record { legal = tt; few = omega arith };
+    folds = opens;
+    bare = subst (λ (m : MachineView). without_reads m ≡ m) (sym opens) refl;
+    counts = ap (λ (m : MachineView). m.count) opens;
+    waits = subst (λ (m : MachineView). AreAtTheirWaits pair.left.order pair.right.order m) (sym opens)
+        (record { first = λ code e. absurd cc; second = λ code e. absurd cc });
+  };
+  room = omega (arith, room);
+}
+
+pub room_there : (pair : Verified) (entries : List Entry) (done : ℕ) (now : RoomyMachine) → AreDone pair entries done now → done < length entries → 0 < now.room
+room_there pair entries done now are within = omega (arith, are.room, within)
+
+pub few_done : (pair : Verified) (entries : List Entry) (done : ℕ) (now : RoomyMachine) → AreDone pair entries done now → now.machine.count ≤ 4000000
+few_done pair entries done now are = omega (arith, are.behind.counts, are.behind.history.few, pair.settings.most_records)
+
+module _ (pair : Verified) (entries : List Entry) (done : ℕ) (e : Entry) (now : RoomyMachine) (are : AreDone pair entries done now)
+    (within : done < length entries) (is : e ≡ get_or entries done e) where
+  taken : take (done + 1) entries ≡ take done entries ++ e ∷ []
+  taken = take_more entries done e within ∙ ap (λ x. take done entries ++ x ∷ []) (sym is)
+
+  size : length (take done entries) ≡ done
+  size = length-take-le done entries (omega (arith, within))
+
+  pub more_done : (next : RoomyMachine) → ((before : List Entry) → IsBehind pair before now.machine → IsBehind pair (before ++ e ∷ []) next.machine)
+      → now.machine.count + now.room ≤ next.machine.count + next.room → AreDone pair entries (done + 1) next
+  more_done next redone room =
+      let behind = redone (take done entries) are.behind in
+      let counted : next.machine.count ≡ done + 1 = omega (arith, behind.counts, length-append (take done entries) (e ∷ []), size) in
+      record {
+        behind = subst (λ (l : List Entry). IsBehind pair l next.machine) (sym taken) behind;
+        room = omega (arith, room, counted, are.behind.counts, size, are.room);
+      }
+
+  pub bad_at : (cause : BadRecord) → ((before : List Entry) → IsBehind pair before now.machine → IsOutOfPlace pair before e cause)
+      → IsOutOfPlaceAt pair entries done cause
+  bad_at cause bad = record {
+    before = take done entries;
+    entry = e;
+    after = drop (suc done) entries;
+    are = sym (take-append-drop done entries) ∙ ap (λ l. take done entries ++ l) (drop-cons entries done e within ∙ ap (λ x. x ∷ drop (suc done) entries) (sym is));
+    index_is = sym size;
+    history = are.behind.history;
+    bad = bad (take done entries) are.behind;
+  }
+
+pub all_done : (pair : Verified) (entries : List Entry) (done : ℕ) (now : RoomyMachine) → AreDone pair entries done now → length entries ≤ done
+    → IsBehind pair entries now.machine
+all_done pair entries done now are all = subst (λ (l : List Entry). IsBehind pair l now.machine) (take_all done entries all) are.behind

@@ -1,0 +1,5 @@
+use Rattle.nc_restart.proofs.SamePair.{same_pair}
+use Rattle.nc_restart.proofs.laws.a_machine_hangs_on_its_texts.Goals as goal
+
+pub returns : goal.returns
+returns c = same_pair

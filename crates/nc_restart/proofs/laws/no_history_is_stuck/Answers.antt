@@ -1,0 +1,5 @@
+use Rattle.nc_restart.proofs.NeverStuck.{never_stuck}
+use Rattle.nc_restart.proofs.laws.no_history_is_stuck.Goals as goal
+
+pub returns : goal.returns
+returns c = never_stuck c.control_goes_as_the_flow_orders.ensures.control c.no_legal_history_is_stuck.ensures

@@ -1,0 +1,5 @@
+use Rattle.nc_restart.specs.Reading.{AreDone}
+use Rattle.nc_restart.proofs.replay.replay.Given as goal
+
+abbrev pub invariant-loop-index : goal.invariant-loop-index
+invariant-loop-index l = AreDone l.pair l.entries l.index l.machine

@@ -1,0 +1,39 @@
+-- The pair of tapes that a run is made with, and its machine.
+use Rattle.std.specs.Prelude.{◌≡◌, List, map}
+use Rattle.nc_number.specs.declared.path.Path.TheVariants.{One, Two}
+use Rattle.run_records.specs.declared.entry.Entry.{Entry}
+use Rattle.run_records.specs.declared.header.Header.{Header}
+use Rattle.cell_settings.specs.View.{view}
+use Rattle.tape_flow.specs.Forms.{program_form}
+use Rattle.path_state.specs.Opening.{opening_path}
+use Rattle.two_path.specs.Machine.{MachineView, opening}
+use Rattle.two_path.specs.Turns.{Tapes, tapes_of}
+use Rattle.two_path.specs.Histories.{fold}
+use Rattle.nc_verify.specs.declared.verified.Verified.{Verified}
+use Rattle.nc_verify.specs.Verdict.{Texts, AreAccepted}
+
+-- the texts in the header of a run
+abbrev pub texts_of : Header → Texts
+texts_of header = record { left = header.left; right = header.right; settings = header.settings }
+
+-- these texts are accepted, and this is their pair
+abbrev pub IsPairOf : Texts → Verified → Type 0
+IsPairOf texts pair =
+    AreAccepted texts (view pair.settings) (map program_form pair.left.programs) (map program_form pair.right.programs)
+
+abbrev pub tapes_in : Verified → Tapes
+tapes_in pair = tapes_of pair.left pair.right
+
+-- its machine before the first turn
+abbrev pub opening_of : Verified → MachineView
+opening_of pair = opening (opening_path pair.left pair.settings One) (opening_path pair.right pair.settings Two)
+
+-- its machine behind these records
+abbrev pub machine_behind : Verified → List Entry → MachineView
+machine_behind pair entries = fold (tapes_in pair) (opening_of pair) entries
+
+-- the pairs have one machine, and their settings allow as many records
+pub record IsSamePair (pair other : Verified) : Type 0 where
+  pub tapes : tapes_in pair ≡ tapes_in other
+  pub opening : opening_of pair ≡ opening_of other
+  pub records : pair.settings.records ≡ other.settings.records

@@ -1,0 +1,77 @@
+-- What a recovery promises.
+use Rattle.std.specs.Prelude.{ℕ, ◌+◌, ◌*◌, ◌≤◌, List, length, Result, Ok, Err, IfOk, IfErr}
+use Rattle.disk_model.specs.Device.{DiskState, Reads, Rose, IsSettled}
+use Rattle.disk_model.specs.Moments.{Unwritten, Uses}
+use Rattle.gate_file.specs.Gate.{OpeningUses}
+use Rattle.run_records.specs.declared.entry.Entry.{Entry}
+use Rattle.run_records.specs.declared.header.Header.{Header}
+use Rattle.run_journal.specs.declared.fault.JournalFault.{JournalFault}
+use Rattle.run_journal.specs.declared.fault.JournalFault.TheVariants as journal
+use Rattle.run_journal.specs.Kept.{Log, IsFresh}
+use Rattle.run_journal.specs.Meaning.{Meaning, no_run, cut_at, bad_at, a_run}
+use Rattle.run_journal.specs.Stands.{Holds}
+use Rattle.two_path.specs.Machine.{MachineView}
+use Rattle.nc_verify.specs.declared.verified.Verified.{Verified}
+use Rattle.nc_restart.specs.declared.fault.RestartFault.{RestartFault}
+use Rattle.nc_restart.specs.declared.fault.RestartFault.TheVariants.{DiskFault, NoRun, Cut, BadRecord, NoMemory}
+use Rattle.nc_restart.specs.declared.recovery.Recovered.{Recovered}
+use Rattle.nc_restart.specs.Pair.{texts_of, IsPairOf}
+use Rattle.nc_restart.specs.History.{IsBehind}
+use Rattle.nc_restart.specs.Meaning.{StandsForRun}
+
+-- The parts of one recovery: the texts of the header are accepted, and this is their pair; the machine stands behind the records, which
+-- are a history of it; the journal may be written, has as many records, and none of them is to be written; and where the disk tells
+-- its content, it holds them all.
+pub record IsRecovered {D : Type 0} (state : D → DiskState) (header : Header) (pair : Verified) (machine : MachineView) (entries : List Entry) (log : Log D) : Type 0 where
+  pub accepted : IsPairOf (texts_of header) pair
+  pub behind : IsBehind pair entries machine
+  pub fresh : IsFresh (length entries) log
+  pub holds : (bytes : List ℕ) → Reads (state log.file.disk) bytes → Holds header entries (state log.file.disk) log.file.end
+
+-- a recovery is refused as the opening of its journal is
+abbrev pub fault_of : JournalFault → RestartFault
+fault_of journal.DiskFault = DiskFault
+fault_of journal.NoRun = NoRun
+fault_of (journal.Cut at) = Cut at
+fault_of (journal.BadRecord offset cause) = BadRecord offset cause
+fault_of journal.NoMemory = NoMemory
+
+-- a read gives bytes that stand for this, all of them are on the disk
+abbrev pub IsMeant : Meaning → DiskState → DiskState → Type 0
+IsMeant meaning old new = IsSettled new × ((bytes : List ℕ) → Reads old bytes → StandsForRun meaning bytes)
+
+-- why nothing is recovered; what is said of the file is on the disk
+abbrev pub RefusesRecovery : RestartFault → DiskState → DiskState → Type 0
+RefusesRecovery DiskFault old new = Rose old.faults new.faults
+RefusesRecovery NoRun old new = IsMeant no_run old new
+RefusesRecovery (Cut at) old new = IsMeant (cut_at at) old new
+RefusesRecovery (BadRecord offset cause) old new = IsMeant (bad_at offset cause) old new
+RefusesRecovery NoMemory old new = Unit {0}
+
+-- the header and the records that were found
+pub record FoundRun : Type 0 where
+  pub header : Header
+  pub entries : List Entry
+
+-- the file stands for what was found
+pub record IsFoundRun (old new : DiskState) (found : FoundRun) : Type 0 where
+  pub means : (bytes : List ℕ) → Reads old bytes → StandsForRun (a_run found.header found.entries) bytes
+  pub uses : Uses (4 * length found.entries + 12) 0 old new
+
+-- What a call that recovers a run promises of the disk.
+pub record Recovers (old new : DiskState) (result : Result FoundRun RestartFault) : Type 0 where
+  pub found : IfOk result (IsFoundRun old new)
+  pub refused : IfErr result (λ fault. RefusesRecovery fault old new)
+  pub later : old.faults ≤ new.faults
+  -- a crash at any moment of the call leaves an image from before it
+  pub unwritten : Unwritten old new
+  pub uses : (bytes : List ℕ) → Reads old bytes → OpeningUses bytes old new
+
+-- the disk in an answer that gives it back either way
+abbrev pub disk_recovered : {D : Type 0} → Result (Recovered D) (D × RestartFault) → D
+disk_recovered (Ok recovered) = recovered.journal.file.disk
+disk_recovered (Err fault) = fault.0
+
+abbrev pub run_found : {D : Type 0} → Result (Recovered D) (D × RestartFault) → Result FoundRun RestartFault
+run_found (Ok recovered) = Ok (record { header = recovered.header; entries = recovered.entries.items })
+run_found (Err fault) = Err fault.1

@@ -1,0 +1,66 @@
+//! What holds of every run, for the crates above: who calls the function has the law.
+ghost use Rattle.std.specs.Prelude.{◌≡◌, List, ℕ, take};
+ghost use Rattle.run_records.specs.declared.entry.Entry.{Entry};
+ghost use Rattle.run_records.specs.declared.header.Header.{Header};
+ghost use Rattle.run_journal.specs.Meaning.{Meaning, a_run};
+ghost use Rattle.run_journal.specs.Stands.{Stands};
+ghost use Rattle.two_path.specs.Stuck.{IsFree};
+ghost use Rattle.nc_verify.specs.declared.verified.Verified.{Verified};
+ghost use Rattle.nc_verify.specs.Verdict.{Texts};
+ghost use Rattle.nc_restart.specs.Lives.{LeaveEach, AreOneHistory};
+ghost use Rattle.nc_restart.specs.Meaning.{HasHistory, StandsForRun};
+ghost use Rattle.nc_restart.specs.History.{IsHistory};
+ghost use Rattle.nc_restart.specs.Pair.{IsPairOf, IsSamePair, tapes_in, machine_behind};
+
+use gate_file::a_file_stands_for_one_thing;
+use nc_verify::accepted_texts_are_not_refused;
+use path_state::control_goes_as_the_flow_orders;
+use run_journal::a_journal_stands_for_one_thing;
+use two_path::{each_event_keeps_the_history, histories_are_runs, no_legal_history_is_stuck};
+
+/// Texts that are accepted have one machine, whoever judges them.
+pub fn a_machine_hangs_on_its_texts()
+    ensures { (texts : Texts) (pair other : Verified) → IsPairOf texts pair → IsPairOf texts other
+        → IsSamePair pair other }
+{}
+
+/// An image stands for one thing, where the pair and its machine count too: no run, or an entry that is
+/// cut short at one offset, or for one cause at one offset no run either, or one header and one history.
+pub fn an_image_stands_for_one_run()
+    ensures { (image : List ℕ) (a b : Meaning) → StandsForRun a image → StandsForRun b image → a ≡ b }
+{
+    accepted_texts_are_not_refused();
+    a_journal_stands_for_one_thing();
+    a_file_stands_for_one_thing();
+}
+
+/// An image that a run left stands for the first so many records of its history. So it is never bad.
+pub fn an_image_of_a_run_is_never_bad()
+    ensures { (header : Header) (history : List Entry) (kept : ℕ) (image : List ℕ) → HasHistory header history
+        → Stands header (take kept history) image → StandsForRun (a_run header (take kept history)) image }
+{
+    histories_are_runs();
+}
+
+/// Over any restarts and stops, restarts that are stopped among them, the records are one history of one
+/// pair: each image stands for a history that begins with all that the restart before it found.
+pub fn restarts_make_one_history()
+    ensures { (header : Header) (found : List Entry) (image : List ℕ) (images : List (List ℕ))
+        → StandsForRun (a_run header found) image → LeaveEach image images → AreOneHistory header found images }
+{
+    accepted_texts_are_not_refused();
+    a_journal_stands_for_one_thing();
+    a_file_stands_for_one_thing();
+    each_event_keeps_the_history();
+    histories_are_runs();
+}
+
+/// No history of an accepted pair leads to paths that can't go on, whoever made it and wherever it was
+/// cut off, and no wait meets another.
+pub fn no_history_is_stuck()
+    ensures { (texts : Texts) (pair : Verified) (entries : List Entry) → IsPairOf texts pair → IsHistory pair entries
+        → IsFree (tapes_in pair) (machine_behind pair entries) }
+{
+    control_goes_as_the_flow_orders();
+    no_legal_history_is_stuck();
+}

@@ -1,0 +1,64 @@
+//! How the records of a run are done again.
+ghost use Rattle.std.specs.Prelude.{◌≡◌, ◌≤◌, ◌<◌, ◌+◌, ◌++◌, [], ◌∷◌, List, length, OnOk, IfErr};
+ghost use Rattle.run_records.specs.declared.entry.Entry.{Entry};
+ghost use Rattle.two_path.specs.Joined.{AreAtTheirWaits};
+ghost use Rattle.two_path.specs.Machine.{without_reads};
+ghost use Rattle.nc_restart.specs.Pair.{opening_of};
+ghost use Rattle.nc_restart.specs.History.{IsBehind, IsOutOfPlace, IsOutOfPlaceAt};
+
+use nc_verify::Verified;
+use run_records::{BadRecord, Entry};
+use two_path::{Illegal, Machine, histories_are_runs};
+
+/// The record of this index is the first that may not stand where it stands.
+#[derive(Drop)]
+pub(crate) struct OutOfPlace {
+    pub(crate) index: usize,
+    pub(crate) cause: BadRecord,
+}
+
+/// Does one record more again, where it may stand there: it is the machine's step, and the settings
+/// allow one record more.
+fn redo(machine: &mut Machine, pair: &Verified, entry: &Entry) -> Result<(), BadRecord>
+    requires room { 0 < machine.old.room }
+    requires few { machine.old.machine.count ≤ 4000000 }
+    requires no_reads { without_reads machine.old.machine ≡ machine.old.machine }
+    requires waits { AreAtTheirWaits pair.now.left.order pair.now.right.order machine.old.machine }
+    ensures done { OnOk result ((before : List Entry) → IsBehind pair.now before machine.old.machine
+        → IsBehind pair.now (before ++ entry.now ∷ []) machine.new.machine) }
+    ensures bad { IfErr result (λ cause. (before : List Entry) → IsBehind pair.now before machine.old.machine
+        → IsOutOfPlace pair.now before entry.now cause) }
+    ensures room { machine.old.machine.count + machine.old.room ≤ machine.new.machine.count + machine.new.room }
+{
+    histories_are_runs();
+    let full = machine.count() >= pair.settings().records;
+    match machine.apply(pair.left(), pair.right(), entry) {
+        Err(Illegal) => Err(BadRecord::NotLegal),
+        Ok(_turn) => if full {
+            Err(BadRecord::TooManyRecords)
+        } else {
+            Ok(())
+        },
+    }
+}
+
+/// Does the records again, over a machine of the pair before its first turn, with room for all of
+/// them. It takes no memory.
+pub(crate) fn replay(
+    machine: &mut Machine,
+    pair: &Verified,
+    entries: &[Entry],
+) -> Result<(), OutOfPlace>
+    requires opening { machine.old.machine ≡ opening_of pair.now }
+    requires room { length entries.now ≤ machine.old.room }
+    ensures behind { OnOk result (IsBehind pair.now entries.now machine.new.machine) }
+    ensures bad { IfErr result (λ bad. IsOutOfPlaceAt pair.now entries.now bad.index bad.cause) }
+{
+    for (index, entry) in entries.iter().enumerate() {
+        if let Err(cause) = redo(machine, pair, entry) {
+            let cause: BadRecord = cause;
+            return Err(OutOfPlace { index, cause });
+        }
+    }
+    Ok(())
+}
