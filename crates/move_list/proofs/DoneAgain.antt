@@ -1,0 +1,13 @@
+-- A record that is legal there is done again.
+use Rattle.std.proofs.Common.{Result, Ok, Err, IsOk, OnErr, refl}
+use Rattle.run_records.specs.declared.entry.Entry.{Entry}
+use Rattle.two_path.specs.declared.turn.Turn.{Turn}
+use Rattle.two_path.specs.Machine.{MachineView}
+use Rattle.two_path.specs.Turns.{Tapes}
+use Rattle.two_path.specs.Histories.{IsNext}
+use Rattle.two_path.specs.Again.{IsRefused}
+
+pub is_done : {E : Type 0} (result : Result Turn E) (tapes : Tapes) (entry : Entry) (before after : MachineView)
+    → OnErr result (IsRefused tapes entry before after) → IsNext tapes before entry → IsOk result
+is_done (Ok turn) tapes entry before after refused legal = refl
+is_done (Err fault) tapes entry before after refused legal = absurd (refused.illegal legal)

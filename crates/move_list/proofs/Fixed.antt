@@ -1,0 +1,93 @@
+-- What is fixed for the paths stays over a history.
+use Rattle.std.proofs.Common.{◌≡◌, ◌==◌, ℕ, Bool, true, false, List, [], ◌∷◌, Option, Some, None, refl, ap, sym, ◌∙◌}
+use Rattle.nc_number.specs.declared.path.Path.{Path}
+use Rattle.nc_number.specs.declared.path.Path.TheVariants.{One, Two}
+use Rattle.nc_number.specs.declared.value.Var.{Var}
+use Rattle.nc_outside.specs.declared.halt.Alarm.{Alarm}
+use Rattle.run_records.specs.declared.entry.Entry.{Entry}
+use Rattle.cell_settings.specs.declared.settings.Settings.{Settings}
+use Rattle.tape_flow.specs.declared.flow.Flow.{Flow}
+use Rattle.path_state.specs.View.{PathView}
+use Rattle.path_state.specs.Effect.{Effect, Need, Done, AtWait, AtEnd}
+use Rattle.path_state.specs.Effect as effect
+use Rattle.path_state.specs.Controlled.{KeepsFixed}
+use Rattle.two_path.specs.Machine.{MachineView, own_first}
+use Rattle.two_path.specs.Turns.{Blocks, Tapes, TurnResult, tape_of, tapes_of, result_by, result_at_wait, unless_idle, own_turn}
+use Rattle.two_path.specs.Histories.{with_reads, behind_step, behind_entry, fold}
+use Rattle.move_list.specs.Report.{machine_at_start}
+use Rattle.move_list.specs.State.{IsMachineOf, SharesAs}
+
+-- each block keeps what is fixed
+abbrev pub KeepFixed : Blocks → Type 0
+KeepFixed blocks = (path : PathView) (reads : List Var) → KeepsFixed path (blocks.effect path reads)
+
+-- of both paths the same is fixed
+record AreFixedAs (a b : MachineView) : Type 0 where
+  first : a.first.path.fixed ≡ b.first.path.fixed
+  second : a.second.path.fixed ≡ b.second.path.fixed
+
+at_wait_keeps : (path : Path) (line : ℕ) (m : MachineView) (code : ℕ) (waiting : Option ℕ)
+    → AreFixedAs (result_at_wait path line m code waiting).machine m
+at_wait_keeps path line m code None = record { first = refl; second = refl }
+at_wait_keeps path line m code (Some there) = go (code == there) refl
+  where
+    go : (same : Bool) → (code == there) ≡ same → AreFixedAs (result_at_wait path line m code (Some there)).machine m
+    go true e = rw e (record { first = refl; second = refl })
+    go false e = rw e (record { first = refl; second = refl })
+
+block_keeps : (path : Path) (line : ℕ) (m : MachineView) (e : Effect) → KeepsFixed m.first.path e
+    → AreFixedAs (result_by path line m e).machine m
+block_keeps path line m (Need variable) k = record { first = refl; second = refl }
+block_keeps path line m (Done after write moves) k = record { first = k; second = refl }
+block_keeps path line m (AtWait code) k = at_wait_keeps path line m code m.second.waiting
+block_keeps path line m (AtEnd after moves) k = record { first = k; second = refl }
+block_keeps path line m (effect.Alarm number value) k = record { first = refl; second = refl }
+
+idle_keeps : (m : MachineView) (alarm : Option Alarm) (finished : Bool) (waiting : Option ℕ) (rest : TurnResult)
+    → AreFixedAs rest.machine m → AreFixedAs (unless_idle m alarm finished waiting rest).machine m
+idle_keeps m (Some alarm) finished waiting rest k = record { first = refl; second = refl }
+idle_keeps m None true waiting rest k = record { first = refl; second = refl }
+idle_keeps m None false (Some code) rest k = record { first = refl; second = refl }
+idle_keeps m None false None rest k = k
+
+turn_keeps : (blocks : Blocks) (path : Path) (m : MachineView) → KeepFixed blocks → AreFixedAs (own_turn blocks path m).machine m
+turn_keeps blocks path m keep =
+    idle_keeps m m.alarm m.first.finished m.first.waiting _
+    (block_keeps path (blocks.line m.first.path.place) m (blocks.effect m.first.path m.first.values) (keep m.first.path m.first.values))
+
+step_keeps : (blocks : Blocks) (path : Path) (stamps : List ℕ) (m : MachineView) → KeepFixed blocks
+    → AreFixedAs (behind_step blocks path stamps m) m
+step_keeps blocks path stamps m keep =
+    let k = turn_keeps blocks path (with_reads blocks stamps m) keep in
+    record { first = k.first; second = k.second }
+
+entry_keeps : (tapes : Tapes) (path : Path) (stamps : List ℕ) (m : MachineView) → KeepFixed tapes.first → KeepFixed tapes.second
+    → AreFixedAs (own_first path (behind_step (tape_of tapes path) path stamps (own_first path m))) m
+entry_keeps tapes One stamps m one two = step_keeps tapes.first One stamps m one
+entry_keeps tapes Two stamps m one two =
+    let k = step_keeps tapes.second Two stamps (own_first Two m) two in
+    record { first = k.second; second = k.first }
+
+fold_keeps : (tapes : Tapes) (m : MachineView) (entries : List Entry) → KeepFixed tapes.first → KeepFixed tapes.second
+    → AreFixedAs (fold tapes m entries) m
+fold_keeps tapes m [] one two = record { first = refl; second = refl }
+fold_keeps tapes m (e ∷ entries) one two =
+    let rest = fold_keeps tapes (behind_entry tapes e m) entries one two in
+    let this = entry_keeps tapes e.path e.stamps m one two in
+    record { first = rest.first ∙ this.first; second = rest.second ∙ this.second }
+
+pub first_shares : (left right : Flow) (settings : Settings) (m : MachineView)
+    → KeepFixed (tapes_of left right).first → KeepFixed (tapes_of left right).second
+    → IsMachineOf (tapes_of left right) (machine_at_start left right settings) m → SharesAs settings m.first.path.fixed
+first_shares left right settings m one two is =
+    let kept = fold_keeps (tapes_of left right) (machine_at_start left right settings) is.entries one two in
+    let fixed : m.first.path.fixed ≡ (machine_at_start left right settings).first.path.fixed = ap (λ (x : MachineView). x.first.path.fixed) (sym is.folds) ∙ kept.first in
+    record { hundreds = ap (λ f. f.shared100) fixed; upper = ap (λ f. f.shared500) fixed }
+
+pub second_shares : (left right : Flow) (settings : Settings) (m : MachineView)
+    → KeepFixed (tapes_of left right).first → KeepFixed (tapes_of left right).second
+    → IsMachineOf (tapes_of left right) (machine_at_start left right settings) m → SharesAs settings m.second.path.fixed
+second_shares left right settings m one two is =
+    let kept = fold_keeps (tapes_of left right) (machine_at_start left right settings) is.entries one two in
+    let fixed : m.second.path.fixed ≡ (machine_at_start left right settings).second.path.fixed = ap (λ (x : MachineView). x.second.path.fixed) (sym is.folds) ∙ kept.second in
+    record { hundreds = ap (λ f. f.shared100) fixed; upper = ap (λ f. f.shared500) fixed }

@@ -1,0 +1,9 @@
+pub mod NameRoom
+pub mod CauseByNumber
+pub mod InPieces
+pub mod EachFrom
+pub mod Fixed
+pub mod DoneAgain
+pub mod Replays
+pub mod SharedNumbers
+pub mod ReportOfMoves

@@ -1,0 +1,8 @@
+use Rattle.std.proofs.Common.{sym, ◌∙◌}
+use Rattle.move_list.proofs.SharedNumbers.{shared_where}
+use Rattle.move_list.proofs.listing.shared_line.Goals as goal
+
+pub shared-requires : goal.shared-requires
+shared-requires c =
+    let fixed = c.args.machine.now.machine.first.path.fixed in
+    rw c.from.ensures (shared_where fixed c.args.v (sym (c.is_shared.ensures fixed c.requires.shares) ∙ c.if-is_shared.true))

@@ -1,0 +1,10 @@
+-- The lines of the moves so far were put whole.
+use Rattle.std.proofs.Common.{take, Ok}
+use Rattle.std.specs.List.{flat_map}
+use Rattle.nc_verify.specs.Printed.{IsPut}
+use Rattle.move_list.specs.MoveText.{line_text}
+use Rattle.move_list.proofs.report.put_lines.Given as goal
+
+abbrev pub invariant-loop-made : goal.invariant-loop-made
+invariant-loop-made g l =
+    IsPut (g.K.Sink.state l.initial.sink) (g.K.Sink.state l.sink) (flat_map line_text (take l.made-index l.moves)) (Ok tt)

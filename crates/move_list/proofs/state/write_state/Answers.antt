@@ -1,0 +1,4 @@
+use Rattle.move_list.proofs.state.write_state.Goals as goal
+
+pub returns : goal.returns
+returns g c = rw (c.left.ensures.same, c.right.ensures.same) at c.put_state.ensures

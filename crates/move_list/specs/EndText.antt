@@ -1,0 +1,49 @@
+-- The last lines of a report: how many records there are, and how the run ended.
+use Rattle.std.specs.Prelude.{ℕ, ◌==◌, if◌then◌else◌, List, [], ◌++◌, Option, Some, None, find, codes, decimal}
+use Rattle.nc_number.specs.declared.cause.Cause.{Cause}
+use Rattle.nc_number.specs.declared.cause.Cause.TheVariants.{MacroAlarm}
+use Rattle.nc_number.specs.declared.path.Path.{Path}
+use Rattle.nc_number.specs.Causes.{cause_number, cause_name, every_cause}
+use Rattle.nc_number.specs.Printed.{value_text}
+use Rattle.nc_outside.specs.declared.halt.Alarm.{Alarm}
+use Rattle.move_list.specs.declared.end_line.Reason.{Reason}
+use Rattle.move_list.specs.Pieces.{path_name}
+
+-- the cause of a number, if there is one
+abbrev pub cause_of : ℕ → Option Cause
+cause_of number = find (λ cause. cause_number cause == number) every_cause
+
+-- the name of the cause of a number
+unfoldable pub name_text : Option Cause → List ℕ
+name_text None = []
+name_text (Some cause) = codes " " ++ cause_name cause
+
+-- what a macro alarm was given
+unfoldable pub given_text : Alarm → List ℕ
+given_text alarm = if alarm.cause == cause_number MacroAlarm then codes " " ++ value_text alarm.value else []
+
+-- an alarm: its path and line, its number and its name
+unfoldable pub alarm_text : Alarm → List ℕ
+alarm_text alarm =
+    codes "alarm " ++ path_name alarm.path ++ codes " line " ++ decimal alarm.line
+    ++ codes " cause " ++ decimal alarm.cause ++ name_text (cause_of alarm.cause) ++ given_text alarm
+
+unfoldable pub turret_text : Path → List ℕ
+turret_text path = codes "turret fault " ++ path_name path
+
+-- why a run ended
+unfoldable pub reason_text : Reason → List ℕ
+reason_text Reason.Done = codes "done"
+reason_text (Reason.Alarm alarm) = alarm_text alarm
+reason_text Reason.Stopped = codes "stopped"
+reason_text Reason.Full = codes "full"
+reason_text Reason.DiskFault = codes "disk fault"
+reason_text (Reason.TurretFault path) = turret_text path
+
+-- how many records there are
+unfoldable pub records_text : ℕ → List ℕ
+records_text count = codes "records " ++ decimal count ++ codes "\n"
+
+-- both last lines
+unfoldable pub end_text : ℕ → Reason → List ℕ
+end_text count reason = records_text count ++ codes "end " ++ reason_text reason ++ codes "\n"

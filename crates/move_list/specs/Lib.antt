@@ -1,0 +1,5 @@
+pub mod Pieces
+pub mod MoveText
+pub mod EndText
+pub mod Report
+pub mod State

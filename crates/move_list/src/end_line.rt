@@ -1,0 +1,127 @@
+//! How many records there are, and how the run ended.
+ghost use Rattle.std.specs.Prelude.{◌≡◌, ◌+◌, ◌≤◌, ℕ, Some, [], ◌++◌, length};
+ghost use Rattle.move_list.specs.EndText.{alarm_text, cause_of, end_text, given_text, name_text, reason_text, records_text, turret_text};
+
+use crate::piece::Piece;
+use nc_number::{Cause, Path};
+use nc_outside::Alarm;
+
+/// How a run ended.
+#[derive(Clone, Copy, Debug, PartialEq, Eq)]
+pub enum Reason {
+    /// Both paths have finished.
+    Done,
+    /// A path raised an alarm, which stopped both.
+    Alarm(Alarm),
+    /// It made as many records as it was allowed.
+    Stopped,
+    /// The journal has as many records as it may have.
+    Full,
+    /// The disk failed.
+    DiskFault,
+    /// The turret of this path failed.
+    TurretFault(Path),
+}
+
+/// The cause of a number.
+fn cause_of(number: u8) -> Option<Cause>
+    ensures { result ≡ cause_of number }
+{
+    Cause::of_number(number)
+}
+
+/// The name of a cause, if there is one.
+#[tactic(auto, using(crate::proofs::NameRoom::name_room), unfolding(crate::specs::EndText::name_text))]
+fn add_name(piece: &mut Piece, cause: Option<Cause>)
+    requires { length piece.old + 20 ≤ 512 }
+    ensures text { piece.new ≡ piece.old ++ name_text cause }
+    ensures size { length piece.new ≤ length piece.old + 20 }
+{
+    if let Some(cause) = cause {
+        piece.add(b" ");
+        piece.add(cause.name().as_bytes());
+    }
+}
+
+/// What a macro alarm was given.
+#[tactic(auto, unfolding(crate::specs::EndText::given_text))]
+fn add_given(piece: &mut Piece, alarm: &Alarm)
+    requires { length piece.old + 25 ≤ 512 }
+    ensures text { piece.new ≡ piece.old ++ given_text alarm.now }
+    ensures size { length piece.new ≤ length piece.old + 25 }
+{
+    if alarm.cause == Cause::MacroAlarm.number() {
+        piece.add(b" ");
+        piece.add_value(alarm.value);
+    }
+}
+
+/// An alarm: its path and line, its number and its name.
+#[tactic(auto, unfolding(crate::specs::EndText::alarm_text))]
+fn add_alarm(piece: &mut Piece, alarm: &Alarm)
+    requires { length piece.old + 140 ≤ 512 }
+    ensures text { piece.new ≡ piece.old ++ alarm_text alarm.now }
+    ensures size { length piece.new ≤ length piece.old + 140 }
+{
+    piece.add(b"alarm ");
+    piece.add_path(alarm.path);
+    piece.add(b" line ");
+    piece.add_number(u64::from(alarm.line));
+    piece.add(b" cause ");
+    piece.add_number(u64::from(alarm.cause));
+    add_name(piece, cause_of(alarm.cause));
+    add_given(piece, alarm);
+}
+
+/// The turret of a path failed.
+#[tactic(auto, unfolding(crate::specs::EndText::turret_text))]
+fn add_turret_fault(piece: &mut Piece, path: Path)
+    requires { length piece.old + 38 ≤ 512 }
+    ensures text { piece.new ≡ piece.old ++ turret_text path }
+    ensures size { length piece.new ≤ length piece.old + 38 }
+{
+    piece.add(b"turret fault ");
+    piece.add_path(path);
+}
+
+/// Why a run ended.
+#[tactic(auto, unfolding(crate::specs::EndText::reason_text))]
+fn add_reason(piece: &mut Piece, reason: &Reason)
+    requires { length piece.old + 140 ≤ 512 }
+    ensures text { piece.new ≡ piece.old ++ reason_text reason.now }
+    ensures size { length piece.new ≤ length piece.old + 140 }
+{
+    match reason {
+        Reason::Done => piece.add(b"done"),
+        Reason::Alarm(alarm) => add_alarm(piece, alarm),
+        Reason::Stopped => piece.add(b"stopped"),
+        Reason::Full => piece.add(b"full"),
+        Reason::DiskFault => piece.add(b"disk fault"),
+        Reason::TurretFault(path) => add_turret_fault(piece, *path),
+    }
+}
+
+/// The line that says how many records there are.
+#[tactic(auto, unfolding(crate::specs::EndText::records_text))]
+pub(crate) fn records_line(count: u64) -> Piece
+    ensures text { result ≡ records_text count }
+    ensures size { length result ≤ 29 }
+{
+    let mut piece = Piece::empty();
+    piece.add(b"records ");
+    piece.add_number(count);
+    piece.add(b"\n");
+    piece
+}
+
+/// The last two lines of a report.
+#[tactic(auto, unfolding(crate::specs::EndText::end_text))]
+pub(crate) fn end_lines(count: u64, reason: &Reason) -> Piece
+    ensures { result ≡ end_text count reason.now }
+{
+    let mut piece = records_line(count);
+    piece.add(b"end ");
+    add_reason(&mut piece, reason);
+    piece.add(b"\n");
+    piece
+}

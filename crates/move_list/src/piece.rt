@@ -1,0 +1,143 @@
+//! A piece of a text.
+ghost use Rattle.std.specs.Prelude.{◌≡◌, ◌+◌, ◌≤◌, ◌%◌, [], ◌++◌, length, codes, decimal};
+ghost use Rattle.nc_number.specs.Printed.{last_digits, length_text, value_text};
+ghost use Rattle.move_list.specs.Pieces.{code_text, path_name, point_text};
+
+use arrayvec::ArrayVec;
+use itoa::Buffer;
+use nc_number::{Path, Point, Value};
+use std::marker::Model;
+
+/// The most bytes of a piece.
+const MOST_BYTES: usize = 512;
+
+/// A piece of a text, of which each part is put behind what is there. It takes no memory.
+#[derive(Drop)]
+pub(crate) struct Piece {
+    bytes: ArrayVec<u8, MOST_BYTES>,
+}
+
+impl Model for Piece {
+    ghost use Rattle.std.specs.Prelude.{List, ℕ};
+
+    ghost Value = { List ℕ };
+
+    ghost view = { λ p. p.bytes.items };
+}
+
+impl Piece {
+    /// Without a byte.
+    pub(crate) fn empty() -> Self
+        ensures { result ≡ [] }
+    {
+        Piece {
+            bytes: ArrayVec::new(),
+        }
+    }
+
+    /// Its bytes.
+    pub(crate) fn as_slice(&self) -> &[u8]
+        ensures { result.now ≡ self.now }
+    {
+        self.bytes.as_slice()
+    }
+
+    /// Adds bytes as they are.
+    pub(crate) fn add(&mut self, bytes: &[u8])
+        requires { length self.old + length bytes.now ≤ 512 }
+        ensures text { self.new ≡ self.old ++ bytes.now }
+        ensures size { length self.new ≡ length self.old + length bytes.now }
+    {
+        self.bytes.try_extend_from_slice(bytes).unwrap();
+    }
+
+    /// Adds a whole number in decimal digits.
+    pub(crate) fn add_number(&mut self, number: u64)
+        requires { length self.old + 20 ≤ 512 }
+        ensures text { self.new ≡ self.old ++ decimal number }
+        ensures size { length self.new ≤ length self.old + 20 }
+    {
+        let mut buffer = Buffer::new();
+        self.add(buffer.format(number).as_bytes());
+    }
+
+    /// Adds a length of 0.001 mm with three decimals.
+    pub(crate) fn add_length(&mut self, increments: i64)
+        requires { length self.old + 24 ≤ 512 }
+        ensures text { self.new ≡ self.old ++ length_text increments }
+        ensures size { length self.new ≤ length self.old + 24 }
+    {
+        let mut room = [0; 24];
+        let end = nc_number::length_text(increments, &mut room);
+        self.add(&room[..end]);
+    }
+
+    /// Adds a value without the zeros that its fraction ends with.
+    pub(crate) fn add_value(&mut self, value: Value)
+        requires { length self.old + 24 ≤ 512 }
+        ensures text { self.new ≡ self.old ++ value_text value }
+        ensures size { length self.new ≤ length self.old + 24 }
+    {
+        let mut room = [0; 24];
+        let end = nc_number::text(value, &mut room);
+        self.add(&room[..end]);
+    }
+
+    /// Adds the last four digits of a number.
+    pub(crate) fn add_four_digits(&mut self, number: u16)
+        requires { length self.old + 4 ≤ 512 }
+        ensures text { self.new ≡ self.old ++ last_digits 4 number }
+        ensures size { length self.new ≡ length self.old + 4 }
+    {
+        self.add(&[
+            digit(number / 10 / 10 / 10),
+            digit(number / 10 / 10),
+            digit(number / 10),
+            digit(number),
+        ]);
+    }
+
+    /// Adds a G or M code, which has at least two digits.
+    #[tactic(auto, unfolding(crate::specs::Pieces::code_text))]
+    pub(crate) fn add_code(&mut self, code: u16)
+        requires { length self.old + 21 ≤ 512 }
+        ensures text { self.new ≡ self.old ++ code_text code }
+        ensures size { length self.new ≤ length self.old + 21 }
+    {
+        if code < 10 {
+            self.add(b"0");
+        }
+        self.add_number(u64::from(code));
+    }
+
+    /// Adds a path by its number.
+    #[tactic(auto, unfolding(crate::specs::Pieces::path_name))]
+    pub(crate) fn add_path(&mut self, path: Path)
+        requires { length self.old + 25 ≤ 512 }
+        ensures text { self.new ≡ self.old ++ path_name path }
+        ensures size { length self.new ≤ length self.old + 25 }
+    {
+        self.add(b"path ");
+        self.add_number(u64::from(path.number()));
+    }
+
+    /// Adds the X and the Z of a point.
+    #[tactic(auto, unfolding(crate::specs::Pieces::point_text))]
+    pub(crate) fn add_point(&mut self, to: Point)
+        requires { length self.old + 52 ≤ 512 }
+        ensures text { self.new ≡ self.old ++ point_text to }
+        ensures size { length self.new ≤ length self.old + 52 }
+    {
+        self.add(b" X");
+        self.add_length(to.x);
+        self.add(b" Z");
+        self.add_length(to.z);
+    }
+}
+
+/// The last digit of a number.
+fn digit(number: u16) -> u8
+    ensures { result ≡ 48 + number % 10 }
+{
+    b'0' + (number % 10) as u8
+}

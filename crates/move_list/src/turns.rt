@@ -1,0 +1,116 @@
+//! The moves of a history, whose records are done again one by one.
+ghost use Rattle.std.specs.Prelude.{◌≡◌, ◌≤◌, ◌<◌, ◌+◌, [], ◌++◌, length, IfOk, OnOk};
+ghost use Rattle.nc_number.specs.declared.path.Path.TheVariants.{One, Two};
+ghost use Rattle.two_path.specs.Machine.{without_reads};
+ghost use Rattle.two_path.specs.Turns.{tapes_of};
+ghost use Rattle.two_path.specs.Histories.{IsLegal, IsNext};
+ghost use Rattle.two_path.specs.Joined.{AreAtTheirWaits};
+ghost use Rattle.two_path.specs.Again.{IsDoneAgain};
+ghost use Rattle.move_list.specs.Report.{lined, made_by, made_in, machine_at_start, moves_of};
+
+use crate::moves::LinedMove;
+use cell_settings::Settings;
+use nc_number::{NoMemory, Path};
+use nc_outside::{Move, Moves};
+use run_records::Entry;
+use std::alloc::Global;
+use tape_flow::Flow;
+use two_path::{Machine, Turn, histories_are_runs};
+
+/// The moves of both paths in order, each with the line of the tape whose block made it.
+#[derive(Drop)]
+pub(crate) struct PathMoves {
+    pub(crate) one: Vec<LinedMove>,
+    pub(crate) two: Vec<LinedMove>,
+}
+
+/// Adds the moves of a block.
+fn add_moves(list: &mut Vec<LinedMove>, moves: &Moves) -> Result<(), NoMemory>
+    ensures { OnOk result (list.new.items ≡ list.old.items ++ lined moves.now) }
+{
+    let line = moves.line;
+    let made = moves.list.as_slice();
+    for what in made {
+        let what: Move = *what;
+        list.push(LinedMove { line, what })?;
+    }
+    Ok(())
+}
+
+/// Adds the moves of a turn.
+fn add_turn(list: &mut Vec<LinedMove>, turn: &Turn) -> Result<(), NoMemory>
+    ensures { OnOk result (list.new.items ≡ list.old.items ++ made_in turn.now) }
+{
+    match turn {
+        Turn::Did { moves } => add_moves(list, moves),
+        Turn::Ended { moves } => add_moves(list, moves),
+        _ => Ok(()),
+    }
+}
+
+impl PathMoves {
+    /// Without a move.
+    fn empty(alloc: Global) -> Self
+        ensures one { result.one.items ≡ [] }
+        ensures two { result.two.items ≡ [] }
+    {
+        PathMoves {
+            one: Vec::new(alloc),
+            two: Vec::new(alloc),
+        }
+    }
+
+    /// Adds the moves of a path's turn.
+    fn add(&mut self, path: Path, turn: &Turn) -> Result<(), NoMemory>
+        ensures one { OnOk result (self.new.one.items
+            ≡ self.old.one.items ++ made_by One (record { path = path; turn = turn.now })) }
+        ensures two { OnOk result (self.new.two.items
+            ≡ self.old.two.items ++ made_by Two (record { path = path; turn = turn.now })) }
+    {
+        match path {
+            Path::One => add_turn(&mut self.one, turn),
+            Path::Two => add_turn(&mut self.two, turn),
+        }
+    }
+}
+
+/// Does a record again that is legal there.
+fn done_again(machine: &mut Machine, left: &Flow, right: &Flow, entry: &Entry) -> Turn
+    requires legal { IsNext (tapes_of left.now right.now) machine.old.machine entry.now }
+    requires room { 0 < machine.old.room }
+    requires few { machine.old.machine.count ≤ 4000000 }
+    requires no_reads { without_reads machine.old.machine ≡ machine.old.machine }
+    requires waits { AreAtTheirWaits left.now.order right.now.order machine.old.machine }
+    ensures done { IsDoneAgain (tapes_of left.now right.now) entry.now machine.old.machine machine.new.machine result }
+    ensures room { machine.old.machine.count + machine.old.room ≤ machine.new.machine.count + machine.new.room }
+    ensures no_reads { without_reads machine.new.machine ≡ machine.new.machine }
+    ensures waits { AreAtTheirWaits left.now.order right.now.order machine.new.machine }
+{
+    machine.apply(left, right, entry).unwrap()
+}
+
+/// The moves of a history, whose records are done again on a machine of the pair.
+pub(crate) fn moves_made(
+    alloc: Global,
+    left: &Flow,
+    right: &Flow,
+    settings: &Settings,
+    entries: &[Entry],
+) -> Result<PathMoves, NoMemory>
+    requires legal { IsLegal (tapes_of left.now right.now) (machine_at_start left.now right.now settings.now) entries.now }
+    requires few { length entries.now ≤ 4000000 }
+    ensures one { IfOk result (λ made. made.one.items
+        ≡ moves_of (tapes_of left.now right.now) (machine_at_start left.now right.now settings.now) One entries.now) }
+    ensures two { IfOk result (λ made. made.two.items
+        ≡ moves_of (tapes_of left.now right.now) (machine_at_start left.now right.now settings.now) Two entries.now) }
+{
+    histories_are_runs();
+    let mut machine = Machine::new(alloc, left, right, settings)?;
+    machine.reserve(entries.len())?;
+    let mut made = PathMoves::empty(alloc);
+    for entry in entries {
+        let turn = done_again(&mut machine, left, right, entry);
+        made.add(entry.path, &turn)?;
+    }
+    Ok(made)
+}
