@@ -1,10 +1,5 @@
-pub mod Going
-pub mod Turns
-pub mod Runs
-pub mod Records
-pub mod Ends
-pub mod Moves
-pub mod Causes
-pub mod Statuses
-pub mod Completeness
-pub mod NeverStuck
+pub mod Ended
+pub mod NotHad
+pub mod DueOnce
+pub mod StraightRuns
+pub mod Judging

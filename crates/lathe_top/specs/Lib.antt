@@ -1,9 +1,7 @@
-pub mod Machine
-pub mod History
-pub mod Tape
-pub mod MoveText
-pub mod Report
+-- What callers read.
 pub mod Answer
-pub mod Steps
-pub mod Causes
-pub mod Stuck
+pub mod Command
+pub mod Fetched
+pub mod Judged
+-- What only `run L R` needs.
+pub mod Straight

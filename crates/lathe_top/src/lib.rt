@@ -1,25 +1,26 @@
-//! The command of the program, over a shelf of tapes and a sink for its text.
+//! The command of the program, over a shelf of files and a sink for its text.
+//!
+//! [`top`] reads the words, fetches the files that they name, answers, and gives the status. `verify` is the verdict of
+//! crate `nc_verify`; `run` has a small machine of its own, in the folder `straight`.
 #![tactic(auto)]
 
-mod answering;
 mod command;
 mod control;
-mod history;
-mod labels;
-mod law;
-mod machine;
-mod move_text;
+mod ending;
+mod fetching;
+mod files;
 mod printing;
-mod refusal;
-mod reporting;
+mod straight;
+mod verifying;
 
+pub use command::Command;
 pub use control::top;
-pub use history::{Record, RecordKind, record_made, run};
-pub use labels::{Difference, Label, Labelled, first_difference};
-pub use law::no_pair_is_stuck;
-pub use machine::{Machine, PathState, Standing, Turn};
-pub use refusal::Refusal;
-pub use reporting::{LinedMove, report};
+pub use fetching::{FileFault, Unfetched};
+pub use files::CommandFile;
+pub use straight::{
+    Difference, Label, Labelled, LinedMove, Machine, PathState, Record, RecordKind, RunRefusal,
+    Standing, Turn, first_difference, no_pair_is_stuck, record_made, report, run,
+};
 
 #[cfg(test)]
 mod tests;

@@ -18,6 +18,13 @@ fn shelf(alloc: Global, failing: &[u64]) -> Result<MemoryShelf, Fail> {
         ("102-101", "%\nO1\nM102\nM101\nM30\n%\n"),
         ("101", "%\nO1\nM101\nM30\n%\n"),
         ("dwell", "%\nO1\nG04 P5\nM30\n%\n"),
+        (
+            "jump",
+            "%\nO1\nM101\nIF [#500 GT 5] GOTO 20\nM102\nN20 M30\n%\n",
+        ),
+        ("unended", "%\nO1\nM30\n"),
+        ("none", ""),
+        ("wide", "wait 100 197\nshared100 101\n"),
     ] {
         let name = String::from_str(alloc, name)?;
         files.push((name, Vec::from_slice(alloc, text.as_bytes())?))?;
@@ -73,7 +80,33 @@ fn each_case_is_answered_with_its_status_and_text(rt: HostRuntime) -> Result<(),
         ("run left", 2, "usage\n"),
         ("run left right more", 2, "usage\n"),
         ("Run left right", 2, "usage\n"),
+        ("run left right none", 2, "usage\n"),
         ("verify left right", 2, "usage\n"),
+        ("verify left right none more", 2, "usage\n"),
+        ("verify left right none", 0, "accepted\n"),
+        (
+            "verify 101-102 102-101 none",
+            1,
+            "refused 72 WaitMismatch path 1 line 3 path 2 line 3 after 0\n",
+        ),
+        (
+            "verify jump 101-102 none",
+            1,
+            "refused 65 BranchAtWait path 1 line 4\n",
+        ),
+        (
+            "verify end unended none",
+            1,
+            "refused 14 NoEnd path 2 line 3\n",
+        ),
+        (
+            "verify unended dwell wide",
+            1,
+            "refused 90 BadSetting line 2\n",
+        ),
+        ("verify a b c", 13, "no file a\n"),
+        ("verify left b c", 13, "no file b\n"),
+        ("verify left right c", 13, "no file c\n"),
         ("run a b", 13, "no file a\n"),
         ("run left b", 13, "no file b\n"),
         ("run dwell end", 15, "not built path 1 line 3\n"),
@@ -89,6 +122,14 @@ fn each_case_is_answered_with_its_status_and_text(rt: HostRuntime) -> Result<(),
 fn a_shelf_or_a_sink_that_fails_is_told(rt: HostRuntime) -> Result<(), Fail> {
     expect(&rt, rt.alloc(), &[1], "run left right", 4, "shelf fault\n")?;
     expect(&rt, rt.alloc(), &[2], "run left right", 4, "shelf fault\n")?;
+    expect(
+        &rt,
+        rt.alloc(),
+        &[3],
+        "verify left right none",
+        4,
+        "shelf fault\n",
+    )?;
     expect(
         &rt,
         rt.alloc(),

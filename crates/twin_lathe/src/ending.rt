@@ -24,9 +24,11 @@ impl Ending {
     /// Does what the words say with the files of the file system, writes the answer to standard output, and ends with
     /// the status of that.
     pub fn of<R: Files + Print>(rt: &R, alloc: Global, words: &[String]) -> Ending
-        ensures { (after : TopState) × IsAnswered (map string_bytes words.now)
-            (record { shelf = record { files = None; faults = 0 }; sink = record { written = None; faults = 0 } })
-            after result.status }
+        ensures { (after : TopState) × IsAnswered (record {
+          words = map string_bytes words.now;
+          before = record { shelf = record { files = None; faults = 0 }; sink = record { written = None; faults = 0 } };
+          after = after;
+        }) result.status }
     {
         let mut shelf = FileShelf::new(rt);
         let mut out = StdSink::new(rt);

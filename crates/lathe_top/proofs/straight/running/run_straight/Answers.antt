@@ -1,0 +1,16 @@
+use Rattle.std.proofs.Common.{[], ◌∷◌}
+use Rattle.lathe_top.specs.Answer.{out_of_memory, not_had, answers}
+use Rattle.lathe_top.proofs.Ended.{ends_by, ends_just}
+use Rattle.lathe_top.proofs.NotHad.{the_fault}
+use Rattle.lathe_top.proofs.straight.running.run_straight.Goals as goal
+
+pub returns-in-Ok : goal.returns-in-Ok
+returns-in-Ok g c =
+    let texts = c.in-Ok.tapes.left.items ∷ c.in-Ok.tapes.right.items ∷ [] in
+    ends_by _ (λ status text ran. answers texts c.in-Ok.ensures.texts ran) c.run_tapes.ensures
+
+pub returns-in-Err-Fault : goal.returns-in-Err-Fault
+returns-in-Err-Fault g c = ends_just _ (not_had (the_fault _ _ _ c.in-Err-Fault.field-0-is c.in-Err-Fault.ensures.not_had)) c.tell.ensures
+
+pub returns-in-Err-NoMemory : goal.returns-in-Err-NoMemory
+returns-in-Err-NoMemory g c = out_of_memory
