@@ -243,7 +243,7 @@ fn refusal(alloc: Global, text: &[u8], settings: &[u8]) -> Result<(u8, u32), Fai
 }
 
 /// A text with each `~` as the end of a line.
-fn lines_of(alloc: Global, text: &str) -> Result<Vec<u8>, AllocError> {
+pub(crate) fn lines_of(alloc: Global, text: &str) -> Result<Vec<u8>, AllocError> {
     text.bytes()
         .map(|byte| if byte == b'~' { b'\n' } else { byte })
         .collect(alloc)

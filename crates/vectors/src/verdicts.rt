@@ -1,0 +1,89 @@
+//! Pairs of tapes and the settings of their cell, and the line of their verdict.
+use crate::flow::lines_of;
+use nc_number::Failing;
+use nc_outside::VecSink;
+use nc_verify::{verdict, write_verdict};
+use std::alloc::Global;
+use std::test::Fail;
+
+/// What a row tries, the tape of path 1, that of path 2, the settings, and the verdict as it is
+/// printed. A `~` stands for the end of a line.
+const ROWS: &str = "\
+the pair of a shop|%~O0001 (UPPER TURRET)~N10 G21 G40 G97 G99~N20 G28 U0 W0~N30 G50 S2500~N40 T0101~N50 G97 S800 M03~N60 G00 X52. Z2. M08~N70 M101~N80 G90 X48. Z-30. F0.25~N90 X46.~N100 G00 X100. Z50. M09~N110 T0100~N120 M102~N130 M30~%~|%~O0002 (LOWER TURRET)~N10 G21 G40 G99~N20 G28 U0 W0~N30 T0202~N40 M101~N50 G97 S600 M03~N60 G00 X54. Z-10.~N70 G01 X40. F0.1~N80 G03 X46. Z-13. R3.~N90 G04 P500~N100 G00 X60.~N110 T0200~N120 M102~N130 M30~%~|place 1 X200. Z150.~place 2 X200. Z150.~home 1 X300. Z200.~home 2 X300. Z200.~work 1 54 X0 Z100.~work 2 54 X0 Z100.~tool 1 1 X-20. Z-10.~tool 2 2 X-10. Z5.~|accepted~
+ends alone|%~O1~M30~%~|%~O1~M30~%~||accepted~
+two paths that begin anew|%~O1~M101~M102~M99~%~|%~O1~M101~M102~M99~%~||accepted~
+no second percent line|%~O1~M30~|%~O1~M30~%~||refused 14 NoEnd path 1 line 3~
+an open comment|%~O1~M30 (END|%~O1~M30~%~||refused 12 OpenComment path 1 line 3~
+waits that cross|%~O1~M101~M102~M30~%~|%~O1~M102~M101~M30~%~||refused 72 WaitMismatch path 1 line 3 path 2 line 3 after 0~
+a jump over a wait|%~O1~M101~IF [#500 GT 5] GOTO 20~M102~N20 M30~%~|%~O1~M101~M102~M30~%~||refused 65 BranchAtWait path 1 line 4~
+a jump between waits|%~O1~M101~IF [#500 GT 5] GOTO 20~G00 X10.~N20 M102~M30~%~|%~O1~M101~M102~M30~%~||accepted~
+the only wait behind a jump|%~O1~GOTO 9~M101~N9 M30~%~|%~O1~M101~M30~%~||refused 65 BranchAtWait path 1 line 3~
+a loop without a wait|%~O1~DO1~#1=#1+1~END1~M30~%~|%~O1~M101~M30~%~||refused 72 WaitMismatch path 1 line 6 path 2 line 3 after 0~
+a loop over a wait|%~O1~DO1~M101~END1~M30~%~|%~O1~M101~M30~%~||refused 65 BranchAtWait path 1 line 5~
+a call|%~O1~M98 P10203~M30~O203~M101~M99~%~|%~O1~M101~M30~%~||accepted~
+three repeats|%~O1~M98 P30203~M30~O203~M101~M99~%~|%~O1~M101~M101~M101~M30~%~||accepted~
+three repeats against four waits|%~O1~M98 P30203~M30~O203~M101~M99~%~|%~O1~M101~M101~M101~M101~M30~%~||refused 72 WaitMismatch path 1 line 4 path 2 line 6 after 3~
+settings that are refused|%~O1~M30~%~|%~O1~M30~%~|wait 100 197~shared100 101~|refused 90 BadSetting line 2~
+the block M101 G00|%~O1~M101 G00~M30~%~|%~O1~M30~%~||refused 57 WaitNotAlone path 1 line 3~
+the block M101 P1|%~O1~M101 P1~M30~%~|%~O1~M30~%~||refused 58 WaitPaths path 1 line 3~
+the block G20|%~O1~G20~M30~%~|%~O1~M30~%~||refused 56 UnknownCode path 1 line 3~
+the block M#1|%~O1~M#1~M30~%~|%~O1~M30~%~||refused 54 NotFixed path 1 line 3~
+the block M03 M08|%~O1~M03 M08~M30~%~|%~O1~M30~%~||refused 59 TwoM path 1 line 3~
+the block GOTO 5|%~O1~GOTO 5~M30~%~|%~O1~M30~%~||refused 50 NoSequence path 1 line 3~
+the block M98 P7|%~O1~M98 P7~M30~%~|%~O1~M30~%~||refused 51 NoProgram path 1 line 3~
+the block X1. U1.|%~O1~X1. U1.~M30~%~|%~O1~M30~%~||refused 62 AxisTwice path 1 line 3~
+an alarm before the wait|%~O1~#3000=1~M101~M30~%~|%~O1~M101~M30~%~||accepted~
+a path that never comes to its end|%~O1~N5 M99 P5~%~|%~O1~M30~%~||refused 72 WaitMismatch path 1 line 3 path 2 line 3 after 0~
+a program with a wait that calls itself|%~O1~M98 P2~M30~O2~M101~M98 P2~M99~%~|%~O1~M30~%~||refused 66 WaitTooDeep path 1 line 7~
+seven times 9999 waits|%~O1~M98 P2 L9999~M98 P2 L9999~M98 P2 L9999~M98 P2 L9999~M98 P2 L9999~M98 P2 L9999~M98 P2 L9999~M30~O2~M101~M99~%~|%~O1~M30~%~||refused 70 TooManyLabels path 1~
+65536 labels|%~O1~M98 P2 L9999~M98 P2 L9999~M98 P2 L9999~M98 P2 L9999~M98 P2 L9999~M98 P2 L9999~M98 P2 L5541~M30~O2~M101~M99~%~|%~O1~M98 P2 L9999~M98 P2 L9999~M98 P2 L9999~M98 P2 L9999~M98 P2 L9999~M98 P2 L9999~M98 P2 L5541~M30~O2~M101~M99~%~||accepted~
+65537 labels|%~O1~M98 P2 L9999~M98 P2 L9999~M98 P2 L9999~M98 P2 L9999~M98 P2 L9999~M98 P2 L9999~M98 P2 L5542~M30~O2~M101~M99~%~|%~O1~M98 P2 L9999~M98 P2 L9999~M98 P2 L9999~M98 P2 L9999~M98 P2 L9999~M98 P2 L9999~M98 P2 L5542~M30~O2~M101~M99~%~||refused 70 TooManyLabels path 1~
+65537 labels of path 2|%~O1~M98 P2 L9999~M98 P2 L9999~M98 P2 L9999~M98 P2 L9999~M98 P2 L9999~M98 P2 L9999~M98 P2 L5541~M30~O2~M101~M99~%~|%~O1~M98 P2 L9999~M98 P2 L9999~M98 P2 L9999~M98 P2 L9999~M98 P2 L9999~M98 P2 L9999~M98 P2 L5542~M30~O2~M101~M99~%~||refused 70 TooManyLabels path 2~
+repeats eight deep of quiet programs|%~O1~M98 P2 L9999~M30~O2~M98 P3 L9999~M99~O3~M98 P4 L9999~M99~O4~M98 P5 L9999~M99~O5~M98 P6 L9999~M99~O6~M98 P7 L9999~M99~O7~M98 P8 L9999~M99~O8~M98 P9 L9999~M99~O9~X1.~M99~%~|%~O1~M30~%~||accepted~
+repeats eight deep of a wait that is never come to|%~O1~M98 P2 L9999~M30~O2~M98 P3 L9999~M99~O3~M98 P4 L9999~M99~O4~M98 P5 L9999~M99~O5~M98 P6 L9999~M99~O6~M98 P7 L9999~M99~O7~M98 P8 L9999~M99~O8~M98 P9 L9999~M99~O9~M99~M101~M99~%~|%~O1~M30~%~||accepted~
+repeats eight deep of a wait|%~O1~M98 P2 L9999~M30~O2~M98 P3 L9999~M99~O3~M98 P4 L9999~M99~O4~M98 P5 L9999~M99~O5~M98 P6 L9999~M99~O6~M98 P7 L9999~M99~O7~M98 P8 L9999~M99~O8~M98 P9 L9999~M99~O9~M101~M99~%~|%~O1~M30~%~||refused 70 TooManyLabels path 1~
+each kind of loop and call between waits|%~O0001 (UPPER TURRET)~N10 G21 G40 G97 G99~N20 T0101~N30 G97 S800 M03~N40 M101~#100=0~WHILE [#100 LT 3] DO1~G00 X[60.-#100] Z2.~G01 Z-30. F0.25~#100=#100+1~END1~DO1~#100=#100-1~IF [#100 LE 0] GOTO 50~END1~N50 G00 X100. Z50.~N60 M102~M98 P20011~M98 P12 L3~G65 P13 L2 A5. B2.~IF [#100 EQ #0] GOTO 70~GOTO 70~G00 X90.~N70 G00 X100.~M98 P30021~G65 P22 A1.~N80 M30~O0011 (QUIET)~G01 U-2. F0.2~G00 U4.~M99~O0012 (QUIET, BACK TO A BLOCK OF ITS CALLER)~G00 W1.~M99 P70~O0013 (QUIET, A COMPUTED GOTO)~GOTO #1~N5 #3=#2~N6 M99~O0021 (A WAIT)~G00 X70.~M103~M99~O0022 (A MACRO WITH A WAIT)~#2=#1~M104~M99~%~|%~O0002 (LOWER TURRET)~N10 G21 G40 G99~N20 T0202~N30 M101~#1=1~WHILE [#1 LE 2] DO1~WHILE [#2 LT #1] DO2~DO3~#2=#2+1~IF [#2 GT 9] GOTO 40~END3~N40 G00 X[50.+#2]~END2~#1=#1+1~END1~N50 M102~GOTO 60~G00 X54.~N60 G04 P500~M103~M103~N70 M103~N80 M104~N90 M30~%~|place 1 X200. Z150.~place 2 X200. Z150.~home 1 X300. Z200.~home 2 X300. Z200.~work 1 54 X0 Z100.~work 2 54 X0 Z100.~tool 1 1 X-20. Z-10.~tool 2 2 X-10. Z5.~|accepted~
+an end against a beginning anew|%~O1~M101~M30~%~|%~O1~X1.~M101~M99~%~||refused 72 WaitMismatch path 1 line 4 path 2 line 5 after 1~
+a running off against an end|%~O1~M101~X1.~X2.~%~|%~O1~M101~M30~%~||refused 72 WaitMismatch path 1 line 5 path 2 line 4 after 1~
+settings before the tapes|G00~|%~O1~M30~|wait 100 197~shared100 101~|refused 90 BadSetting line 2~
+the flow of path 1 before the reading of path 2|%~O1~GOTO 5~M30~%~|%~O1~M30~||refused 50 NoSequence path 1 line 3~
+the flow of path 2 before the labels of path 1|%~O1~M98 P2 L9999~M98 P2 L9999~M98 P2 L9999~M98 P2 L9999~M98 P2 L9999~M98 P2 L9999~M98 P2 L9999~M30~O2~M101~M99~%~|%~O1~GOTO 5~M30~%~||refused 50 NoSequence path 2 line 3~
+the reading of path 2|%~O1~M30~%~|%~O1~M30 (END||refused 12 OpenComment path 2 line 3~";
+
+/// The verdict of three texts as it is printed.
+fn printed(alloc: Global, left: &[u8], right: &[u8], settings: &[u8]) -> Result<Vec<u8>, Fail> {
+    if settings.len() > 1_000 {
+        return Ok(Vec::from_slice(alloc, b"settings that are too long")?);
+    }
+    let refusal = match verdict(alloc, left, right, settings) {
+        Ok(_) => None,
+        Err(Failing::Fault(refusal)) => Some(refusal),
+        Err(Failing::NoMemory) => return Ok(Vec::from_slice(alloc, b"no memory")?),
+    };
+    let mut sink = VecSink::new(alloc, &[])?;
+    write_verdict(refusal.as_ref(), &mut sink)?;
+    Ok(sink.bytes().to_vec(alloc)?)
+}
+
+#[test]
+fn a_pair_and_its_verdict(rt: HostRuntime) -> Result<(), Fail> {
+    let alloc = rt.alloc();
+    for row in ROWS.lines() {
+        let (name, texts) = row.split_once('|').ok_or("a name and its texts")?;
+        let (left, texts) = texts.split_once('|').ok_or("the tape of path 1")?;
+        let (right, texts) = texts.split_once('|').ok_or("the tape of path 2")?;
+        let (settings, wanted) = texts.split_once('|').ok_or("the settings and a verdict")?;
+        let left = lines_of(alloc, left)?;
+        let right = lines_of(alloc, right)?;
+        let settings = lines_of(alloc, settings)?;
+        let wanted = lines_of(alloc, wanted)?;
+        let got = printed(
+            alloc,
+            left.as_slice(),
+            right.as_slice(),
+            settings.as_slice(),
+        )?;
+        assert_eq!(&rt; got.as_slice(), wanted.as_slice(), "{name}");
+    }
+    Ok(())
+}
