@@ -1,30 +1,31 @@
 //! What the reader of tapes answers, in plain Rust that proves nothing: the yardstick of scripts/bench_reader. It keeps the same
-//! programs, blocks and words, and refuses what the reader refuses, with the same number and line.
+//! programs, blocks and words, and refuses what the reader refuses, with the same number and line. The yardstick of
+//! scripts/bench_verify reads by it.
 use std::{env, fs};
 
 #[allow(dead_code)]
-struct Word {
-    letter: u8,
+pub struct Word {
+    pub letter: u8,
     start: u32,
     end: u32,
-    text: Vec<u8>,
+    pub text: Vec<u8>,
 }
 #[allow(dead_code)]
-enum Body {
+pub enum Body {
     Words(Vec<Word>),
     Statement(Vec<u8>),
 }
 #[allow(dead_code)]
-struct Block {
-    line: u32,
+pub struct Block {
+    pub line: u32,
     sequence: Option<u32>,
-    body: Body,
+    pub body: Body,
 }
 #[allow(dead_code)]
-struct Program {
+pub struct Program {
     number: u32,
-    line: u32,
-    blocks: Vec<Block>,
+    pub line: u32,
+    pub blocks: Vec<Block>,
 }
 
 enum Said {
@@ -343,7 +344,8 @@ fn read_line(buffers: &mut Buffers, skips: u16, line: &[u8], ended: bool) -> Res
     }
 }
 
-fn read(skips: u16, text: &[u8]) -> Result<Vec<Program>, (u8, u32)> {
+/// The programs of a text, or the number and the line of its refusal.
+pub fn read(skips: u16, text: &[u8]) -> Result<Vec<Program>, (u8, u32)> {
     let mut buffers = Buffers::default();
     let mut programs: Vec<Program> = Vec::new();
     let (mut percent, mut blocks, mut bytes, mut line_number) = (0u32, 0u32, 0usize, 0u32);
