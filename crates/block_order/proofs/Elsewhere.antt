@@ -1,5 +1,5 @@
 -- Tests of the code and what they say of stretches.
-use Rattle.std.proofs.Common.{◌≡◌, ◌≢◌, ◌↔◌, ℕ, ◌<◌, ◌≤◌, Bool, true, false, not, nat_eq, nat_le, List, [], ◌∷◌, length, Option, Some, None, slice_index, zero, suc, sym, subst, refl, ap, ◌∙◌, arith, zero-add}
+use Rattle.std.proofs.Common.{◌≡◌, ◌≢◌, ◌↔◌, ℕ, ◌-◌, ◌<◌, ◌≤◌, Bool, true, false, not, nat_eq, nat_le, List, [], ◌∷◌, length, Option, Some, None, slice_index, zero, suc, sym, subst, refl, ap, ◌∙◌, arith, zero-add}
 use Rattle.std.specs.Prelude.{IsTrue}
 use Rattle.std.proofs.lemmas.Bool.Decides.{nat_tests}
 use Rattle.block_order.specs.declared.control.Control.{Control}
@@ -9,7 +9,8 @@ use Rattle.block_order.specs.Order.{seek, control_at, IsLoop, IsPermitted}
 use Rattle.block_order.specs.Loud.{stretch}
 use Rattle.block_order.specs.Waiting.{LeadsElsewhere, ClosesElsewhere}
 use Rattle.block_order.specs.Stretches.{stretches_from}
-use Rattle.block_order.proofs.Stretched.{stretches_are}
+use Rattle.block_order.proofs.Stretched.{stretches_are, stretch_rises}
+use Rattle.block_order.proofs.Targets.{seek_stands}
 
 pub differ : (a b : ℕ) → IsTrue (not (nat_eq a b)) ↔ (a ≢ b)
 differ a b = (λ t e. grind (arith, nat_tests), λ d. go d (nat_eq a b) refl)
@@ -26,6 +27,18 @@ apart_is ld bs ss one other x y e a b ex ey =
     let ex' : x ≡ stretch ld bs one = ex ∙ (ap (λ s. slice_index s one) e ∙ (stretches_are ld bs 0 one 0 a ∙ zero-add (stretch ld bs one))) in
     let ey' : y ≡ stretch ld bs other = ey ∙ (ap (λ s. slice_index s other) e ∙ (stretches_are ld bs 0 other 0 b ∙ zero-add (stretch ld bs other))) in
     rw (ex', ey') (differ (stretch ld bs one) (stretch ld bs other))
+
+-- where the last block lies in the first stretch, no search leads to another one
+pub one_stretch : (ld : ℕ → Bool) (bs : List ControlBlock) (ss : List ℕ) (block n last : ℕ) → ss ≡ stretches_from ld 0 bs
+    → last ≡ slice_index ss (length bs - 1) → last ≡ 0 → block < length bs → LeadsElsewhere ld bs block n → ⊥
+one_stretch ld bs ss block n last e is first within (target, leads, differs) =
+    let end = length bs - 1 in
+    let there : last ≡ stretch ld bs end =
+    is ∙ (ap (λ s. slice_index s end) e ∙ (stretches_are ld bs 0 end 0 (omega arith) ∙ zero-add (stretch ld bs end))) in
+    let found = (seek_stands bs block n target leads.found).0 in
+    let one = stretch_rises ld bs block end (omega arith) in
+    let other = stretch_rises ld bs target end (omega (arith, found)) in
+    differs (omega arith)
 
 pub le_is : (a b : ℕ) → IsTrue (nat_le a b) ↔ (a ≤ b)
 le_is a b = (λ t. grind (arith, nat_tests), λ h. grind (arith, nat_tests))

@@ -4,6 +4,7 @@ pub mod Opened
 pub mod NotedEnds
 pub mod Nested
 pub mod Flags
+pub mod HeardFirst
 pub mod Stretched
 pub mod Targets
 pub mod Elsewhere

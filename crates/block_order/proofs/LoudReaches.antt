@@ -31,7 +31,7 @@ or_true false true true b' f g e = refl
 or_true false true false b' f g e = g refl
 or_true false false a' b' f g e = absurd cc
 
-has_within : (known more : ℕ → Bool) → IsWithin known more → (bs : List ControlBlock)
+pub has_within : (known more : ℕ → Bool) → IsWithin known more → (bs : List ControlBlock)
     → has_loud_block known bs ≡ true → has_loud_block more bs ≡ true
 has_within known more within [] e = e
 has_within known more within (b ∷ bs) e =

@@ -6,6 +6,7 @@
 //! one path: whatever its variables hold, it comes to the labels of its tape in their order.
 #![tactic(auto)]
 
+mod callers;
 mod computed;
 mod computed_strays;
 mod control;

@@ -1,9 +1,11 @@
-ghost use Rattle.std.specs.Prelude.{◌≡◌, [], Bool, true, map, IfOk};
+ghost use Rattle.std.specs.Prelude.{◌≡◌, [], ℕ, Bool, true, map, IfOk};
 ghost use Rattle.block_order.specs.Loud.{is_loud_block, has_loud_block, known_loud, loud};
+ghost use Rattle.block_order.specs.Order.{blocks};
 ghost use Rattle.block_order.specs.ProgramPlaces.{flagged};
 ghost use Rattle.block_order.specs.Numbers.{place_known, KnowsPlaces};
 ghost use Rattle.block_order.specs.Heard.{heard, flag_known};
 
+use crate::callers::Callers;
 use crate::control::Control;
 use crate::numbers::ProgramNumbers;
 use crate::program::{ControlBlock, ControlProgram};
@@ -78,6 +80,101 @@ fn are_same(these: &[bool], those: &[bool]) -> bool
     these == those
 }
 
+// Flags the program of this number where one of its blocks is loud, by what is known so far. Whether
+// it is flagged only now.
+fn hear(
+    programs: &[ControlProgram],
+    numbers: &ProgramNumbers,
+    flags: &mut [bool],
+    number: u16,
+) -> bool
+    requires known { KnowsPlaces programs.now numbers.now }
+    requires sound { (q : ℕ) → flagged programs.now flags.old q ≡ true → loud programs.now q ≡ true }
+    ensures sound { (q : ℕ) → flagged programs.now flags.new q ≡ true → loud programs.now q ≡ true }
+{
+    if flag_of(numbers, flags, number)
+        || !any_is_loud(numbers, flags, numbers.blocks_of(programs, number))
+    {
+        return false;
+    }
+    match numbers.place_of(number) {
+        Some(place) if place < flags.len() => {
+            flags[place] = true;
+            true
+        }
+        _ => false,
+    }
+}
+
+// The same of each of these programs. The numbers of those that are flagged only now are put behind
+// the others.
+fn hear_each(
+    programs: &[ControlProgram],
+    numbers: &ProgramNumbers,
+    flags: &mut [bool],
+    these: &[u16],
+    fresh: &mut Vec<u16>,
+) -> Result<(), NoMemory>
+    requires known { KnowsPlaces programs.now numbers.now }
+    requires sound { (q : ℕ) → flagged programs.now flags.old q ≡ true → loud programs.now q ≡ true }
+    ensures sound { (q : ℕ) → flagged programs.now flags.new q ≡ true → loud programs.now q ≡ true }
+{
+    for number in these {
+        if hear(programs, numbers, flags, *number) {
+            fresh.push(*number)?;
+        }
+    }
+    Ok(())
+}
+
+// Flags loud programs, and of each one that is flagged looks at those that call it.
+fn hear_all(
+    alloc: Global,
+    programs: &[ControlProgram],
+    numbers: &ProgramNumbers,
+    flags: &mut [bool],
+) -> Result<(), NoMemory>
+    requires known { KnowsPlaces programs.now numbers.now }
+    requires sound { (q : ℕ) → flagged programs.now flags.old q ≡ true → loud programs.now q ≡ true }
+    ensures sound { (q : ℕ) → flagged programs.now flags.new q ≡ true → loud programs.now q ≡ true }
+{
+    let callers = Callers::of(alloc, programs)?;
+    let all: Vec<u16> = programs
+        .iter()
+        .map(|program| program.number)
+        .collect(alloc)?;
+    let mut fresh: Vec<u16> = Vec::new(alloc);
+    hear_each(programs, numbers, flags, &all, &mut fresh)?;
+    for _ in programs {
+        let Some(number) = fresh.pop() else {
+            return Ok(());
+        };
+        hear_each(
+            programs,
+            numbers,
+            flags,
+            callers.of_program(number),
+            &mut fresh,
+        )?;
+    }
+    Ok(())
+}
+
+// Most of the loud programs, and mostly all of them.
+fn heard_first(
+    alloc: Global,
+    numbers: &ProgramNumbers,
+    programs: &[ControlProgram],
+) -> Result<Vec<bool>, NoMemory>
+    requires { KnowsPlaces programs.now numbers.now }
+    ensures { IfOk result (λ flags. (q : ℕ) → flagged programs.now flags.items q ≡ true → loud programs.now q ≡ true) }
+{
+    let mut flags = none_loud(alloc, programs)?;
+    hear_all(alloc, programs, numbers, &mut flags)?;
+    Ok(flags)
+}
+
+// What is heard first is looked at again until nothing changes, which it mostly doesn't.
 fn loud_flags(
     alloc: Global,
     numbers: &ProgramNumbers,
@@ -86,7 +183,7 @@ fn loud_flags(
     requires { KnowsPlaces programs.now numbers.now }
     ensures { IfOk result (λ flags. flagged programs.now flags.items ≡ loud programs.now) }
 {
-    let mut flags = none_loud(alloc, programs)?;
+    let mut flags = heard_first(alloc, numbers, programs)?;
     for _round in 0..programs.len() {
         let next = look_again(alloc, numbers, &flags, programs)?;
         if are_same(&next, &flags) {
@@ -112,6 +209,18 @@ impl LoudPrograms {
         ensures { result ≡ place_known self.now.numbers number }
     {
         self.numbers.place_of(number)
+    }
+
+    /// The blocks of the program with this O number, and none of no program.
+    pub(crate) fn blocks_of<'a>(
+        &self,
+        programs: &'a [ControlProgram],
+        number: u16,
+    ) -> &'a [ControlBlock]
+        requires { KnowsPlaces programs.now self.now.numbers }
+        ensures { result.now ≡ blocks programs.now number }
+    {
+        self.numbers.blocks_of(programs, number)
     }
 
     /// The flag, at its place, of the program with this O number.

@@ -1,10 +1,10 @@
 ghost use Rattle.std.specs.Prelude.{◌≡◌, ◌==◌, ℕ, List, Some, None, nat_eq, OnOk, IfOk, if◌then◌else◌};
 ghost use Rattle.indexmap.specs.IndexMap.{get};
-ghost use Rattle.block_order.specs.Order.{or_else};
+ghost use Rattle.block_order.specs.Order.{blocks, or_else};
 ghost use Rattle.block_order.specs.ProgramPlaces.{place_of};
 ghost use Rattle.block_order.specs.Numbers.{place_known, KnowsPlaces};
 
-use crate::program::ControlProgram;
+use crate::program::{ControlBlock, ControlProgram};
 use indexmap::IndexMap;
 use nc_number::NoMemory;
 use std::alloc::Global;
@@ -42,5 +42,23 @@ impl ProgramNumbers {
         ensures { result ≡ place_known self.now number }
     {
         self.places.get(&number).copied()
+    }
+
+    /// The blocks of the program with this O number, and none of no program.
+    pub(crate) fn blocks_of<'a>(
+        &self,
+        programs: &'a [ControlProgram],
+        number: u16,
+    ) -> &'a [ControlBlock]
+        requires { KnowsPlaces programs.now self.now }
+        ensures { result.now ≡ blocks programs.now number }
+    {
+        match self.place_of(number) {
+            Some(place) => match programs.get(place) {
+                Some(program) => program.blocks.as_slice(),
+                None => &[],
+            },
+            None => &[],
+        }
     }
 }

@@ -33,13 +33,7 @@ pub(crate) fn blocks_of<'a>(
     requires { KnowsPlaces programs.now loud.now.numbers }
     ensures { result.now ≡ blocks programs.now number }
 {
-    match loud.place_of(number) {
-        Some(place) => match programs.get(place) {
-            Some(program) => program.blocks.as_slice(),
-            None => &[],
-        },
-        None => &[],
-    }
+    loud.blocks_of(programs, number)
 }
 
 // One of these blocks is an M99 with a number that leads from the block to another stretch.
@@ -47,6 +41,9 @@ fn returns_elsewhere(ways: &ProgramWays, place: u32, called: &[ControlBlock]) ->
     ensures { (loud : ℕ → Bool) → AreWays loud ways.now → place < length ways.now.blocks.now
         → IsTrue result ↔ ReturnsElsewhere loud ways.now.blocks.now place called.now }
 {
+    if ways.is_one_stretch() {
+        return false;
+    }
     for block in called {
         if let Control::BackTo(number) = block.control {
             if ways.leads_elsewhere(place, number) {

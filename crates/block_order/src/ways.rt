@@ -14,7 +14,7 @@ pub(crate) struct ProgramWays<'a> {
 }
 
 impl ProgramWays<'_> {
-    ghost use Rattle.std.specs.Prelude.{◌≡◌, ◌≢◌, ◌↔◌, ◌<◌, ℕ, Bool, IsTrue, length, slice_index};
+    ghost use Rattle.std.specs.Prelude.{◌≡◌, ◌≢◌, ◌↔◌, ◌<◌, ◌-◌, ℕ, Bool, IsTrue, length, slice_index};
     ghost use Rattle.block_order.specs.Waiting.{LeadsElsewhere, ClosesElsewhere};
     ghost use Rattle.block_order.specs.Order.{IsPermitted};
     ghost use Rattle.block_order.specs.Loud.{stretch};
@@ -24,6 +24,24 @@ impl ProgramWays<'_> {
         ensures { result ≡ slice_index self.now.stretches.now place }
     {
         self.stretches.get(place as usize).copied().unwrap_or(0)
+    }
+
+    // The stretch of the last block.
+    fn last_stretch(&self) -> usize
+        ensures { result ≡ slice_index self.now.stretches.now (length self.now.blocks.now - 1) }
+    {
+        self.stretches
+            .get(self.blocks.len().saturating_sub(1))
+            .copied()
+            .unwrap_or(0)
+    }
+
+    /// Whether all blocks lie in one stretch, so that no search leads to another one.
+    pub(crate) fn is_one_stretch(&self) -> bool
+        ensures { (loud : ℕ → Bool) → AreWays loud self.now → (block n : ℕ) → block < length self.now.blocks.now
+            → IsTrue result → LeadsElsewhere loud self.now.blocks.now block n → ⊥ }
+    {
+        self.last_stretch() == 0
     }
 
     fn are_apart(&self, one: u32, other: u32) -> bool

@@ -1,6 +1,6 @@
 use Rattle.std.proofs.Common.{◌<◌, ◌≤◌, length, ◌∙◌, arith}
 use Rattle.block_order.proofs.Programs.{blocks_there, no_blocks_there, place_within}
-use Rattle.block_order.proofs.view.blocks_of.Goals as goal
+use Rattle.block_order.proofs.numbers.ProgramNumbers.blocks_of.Goals as goal
 
 pub returns-in-Some-get : goal.returns-in-Some-get
 returns-in-Some-get c =

@@ -1,0 +1,96 @@
+-- Flags that are set of loud programs alone, and rounds that begin with them.
+use Rattle.std.proofs.Common.{◌≡◌, ℕ, zero, suc, ◌+◌, ◌-◌, ◌≤◌, ◌<◌, ◌⊎◌, inl, inr, Bool, true, false, List, [], length, map, Some, slice_set, refl, ap, sym, subst, ◌∙◌, arith}
+use Rattle.block_order.specs.declared.numbers.ProgramNumbers.{ProgramNumbers}
+use Rattle.block_order.specs.declared.program.ControlProgram.{ControlProgram}
+use Rattle.block_order.specs.Order.{blocks}
+use Rattle.block_order.specs.Loud.{has_loud_block, known_loud, loud}
+use Rattle.block_order.specs.ProgramPlaces.{place_of, flagged}
+use Rattle.block_order.specs.Numbers.{KnowsPlaces}
+use Rattle.block_order.specs.Heard.{flag_known}
+use Rattle.block_order.proofs.Flags.{flag_of_blocks, known_is_flagged, none_known}
+use Rattle.block_order.proofs.Called.{flag_set}
+use Rattle.block_order.proofs.LoudReaches.{IsWithin, has_within, loud-has}
+
+-- a program with a loud block is loud, if what is known is so
+pub look_is_loud : (tape : List ControlProgram) (known : ℕ → Bool) → IsWithin known (loud tape) → (q : ℕ)
+    → has_loud_block known (blocks tape q) ≡ true → loud tape q ≡ true
+look_is_loud tape known within q e = loud-has tape q ∙ has_within known (loud tape) within (blocks tape q) e
+
+-- one flag more, of a program with a loud block
+pub one_heard : (tape : List ControlProgram) (numbers : ProgramNumbers) (flags : List Bool) (number place : ℕ)
+    → KnowsPlaces tape numbers → IsWithin (flagged tape flags) (loud tape)
+    → has_loud_block (flag_known numbers flags) (blocks tape number) ≡ true
+    → place_of tape number ≡ Some place → place < length flags
+    → IsWithin (flagged tape (slice_set flags place true)) (loud tape)
+one_heard tape numbers flags number place knows within noisy is fits q e =
+    elim ((flag_set tape flags number place is fits q).0 e) [
+      | inl old ↦ within q old
+      | inr same ↦ subst (λ r. loud tape r ≡ true) (sym same)
+          (look_is_loud tape (flagged tape flags) within number
+          (ap (λ known. has_loud_block known (blocks tape number)) (sym (known_is_flagged tape numbers flags knows)) ∙ noisy))
+    ]
+
+-- at first nothing is flagged
+pub none_heard : (tape : List ControlProgram) (flags : List Bool)
+    → flags ≡ map (λ p. has_loud_block (known_loud tape 0) []) tape → IsWithin (flagged tape flags) (loud tape)
+none_heard tape flags e q f =
+    absurd (let quiet : flagged tape flags q ≡ false = ap (λ fs. flagged tape fs q) e ∙ ap (λ known. known q) (none_known tape) in cc)
+
+-- the flags hold what so many rounds find, and nothing that is not loud
+pub record AreBetween (tape : List ControlProgram) (n : ℕ) (flags : List Bool) : Type 0 where
+  pub found : IsWithin (known_loud tape n) (flagged tape flags)
+  pub sound : IsWithin (flagged tape flags) (loud tape)
+
+pub begins : (tape : List ControlProgram) (flags : List Bool) → IsWithin (flagged tape flags) (loud tape) → AreBetween tape 0 flags
+begins tape flags sound = record { found = λ q e. absurd cc; sound = sound }
+
+-- what one more look flags
+look_flags : (tape : List ControlProgram) (numbers : ProgramNumbers) (flags next : List Bool) → KnowsPlaces tape numbers
+    → next ≡ map (λ p. has_loud_block (flag_known numbers flags) p.blocks) tape
+    → (q : ℕ) → flagged tape next q ≡ has_loud_block (flagged tape flags) (blocks tape q)
+look_flags tape numbers flags next knows made q =
+    ap (λ fs. flagged tape fs q) made
+    ∙ (flag_of_blocks (λ bs. has_loud_block (flag_known numbers flags) bs) refl tape q
+    ∙ ap (λ known. has_loud_block known (blocks tape q)) (known_is_flagged tape numbers flags knows))
+
+-- one look more
+pub looked_again : (tape : List ControlProgram) (numbers : ProgramNumbers) (flags next : List Bool) (n : ℕ) → KnowsPlaces tape numbers
+    → AreBetween tape n flags → next ≡ map (λ p. has_loud_block (flag_known numbers flags) p.blocks) tape
+    → AreBetween tape (n + 1) next
+looked_again tape numbers flags next n knows between made = record {
+  found = λ q e. look_flags tape numbers flags next knows made q
+      ∙ has_within (known_loud tape n) (flagged tape flags) between.found (blocks tape q)
+      (let k : n + 1 ≡ suc n = omega arith in sym (ap (λ m. known_loud tape m q) k) ∙ e);
+  sound = λ q e. look_is_loud tape (flagged tape flags) between.sound q (sym (look_flags tape numbers flags next knows made q) ∙ e);
+}
+
+alike : (a b : Bool) → (a ≡ true → b ≡ true) → (b ≡ true → a ≡ true) → a ≡ b
+alike true b f g = sym (f refl)
+alike false true f g = g refl
+alike false false f g = refl
+
+both_ways : (tape : List ControlProgram) (flags : List Bool) → IsWithin (flagged tape flags) (loud tape)
+    → IsWithin (loud tape) (flagged tape flags) → flagged tape flags ≡ loud tape
+both_ways tape flags sound whole = λ i q. alike (flagged tape flags q) (loud tape q) (sound q) (whole q) i
+
+-- a look that changes nothing has found all
+closed : (tape : List ControlProgram) (known : ℕ → Bool) → ((q : ℕ) → known q ≡ has_loud_block known (blocks tape q))
+    → (n : ℕ) → IsWithin (known_loud tape n) known
+closed tape known same zero q e = absurd cc
+closed tape known same (suc n) q e =
+    same q ∙ has_within (known_loud tape n) known (closed tape known same n) (blocks tape q) e
+
+pub looked_enough : (tape : List ControlProgram) (numbers : ProgramNumbers) (flags : List Bool) (n : ℕ) → KnowsPlaces tape numbers
+    → AreBetween tape n flags → flags ≡ map (λ p. has_loud_block (flag_known numbers flags) p.blocks) tape
+    → flagged tape flags ≡ loud tape
+unfolding loud
+looked_enough tape numbers flags n knows between made =
+    both_ways tape flags between.sound
+    (closed tape (flagged tape flags) (look_flags tape numbers flags flags knows made) (length tape))
+
+-- as many rounds as there are programs have found all
+pub looked_long : (tape : List ControlProgram) (flags : List Bool) (n : ℕ) → n ≡ length tape → AreBetween tape n flags
+    → flagged tape flags ≡ loud tape
+unfolding loud
+looked_long tape flags n e between =
+    both_ways tape flags between.sound (λ q h. between.found q (ap (λ m. known_loud tape m q) e ∙ h))

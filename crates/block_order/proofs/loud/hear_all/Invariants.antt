@@ -1,0 +1,7 @@
+use Rattle.block_order.specs.Loud.{loud}
+use Rattle.block_order.specs.ProgramPlaces.{flagged}
+use Rattle.block_order.proofs.LoudReaches.{IsWithin}
+use Rattle.block_order.proofs.loud.hear_all.Given as goal
+
+abbrev pub invariant-loop : goal.invariant-loop
+invariant-loop l = IsWithin (flagged l.programs l.flags) (loud l.programs)

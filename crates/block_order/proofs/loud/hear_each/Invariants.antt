@@ -1,0 +1,7 @@
+use Rattle.block_order.specs.Loud.{loud}
+use Rattle.block_order.specs.ProgramPlaces.{flagged}
+use Rattle.block_order.proofs.LoudReaches.{IsWithin}
+use Rattle.block_order.proofs.loud.hear_each.Given as goal
+
+abbrev pub invariant-loop-number : goal.invariant-loop-number
+invariant-loop-number l = IsWithin (flagged l.programs l.flags) (loud l.programs)

@@ -1,0 +1,8 @@
+use Rattle.std.proofs.Common.{◌≡◌, ◌∙◌}
+use Rattle.block_order.proofs.Called.{lent_whole}
+use Rattle.block_order.proofs.HeardFirst.{none_heard}
+use Rattle.block_order.proofs.loud.heard_first.Goals as goal
+
+pub hear_all-requires-clause-sound : goal.hear_all-requires-clause-sound
+hear_all-requires-clause-sound c =
+    none_heard c.args.programs.now c.deref_mut.result.now (c.deref_mut.ensures.value ∙ c.in_ok-flags.ensures)

@@ -1,0 +1,57 @@
+//! Which programs call a program.
+//!
+//! Only time hangs on it: what is looked at again because of it is looked at as ever.
+
+use crate::control::Control;
+use crate::program::{ControlBlock, ControlProgram};
+use indexmap::IndexMap;
+use nc_number::NoMemory;
+use std::alloc::Global;
+
+/// From an O number to those of the programs that call it, once for each call.
+#[derive(Drop)]
+pub(crate) struct Callers {
+    numbers: IndexMap<u16, Vec<u16>>,
+}
+
+impl Callers {
+    pub(crate) fn of(alloc: Global, programs: &[ControlProgram]) -> Result<Callers, NoMemory> {
+        let mut callers = Callers {
+            numbers: IndexMap::new(alloc),
+        };
+        for program in programs {
+            callers.note_calls(alloc, program.number, program.blocks.as_slice())?;
+        }
+        Ok(callers)
+    }
+
+    // Notes the programs that these blocks of a program call.
+    fn note_calls(
+        &mut self,
+        alloc: Global,
+        number: u16,
+        blocks: &[ControlBlock],
+    ) -> Result<(), NoMemory> {
+        for block in blocks {
+            if let Control::Call {
+                program,
+                repeats: _,
+            } = block.control
+            {
+                self.numbers
+                    .entry(program)?
+                    .or_insert(Vec::new(alloc))
+                    .push(number)?;
+            }
+        }
+        Ok(())
+    }
+
+    /// The O numbers of the programs that call this one.
+    pub(crate) fn of_program(&self, number: u16) -> &[u16] {
+        match self.numbers.get(&number) {
+            Some(callers) => callers.as_slice(),
+            None => &[],
+        }
+    }
+}
