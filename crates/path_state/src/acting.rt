@@ -85,9 +85,9 @@ impl PathState {
             Ok(in_force) => in_force,
             Err(number) => return Err(number),
         };
-        match self.motion_behind(&in_force, words, values) {
+        match &self.motion_behind(&in_force, words, values) {
             Ok(motion) => Ok(self.step_of(in_force, motion, words, values)),
-            Err(number) => Err(number),
+            Err(number) => Err(*number),
         }
     }
 
@@ -95,17 +95,17 @@ impl PathState {
     fn step_of(
         &self,
         in_force: InForce,
-        motion: Motion,
+        motion: &Motion,
         words: &FlowWords,
         values: &Values,
     ) -> WordsStep
-        requires few { length motion.moves ≤ 4 }
-        requires ends { AllEnd IsPosition motion.moves }
-        requires cycle { IfSome motion.cycle IsPosition }
-        requires offset { IfSome motion.offset (λ set. IsPosition set.1) }
+        requires few { length motion.now.moves ≤ 4 }
+        requires ends { AllEnd IsPosition motion.now.moves }
+        requires cycle { IfSome motion.now.cycle IsPosition }
+        requires offset { IfSome motion.now.offset (λ set. IsPosition set.1) }
         ensures fit { IsFit result }
         ensures moved { moved_seen self.now (Ok result) ≡ Ok (moved_by self.now in_force words.now.words
-            (values_seen values.now) (motion_view motion)) }
+            (values_seen values.now) (motion_view motion.now)) }
     {
         let moves = all_moves_of(words, values, in_force.modal(), &motion.moves);
         let position = last_end(self.position, moves.as_slice());

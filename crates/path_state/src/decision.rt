@@ -9,9 +9,12 @@ ghost use Rattle.block_order.specs.declared.program.ControlProgram.{ControlProgr
 ghost use Rattle.code_tables.specs.Codes.{row_of};
 ghost use Rattle.code_tables.specs.SystemA.{system_a_rows};
 ghost use Rattle.path_state.specs.View.{PathView};
-ghost use Rattle.path_state.specs.Effect.{Alarm, acted, alarm_of, block_at, block_of_words, controlled, effect_of, effect_of_body, macro_effect, of_moved, words_effect};
+ghost use Rattle.path_state.specs.Effect.{Alarm, acted, alarm_of, block_at, block_of_words, controlled, effect_of, effect_of_body, macro_effect, of_after, of_moved, words_effect};
 ghost use Rattle.path_state.specs.Decisions.{behind_words, decided, of_arguments_said, of_said, stopped, MayTake};
+ghost use Rattle.path_state.specs.Statements.{statement_effect};
 ghost use Rattle.path_state.specs.Fits.{HasFitWords, IsFit};
+ghost use Rattle.macro_expr.specs.Tree.{sentence_of};
+ghost use Rattle.nc_number.specs.declared.value.Var.{Var};
 ghost use Rattle.block_order.specs.declared.control.Control.TheVariants as Control;
 ghost use Rattle.path_state.specs.Values.{is_arc_row, sense_of};
 ghost use Rattle.path_state.specs.Purposes.{is_macro_call};
@@ -27,7 +30,7 @@ use crate::values::Values;
 use crate::words::words_taken;
 use crate::words_step::WordsStep;
 use crate::writing::StatementStep;
-use block_forms::{FlowBlock, FlowBody, FlowWords, Purpose};
+use block_forms::{FlowBlock, FlowBody, FlowStatement, FlowWords, Purpose};
 use block_order::{BlockOrder, Control};
 use local_levels::LOCALS;
 use nc_number::{Cause, Value, Var};
@@ -155,6 +158,7 @@ impl PathState {
     }
 
     /// A block that calls a macro: its words are arguments, and nothing moves.
+    #[inline(never)]
     fn decide_macro(
         &self,
         order: &BlockOrder,
@@ -198,6 +202,7 @@ impl PathState {
 
     /// A block of words that calls no macro; at a wait nothing is done.
     #[tactic(auto, using(crate::proofs::Decided::unwaiting))]
+    #[inline(never)]
     fn decide_words(
         &self,
         order: &BlockOrder,
@@ -283,6 +288,21 @@ impl PathState {
         blocks_have_next(&flow.order);
         let running = self.standing().place().running();
         flow.block(running.program, running.block)
+    }
+
+    /// The statement at which the path stands; none where its block is words, or where there is none.
+    pub(crate) fn statement<'a>(&self, flow: &'a Flow) -> Option<&'a FlowStatement>
+        ensures effect { IfSome result (λ statement. (reads : List Var) → effect_of flow.now self.now reads ≡ of_after
+            (statement_effect flow.now.order self.now.fixed self.now (sentence_of statement.now.statement) reads)) }
+        ensures next { IsSome result → MayPass self.now.place }
+    {
+        match self.block(flow) {
+            Some(block) => match &block.body {
+                FlowBody::Statement(statement) => Some(statement),
+                FlowBody::Words(_) => None,
+            },
+            None => None,
+        }
     }
 
     /// What the block at which the path stands comes to, with these values read so far. It looks only.

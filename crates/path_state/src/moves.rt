@@ -1,5 +1,5 @@
 //! All moves of a block in their order, and where the turret stands behind them.
-ghost use Rattle.std.specs.Prelude.{ℕ, Bool, List, Option, ◌≡◌, ◌≤◌, ◌==◌, length};
+ghost use Rattle.std.specs.Prelude.{ℕ, Bool, List, Option, ◌≡◌, ◌≤◌, ◌<◌, ◌+◌, ◌++◌, ◌==◌, length};
 ghost use Rattle.nc_number.specs.declared.value.Var.TheVariants.{Vacant};
 ghost use Rattle.nc_number.specs.Arithmetic.{whole_of};
 ghost use Rattle.nc_number.specs.Position.{IsPosition};
@@ -33,10 +33,11 @@ pub fn all_moves(
     ensures few { length result ≤ 7 }
     ensures positions { AllEnd IsPosition motion.now → AllEnd IsPosition result }
 {
-    let mut moves = speed_moves(limits, modal, speed);
-    moves.append(tool_moves(tool).as_slice());
+    let mut moves = MoveList::empty();
+    put_speed(&mut moves, limits, modal, speed);
+    put_tool(&mut moves, tool);
     moves.append(motion.as_slice());
-    moves.append(auxiliary_moves(code).as_slice());
+    put_auxiliary(&mut moves, code);
     moves
 }
 
@@ -54,11 +55,11 @@ pub fn last_end(at: Point, moves: &[Move]) -> Point
 }
 
 // S, where it is said: the highest speed beside G50, else the speed.
-fn speed_moves(limits: bool, modal: &Modal, speed: Var) -> MoveList
-    ensures moves { result ≡ speed_moves limits modal.now speed }
-    ensures few { length result ≤ 1 }
+fn put_speed(moves: &mut MoveList, limits: bool, modal: &Modal, speed: Var)
+    requires { length moves.old < 8 }
+    ensures moves { moves.new ≡ moves.old ++ speed_moves limits modal.now speed }
+    ensures few { length moves.new ≤ length moves.old + 1 }
 {
-    let mut moves = MoveList::empty();
     if let Var::Is(s) = speed {
         let s = whole_or_zero(&s);
         moves.push(if limits {
@@ -70,7 +71,6 @@ fn speed_moves(limits: bool, modal: &Modal, speed: Var) -> MoveList
             }
         });
     }
-    moves
 }
 
 // Whether a constant surface speed is in force.
@@ -93,28 +93,26 @@ fn whole_or_zero(speed: &Value) -> u32
     }
 }
 
-fn tool_moves(tool: Option<u16>) -> MoveList
-    ensures moves { result ≡ tool_moves tool }
-    ensures few { length result ≤ 1 }
+fn put_tool(moves: &mut MoveList, tool: Option<u16>)
+    requires { length moves.old < 8 }
+    ensures moves { moves.new ≡ moves.old ++ tool_moves tool }
+    ensures few { length moves.new ≤ length moves.old + 1 }
 {
-    let mut moves = MoveList::empty();
     if let Some(t) = tool {
         moves.push(Move::Tool { t });
     }
-    moves
 }
 
-fn auxiliary_moves(code: Option<u32>) -> MoveList
-    ensures moves { result ≡ auxiliary_moves code }
-    ensures few { length result ≤ 1 }
+fn put_auxiliary(moves: &mut MoveList, code: Option<u32>)
+    requires { length moves.old < 8 }
+    ensures moves { moves.new ≡ moves.old ++ auxiliary_moves code }
+    ensures few { length moves.new ≤ length moves.old + 1 }
 {
-    let mut moves = MoveList::empty();
     if let Some(m) = code
         && is_auxiliary(m)
     {
         moves.push(Move::Aux { m: m as u16 });
     }
-    moves
 }
 
 // Whether it is an M code, and none of the control's own.

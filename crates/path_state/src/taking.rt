@@ -1,15 +1,17 @@
 //! The turn of a block: it is decided first, and then done.
-ghost use Rattle.std.specs.Prelude.{◌≡◌, []};
+ghost use Rattle.std.specs.Prelude.{◌≡◌, ℕ, [], Err};
+ghost use Rattle.block_order.specs.PlaceSteps.{MayPass};
 ghost use Rattle.tape_flow.specs.Places.{line_at};
 ghost use Rattle.path_state.specs.Advances.{effect_seen, path_after, StaysUnlessDone, AreMovesAt};
 ghost use Rattle.path_state.specs.Decisions.{decided, behind_words, MayTake};
 ghost use Rattle.path_state.specs.Fits.{HasFitWords, IsFit};
 ghost use Rattle.path_state.specs.Effect.{effect_of, Done};
-ghost use Rattle.path_state.specs.StatementSteps.{after_step, write_seen};
+ghost use Rattle.path_state.specs.StatementSteps.{after_step, step_seen, write_seen};
 ghost use Rattle.path_state.specs.View.{PathView};
 
 use crate::advance::Advance;
 use crate::decision::Decision;
+use crate::outcome::Stop;
 use crate::path::PathState;
 use crate::words_step::WordsStep;
 use crate::writing::{Change, StatementStep};
@@ -90,8 +92,38 @@ impl PathState {
         ensures moves { AreMovesAt (line_at flow.now.order self.old.place) result }
     {
         let line = self.line(flow);
+        match self.statement(flow) {
+            Some(statement) => {
+                let step = self.statement_step(&flow.order, statement, reads);
+                self.take_step(line, step)
+            }
+            None => self.take_block(line, flow, reads),
+        }
+    }
+
+    /// The turn of any block, whose line is given. What words come to is large, so that a statement
+    /// takes a way of its own.
+    #[inline(never)]
+    fn take_block(&mut self, line: u32, flow: &Flow, reads: &[Var]) -> Advance
+        ensures effect { effect_seen result self.new ≡ effect_of flow.now self.old reads.now }
+        ensures stays { StaysUnlessDone result self.old self.new }
+        ensures moves { AreMovesAt line result }
+    {
         let decision = self.decide(flow, reads);
         self.take(line, decision)
+    }
+
+    /// Does what a statement comes to, and tells it with the line of the block.
+    fn take_step(&mut self, line: u32, step: Result<StatementStep, Stop>) -> Advance
+        requires { MayPass self.old.place }
+        ensures effect { effect_seen result self.new ≡ step_seen self.old step }
+        ensures stays { StaysUnlessDone result self.old self.new }
+        ensures moves { AreMovesAt line result }
+    {
+        match step {
+            Ok(step) => silent(line, self.take_statement(step)),
+            Err(stop) => stopped(stop),
+        }
     }
 
     /// What [`advance`](PathState::advance) would answer; nothing changes.
@@ -137,6 +169,21 @@ fn shared_write(step: &StatementStep) -> Option<(u32, Var)>
             _ => None,
         },
         StatementStep::Go(_) => None,
+    }
+}
+
+/// The need or the alarm at which a statement stopped.
+fn stopped(stop: Stop) -> Advance
+    ensures effect { (before after : PathView) → effect_seen result after ≡ step_seen before (Err stop) }
+    ensures stays { (path : PathView) → StaysUnlessDone result path path }
+    ensures moves { (line : ℕ) → AreMovesAt line result }
+{
+    match stop {
+        Stop::Needs(variable) => Advance::Need(variable),
+        Stop::Alarms { number, value } => Advance::Alarm {
+            cause: number,
+            value,
+        },
     }
 }
 

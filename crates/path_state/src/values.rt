@@ -1,4 +1,4 @@
-ghost use Rattle.std.specs.Prelude.{◌≡◌, ◌≤◌, false, true, unsigned_abs, IfOk};
+ghost use Rattle.std.specs.Prelude.{◌≡◌, ◌≤◌, false, true, unsigned_abs, Ok, Err, IfOk, IfErr, OnOk};
 ghost use Rattle.block_forms.specs.Ranges.{fits, range_of};
 ghost use Rattle.block_forms.specs.declared.range.Range.TheVariants.{Between};
 ghost use Rattle.nc_number.specs.Arithmetic.{whole_of};
@@ -91,87 +91,47 @@ fn is_meant(sense: &Sense, letter: u8) -> bool
 }
 
 /// X, U and P say how long a dwell is.
-fn with_rest(letter: u8, literal: &Literal, values: Values) -> Values
-    ensures said { values_seen result ≡ with_rest letter literal.now (values_seen values) }
-    ensures within { AreLengthsSaid values → AreLengthsSaid result }
+fn set_rest(letter: u8, literal: &Literal, values: &mut Values)
+    ensures said { values_seen values.new ≡ with_rest letter literal.now (values_seen values.old) }
+    ensures within { AreLengthsSaid values.old → AreLengthsSaid values.new }
 {
     match letter {
-        b'X' | b'U' => Values {
-            rest: Some(literal.thousandths().unsigned_abs()),
-            ..values
-        },
-        b'P' => Values {
-            rest: natural(literal).map(u64::from),
-            ..values
-        },
-        _ => values,
+        b'X' | b'U' => values.rest = Some(literal.thousandths().unsigned_abs()),
+        b'P' => values.rest = natural(literal).map(u64::from),
+        _ => {}
     }
 }
 
 /// A length along an axis, or to a centre.
-fn with_length(letter: u8, length: i64, values: Values) -> Values
+fn set_length(letter: u8, length: i64, values: &mut Values)
     requires { unsigned_abs length ≤ 100000000000 }
-    ensures said { values_seen result ≡ with_length letter length (values_seen values) }
-    ensures within { AreLengthsSaid values → AreLengthsSaid result }
+    ensures said { values_seen values.new ≡ with_length letter length (values_seen values.old) }
+    ensures within { AreLengthsSaid values.old → AreLengthsSaid values.new }
 {
-    let length = Some(length);
     match letter {
-        b'X' => Values {
-            x: length,
-            ..values
-        },
-        b'Z' => Values {
-            z: length,
-            ..values
-        },
-        b'U' => Values {
-            u: length,
-            ..values
-        },
-        b'W' => Values {
-            w: length,
-            ..values
-        },
-        b'I' => Values {
-            i: length,
-            ..values
-        },
-        b'K' => Values {
-            k: length,
-            ..values
-        },
-        b'R' => Values {
-            r: length,
-            ..values
-        },
-        _ => values,
+        b'X' => values.x = Some(length),
+        b'Z' => values.z = Some(length),
+        b'U' => values.u = Some(length),
+        b'W' => values.w = Some(length),
+        b'I' => values.i = Some(length),
+        b'K' => values.k = Some(length),
+        b'R' => values.r = Some(length),
+        _ => {}
     }
 }
 
 /// F, S and T, and the number of an offset.
-fn with_setting(sense: &Sense, letter: u8, literal: &Literal, values: Values) -> Values
+fn set_setting(sense: &Sense, letter: u8, literal: &Literal, values: &mut Values)
     requires { fits (range_of sense.now.purpose letter) literal.now ≡ true }
-    ensures said { values_seen result ≡ with_setting (sense_seen sense.now) letter literal.now (values_seen values) }
-    ensures within { AreLengthsSaid values → AreLengthsSaid result }
+    ensures said { values_seen values.new ≡ with_setting (sense_seen sense.now) letter literal.now (values_seen values.old) }
+    ensures within { AreLengthsSaid values.old → AreLengthsSaid values.new }
 {
     match letter {
-        b'F' => Values {
-            feed: Var::Is(literal.value()),
-            ..values
-        },
-        b'S' => Values {
-            speed: Var::Is(literal.value()),
-            ..values
-        },
-        b'T' => Values {
-            tool: tool_of(literal),
-            ..values
-        },
-        b'P' if matches!(sense.purpose, Purpose::Setting) => Values {
-            number: literal.whole(),
-            ..values
-        },
-        _ => values,
+        b'F' => values.feed = Var::Is(literal.value()),
+        b'S' => values.speed = Var::Is(literal.value()),
+        b'T' => values.tool = tool_of(literal),
+        b'P' if matches!(sense.purpose, Purpose::Setting) => values.number = literal.whole(),
+        _ => {}
     }
 }
 
@@ -182,18 +142,42 @@ fn is_dwell(sense: &Sense) -> bool
     matches!(sense.purpose, Purpose::Dwell)
 }
 
-/// The values with a word taken.
-fn with_word(sense: &Sense, letter: u8, literal: &Literal, values: Values) -> Values
+/// Puts a word into the values.
+fn set_word(sense: &Sense, letter: u8, literal: &Literal, values: &mut Values)
     requires { fits (range_of sense.now.purpose letter) literal.now ≡ true }
-    ensures said { values_seen result ≡ with_word (sense_seen sense.now) letter literal.now (values_seen values) }
-    ensures within { AreLengthsSaid values → AreLengthsSaid result }
+    ensures said { values_seen values.new ≡ with_word (sense_seen sense.now) letter literal.now (values_seen values.old) }
+    ensures within { AreLengthsSaid values.old → AreLengthsSaid values.new }
 {
     if is_one_of(b"XUZWP", letter) && is_dwell(sense) {
-        with_rest(letter, literal, values)
+        set_rest(letter, literal, values);
     } else if is_one_of(b"XZUWIKR", letter) {
-        with_length(letter, literal.increments(), values)
+        set_length(letter, literal.increments(), values);
     } else {
-        with_setting(sense, letter, literal, values)
+        set_setting(sense, letter, literal, values);
+    }
+}
+
+/// Takes a word into the values: 56 of I, K and R that mean nothing, then 64 of a word out of its
+/// range.
+pub(crate) fn take_word(
+    sense: &Sense,
+    letter: u8,
+    literal: &Literal,
+    values: &mut Values,
+) -> Result<(), Cause>
+    ensures taken { OnOk result
+        (taken (sense_seen sense.now) letter literal.now (values_seen values.old) ≡ Ok (values_seen values.new)) }
+    ensures refused { IfErr result
+        (λ cause. taken (sense_seen sense.now) letter literal.now (values_seen values.old) ≡ Err cause) }
+    ensures within { AreLengthsSaid values.old → AreLengthsSaid values.new }
+{
+    if !is_meant(sense, letter) {
+        Err(Cause::UnknownCode)
+    } else if fits_word(sense.purpose, letter, literal) {
+        set_word(sense, letter, literal, values);
+        Ok(())
+    } else {
+        Err(Cause::WordRange)
     }
 }
 
@@ -203,11 +187,9 @@ pub fn taken(sense: &Sense, letter: u8, literal: &Literal, values: Values) -> Re
     ensures said { values_of result ≡ taken (sense_seen sense.now) letter literal.now (values_seen values) }
     ensures within { AreLengthsSaid values → IfOk result AreLengthsSaid }
 {
-    if !is_meant(sense, letter) {
-        Err(Cause::UnknownCode)
-    } else if fits_word(sense.purpose, letter, literal) {
-        Ok(with_word(sense, letter, literal, values))
-    } else {
-        Err(Cause::WordRange)
+    let mut after = values;
+    match take_word(sense, letter, literal, &mut after) {
+        Ok(()) => Ok(after),
+        Err(cause) => Err(cause),
     }
 }

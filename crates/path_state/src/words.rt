@@ -1,12 +1,14 @@
-ghost use Rattle.std.specs.Prelude.{◌≡◌, IfOk};
+ghost use Rattle.std.specs.Prelude.{◌≡◌, Result, Ok, Err, IfOk, IfErr, OnOk};
+ghost use Rattle.nc_number.specs.declared.cause.Cause.{Cause};
+ghost use Rattle.path_state.specs.Values.{Values as Said};
 ghost use Rattle.path_state.specs.Within.{AreLengthsSaid};
 ghost use Rattle.path_state.specs.Outcomes.{reading_none};
 ghost use Rattle.path_state.specs.Values.{nothing_said, computed, taken_var};
-ghost use Rattle.path_state.specs.Seen.{values_seen, values_of, sense_seen, outcome_of, word_with, words_with};
+ghost use Rattle.path_state.specs.Seen.{values_seen, sense_seen, outcome_of, word_with, words_with};
 
 use crate::outcome::Stop;
 use crate::sense::Sense;
-use crate::values::{Values, taken};
+use crate::values::{Values, take_word};
 use block_forms::{FlowWord, WordValue};
 use macro_eval::{Eval, Scope, evaluate};
 use nc_number::{Cause, Literal, Value, Var, neg};
@@ -22,29 +24,32 @@ pub(crate) fn computed(minus: bool, value: Value) -> Literal
 }
 
 /// A vacant word counts as absent.
-fn taken_var(
+fn take_var(
     sense: &Sense,
     letter: u8,
     minus: bool,
     value: Var,
-    said: &Values,
-) -> Result<Values, Cause>
-    ensures within { AreLengthsSaid said.now → IfOk result AreLengthsSaid }
-    ensures said { values_of result ≡ taken_var (sense_seen sense.now) letter minus value (values_seen said.now) }
+    said: &mut Values,
+) -> Result<(), Cause>
+    ensures taken { OnOk result
+        (taken_var (sense_seen sense.now) letter minus value (values_seen said.old) ≡ Ok (values_seen said.new)) }
+    ensures refused { IfErr result
+        (λ cause. taken_var (sense_seen sense.now) letter minus value (values_seen said.old) ≡ Err cause) }
+    ensures within { AreLengthsSaid said.old → AreLengthsSaid said.new }
 {
     match value {
-        Var::Vacant => Ok(*said),
-        Var::Is(number) => taken(sense, letter, &computed(minus, number), *said),
+        Var::Vacant => Ok(()),
+        Var::Is(number) => take_word(sense, letter, &computed(minus, number), said),
     }
 }
 
 /// The answer of a step that takes no read.
-fn answer<'a>(taken: Result<Values, Cause>, left: &'a [Var]) -> (Result<Values, Stop>, &'a [Var])
-    ensures within { IfOk taken AreLengthsSaid → IfOk result.0 AreLengthsSaid }
-    ensures said { outcome_of values_seen result.0 result.1.now ≡ reading_none (values_of taken) left.now }
+fn answer<'a>(step: Result<(), Cause>, left: &'a [Var]) -> (Result<(), Stop>, &'a [Var])
+    ensures { (word : Result Said Cause) (said : Said) → OnOk step (word ≡ Ok said) → IfErr step (λ cause. word ≡ Err cause)
+        → outcome_of (λ done. said) result.0 result.1.now ≡ reading_none word left.now }
 {
-    match taken {
-        Ok(said) => (Ok(said), left),
+    match step {
+        Ok(()) => (Ok(()), left),
         Err(cause) => (Err(Stop::of(cause)), left),
     }
 }
@@ -54,21 +59,21 @@ fn word_taken<'a, S: Scope>(
     word: &FlowWord,
     sense: &Sense,
     scope: &S,
-    said: &Values,
+    said: &mut Values,
     reads: &'a [Var],
-) -> (Result<Values, Stop>, &'a [Var])
-    ensures within { AreLengthsSaid said.now → IfOk result.0 AreLengthsSaid }
-    ensures said { outcome_of values_seen result.0 result.1.now
+) -> (Result<(), Stop>, &'a [Var])
+    ensures within { AreLengthsSaid said.old → AreLengthsSaid said.new }
+    ensures said { outcome_of (λ done. values_seen said.new) result.0 result.1.now
         ≡ word_with (S.table scope.now) (sense_seen sense.now) word.now.letter word.now.value
-        (values_seen said.now) reads.now }
+        (values_seen said.old) reads.now }
 {
     let FlowWord { letter, value } = word;
     match value {
-        WordValue::Fixed(literal) => answer(taken(sense, *letter, literal, *said), reads),
+        WordValue::Fixed(literal) => answer(take_word(sense, *letter, literal, said), reads),
         WordValue::Computed { minus, code } => {
             let (evaluated, left) = evaluate(code, scope, reads);
             match evaluated {
-                Eval::Got(value) => answer(taken_var(sense, *letter, *minus, value, said), left),
+                Eval::Got(value) => answer(take_var(sense, *letter, *minus, value, said), left),
                 Eval::Need(variable) => (Err(Stop::Needs(variable)), left),
                 Eval::Fault(number) => (Err(Stop::fault(number)), left),
             }
@@ -94,11 +99,10 @@ pub fn words_taken<'a, S: Scope>(
     let mut said = Values::nothing();
     let mut left = reads;
     for word in words {
-        let (step, rest) = word_taken(word, sense, scope, &said, left);
+        let (step, rest) = word_taken(word, sense, scope, &mut said, left);
         left = rest;
-        match step {
-            Ok(next) => said = next,
-            Err(stop) => return (Err(stop), left),
+        if let Err(stop) = step {
+            return (Err(stop), left);
         }
     }
     (Ok(said), left)
