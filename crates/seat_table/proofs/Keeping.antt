@@ -1,0 +1,396 @@
+-- Each step on the words of a table keeps its rule.
+use Rattle.std.proofs.Common.{◌≡◌, ◌≢◌, ◌⊎◌, ℕ, zero, suc, ◌<◌, eqb, Bool, true, false, ◌||◌, ◌&&◌, not, if◌then◌else◌, List, [], ◌∷◌, ◌++◌, length, get_or, set, sym, refl, ap, ◌∙◌, subst, ⊎_elim, inl, inr, arith, Option, Some, None, length-set, get_or-set_same, get_or-set_other, true≢false}
+use mathlib.Core.Option.{some, some-ne-none, some-injective}
+use mathlib.Core.Option as maybe
+use lib.ListN.{get_elem?}
+use lib.Seq.{set-get_or}
+use prog.Atomic.{either}
+use Rattle.atomic_table.specs.Table.{State, Me, step, Act, keeps, takes, gives, stepped, Valid, Allows, Splits, Joins, opening, Final, Seen, carried_after}
+use Rattle.atomic_table.proofs.Lists.{at_set, set_here, set_else, set_again, at_longer, exchanged}
+use Rattle.nc_number.specs.declared.path.Path.{Path}
+use Rattle.nc_number.specs.declared.path.Path.TheVariants.{One, Two}
+use Rattle.nc_outside.specs.declared.stepper.Call.{Call}
+use Rattle.seat_table.specs.Turning.{Records}
+use Rattle.seat_table.specs.declared.knowing.Lists.{Lists}
+use Rattle.seat_table.specs.declared.knowing.Rights.{Rights}
+use Rattle.seat_table.specs.declared.knowing.Knows.{Knows}
+use Rattle.seat_table.specs.Knowing.{Right, steps, halts, has, list_of, Fits, Kept, no_lists, idle, opened, lists_of, holding, took, gave, plus, minus, without, only, joined, picked, spent, called, no_rights, right_of}
+
+at_bound : {A : Type 0} (l : List A) (i : ℕ) (a : A) → get_elem? l i ≡ some a → i < length l
+at_bound [] i a e = absurd (some-ne-none a (sym e))
+at_bound (x ∷ xs) zero a e = omega arith
+at_bound (x ∷ xs) (suc i) a e = let h = at_bound xs i a e in omega arith
+
+at_end : {A : Type 0} (l : List A) (a b : A) (j : ℕ) → get_elem? (l ++ a ∷ []) j ≡ some b → (get_elem? l j ≡ some b) ⊎ ((j ≡ length l) × (a ≡ b))
+at_end [] a b zero e = inr (refl, some-injective a b e)
+at_end [] a b (suc j) e = absurd (some-ne-none b (sym e))
+at_end (x ∷ xs) a b zero e = inl e
+at_end (x ∷ xs) a b (suc j) e = ⊎_elim (λ t. inl t) (λ (t : (j ≡ length xs) × (a ≡ b)). inr (ap suc t.0, t.1)) (at_end xs a b j e)
+
+each_set : (K : ℕ → Knows → Type 0) (vs : List Knows) (id : ℕ) (w : Knows) → K id w → ((j : ℕ) (v : Knows) → j ≢ id → get_elem? vs j ≡ some v → K j v)
+    → (j : ℕ) (v : Knows) → get_elem? (set vs id w) j ≡ some v → K j v
+each_set K vs id w mine others j v e = ⊎_elim (λ (t : (j ≡ id) × (w ≡ v)). subst (λ (x : ℕ × Knows). K x.0 x.1) (λ i. (sym t.0 i, t.1 i)) mine)
+    (λ (t : (j ≢ id) × (get_elem? vs j ≡ some v)). others j v t.0 t.1) (at_set vs id j w v e)
+
+bool_cases : {X : Type 0} (b : Bool) → (b ≡ true → X) → (b ≡ false → X) → X
+bool_cases true y n = y refl
+bool_cases false y n = n refl
+
+same_view : (vs : List Knows) (i : ℕ) (v w : Knows) → get_elem? vs i ≡ some v → get_elem? vs i ≡ some w → v ≡ w
+same_view vs i v w e f = some-injective v w (sym e ∙ f)
+
+module _ {C : Type 0} (records : C → Path → Records) where
+  abbrev St : Type 0
+  St = State (Option C) Knows
+
+  abbrev Sat : Type 0
+  Sat = Me (Option C) Knows
+
+  abbrev Rule : St → Type 0
+  Rule = Kept records
+
+  abbrev Home : List (maybe.Option (Option C)) → Lists → Type 0
+  Home homes now = (c : C) × (get_elem? homes 0 ≡ some (some (Some c))) × ((p : Path) → records c p ≡ list_of p now)
+
+  abbrev Away : List Knows → ℕ → Type 0
+  Away views holder = (v : Knows) × (get_elem? views holder ≡ some v) × (v.busy ≡ true)
+
+  rule_of : (s : St) (n : ℕ) → get_or s.words 0 0 ≡ n → (now : Lists) (owner : Right → ℕ) (holder : ℕ) → 0 < length s.words → 0 < length s.homes
+      → ((id : ℕ) (v : Knows) → get_elem? s.views id ≡ some v → Fits now owner holder n id v) → (n ≡ 0 → Home s.homes now) → (0 < n → Away s.views holder) → Rule s
+  rule_of s n e now owner holder wide deep each home away = record {
+    now = now;
+    owner = owner;
+    holder = holder;
+    wide = wide;
+    deep = deep;
+    each = λ id v at. subst (λ (k : ℕ). Fits now owner holder k id v) (sym e) (each id v at);
+    home = λ z. home (sym e ∙ z);
+    away = λ z. away (subst (λ (k : ℕ). 0 < k) e z);
+  }
+
+  list_is : (c : C) (p : Path) → list_of p (lists_of records c) ≡ records c p
+  list_is c One = refl
+  list_is c Two = refl
+
+  same_lists : (c : C) (now : Lists) → ((p : Path) → records c p ≡ list_of p now) → lists_of records c ≡ now
+  same_lists c now e = λ i. record { first = e One i; second = e Two i }
+
+  pub takes_turn : (slots id : ℕ) (m : Sat) → m.0.busy ≡ false → (r : Right) → has r m.0.rights ≡ true
+      → Allows Rule slots id m 0 (λ n. either (eqb n 0) 1 n) (took records (step slots 0 0 1 maybe.none) m)
+  takes_turn slots id m rests r may s k long at small = exchanged (get_or s.words 0 0) 0 1 Goal hit miss
+    where
+      Goal : ℕ → Type 0
+      Goal n = (w : Knows) × (a : Act (Option C)) × Valid s.homes m.1 a × Rule (stepped s 0 n id m.1 w a) × took records (step slots 0 0 1 maybe.none) m (get_or s.words 0 0) (w, carried_after m.1 a)
+
+      hit : get_or s.words 0 0 ≡ 0 → Goal 1
+      hit e = let h = k.home e in let c : C = h.0 in let l : Lists = lists_of records c in let same : l ≡ k.now = same_lists c k.now h.2 in let w : Knows = holding records m.0 l in
+          let mine = k.each id m.0 at in (
+            w,
+            takes 0 (Some c),
+            h.1,
+            rule_of (stepped s 0 1 id m.1 w (takes 0 (Some c))) 1 (get_or-set_same s.words 0 1 0 k.wide) k.now k.owner id (subst (λ (n : ℕ). 0 < n) (sym (length-set s.words 0 1)) k.wide)
+                (subst (λ (n : ℕ). 0 < n) (sym (length-set s.homes 0 maybe.none)) k.deep)
+                (each_set (Fits k.now k.owner id 1) s.views id w (record { owns = mine.owns; lists = mine.lists; busy = λ _. (refl, same, (omega arith), r, may) })
+                (λ j v other there. let f = k.each j v there in record { owns = f.owns; lists = f.lists; busy = λ z. let b = (f.busy z).2 in absurd (omega arith) }))
+                (λ z. absurd (omega arith)) (λ _. (w, set_here s.views id w (at_bound s.views id m.0 at), refl)),
+            (
+              (λ _. record { table = c; view = refl; slot = refl; lists = λ p h'. mine.lists p h' ∙ sym (h.2 p) }),
+              λ ne. absurd (ne e),
+            ),
+          )
+
+      miss : get_or s.words 0 0 ≢ 0 → Goal (get_or s.words 0 0)
+      miss ne = (
+        m.0,
+        keeps,
+        tt,
+        subst (λ (t : List ℕ × List Knows). Rule record { words = t.0; homes = s.homes; views = t.1 }) (λ i. (sym (set-get_or s.words 0 0) i, sym (set_again s.views id m.0 at) i)) k,
+        ((λ e. absurd (ne e)), λ _. refl),
+      )
+
+  pub gives_turn : (slots id : ℕ) (m : Sat) (v : Knows) (c : C) → m ≡ (v, (0, Some c) ∷ []) → v.busy ≡ true → ((p : Path) → has (steps p) v.rights ≡ false → records c p ≡ list_of p v.found)
+      → Allows Rule slots id m 0 (λ _. 0) (λ _. gave records (step slots 0 0 0 maybe.none) m 0)
+  gives_turn slots id m v c is busy others = subst (λ (x : Sat). Allows Rule slots id x 0 (λ _. 0) (λ _. gave records (step slots 0 0 0 maybe.none) x 0)) (sym is) gives_here
+    where
+      gives_here : Allows Rule slots id (v, (0, Some c) ∷ []) 0 (λ _. 0) (λ _. gave records (step slots 0 0 0 maybe.none) (v, (0, Some c) ∷ []) 0)
+      gives_here s k long at small = let l : Lists = lists_of records c in let w : Knows = idle v.rights l v.calls in let mine = k.each id v at in let had = mine.busy busy in
+          let fits : (j : ℕ) (u : Knows) → j ≢ id → get_elem? s.views j ≡ some u → Fits l k.owner 0 0 j u =
+          λ j u other there. let f = k.each j u there in record {
+            owns = f.owns;
+            lists = λ p h. f.lists p h ∙ (bool_cases (has (steps p) v.rights)
+                (λ both. absurd (other (f.owns (steps p) h ∙ sym (mine.owns (steps p) both))))
+                (λ not_mine. sym (ap (list_of p) had.1) ∙ (sym (others p not_mine) ∙ sym (list_is c p))));
+            busy = λ z. absurd (other ((f.busy z).0 ∙ sym had.0));
+          } in (
+            w,
+            gives,
+            tt,
+            rule_of (stepped s 0 0 id ((0, Some c) ∷ []) w gives) 0 (get_or-set_same s.words 0 0 0 k.wide) l k.owner 0 (subst (λ (n : ℕ). 0 < n) (sym (length-set s.words 0 0)) k.wide)
+                (subst (λ (n : ℕ). 0 < n) (sym (length-set s.homes 0 (some (Some c)))) k.deep)
+                (each_set (Fits l k.owner 0 0) s.views id w (record { owns = mine.owns; lists = λ p _. refl; busy = λ z. absurd (true≢false (sym z)) }) fits)
+                (λ _. (c, set_here s.homes 0 (some (Some c)) k.deep, λ p. sym (list_is c p))) (λ z. absurd (omega arith)),
+            (refl, refl),
+          )
+
+  pub splits : (id : ℕ) (v left right : Knows) → v.busy ≡ false → left.busy ≡ false → right.busy ≡ false → left.lists ≡ v.lists → right.lists ≡ v.lists
+      → ((r : Right) → has r left.rights ≡ true → has r v.rights ≡ true) → ((r : Right) → has r right.rights ≡ true → (has r v.rights ≡ true) × (has r left.rights ≡ false))
+      → Splits Rule id v left right
+  splits id v left right rests lrests rrests llists rlists lhas rhas s k at = let mine = k.each id v at in let word : ℕ = get_or s.words 0 0 in
+      let owner : Right → ℕ = λ r. either (has r right.rights) (length s.views) (k.owner r) in
+      let kept_owner : (r : Right) → has r right.rights ≡ false → owner r ≡ k.owner r = λ r e. ap (λ (b : Bool). either b (length s.views) (k.owner r)) e in
+      let new_owner : (r : Right) → has r right.rights ≡ true → owner r ≡ length s.views = λ r e. ap (λ (b : Bool). either b (length s.views) (k.owner r)) e in
+      let fits_left : Fits k.now owner k.holder word id left = record {
+        owns = λ r h. mine.owns r (lhas r h) ∙ sym (kept_owner r (bool_cases (has r right.rights) (λ z. absurd (true≢false (sym h ∙ (rhas r z).1))) (λ z. z)));
+        lists = λ p h. ap (list_of p) llists ∙ mine.lists p (lhas (steps p) h);
+        busy = λ z. absurd (true≢false (sym z ∙ lrests));
+      } in
+      let fits_others : (j : ℕ) (u : Knows) → j ≢ id → get_elem? s.views j ≡ some u → Fits k.now owner k.holder word j u = λ j u other there. let f = k.each j u there in record {
+        owns = λ r h. f.owns r h ∙ sym (kept_owner r (bool_cases (has r right.rights) (λ z. absurd (other (f.owns r h ∙ sym (mine.owns r (rhas r z).0)))) (λ z. z)));
+        lists = f.lists;
+        busy = f.busy;
+      } in
+      let fits_right : Fits k.now owner k.holder word (length s.views) right = record {
+        owns = λ r h. sym (new_owner r h);
+        lists = λ p h. ap (list_of p) rlists ∙ mine.lists p (rhas (steps p) h).0;
+        busy = λ z. absurd (true≢false (sym z ∙ rrests));
+      } in record {
+        now = k.now;
+        owner = owner;
+        holder = k.holder;
+        wide = k.wide;
+        deep = k.deep;
+        each = λ j u e. ⊎_elim (each_set (Fits k.now owner k.holder word) s.views id left fits_left fits_others j u)
+            (λ (t : (j ≡ length (set s.views id left)) × (right ≡ u)). subst (λ (x : ℕ × Knows). Fits k.now owner k.holder word x.0 x.1) (λ i. (sym (t.0 ∙ length-set s.views id left) i, t.1 i)) fits_right)
+            (at_end (set s.views id left) right u j e);
+        home = k.home;
+        away = λ z. let a = k.away z in (
+          a.0,
+          at_longer (set s.views id left) (right ∷ []) k.holder a.0
+              (set_else s.views id k.holder left (λ e. true≢false (sym a.2 ∙ (ap (λ (x : Knows). x.busy) (same_view s.views id a.0 v (subst (λ (i : ℕ). get_elem? s.views i ≡ some a.0) e a.1) at) ∙ rests))) ∙ a.1),
+          a.2,
+        );
+      }
+
+  pub joins : (id : ℕ) (v : Knows) (other : ℕ) (w both spent : Knows) → v.busy ≡ false → w.busy ≡ false → both.busy ≡ false → spent.busy ≡ false
+      → ((r : Right) → has r spent.rights ≡ false) → ((r : Right) → has r both.rights ≡ true → (has r v.rights ≡ true) ⊎ (has r w.rights ≡ true))
+      → ((p : Path) → has (steps p) both.rights ≡ true → ((has (steps p) v.rights ≡ true) × (list_of p both.lists ≡ list_of p v.lists)) ⊎ ((has (steps p) w.rights ≡ true) × (list_of p both.lists ≡ list_of p w.lists)))
+      → Joins Rule id v other w both spent
+  joins id v other w both spent rests wrests brests srests nothing which lists s k at apart there = let word : ℕ = get_or s.words 0 0 in let mine = k.each id v at in
+      let at_w : get_elem? s.views other ≡ some w = sym (set_else s.views id other both apart) ∙ there in let its = k.each other w at_w in
+      let owner : Right → ℕ = λ r. either (has r w.rights) id (k.owner r) in
+      let kept_owner : (r : Right) → has r w.rights ≡ false → owner r ≡ k.owner r = λ r e. ap (λ (b : Bool). either b id (k.owner r)) e in
+      let new_owner : (r : Right) → has r w.rights ≡ true → owner r ≡ id = λ r e. ap (λ (b : Bool). either b id (k.owner r)) e in
+      let fits_both : Fits k.now owner k.holder word id both = record {
+        owns = λ r h. bool_cases (has r w.rights) (λ z. sym (new_owner r z))
+            (λ z. ⊎_elim (λ (x : has r v.rights ≡ true). mine.owns r x ∙ sym (kept_owner r z)) (λ (x : has r w.rights ≡ true). absurd (true≢false (sym x ∙ z))) (which r h));
+        lists = λ p h. ⊎_elim (λ (x : (has (steps p) v.rights ≡ true) × (list_of p both.lists ≡ list_of p v.lists)). x.1 ∙ mine.lists p x.0)
+            (λ (x : (has (steps p) w.rights ≡ true) × (list_of p both.lists ≡ list_of p w.lists)). x.1 ∙ its.lists p x.0) (lists p h);
+        busy = λ z. absurd (true≢false (sym z ∙ brests));
+      } in
+      let fits_spent : Fits k.now owner k.holder word other spent = record {
+        owns = λ r h. absurd (true≢false (sym h ∙ nothing r));
+        lists = λ p h. absurd (true≢false (sym h ∙ nothing (steps p)));
+        busy = λ z. absurd (true≢false (sym z ∙ srests));
+      } in
+      let fits_others : (j : ℕ) (u : Knows) → j ≢ other → get_elem? s.views j ≡ some u → Fits k.now owner k.holder word j u = λ j u other' at'. let f = k.each j u at' in record {
+        owns = λ r h. f.owns r h ∙ sym (kept_owner r (bool_cases (has r w.rights) (λ z. absurd (other' (f.owns r h ∙ sym (its.owns r z)))) (λ z. z)));
+        lists = f.lists;
+        busy = f.busy;
+      } in
+      let not_holder : (i : ℕ) (x y : Knows) → get_elem? s.views i ≡ some x → x.busy ≡ false → get_elem? s.views k.holder ≡ some y → y.busy ≡ true → k.holder ≢ i =
+      λ i x y e quiet f loud same. true≢false (sym loud ∙ (ap (λ (q : Knows). q.busy) (same_view s.views i y x (subst (λ (n : ℕ). get_elem? s.views n ≡ some y) same f) e) ∙ quiet)) in record {
+        now = k.now;
+        owner = owner;
+        holder = k.holder;
+        wide = k.wide;
+        deep = k.deep;
+        each = each_set (Fits k.now owner k.holder word) (set s.views id both) other spent fits_spent
+            (λ j u ne e. ⊎_elim (λ (t : (j ≡ id) × (both ≡ u)). subst (λ (x : ℕ × Knows). Fits k.now owner k.holder word x.0 x.1) (λ i. (sym t.0 i, t.1 i)) fits_both)
+            (λ (t : (j ≢ id) × (get_elem? s.views j ≡ some u)). fits_others j u ne t.1) (at_set s.views id j both u e));
+        home = k.home;
+        away = λ z. let a = k.away z in (a.0, set_else (set s.views id both) other k.holder spent (not_holder other w a.0 at_w wrests a.1 a.2) ∙ (set_else s.views id k.holder both (not_holder id v a.0 at rests a.1 a.2) ∙ a.1), a.2);
+      }
+
+  pub starts : (c : C) → ((p : Path) → records c p ≡ []) → Rule (opening (0 ∷ 0 ∷ []) (Some c ∷ []) opened)
+  starts c none = record {
+    now = no_lists;
+    owner = λ _. 0;
+    holder = 0;
+    wide = omega arith;
+    deep = omega arith;
+    each = first_alone;
+    home = λ _. (c, refl, λ p. none p ∙ no_list p);
+    away = λ z. absurd (omega arith);
+  }
+    where
+      no_list : (p : Path) → [] ≡ list_of p no_lists
+      no_list One = refl
+      no_list Two = refl
+
+      fits : Fits no_lists (λ _. 0) 0 0 0 opened
+      fits = record { owns = λ r h. refl; lists = λ p h. refl; busy = λ z. absurd (true≢false (sym z)) }
+
+      first_alone : (j : ℕ) (u : Knows) → get_elem? (opened ∷ []) j ≡ some u → Fits no_lists (λ _. 0) 0 0 j u
+      first_alone zero u e = subst (Fits no_lists (λ _. 0) 0 0 0) (some-injective opened u e) fits
+      first_alone (suc j) u e = absurd (some-ne-none u (sym e))
+
+  -- a change of the second word
+  pub touches : (slots id : ℕ) (m : Sat) (f : ℕ → ℕ) → Allows Rule slots id m 1 f (λ _ w. w ≡ m)
+  touches slots id m f s k long at small = (
+    m.0,
+    keeps,
+    tt,
+    subst (λ (vs : List Knows). Rule record { words = set s.words 1 (f (get_or s.words 1 0)); homes = s.homes; views = vs }) (sym (set_again s.views id m.0 at))
+        (rule_of record { words = set s.words 1 (f (get_or s.words 1 0)); homes = s.homes; views = s.views } (get_or s.words 0 0) (get_or-set_other s.words 1 0 (f (get_or s.words 1 0)) 0 (λ e. omega (arith, e)))
+        k.now k.owner k.holder (subst (λ (n : ℕ). 0 < n) (sym (length-set s.words 1 (f (get_or s.words 1 0)))) k.wide) k.deep k.each k.home k.away),
+    refl,
+  )
+
+  -- calls are noted at the second word, by a seat that has not the turn
+  pub notes : (slots id : ℕ) (m : Sat) (calls : List Call) → m.0.busy ≡ false → Allows Rule slots id m 1 (λ n. n) (λ _ w. w ≡ (called calls m.0, m.1))
+  notes slots id m calls rests s k long at small = let w : Knows = called calls m.0 in let mine = k.each id m.0 at in (
+    w,
+    keeps,
+    tt,
+    subst (λ (ws : List ℕ). Rule record { words = ws; homes = s.homes; views = set s.views id w }) (sym (set-get_or s.words 1 0))
+        (rule_of record { words = s.words; homes = s.homes; views = set s.views id w } (get_or s.words 0 0) refl k.now k.owner k.holder k.wide k.deep
+        (each_set (Fits k.now k.owner k.holder (get_or s.words 0 0)) s.views id w (record { owns = mine.owns; lists = mine.lists; busy = mine.busy }) (λ j v other there. k.each j v there))
+        k.home (λ z. let a = k.away z in (
+          a.0,
+          set_else s.views id k.holder w (λ e. true≢false (sym a.2 ∙ (ap (λ (x : Knows). x.busy) (same_view s.views id a.0 m.0 (subst (λ (i : ℕ). get_elem? s.views i ≡ some a.0) e a.1) at) ∙ rests))) ∙ a.1,
+          a.2,
+        ))),
+    refl,
+  )
+
+  -- at the end, in a state with a seat that has every right
+  pub ends : (id : ℕ) (v : Knows) (ws : List ℕ) (xs : List (Option C)) → v.busy ≡ false → ((r : Right) → has r v.rights ≡ true) → Final (Seen Rule id v) ws xs
+      → (c : C) × (get_elem? xs 0 ≡ some (Some c)) × ((p : Path) → records c p ≡ list_of p v.lists)
+  ends id v ws xs rests all end = let s : St = end.0 in let k = end.1.0 in let at = end.1.1 in let mine = k.each id v at in
+      let quiet : get_or s.words 0 0 ≡ 0 = nobody s k at (get_or s.words 0 0) refl in let h = k.home quiet in
+      (h.0, end.4 0 (Some h.0) h.1, λ p. h.2 p ∙ sym (mine.lists p (all (steps p))))
+    where
+      nobody : (s : St) (k : Rule s) → get_elem? s.views id ≡ some v → (n : ℕ) → get_or s.words 0 0 ≡ n → n ≡ 0
+      nobody s k at zero e = refl
+      nobody s k at (suc n) e = let a = k.away (omega (arith, e)) in let f = k.each k.holder a.0 a.1 in let b = f.busy a.2 in let mine = k.each id v at in
+          let same : k.holder ≡ id = f.owns b.3 b.4 ∙ sym (mine.owns b.3 (all b.3)) in
+          absurd (true≢false (sym a.2 ∙ (ap (λ (x : Knows). x.busy) (same_view s.views id a.0 v (subst (λ (i : ℕ). get_elem? s.views i ≡ some a.0) same a.1) at) ∙ rests)))
+
+or_cases : (a b : Bool) → (a || b) ≡ true → (a ≡ true) ⊎ (b ≡ true)
+or_cases true b e = inl refl
+or_cases false b e = inr e
+
+and_left : (a b : Bool) → (a && b) ≡ true → a ≡ true
+and_left true b e = refl
+and_left false b e = absurd (true≢false (sym e))
+
+not_both : (a b : Bool) → b ≡ true → (a && not b) ≡ false
+not_both true true e = refl
+not_both false true e = refl
+not_both a false e = absurd (true≢false (sym e))
+
+has_plus : (r : Right) (a b : Rights) → has r (plus a b) ≡ true → (has r a ≡ true) ⊎ (has r b ≡ true)
+has_plus (steps One) a b e = or_cases a.first_steps b.first_steps e
+has_plus (steps Two) a b e = or_cases a.second_steps b.second_steps e
+has_plus (halts One) a b e = or_cases a.first_halts b.first_halts e
+has_plus (halts Two) a b e = or_cases a.second_halts b.second_halts e
+
+has_minus : (r : Right) (a m : Rights) → has r (minus a m) ≡ true → has r a ≡ true
+has_minus (steps One) a m e = and_left a.first_steps (not m.first_steps) e
+has_minus (steps Two) a m e = and_left a.second_steps (not m.second_steps) e
+has_minus (halts One) a m e = and_left a.first_halts (not m.first_halts) e
+has_minus (halts Two) a m e = and_left a.second_halts (not m.second_halts) e
+
+minus_lacks : (r : Right) (a m : Rights) → has r m ≡ true → has r (minus a m) ≡ false
+minus_lacks (steps One) a m e = not_both a.first_steps m.first_steps e
+minus_lacks (steps Two) a m e = not_both a.second_steps m.second_steps e
+minus_lacks (halts One) a m e = not_both a.first_halts m.first_halts e
+minus_lacks (halts Two) a m e = not_both a.second_halts m.second_halts e
+
+own_right : (r : Right) → has r (right_of r) ≡ true
+own_right (steps One) = refl
+own_right (steps Two) = refl
+own_right (halts One) = refl
+own_right (halts Two) = refl
+
+-- who has one right alone has one
+pub has_one : (r : Right) (m : Rights) → m ≡ right_of r → (q : Right) × (has q m ≡ true)
+has_one r m e = (r, ap (has r) e ∙ own_right r)
+
+lacks_all : (r : Right) → has r no_rights ≡ false
+lacks_all (steps One) = refl
+lacks_all (steps Two) = refl
+lacks_all (halts One) = refl
+lacks_all (halts Two) = refl
+
+of_either : (a b : Bool) (x y : Records) → (a || b) ≡ true → ((a ≡ true) × ((if a then x else y) ≡ x)) ⊎ ((b ≡ true) × ((if a then x else y) ≡ y))
+of_either true b x y e = inl (refl, refl)
+of_either false b x y e = inr (e, refl)
+
+module _ {C : Type 0} (records : C → Path → Records) where
+  pub glues : (id : ℕ) (v : Knows) (other : ℕ) (w : Knows) → v.busy ≡ false → w.busy ≡ false → Joins (Kept records) id v other w (joined v w) spent
+  glues id v other w rests wrests = joins records id v other w (joined v w) spent rests wrests refl refl lacks_all (λ r. has_plus r v.rights w.rights) lists
+    where
+      lists : (p : Path) → has (steps p) (plus v.rights w.rights) ≡ true
+          → ((has (steps p) v.rights ≡ true) × (list_of p (picked v w) ≡ list_of p v.lists)) ⊎ ((has (steps p) w.rights ≡ true) × (list_of p (picked v w) ≡ list_of p w.lists))
+      lists One e = of_either v.rights.first_steps w.rights.first_steps v.lists.first w.lists.first e
+      lists Two e = of_either v.rights.second_steps w.rights.second_steps v.lists.second w.lists.second e
+
+  pub cuts : (id : ℕ) (u v : Knows) (m : Rights) → u ≡ v → v.busy ≡ false → ((r : Right) → has r m ≡ true → has r v.rights ≡ true) → Splits (Kept records) id u (without m u) (only m u)
+  cuts id u v m e rests had = subst (λ (x : Knows). Splits (Kept records) id x (without m x) (only m x)) (sym e)
+      (splits records id v (without m v) (only m v) rests refl refl refl refl (λ r. has_minus r v.rights m) (λ r h. (had r h, minus_lacks r v.rights m h)))
+
+  -- the seat that took in all others
+  pub ends_joined : (id : ℕ) (u a b c d : Knows) (ws : List ℕ) (xs : List (Option C)) → u ≡ joined (joined (joined a b) c) d → a.rights ≡ right_of (steps One) → b.rights ≡ right_of (steps Two)
+      → c.rights ≡ right_of (halts One) → d.rights ≡ right_of (halts Two) → Final (Seen (Kept records) id u) ws xs
+      → (t : C) × (get_elem? xs 0 ≡ some (Some t)) × (records t One ≡ a.lists.first) × (records t Two ≡ b.lists.second)
+  ends_joined id u a b c d ws xs is ea eb ec ed end = let v : Knows = joined (joined (joined a b) c) d in
+      let t = ends records id v ws xs refl all (subst (λ (x : Knows). Final (Seen (Kept records) id x) ws xs) is end) in
+      (t.0, t.1, t.2 One ∙ first_is, t.2 Two ∙ second_is)
+    where
+      all : (r : Right) → has r (joined (joined (joined a b) c) d).rights ≡ true
+      all (steps One) = λ i. has (steps One) (plus (plus (plus (ea i) (eb i)) (ec i)) (ed i))
+      all (steps Two) = λ i. has (steps Two) (plus (plus (plus (ea i) (eb i)) (ec i)) (ed i))
+      all (halts One) = λ i. has (halts One) (plus (plus (plus (ea i) (eb i)) (ec i)) (ed i))
+      all (halts Two) = λ i. has (halts Two) (plus (plus (plus (ea i) (eb i)) (ec i)) (ed i))
+
+      first_is : (joined (joined (joined a b) c) d).lists.first ≡ a.lists.first
+      first_is = subst (λ (x : Rights). (joined (joined (joined (record a { rights = x }) b) c) d).lists.first ≡ a.lists.first) (sym ea) refl
+
+      second_is : (joined (joined (joined a b) c) d).lists.second ≡ b.lists.second
+      second_is = subst (λ (x : Rights × Rights). (joined (joined (joined (record a { rights = x.0 }) (record b { rights = x.1 })) c) d).lists.second ≡ b.lists.second) (λ i. (sym ea i, sym eb i)) refl
+
+  pub cuts_two : (id : ℕ) (u : Knows) → u ≡ opened → Splits (Kept records) id u (without (right_of (steps Two)) u) (only (right_of (steps Two)) u)
+  cuts_two id u e = cuts id u opened (right_of (steps Two)) e refl all_had
+    where
+      all_had : (r : Right) → has r (right_of (steps Two)) ≡ true → has r opened.rights ≡ true
+      all_had (steps One) h = refl
+      all_had (steps Two) h = refl
+      all_had (halts One) h = refl
+      all_had (halts Two) h = refl
+
+  pub cuts_three : (id : ℕ) (u : Knows) → u ≡ without (right_of (steps Two)) opened → Splits (Kept records) id u (without (right_of (halts One)) u) (only (right_of (halts One)) u)
+  cuts_three id u e = cuts id u (without (right_of (steps Two)) opened) (right_of (halts One)) e refl all_had
+    where
+      all_had : (r : Right) → has r (right_of (halts One)) ≡ true → has r (without (right_of (steps Two)) opened).rights ≡ true
+      all_had (steps One) h = refl
+      all_had (steps Two) h = h
+      all_had (halts One) h = refl
+      all_had (halts Two) h = refl
+
+  pub cuts_four : (id : ℕ) (u : Knows) → u ≡ without (right_of (halts One)) (without (right_of (steps Two)) opened) → Splits (Kept records) id u (without (right_of (halts Two)) u) (only (right_of (halts Two)) u)
+  cuts_four id u e = cuts id u (without (right_of (halts One)) (without (right_of (steps Two)) opened)) (right_of (halts Two)) e refl all_had
+    where
+      all_had : (r : Right) → has r (right_of (halts Two)) ≡ true → has r (without (right_of (halts One)) (without (right_of (steps Two)) opened)).rights ≡ true
+      all_had (steps One) h = refl
+      all_had (steps Two) h = h
+      all_had (halts One) h = h
+      all_had (halts Two) h = refl
+
+or_else : {C : Type 0} → C → Option C → C
+or_else c None = c
+or_else c (Some d) = d
+
+pub same_held : {C : Type 0} (x y : C) → ◌≡◌ {A = Option C} (Some x) (Some y) → x ≡ y
+unfolding or_else
+same_held x y e = ap (or_else x) e

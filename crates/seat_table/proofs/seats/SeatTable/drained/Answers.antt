@@ -1,0 +1,6 @@
+use Rattle.seat_table.specs.Knowing.{steps}
+use Rattle.seat_table.proofs.Keeping.{has_one}
+use Rattle.seat_table.proofs.seats.SeatTable.drained.Goals as goal
+
+pub tell_until-requires-clause-idle : goal.tell_until-requires-clause-idle
+tell_until-requires-clause-idle g c = ((c.pass.invariant.0, c.pass.invariant.1), has_one (steps c.pass.inside.path) _ c.pass.invariant.2)

@@ -1,0 +1,6 @@
+use Rattle.std.proofs.Common.{[], ◌∷◌}
+use Rattle.seat_table.proofs.stepper.step_noted.Given as goal
+
+-- the call that is noted
+abbrev pub ghosts-note : goal.ghosts-note
+ghosts-note g a = record { calls = a.call ∷ [] }

@@ -1,0 +1,172 @@
+-- What the seats of a table know, the rule of the table, and what each step on its words tells.
+use Rattle.std.specs.Prelude.{◌≡◌, ◌≢◌, ℕ, ◌<◌, Bool, true, false, ◌||◌, ◌&&◌, not, if◌then◌else◌}
+use Rattle.std.specs.Prelude.{List, [], ◌∷◌, ◌++◌, length, slice_index, Option, Some, None}
+use mathlib.Core.Option.{some}
+use lib.ListN.{get_elem?}
+use Rattle.atomic_table.specs.Table.{State, Me, Step}
+use Rattle.atomic_table.specs.Seated.{TableId}
+use Rattle.nc_number.specs.declared.path.Path.{Path}
+use Rattle.nc_number.specs.declared.path.Path.TheVariants.{One, Two}
+use Rattle.nc_outside.specs.declared.stepper.Call.{Call}
+use Rattle.seat_table.specs.Turning.{Records}
+use Rattle.seat_table.specs.declared.knowing.Lists.{Lists}
+use Rattle.seat_table.specs.declared.knowing.Rights.{Rights}
+use Rattle.seat_table.specs.declared.knowing.Knows.{Knows}
+
+-- what a seat may do: step a path, or halt the run for the turret of a path
+pub data Right : Type 0 where
+  steps : Path → Right
+  halts : Path → Right
+
+-- whether the right is one of these
+abbrev pub has : Right → Rights → Bool
+has (steps One) r = r.first_steps
+has (steps Two) r = r.second_steps
+has (halts One) r = r.first_halts
+has (halts Two) r = r.second_halts
+
+-- the records of a path
+abbrev pub list_of : Path → Lists → Records
+list_of One l = l.first
+list_of Two l = l.second
+
+module _ (now : Lists) (owner : Right → ℕ) (holder word : ℕ) (id : ℕ) where
+  -- A right is that of one seat. Who may step a path has its records, and who has the turn has found all of them.
+  pub record Fits (v : Knows) : Type 0 where
+    pub owns : (r : Right) → has r v.rights ≡ true → id ≡ owner r
+    pub lists : (p : Path) → has (steps p) v.rights ≡ true → list_of p v.lists ≡ list_of p now
+    pub busy : v.busy ≡ true → (id ≡ holder) × (v.found ≡ now) × (0 < word) × (r : Right) × (has r v.rights ≡ true)
+
+-- The rule. While nobody has the turn, the table is in its place, with these records. While it is taken, one seat has it.
+pub record Kept {C : Type 0} (records : C → Path → Records) (s : State (Option C) Knows) : Type 0 where
+  pub now : Lists
+  pub owner : Right → ℕ
+  pub holder : ℕ
+  pub wide : 0 < length s.words
+  pub deep : 0 < length s.homes
+  pub each : (id : ℕ) (v : Knows) → get_elem? s.views id ≡ some v
+      → Fits now owner holder (slice_index s.words 0) id v
+  pub home : slice_index s.words 0 ≡ 0 → (c : C) × (get_elem? s.homes 0 ≡ some (some (Some c)))
+      × ((p : Path) → records c p ≡ list_of p now)
+  pub away : 0 < slice_index s.words 0 → (v : Knows) × (get_elem? s.views holder ≡ some v) × (v.busy ≡ true)
+
+abbrev pub no_lists : Lists
+no_lists = record { first = []; second = [] }
+
+-- what a seat knows that has not the turn
+abbrev pub idle : Rights → Lists → List Call → Knows
+idle r l calls = record { rights = r; lists = l; busy = false; found = no_lists; calls = calls }
+
+abbrev pub all_rights : Rights
+all_rights = record { first_steps = true; second_steps = true; first_halts = true; second_halts = true }
+
+abbrev pub no_rights : Rights
+no_rights = record { first_steps = false; second_steps = false; first_halts = false; second_halts = false }
+
+-- the one right alone
+abbrev pub right_of : Right → Rights
+right_of (steps One) = record { first_steps = true; second_steps = false; first_halts = false; second_halts = false }
+right_of (steps Two) = record { first_steps = false; second_steps = true; first_halts = false; second_halts = false }
+right_of (halts One) = record { first_steps = false; second_steps = false; first_halts = true; second_halts = false }
+right_of (halts Two) = record { first_steps = false; second_steps = false; first_halts = false; second_halts = true }
+
+abbrev pub opened : Knows
+opened = idle all_rights no_lists []
+
+abbrev pub spent : Knows
+spent = idle no_rights no_lists []
+
+abbrev pub minus : Rights → Rights → Rights
+minus r m = record {
+  first_steps = r.first_steps && not m.first_steps;
+  second_steps = r.second_steps && not m.second_steps;
+  first_halts = r.first_halts && not m.first_halts;
+  second_halts = r.second_halts && not m.second_halts;
+}
+
+abbrev pub plus : Rights → Rights → Rights
+plus r m = record {
+  first_steps = r.first_steps || m.first_steps;
+  second_steps = r.second_steps || m.second_steps;
+  first_halts = r.first_halts || m.first_halts;
+  second_halts = r.second_halts || m.second_halts;
+}
+
+-- a seat is cut in two: one with these rights alone, and one without them
+abbrev pub only : Rights → Knows → Knows
+only m v = idle m v.lists []
+
+abbrev pub without : Rights → Knows → Knows
+without m v = idle (minus v.rights m) v.lists v.calls
+
+-- of each path the records that the one has which may step it
+abbrev pub picked : Knows → Knows → Lists
+picked v w = record {
+  first = if v.rights.first_steps then v.lists.first else w.lists.first;
+  second = if v.rights.second_steps then v.lists.second else w.lists.second;
+}
+
+abbrev pub joined : Knows → Knows → Knows
+joined v w = idle (plus v.rights w.rights) (picked v w) v.calls
+
+-- it had these calls besides
+abbrev pub called : List Call → Knows → Knows
+called calls v = record v { calls = v.calls ++ calls }
+
+module _ {C : Type 0} (records : C → Path → Records) where
+  abbrev pub lists_of : C → Lists
+  lists_of c = record { first = records c One; second = records c Two }
+
+  abbrev Sat : Type 0
+  Sat = Me (Option C) Knows
+
+  -- it has the turn, and found these records
+  abbrev pub holding : Knows → Lists → Knows
+  holding v l = record { rights = v.rights; lists = v.lists; busy = true; found = l; calls = v.calls }
+
+  -- it got the turn where it found 0, and then it has the table, with these records
+  pub record Got (m : Sat) (m' : Sat) : Type 0 where
+    pub table : C
+    pub view : m'.0 ≡ holding m.0 (lists_of table)
+    pub slot : m'.1 ≡ (0, Some table) ∷ m.1
+    pub lists : (p : Path) → has (steps p) m.0.rights ≡ true → list_of p m.0.lists ≡ records table p
+
+  abbrev pub took : Step (Option C) → Sat → ℕ → Sat → Type 0
+  took st m n m' = (n ≡ 0 → Got m m') × (n ≢ 0 → m' ≡ m)
+
+  -- the records of the table in hand
+  abbrev pub lists_at : List (ℕ × Option C) → Lists
+  lists_at [] = no_lists
+  lists_at ((k, Some c) ∷ xs) = lists_of c
+  lists_at ((k, None) ∷ xs) = no_lists
+
+  -- it gave the table back, and has its records
+  abbrev pub gave : Step (Option C) → Sat → ℕ → Sat → Type 0
+  gave st m n m' = (m'.0 ≡ idle m.0.rights (lists_at m.1) m.0.calls) × (m'.1 ≡ [])
+
+-- the seat is one of this table, which has two words and a slot
+abbrev pub IsAt : TableId → TableId → Type 0
+IsAt seat table = (seat ≡ table) × (table.words ≡ 2) × (table.slots ≡ 1)
+
+-- the seat has not the turn
+abbrev pub Idle : {C : Type 0} → Me (Option C) Knows → Type 0
+Idle m = (m.0.busy ≡ false) × (m.1 ≡ [])
+
+-- it has the turn, took the table out, and found all records
+pub record Took {C : Type 0} (records : C → Path → Records) (m : Me (Option C) Knows) (table : C)
+    (m' : Me (Option C) Knows) : Type 0 where
+  pub view : m'.0 ≡ holding records m.0 (lists_of records table)
+  pub slot : m'.1 ≡ (0, None) ∷ []
+  pub lists : (p : Path) → has (steps p) m.0.rights ≡ true → list_of p m.0.lists ≡ records table p
+
+-- the records of a path that a seat lists
+abbrev pub list_at : {C : Type 0} → Path → Me (Option C) Knows → Records
+list_at p m = list_of p m.0.lists
+
+-- an idle seat with this right alone
+abbrev pub IsOf : {C : Type 0} → Right → Me (Option C) Knows → Type 0
+IsOf r m = (m.0.busy ≡ false) × (m.1 ≡ []) × (m.0.rights ≡ right_of r)
+
+-- the seat keeps its rights and its calls
+abbrev pub Keeps : {C : Type 0} → Me (Option C) Knows → Me (Option C) Knows → Type 0
+Keeps m m' = (m'.0.rights ≡ m.0.rights) × (m'.0.calls ≡ m.0.calls)

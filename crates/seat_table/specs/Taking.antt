@@ -1,0 +1,19 @@
+-- What one try of a seat comes to, and what it may tell the table.
+use Rattle.std.specs.Prelude.{◌≡◌, ⊤}
+use Rattle.nc_outside.specs.Calls.{IsOfTurret}
+use Rattle.seat_table.specs.Turning.{Records, Answers}
+use Rattle.seat_table.specs.declared.taking.Tried.{Tried}
+use Rattle.seat_table.specs.declared.taking.Tried.TheVariants.{Busy, Waits, Stepped}
+use Rattle.seat_table.specs.declared.taking.Notice.{Notice}
+use Rattle.seat_table.specs.declared.taking.Notice.TheVariants.{Drained, Halt}
+
+-- what one try to step comes to
+abbrev pub Tries : Records → Tried → Records → Type 0
+Tries before Busy after = after ≡ before
+Tries before Waits after = after ≡ before
+Tries before (Stepped next) after = Answers before next after
+
+-- the notice may be given: a halt is that of a turret
+abbrev pub IsGiven : Notice → Type 0
+IsGiven (Drained path) = ⊤
+IsGiven (Halt why) = IsOfTurret why

@@ -1,0 +1,120 @@
+//! What a seat at the table knows, the rule of the table, and what each step on its words tells.
+ghost use Rattle.std.specs.Prelude.{◌≡◌, List, []};
+ghost use Rattle.nc_number.specs.declared.path.Path.TheVariants.{One, Two};
+ghost use Rattle.nc_outside.specs.declared.stepper.Call.{Call as Called};
+ghost use Rattle.seat_table.specs.Knowing.{Kept, steps, halts, right_of, opened, took, gave, only, without, joined, spent, called};
+
+use crate::turning::Turns;
+use atomic_table::{Join, Play, Split, TableRule};
+use nc_outside::{Call, MoveList};
+use std::collections::LinkedList;
+use std::marker::{Brand, PhantomData};
+
+/// The records of both paths: of each its moves.
+pub struct Lists {
+    pub first: LinkedList<MoveList>,
+    pub second: LinkedList<MoveList>,
+}
+
+/// What a seat may do: step path 1, step path 2, halt for the turret of path 1, halt for that of path 2.
+pub struct Rights {
+    pub first_steps: bool,
+    pub second_steps: bool,
+    pub first_halts: bool,
+    pub second_halts: bool,
+}
+
+/// What a seat knows. No value of it is made.
+pub struct Knows {
+    pub rights: Rights,
+    pub lists: Lists,
+    /// It has the turn, and `found` is what it found.
+    pub busy: bool,
+    pub found: Lists,
+    /// The calls that a stepper over it had.
+    pub calls: LinkedList<Call>,
+}
+
+/// The rule: while nobody has the turn, each seat that may step a path lists that path's records of the table.
+pub struct Law;
+
+impl<C: Turns> TableRule<Option<C>, Knows, ()> for Law {
+    ghost holds = { λ _. Kept C.records };
+
+    ghost first = { λ _. opened };
+}
+
+/// Takes the turn.
+pub struct Take;
+
+impl<C: Turns> Play<Option<C>, Knows> for Take {
+    ghost then = { took C.records };
+}
+
+/// Gives the turn back.
+pub struct Give;
+
+impl<C: Turns> Play<Option<C>, Knows> for Give {
+    ghost then = { gave C.records };
+}
+
+/// Counts a change.
+pub struct Count;
+
+impl<S> Play<S, Knows> for Count {
+    ghost then = { λ _ m _ w. w ≡ m };
+}
+
+/// The calls that a note is to be of. Who notes one picks it.
+pub trait Noted {
+    ghost calls: { List Called };
+}
+
+impl Noted for Brand {
+    ghost calls = { [] };
+}
+
+/// Notes calls.
+pub struct Note<N> {
+    of: PhantomData<N>,
+}
+
+impl<S, N: Noted> Play<S, Knows> for Note<N> {
+    ghost then = { λ _ m _ w. w ≡ (called N.calls m.0, m.1) };
+}
+
+/// Cuts off who steps path 2.
+pub struct CutSecond;
+
+impl Split<Knows> for CutSecond {
+    ghost left = { without (right_of (steps Two)) };
+
+    ghost right = { only (right_of (steps Two)) };
+}
+
+/// Cuts off who halts for the turret of path 1.
+pub struct CutFirstHalt;
+
+impl Split<Knows> for CutFirstHalt {
+    ghost left = { without (right_of (halts One)) };
+
+    ghost right = { only (right_of (halts One)) };
+}
+
+/// Cuts off who halts for the turret of path 2.
+pub struct CutSecondHalt;
+
+impl Split<Knows> for CutSecondHalt {
+    ghost left = { without (right_of (halts Two)) };
+
+    ghost right = { only (right_of (halts Two)) };
+}
+
+/// Puts two seats together.
+pub struct Glue;
+
+impl Join<Knows> for Glue {
+    ghost both = { joined };
+
+    ghost spent = { spent };
+}

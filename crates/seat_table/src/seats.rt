@@ -1,0 +1,205 @@
+//! The table with its seats.
+ghost use Rattle.std.specs.Prelude.{◌≡◌, ◌++◌, [], ◌∷◌, IfOk, IfErr};
+ghost use Rattle.nc_number.specs.declared.path.Path.TheVariants.{One, Two};
+ghost use Rattle.nc_outside.specs.Calls.{IsOfTurret};
+ghost use Rattle.seat_table.specs.Passes.{fresh};
+ghost use Rattle.seat_table.specs.Turning.{Answers};
+
+use crate::knowing::{CutFirstHalt, CutSecond, CutSecondHalt, Knows, Law, Noted};
+use crate::shelf::{put_in, take_out};
+use crate::taking::{Notice, Place, close_all, note, step_until, tell_until};
+use crate::turning::Turns;
+use atomic_table::{Refused, Table};
+use nc_number::Path;
+use nc_outside::{Call, Drained, Halt, Next};
+use std::alloc::Global;
+use std::marker::Model;
+use std::sync::Wait;
+
+/// A table at which two paths and the drives of their turrets have a seat each.
+pub struct SeatTable<C: Turns> {
+    table: Table<Option<C>, Knows, (), Law, Global>,
+}
+
+impl<C: Turns> Model for SeatTable<C> {
+    ghost use Rattle.std.specs.Prelude.{◌≡◌};
+    ghost use Rattle.atomic_table.specs.Seated.{TableId};
+
+    ghost Value = { TableId };
+
+    ghost view = { λ t. t.table.shared.table_id };
+
+    ghost invariant = { λ t. (t.table.shared.table_id.words ≡ 2) × (t.table.shared.table_id.slots ≡ 1) };
+}
+
+/// The right to step a path. It lists the records of the path that its steps made.
+#[derive(Drop)]
+pub struct SeatPass<C> {
+    place: Place<C>,
+    path: Path,
+}
+
+impl<C> Model for SeatPass<C> {
+    ghost use Rattle.seat_table.specs.Knowing.{IsOf, steps, list_at};
+    ghost use Rattle.seat_table.specs.Passes.{Pass};
+
+    ghost Value = { Pass };
+
+    ghost view = { λ p. record {
+      table = p.place.table_id;
+      path = p.path;
+      records = list_at p.path p.place.me;
+      calls = p.place.me.0.calls;
+    } };
+
+    ghost invariant = { λ p. IsOf (steps p.path) p.place.me };
+}
+
+/// The right to halt the run for the turret of a path.
+#[derive(Drop)]
+pub struct HaltPass<C> {
+    place: Place<C>,
+    path: Path,
+}
+
+impl<C> Model for HaltPass<C> {
+    ghost use Rattle.seat_table.specs.Knowing.{IsOf, halts};
+    ghost use Rattle.seat_table.specs.Passes.{Halter};
+
+    ghost Value = { Halter };
+
+    ghost view = { λ p. record { table = p.place.table_id; path = p.path } };
+
+    ghost invariant = { λ p. IsOf (halts p.path) p.place.me };
+}
+
+/// A table with its four passes.
+pub struct Seated<C: Turns> {
+    pub table: SeatTable<C>,
+    pub first: SeatPass<C>,
+    pub second: SeatPass<C>,
+    pub first_halt: HaltPass<C>,
+    pub second_halt: HaltPass<C>,
+}
+
+impl<C> SeatPass<C> {
+    /// The path that it may step.
+    pub fn path(&self) -> Path
+        ensures { result ≡ self.now.path }
+    {
+        self.path
+    }
+}
+
+impl<C: Turns> SeatTable<C> {
+    /// A table that has made no record since it was opened, with the passes of its paths and of their drives.
+    /// Where memory is wanting the table comes back.
+    pub fn new(alloc: Global, table: C) -> Result<Seated<C>, C>
+        requires { (p : Path) → C.records table p ≡ [] }
+        ensures passes { IfOk result (λ s. (s.first ≡ fresh s.table One) × (s.second ≡ fresh s.table Two)) }
+        ensures halters { IfOk result (λ s. (s.first_halt ≡ record { table = s.table; path = One })
+            × (s.second_halt ≡ record { table = s.table; path = Two })) }
+        ensures err { IfErr result (λ t. t ≡ table) }
+    {
+        let slots = put_in(alloc, table)?;
+        match Table::new(alloc, &[0, 0], slots, &()) {
+            Ok((table, mut place)) => {
+                let second = table.shared.split_seat::<CutSecond>(&mut place);
+                let first_halt = table.shared.split_seat::<CutFirstHalt>(&mut place);
+                let second_halt = table.shared.split_seat::<CutSecondHalt>(&mut place);
+                Ok(Seated {
+                    table: SeatTable { table },
+                    first: SeatPass {
+                        place,
+                        path: Path::One,
+                    },
+                    second: SeatPass {
+                        place: second,
+                        path: Path::Two,
+                    },
+                    first_halt: HaltPass {
+                        place: first_halt,
+                        path: Path::One,
+                    },
+                    second_halt: HaltPass {
+                        place: second_halt,
+                        path: Path::Two,
+                    },
+                })
+            }
+            Err(refused) => {
+                let Refused { slots } = refused;
+                Err(take_out(slots))
+            }
+        }
+    }
+
+    /// One step of the path of the pass, once it has the turn and the path does not wait. A path that waits
+    /// sleeps until the table has changed.
+    pub fn step<R: Wait>(&self, rt: &R, pass: &mut SeatPass<C>) -> Next
+        requires { pass.old.table ≡ self.now }
+        ensures same { pass.new ≡ record pass.old { records = pass.new.records } }
+        ensures records { Answers pass.old.records result pass.new.records }
+    {
+        step_until(rt, &self.table.shared, &mut pass.place, pass.path)
+    }
+
+    /// The line of the path was drained behind the last moves that were answered to it. It tells the table once
+    /// it has the turn.
+    pub fn drained<R: Wait>(&self, rt: &R, pass: &mut SeatPass<C>, proof: &Drained)
+        requires { pass.old.table ≡ self.now }
+        ensures { pass.new ≡ pass.old }
+    {
+        let _ = proof;
+        let notice = Notice::Drained(pass.path);
+        tell_until(rt, &self.table.shared, &mut pass.place, notice);
+    }
+
+    /// Halts the run by the pass of a path, once it has the turn.
+    pub fn halt_path<R: Wait>(&self, rt: &R, pass: &mut SeatPass<C>, why: Halt)
+        requires { (pass.old.table ≡ self.now) × IsOfTurret why }
+        ensures { pass.new ≡ pass.old }
+    {
+        tell_until(rt, &self.table.shared, &mut pass.place, Notice::Halt(why));
+    }
+
+    /// Halts the run for the turret of a path, once it has the turn.
+    pub fn halt<R: Wait>(&self, rt: &R, pass: &mut HaltPass<C>, why: Halt)
+        requires { (pass.old.table ≡ self.now) × IsOfTurret why }
+        ensures { pass.new ≡ pass.old }
+    {
+        tell_until(rt, &self.table.shared, &mut pass.place, Notice::Halt(why));
+    }
+
+    // Notes a call that a stepper over the pass had.
+    pub(crate) fn note<N: Noted>(&self, pass: &mut SeatPass<C>, call: Call)
+        requires { (pass.old.table ≡ self.now) × (N.calls ≡ call ∷ []) }
+        ensures { pass.new ≡ record pass.old { calls = pass.old.calls ++ call ∷ [] } }
+    {
+        note::<C, N>(&self.table.shared, &mut pass.place, call);
+    }
+
+    /// The table, whose records of each path are just those that the pass of the path lists. It takes no turn,
+    /// and waits for nobody.
+    pub fn close(
+        self,
+        first: SeatPass<C>,
+        second: SeatPass<C>,
+        first_halt: HaltPass<C>,
+        second_halt: HaltPass<C>,
+    ) -> C
+        requires table { (first.table ≡ self) × (second.table ≡ self)
+            × (first_halt.table ≡ self) × (second_halt.table ≡ self) }
+        requires paths { (first.path ≡ One) × (second.path ≡ Two)
+            × (first_halt.path ≡ One) × (second_halt.path ≡ Two) }
+        ensures first { C.records result One ≡ first.records }
+        ensures second { C.records result Two ≡ second.records }
+    {
+        let SeatTable { table } = self;
+        let SeatPass { place: one, .. } = first;
+        let SeatPass { place: two, .. } = second;
+        let HaltPass { place: third, .. } = first_halt;
+        let HaltPass { place: fourth, .. } = second_halt;
+        close_all(table, one, two, third, fourth)
+    }
+}

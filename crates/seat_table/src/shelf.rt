@@ -1,0 +1,32 @@
+//! The one slot of a table.
+ghost use Rattle.std.specs.Prelude.{◌≡◌, [], ◌∷◌, IfOk, IfErr, Some};
+
+use std::alloc::{AllocFailed, Global};
+
+/// One slot, with the table.
+pub(crate) fn put_in<C>(alloc: Global, table: C) -> Result<Vec<Option<C>>, C>
+    ensures ok { IfOk result (λ v. v.items ≡ Some table ∷ []) }
+    ensures err { IfErr result (λ t. t ≡ table) }
+{
+    let mut slots = Vec::new(alloc);
+    if let Err(failed) = slots.push(Some(table)) {
+        let AllocFailed { value } = failed;
+        slots.destroy_empty();
+        let Some(table) = value else { unreachable!() };
+        return Err(table);
+    }
+    Ok(slots)
+}
+
+/// The table of the only slot.
+pub(crate) fn take_out<C>(mut slots: Vec<Option<C>>) -> C
+    requires { (c : C) × (slots.items ≡ Some c ∷ []) }
+    ensures { slots.items ≡ Some result ∷ [] }
+{
+    let Some(only) = slots.pop() else {
+        unreachable!()
+    };
+    slots.destroy_empty();
+    let Some(table) = only else { unreachable!() };
+    table
+}

@@ -1,0 +1,251 @@
+//! One turn: the table is taken out of its place, does one thing, and is put back.
+ghost use Rattle.std.specs.Prelude.{◌≡◌, ◌≢◌, true, false, [], ◌∷◌, MatchOption, Some, None};
+ghost use Rattle.nc_number.specs.declared.path.Path.TheVariants.{One, Two};
+ghost use Rattle.seat_table.specs.Taking.{Tries, IsGiven};
+ghost use Rattle.seat_table.specs.Turning.{Answers};
+ghost use Rattle.seat_table.specs.Knowing.{Right, steps, halts, has, list_of, lists_of, idle, called, Idle, IsAt, IsOf, Took, Keeps, list_at};
+
+use crate::knowing::{Count, Give, Glue, Knows, Law, Note, Noted, Take};
+use crate::turning::Turns;
+use atomic_table::{Seat, Shared, Table};
+use nc_number::Path;
+use nc_outside::{Call, Halt, Next};
+use std::alloc::Global;
+use std::sync::Wait;
+use std::thread;
+
+pub(crate) type Place<C> = Seat<Option<C>, Knows>;
+
+/// What came of one try to step.
+#[derive(Drop)]
+pub enum Tried {
+    /// Another seat has the turn.
+    Busy,
+    /// The path waits.
+    Waits,
+    /// The path made a step.
+    Stepped(Next),
+}
+
+/// What a turn tells the table, which adds no record.
+#[derive(Drop)]
+pub enum Notice {
+    /// The turret of the path has what was answered to it.
+    Drained(Path),
+    /// The run is to halt.
+    Halt(Halt),
+}
+
+// Takes the turn if nobody has it, and the table with it.
+fn take<C: Turns>(shared: &Shared<Option<C>, Knows, (), Law>, place: &mut Place<C>) -> Option<C>
+    requires table { IsAt place.old.table_id shared.now.table_id }
+    requires idle { Idle place.old.me }
+    requires right { (r : Right) × (has r place.old.me.0.rights ≡ true) }
+    ensures same { (place.new.table_id ≡ place.old.table_id) × (place.new.id ≡ place.old.id) }
+    ensures took { MatchOption result (place.new.me ≡ place.old.me)
+        (λ c. Took C.records place.old.me c place.new.me) }
+{
+    if shared.compare_exchange::<Take>(place, 0, 0, 1) != 0 {
+        return None;
+    }
+    let Some(table) = shared.exchange(place, 0, None) else {
+        unreachable!()
+    };
+    Some(table)
+}
+
+// Puts the table back, and gives the turn back.
+fn give<C: Turns>(shared: &Shared<Option<C>, Knows, (), Law>, place: &mut Place<C>, table: C)
+    requires table { IsAt place.old.table_id shared.now.table_id }
+    requires busy { (place.old.me.0.busy ≡ true) × (place.old.me.1 ≡ (0, None) ∷ []) }
+    requires others { (p : Path) → has (steps p) place.old.me.0.rights ≡ false
+        → C.records table p ≡ list_of p place.old.me.0.found }
+    ensures same { (place.new.table_id ≡ place.old.table_id) × (place.new.id ≡ place.old.id) }
+    ensures gave { place.new.me
+        ≡ (idle place.old.me.0.rights (lists_of C.records table) place.old.me.0.calls, []) }
+{
+    let before = shared.exchange(place, 0, Some(table));
+    let None = before else { unreachable!() };
+    shared.store::<Give>(place, 0, 0);
+}
+
+// Counts a change of the table, and wakes those that wait for one.
+fn count_change<C: Turns>(shared: &Shared<Option<C>, Knows, (), Law>, place: &mut Place<C>)
+    requires { IsAt place.old.table_id shared.now.table_id }
+    ensures { (place.new.table_id ≡ place.old.table_id) × (place.new.id ≡ place.old.id)
+        × (place.new.me ≡ place.old.me) }
+{
+    shared.fetch_add::<Count>(place, 1, 1);
+    shared.wake_all(1);
+}
+
+// Counts the change that a step made. A drain that is asked for changes nothing.
+fn count_step<C: Turns>(
+    shared: &Shared<Option<C>, Knows, (), Law>,
+    place: &mut Place<C>,
+    next: &Next,
+)
+    requires { IsAt place.old.table_id shared.now.table_id }
+    ensures { (place.new.table_id ≡ place.old.table_id) × (place.new.id ≡ place.old.id)
+        × (place.new.me ≡ place.old.me) }
+{
+    match next {
+        Next::Drain => {}
+        Next::Silent | Next::Moves(_) | Next::Finished | Next::Halted(_) => {
+            count_change(shared, place)
+        }
+    }
+}
+
+/// Notes a call that a stepper over the seat had.
+pub(crate) fn note<C: Turns, N: Noted>(
+    shared: &Shared<Option<C>, Knows, (), Law>,
+    place: &mut Place<C>,
+    call: Call,
+)
+    requires table { IsAt place.old.table_id shared.now.table_id }
+    requires idle { Idle place.old.me }
+    requires noted { N.calls ≡ call ∷ [] }
+    ensures same { (place.new.table_id ≡ place.old.table_id) × (place.new.id ≡ place.old.id) }
+    ensures noted { place.new.me ≡ (called (call ∷ []) place.old.me.0, place.old.me.1) }
+{
+    let _ = call;
+    shared.load::<Note<N>>(place, 1);
+}
+
+// One try to step the path.
+fn turn<C: Turns>(
+    shared: &Shared<Option<C>, Knows, (), Law>,
+    place: &mut Place<C>,
+    path: Path,
+) -> Tried
+    requires table { IsAt place.old.table_id shared.now.table_id }
+    requires idle { Idle place.old.me × (has (steps path) place.old.me.0.rights ≡ true) }
+    requires alone { (p : Path) → p ≢ path → has (steps p) place.old.me.0.rights ≡ false }
+    ensures same { (place.new.table_id ≡ place.old.table_id) × Idle place.new.me
+        × Keeps place.old.me place.new.me }
+    ensures list { Tries (list_at path place.old.me) result (list_at path place.new.me) }
+{
+    let Some(mut table) = take(shared, place) else {
+        return Tried::Busy;
+    };
+    let next = table.turn_step(path);
+    give(shared, place, table);
+    let Some(next) = next else {
+        return Tried::Waits;
+    };
+    count_step(shared, place, &next);
+    Tried::Stepped(next)
+}
+
+// Tells the table.
+fn tell<C: Turns>(table: &mut C, notice: &Notice)
+    requires { IsGiven notice.now }
+    ensures { (p : Path) → C.records table.new p ≡ C.records table.old p }
+{
+    match notice {
+        Notice::Drained(path) => table.drained(*path),
+        Notice::Halt(why) => table.halt(*why),
+    }
+}
+
+// One try to tell the table: false where another seat has the turn.
+fn tell_turn<C: Turns>(
+    shared: &Shared<Option<C>, Knows, (), Law>,
+    place: &mut Place<C>,
+    notice: &Notice,
+) -> bool
+    requires table { IsAt place.old.table_id shared.now.table_id }
+    requires idle { Idle place.old.me × ((r : Right) × (has r place.old.me.0.rights ≡ true)) }
+    requires notice { IsGiven notice.now }
+    ensures same { (place.new.table_id ≡ place.old.table_id) × Idle place.new.me
+        × Keeps place.old.me place.new.me }
+    ensures list { (p : Path) → has (steps p) place.old.me.0.rights ≡ true
+        → list_at p place.new.me ≡ list_at p place.old.me }
+{
+    let Some(mut table) = take(shared, place) else {
+        return false;
+    };
+    tell(&mut table, notice);
+    give(shared, place, table);
+    count_change(shared, place);
+    true
+}
+
+/// A step of the path, once the seat has the turn and the path does not wait. A path that waits sleeps until
+/// the table has changed.
+pub(crate) fn step_until<C: Turns, R: Wait>(
+    rt: &R,
+    shared: &Shared<Option<C>, Knows, (), Law>,
+    place: &mut Place<C>,
+    path: Path,
+) -> Next
+    requires table { IsAt place.old.table_id shared.now.table_id }
+    requires seat { IsOf (steps path) place.old.me }
+    ensures same { (place.new.table_id ≡ place.old.table_id) × IsOf (steps path) place.new.me }
+    ensures calls { place.new.me.0.calls ≡ place.old.me.0.calls }
+    ensures list { Answers (list_at path place.old.me) result (list_at path place.new.me) }
+{
+    for _ in rt.forever() {
+        let seen = shared.peek(1);
+        match turn(shared, place, path) {
+            Tried::Stepped(next) => return next,
+            Tried::Busy => thread::yield_now(),
+            Tried::Waits => shared.park(rt, 1, (seen % (1 << 32)) as u32),
+        }
+    }
+    unreachable!()
+}
+
+/// Tells the table, once the seat has the turn.
+pub(crate) fn tell_until<C: Turns, R: Wait>(
+    rt: &R,
+    shared: &Shared<Option<C>, Knows, (), Law>,
+    place: &mut Place<C>,
+    notice: Notice,
+)
+    requires table { IsAt place.old.table_id shared.now.table_id }
+    requires idle { Idle place.old.me × ((r : Right) × (has r place.old.me.0.rights ≡ true)) }
+    requires notice { IsGiven notice }
+    ensures same { (place.new.table_id ≡ place.old.table_id) × Idle place.new.me
+        × Keeps place.old.me place.new.me }
+    ensures list { (p : Path) → has (steps p) place.old.me.0.rights ≡ true
+        → list_at p place.new.me ≡ list_at p place.old.me }
+{
+    for _ in rt.forever() {
+        if tell_turn(shared, place, &notice) {
+            return;
+        }
+        thread::yield_now();
+    }
+    unreachable!()
+}
+
+/// Puts the four seats together and takes the table out, whose records are those that the seats list.
+pub(crate) fn close_all<C: Turns>(
+    table: Table<Option<C>, Knows, (), Law, Global>,
+    first: Place<C>,
+    second: Place<C>,
+    first_halt: Place<C>,
+    second_halt: Place<C>,
+) -> C
+    requires sized { (table.shared.table_id.words ≡ 2) × (table.shared.table_id.slots ≡ 1) }
+    requires seats { (first.table_id ≡ table.shared.table_id)
+        × (second.table_id ≡ table.shared.table_id) }
+    requires halters { (first_halt.table_id ≡ table.shared.table_id)
+        × (second_halt.table_id ≡ table.shared.table_id) }
+    requires paths { IsOf (steps One) first.me × IsOf (steps Two) second.me }
+    requires halts { IsOf (halts One) first_halt.me × IsOf (halts Two) second_halt.me }
+    ensures first { C.records result One ≡ list_at One first.me }
+    ensures second { C.records result Two ≡ list_at Two second.me }
+{
+    let mut place = first;
+    table.shared.join_seat::<Glue>(&mut place, second);
+    table.shared.join_seat::<Glue>(&mut place, first_halt);
+    table.shared.join_seat::<Glue>(&mut place, second_halt);
+    let mut closed = table.close_with(place);
+    let slot = closed.take(0);
+    closed.free();
+    let Some(held) = slot else { unreachable!() };
+    held
+}

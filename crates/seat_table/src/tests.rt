@@ -1,0 +1,3 @@
+//! Two paths in a thread each, over a table in memory.
+mod memory;
+mod paths;

@@ -1,0 +1,108 @@
+// A table in memory, of which the paths take strict turns, path 1 first.
+ghost use Rattle.std.specs.Prelude.{◌≡◌, map, [], ◌∷◌};
+ghost use Rattle.nc_outside.specs.declared.motion.Move.TheVariants.{Aux};
+ghost use Rattle.seat_table.specs.Turning.{Answers};
+
+use crate::Turns;
+use nc_number::Path;
+use nc_outside::{Halt, Move, MoveList, Moves, Next};
+use std::alloc::Global;
+use std::sync::atomic::AtomicU64;
+use std::sync::atomic::Ordering::SeqCst;
+
+#[derive(Drop)]
+pub struct MemoryTable {
+    pub first: Vec<u16>,
+    pub second: Vec<u16>,
+    // So many records each path makes.
+    pub goal: usize,
+    // How often a path was found to wait.
+    pub looks: AtomicU64,
+    // How many drains it was told.
+    pub drains: u64,
+    pub halt: Option<Path>,
+}
+
+impl MemoryTable {
+    pub fn new(alloc: Global, goal: usize) -> MemoryTable
+        ensures { (result.first.items ≡ []) × (result.second.items ≡ []) }
+    {
+        MemoryTable {
+            first: Vec::new(alloc),
+            second: Vec::new(alloc),
+            goal,
+            looks: AtomicU64::new(0),
+            drains: 0,
+            halt: None,
+        }
+    }
+}
+
+// The moves of a block with an auxiliary code.
+fn block(m: u16) -> Moves
+    ensures { result.list ≡ Aux m ∷ [] }
+{
+    let mut list = MoveList::empty();
+    list.push(Move::Aux { m });
+    Moves { line: 1, list }
+}
+
+// One record more of a path.
+fn make(records: &mut Vec<u16>) -> Next
+    ensures { Answers (map (λ m. Aux m ∷ []) records.old.items) result (map (λ m. Aux m ∷ []) records.new.items) }
+{
+    let m = (records.len() % 1000) as u16;
+    if records.push(m).is_err() {
+        return Next::Finished;
+    }
+    Next::Moves(block(m))
+}
+
+impl Turns for MemoryTable {
+    ghost use Rattle.std.specs.Prelude.{map, [], ◌∷◌};
+    ghost use Rattle.nc_outside.specs.declared.motion.Move.TheVariants.{Aux};
+    ghost use Rattle.seat_table.specs.Knowing.{list_of};
+
+    ghost records = { λ t path. list_of path (record {
+      first = map (λ m. Aux m ∷ []) t.first.items;
+      second = map (λ m. Aux m ∷ []) t.second.items;
+    }) };
+
+    fn turn_step(&mut self, path: Path) -> Option<Next> {
+        if let Some(path) = self.halt {
+            return Some(Next::Halted(Halt::Turret(path)));
+        }
+        match path {
+            Path::One => {
+                if self.first.len() > self.second.len() {
+                    self.looks.fetch_add(1, SeqCst);
+                    return None;
+                }
+                if self.first.len() >= self.goal {
+                    return Some(Next::Finished);
+                }
+                Some(make(&mut self.first))
+            }
+            Path::Two => {
+                if self.second.len() >= self.goal {
+                    return Some(Next::Finished);
+                }
+                if self.second.len() >= self.first.len() {
+                    self.looks.fetch_add(1, SeqCst);
+                    return None;
+                }
+                Some(make(&mut self.second))
+            }
+        }
+    }
+
+    fn drained(&mut self, _path: Path) {
+        self.drains = self.drains.saturating_add(1);
+    }
+
+    fn halt(&mut self, why: Halt) {
+        if let Halt::Turret(path) = why {
+            self.halt = Some(path);
+        }
+    }
+}

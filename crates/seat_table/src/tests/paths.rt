@@ -1,0 +1,208 @@
+ghost use Rattle.std.specs.Prelude.{◌≡◌};
+ghost use Rattle.nc_outside.specs.Calls.{moves_answered};
+ghost use Rattle.seat_table.specs.Turning.{moves_in};
+
+use super::memory::MemoryTable;
+use crate::{HaltPass, SeatPass, SeatTable, Seated};
+use nc_number::{NoMemory, Path};
+use nc_outside::{Drained, Drains, Halt, Move, Moves, Next, Stepper};
+use std::alloc::Global;
+use std::sync::Wait;
+use std::sync::atomic::Ordering::SeqCst;
+use std::test::*;
+use std::thread;
+use std::thread::Threads;
+
+// A line along which so many moves were sent.
+#[derive(Drop)]
+struct Sent {
+    count: u64,
+}
+
+impl Drains for Sent {
+    ghost use Rattle.std.specs.Prelude.{◌≡◌, ⊤};
+
+    ghost drains = { λ old _ count. count ≡ old.count };
+
+    ghost can_drain = { λ _. ⊤ };
+
+    fn drain_now(&mut self) -> u64 {
+        self.count
+    }
+}
+
+// The auxiliary codes of a path, or that there was no memory for them.
+type Codes = Result<Vec<u16>, NoMemory>;
+
+fn keep(codes: &mut Vec<u16>, moves: &Moves) -> Result<(), NoMemory> {
+    for what in moves.list.as_slice() {
+        if let Move::Aux { m } = *what {
+            codes.push(m)?;
+        }
+    }
+    Ok(())
+}
+
+// One step, and a drain behind it. None where the path goes on no further.
+fn walk_once<S: Stepper>(
+    path: Path,
+    stepper: &mut S,
+    codes: &mut Vec<u16>,
+) -> Option<Result<(), NoMemory>>
+    ensures { S.origin stepper.new ≡ S.origin stepper.old }
+{
+    let Next::Moves(moves) = stepper.step(path) else {
+        return None;
+    };
+    stepper.drained(path, Drained::by(&mut Sent { count: 1 }));
+    Some(keep(codes, &moves))
+}
+
+// Steps until the path goes on no further, and keeps its codes.
+fn walk<R: Wait, S: Stepper>(rt: &R, alloc: Global, path: Path, stepper: &mut S) -> Codes
+    ensures origin { S.origin stepper.new ≡ S.origin stepper.old }
+{
+    let mut codes = Vec::new(alloc);
+    for _ in rt.forever() {
+        match walk_once(path, stepper, &mut codes) {
+            None => return Ok(codes),
+            Some(Err(wanting)) => return Err(wanting),
+            Some(Ok(())) => {}
+        }
+    }
+    unreachable!()
+}
+
+// A stepper may go to another thread.
+fn is_sent<T: Send>(_value: &T) {}
+
+fn work<R: Wait + Sync>(
+    rt: &R,
+    alloc: Global,
+    table: &SeatTable<MemoryTable>,
+    pass: SeatPass<MemoryTable>,
+) -> (SeatPass<MemoryTable>, Codes)
+    requires table { pass.table ≡ table.now }
+    requires told { moves_answered pass.calls ≡ moves_in pass.records }
+    ensures { (result.0.table ≡ table.now) × (result.0.path ≡ pass.path) }
+{
+    let path = pass.path();
+    let mut stepper = table.stepper(rt, pass);
+    is_sent(&stepper);
+    let codes = walk(rt, alloc, path, &mut stepper);
+    (stepper.into_pass(), codes)
+}
+
+fn yield_often() {
+    for _ in 0..20_000u32 {
+        thread::yield_now();
+    }
+}
+
+// Looks on for a while, and then halts for the turret of path 1.
+fn look_on<R: Wait + Sync>(
+    rt: &R,
+    table: &SeatTable<MemoryTable>,
+    pass: HaltPass<MemoryTable>,
+) -> HaltPass<MemoryTable>
+    requires { pass.table ≡ table.now }
+    ensures { result ≡ pass }
+{
+    yield_often();
+    let mut halter = table.halter(rt, pass);
+    is_sent(&halter);
+    halter.halt(Halt::Turret(Path::One));
+    halter.into_pass()
+}
+
+#[derive(Drop)]
+struct Ran {
+    table: MemoryTable,
+    first: Vec<u16>,
+    second: Vec<u16>,
+}
+
+// Both paths, up to so many records each.
+fn run_both<R: Threads + Wait + Sync>(rt: &R, alloc: Global, goal: usize) -> Result<Ran, NoMemory> {
+    let Ok(seated) = SeatTable::new(alloc, MemoryTable::new(alloc, goal)) else {
+        return Err(NoMemory);
+    };
+    let Seated {
+        table,
+        first,
+        second,
+        first_halt,
+        second_halt,
+    } = seated;
+    let both = &table;
+    let ((first, one), (second, two)) = thread::join(
+        rt,
+        move || -> (SeatPass<MemoryTable>, Codes)
+            requires { (first.table ≡ both.now) × (moves_answered first.calls ≡ moves_in first.records) }
+            ensures { (result.0.table ≡ first.table) × (result.0.path ≡ first.path) }
+        { work(rt, alloc, both, first) },
+        move || -> (SeatPass<MemoryTable>, Codes)
+            requires { (second.table ≡ both.now) × (moves_answered second.calls ≡ moves_in second.records) }
+            ensures { (result.0.table ≡ second.table) × (result.0.path ≡ second.path) }
+        { work(rt, alloc, both, second) },
+    );
+    let table = table.close(first, second, first_halt, second_halt);
+    Ok(Ran {
+        table,
+        first: one?,
+        second: two?,
+    })
+}
+
+// Path 2, which waits for path 1 until the run is halted.
+fn run_second<R: Threads + Wait + Sync>(
+    rt: &R,
+    alloc: Global,
+) -> Result<(MemoryTable, Vec<u16>), NoMemory> {
+    let Ok(seated) = SeatTable::new(alloc, MemoryTable::new(alloc, 5)) else {
+        return Err(NoMemory);
+    };
+    let Seated {
+        table,
+        first,
+        second,
+        first_halt,
+        second_halt,
+    } = seated;
+    let both = &table;
+    let (first_halt, (second, codes)) = thread::join(
+        rt,
+        move || -> HaltPass<MemoryTable>
+            requires { first_halt.table ≡ both.now }
+            ensures { result ≡ first_halt }
+        { look_on(rt, both, first_halt) },
+        move || -> (SeatPass<MemoryTable>, Codes)
+            requires { (second.table ≡ both.now) × (moves_answered second.calls ≡ moves_in second.records) }
+            ensures { (result.0.table ≡ second.table) × (result.0.path ≡ second.path) }
+        { work(rt, alloc, both, second) },
+    );
+    let table = table.close(first, second, first_halt, second_halt);
+    Ok((table, codes?))
+}
+
+#[test]
+fn each_path_gets_the_moves_of_its_records(rt: HostRuntime) -> Result<(), Fail> {
+    for goal in [0usize, 1, 100] {
+        let ran = run_both(&rt, rt.alloc(), goal)?;
+        assert_eq!(rt; ran.first.len(), goal);
+        assert_eq!(rt; ran.first.as_slice(), ran.table.first.as_slice());
+        assert_eq!(rt; ran.second.len(), goal);
+        assert_eq!(rt; ran.second.as_slice(), ran.table.second.as_slice());
+        assert_eq!(rt; ran.table.drains, 2 * goal as u64);
+    }
+    Ok(())
+}
+
+#[test]
+fn a_path_that_waits_sleeps_until_the_table_has_changed(rt: HostRuntime) -> Result<(), Fail> {
+    let (table, codes) = run_second(&rt, rt.alloc())?;
+    assert_eq!(rt; codes.len(), 0);
+    assert_eq!(rt; table.halt, Some(Path::One));
+    assert!(rt; table.looks.load(SeqCst) < 50);
+    Ok(())
+}
