@@ -1,7 +1,7 @@
 -- The journal holds a beginning of the history, over a record more and over a flush.
-use Rattle.std.proofs.Common.{◌≡◌, inl, inr, ℕ, ◌+◌, ◌≤◌, false, List, [], ◌∷◌, ◌++◌, length, take, drop, refl, sym, ◌∙◌, ap, subst, arith, length-append, take-append-drop, append-nil}
+use Rattle.std.proofs.Common.{◌≡◌, inl, inr, ℕ, ◌+◌, ◌≤◌, true, false, List, [], ◌∷◌, ◌++◌, length, take, drop, refl, sym, ◌∙◌, ap, subst, arith, length-append, take-append-drop, append-nil}
 use Rattle.std.specs.Prelude.{IsTrue}
-use Rattle.std.proofs.lemmas.List.{take_all, take-append-le, drop-append-le}
+use Rattle.std.proofs.lemmas.List.{take_all, take-append-le, drop-append-le, length-drop, drop_all}
 use Rattle.disk_model.specs.Device.{DiskState, IsCoherent, Reads}
 use Rattle.disk_model.specs.Moments.{LeavesOnly, Uses}
 use Rattle.disk_model.proofs.Runs.{widened, image_now, told_before}
@@ -12,6 +12,7 @@ use Rattle.run_journal.specs.Batches.{batch_bytes}
 use Rattle.run_journal.specs.Kept.{Log, pending_in}
 use Rattle.run_journal.specs.Stands.{Pends, Stands, Holds, StandsEither}
 use Rattle.run_table.specs.Recording.{StandsForPrefix, IsJournaled, KeepsJournal, Records}
+use Rattle.run_table.proofs.RecordingsFollow.{sends_flushed, sends_failed}
 
 -- a batch counts what pends
 pub counts : (pending : List Entry) (batch : List ℕ) → Pends pending batch → pending_in batch ≡ length pending
@@ -110,29 +111,52 @@ module _ {D : Type 0} (state : D → DiskState) (history : List Entry) (room flu
     (any_moment : (header : Header) (entries pending : List Entry) → Pends pending log.batch → Holds header entries (state log.file.disk) log.file.end
     → LeavesOnly (StandsEither header entries pending) (state log.file.disk) (state log'.file.disk))
     (uses : Uses 4 (log.file.end + length log.batch + 6) (state log.file.disk) (state log'.file.disk))
-    (later : (state log.file.disk).faults ≤ (state log'.file.disk).faults) where
+    (later : (state log.file.disk).faults ≤ (state log'.file.disk).faults)
+    (idle : pending_in log.batch ≡ 0 → log' ≡ log) where
   reaches : Uses 4 (log.file.end + length (batch_bytes (drop flushed history)) + 6) (state log.file.disk) (state log'.file.disk)
   reaches = subst (λ (l : List ℕ). Uses 4 (log.file.end + length l + 6) (state log.file.disk) (state log'.file.disk)) pends.bytes uses
 
-  pub done : (now : ℕ) → now ≡ length history
+  none_pends : flushed ≡ length history → log'.file ≡ log.file
+  none_pends all =
+      let none : pending_in log.batch ≡ 0 = counts (drop flushed history) log.batch pends ∙ ap length (drop_all flushed history (omega (arith, all))) in
+      ap (λ (l : Log D). l.file) (idle none)
+
+  lasts : log.file.live ≡ false → log'.file ≡ log.file
+  lasts dead = let clash : IsTrue false = subst IsTrue dead live in absurd cc
+
+  pub done : (now : ℕ) → now ≡ length history → log'.file.live ≡ true
+      → (1 ≤ pending_in log.batch → log'.file.end ≡ log.file.end + 5 + length log.batch)
       → ((disk : D) (header : Header) (entries : List Entry) (end : ℕ) → Holds header entries (state disk) end → (c : List ℕ) → (state disk).image c → Stands header entries c)
       → ((header : Header) (entries pending : List Entry) → Pends pending log.batch → Holds header entries (state log.file.disk) log.file.end
       → Holds header (entries ++ pending) (state log'.file.disk) log'.file.end)
       → Records state [] (record { history = history; room = room; flushed = flushed; log = log }) (record { history = history; room = room; flushed = now; log = log' })
-  done now all law acknowledged = record {
-    history = sym (append-nil history);
+  done now all still moved law acknowledged = record {
+    follows = record {
+      history = sym (append-nil history);
+      flushed = omega (arith, all, within);
+      journal = λ header j. flush_done state header history room flushed log log' within pends live j any_moment 4 (log.file.end + length log.batch + 6) uses room now all law acknowledged;
+      sends = λ inside. sends_flushed state history room flushed now log log' within pends.bytes live none_pends uses all still
+          (λ some. moved (omega (arith, some, counts (drop flushed history) log.batch pends, length-drop flushed history)));
+      told = uses.told;
+      rests = lasts;
+      later = later;
+    };
     room = refl;
-    journal = λ header j. flush_done state header history room flushed log log' within pends live j any_moment 4 (log.file.end + length log.batch + 6) uses room now all law acknowledged;
     uses = reaches;
-    later = later;
   }
 
   pub not_done : log'.file.live ≡ false → IsCoherent (state log'.file.disk)
       → Records state [] (record { history = history; room = room; flushed = flushed; log = log }) (record { history = history; room = room; flushed = flushed; log = log' })
   not_done dead coherent = record {
-    history = sym (append-nil history);
+    follows = record {
+      history = sym (append-nil history);
+      flushed = omega arith;
+      journal = λ header j. flush_failed state header history room flushed log log' within pends live j any_moment 4 (log.file.end + length log.batch + 6) uses room dead coherent;
+      sends = λ inside. sends_failed state history room flushed flushed log log' within pends.bytes live none_pends uses refl dead;
+      told = uses.told;
+      rests = lasts;
+      later = later;
+    };
     room = refl;
-    journal = λ header j. flush_failed state header history room flushed log log' within pends live j any_moment 4 (log.file.end + length log.batch + 6) uses room dead coherent;
     uses = reaches;
-    later = later;
   }

@@ -1,6 +1,14 @@
 mod AlarmsKept
+mod HeldSteps
 mod JournalsOn
+mod ListsGrow
 mod OtherGoesOn
+mod RecordingsFollow
+mod Redone
+mod RunsEnd
 mod StepsTaken
 mod TablesBegin
 mod TablesKept
+pub mod Then
+mod TurnsGiven
+mod WaitsAhead

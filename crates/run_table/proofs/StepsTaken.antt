@@ -1,44 +1,50 @@
 -- Records that are added, and a flush behind them, as one call.
-use Rattle.std.proofs.Common.{rules, ◌≡◌, ℕ, ◌+◌, ◌≤◌, ◌<◌, Bool, true, false, List, [], ◌++◌, length, drop, refl, sym, ◌∙◌, ap, subst, arith, length-append, append-nil, ◌==◌, ◌||◌, Option, Some}
+use Rattle.std.proofs.Common.{rules, ◌≡◌, ℕ, ◌+◌, ◌≤◌, ◌<◌, Bool, true, false, List, [], ◌++◌, length, drop, refl, sym, ◌∙◌, ap, subst, arith, length-append, append-nil, ◌==◌, ◌||◌, Option, Some, None}
 use Rattle.std.specs.Prelude.{IsTrue, nat_lt}
 use Rattle.disk_model.specs.Device.{DiskState, IsCoherent, Reads, Rose}
 use Rattle.disk_model.specs.Moments.{LeavesOnly, Uses}
 use Rattle.disk_model.proofs.Runs.{no_call, uses_none}
 use Rattle.gate_file.specs.Gate.{Gate}
 use Rattle.run_records.specs.declared.entry.Entry.{Entry}
-use Rattle.run_records.specs.declared.header.Header.{Header}
 use Rattle.run_journal.specs.Batches.{batch_bytes}
 use Rattle.nc_number.specs.declared.path.Path.{Path}
 use Rattle.nc_outside.specs.declared.halt.Halt.{Halt}
 use Rattle.two_path.specs.declared.turn.Turn.{Turn}
 use Rattle.run_table.specs.declared.answer.TableStep.{TableStep}
-use Rattle.run_table.specs.declared.answer.TableStep.TheVariants.{DiskFault, Halted}
+use Rattle.run_table.specs.declared.answer.TableStep.TheVariants.{Drain, DiskFault, Halted}
 use Rattle.run_table.specs.Kept.{TableView}
-use Rattle.run_table.specs.Stepping.{Answers, is_shown, is_due, step_by, step_of, bound_of, IsStep}
+use Rattle.run_table.specs.Stepping.{Answers, is_shown, is_due, drains, step_by, step_of, bound_of, IsStep}
 use Rattle.run_table.specs.Stepping.Answers.{at_once, flushed, failed}
-use Rattle.run_table.specs.Recording.{RecordingView, StandsForPrefix, Records, IsNoted}
+use Rattle.run_table.specs.Recording.{RecordingView, StandsForPrefix, Follows, Records, IsNoted}
+use Rattle.run_table.proofs.RecordingsFollow.{sends_nothing, follows_more}
 
 -- no call of the disk
 pub noted_only : {D : Type 0} (state : D → DiskState) (made : List Entry) (old new : RecordingView D)
     → ((disk : D) → IsCoherent (state disk)) → IsNoted state made old new → Records state made old new
 noted_only state made old new coherent noted = record {
-  history = noted.history;
+  follows = record {
+    history = noted.history;
+    flushed = omega (arith, noted.flushed);
+    journal = λ header j.
+        let k = noted.journal header j in
+        record {
+          journaled = k;
+          any_moment = λ bytes reads.
+              let here : LeavesOnly (StandsForPrefix header new.flushed new.history) (state old.log.file.disk) (state old.log.file.disk) =
+              no_call (StandsForPrefix header new.flushed new.history) (state old.log.file.disk) (coherent old.log.file.disk)
+              (subst (λ (f : Gate _). (c : List ℕ) → (state f.disk).image c → StandsForPrefix header new.flushed new.history c) noted.file
+              (k.left bytes (subst (λ (f : Gate _). Reads (state f.disk) bytes) (sym noted.file) reads))) in
+              subst (λ (f : Gate _). LeavesOnly (StandsForPrefix header old.flushed new.history) (state old.log.file.disk) (state f.disk)) (sym noted.file)
+              (subst (λ (n : ℕ). LeavesOnly (StandsForPrefix header n new.history) (state old.log.file.disk) (state old.log.file.disk)) noted.flushed here);
+        };
+    sends = λ within. sends_nothing state made old new noted.history noted.file noted.flushed within;
+    told = λ bytes reads. (bytes, subst (λ (f : Gate _). Reads (state f.disk) bytes) (sym noted.file) reads);
+    rests = λ dead. noted.file;
+    later = subst (λ (f : Gate _). (state old.log.file.disk).faults ≤ (state f.disk).faults) (sym noted.file) (omega arith);
+  };
   room = noted.room;
-  journal = λ header j.
-      let k = noted.journal header j in
-      record {
-        journaled = k;
-        any_moment = λ bytes reads.
-            let here : LeavesOnly (StandsForPrefix header new.flushed new.history) (state old.log.file.disk) (state old.log.file.disk) =
-            no_call (StandsForPrefix header new.flushed new.history) (state old.log.file.disk) (coherent old.log.file.disk)
-            (subst (λ (f : Gate _). (c : List ℕ) → (state f.disk).image c → StandsForPrefix header new.flushed new.history c) noted.file
-            (k.left bytes (subst (λ (f : Gate _). Reads (state f.disk) bytes) (sym noted.file) reads))) in
-            subst (λ (f : Gate _). LeavesOnly (StandsForPrefix header old.flushed new.history) (state old.log.file.disk) (state f.disk)) (sym noted.file)
-            (subst (λ (n : ℕ). LeavesOnly (StandsForPrefix header n new.history) (state old.log.file.disk) (state old.log.file.disk)) noted.flushed here);
-      };
   uses = subst (λ (f : Gate _). Uses 4 (old.log.file.end + length (batch_bytes (drop old.flushed new.history)) + 6) (state old.log.file.disk) (state f.disk)) (sym noted.file)
       (uses_none 4 (old.log.file.end + length (batch_bytes (drop old.flushed new.history)) + 6) (state old.log.file.disk));
-  later = subst (λ (f : Gate _). (state old.log.file.disk).faults ≤ (state f.disk).faults) (sym noted.file) (omega arith);
 }
 
 -- nothing is done
@@ -46,29 +52,17 @@ pub nothing : {D : Type 0} (state : D → DiskState) (r : RecordingView D) → (
 nothing state r coherent =
     noted_only state [] r r coherent (record { within = λ (some : 1 ≤ 0). absurd (omega (arith, some)); history = sym (append-nil r.history); file = refl; flushed = refl; room = refl; journal = λ header j. j })
 
--- what is said of a start that has this file and this number of flushed records
-abbrev IsRecorded : {D : Type 0} → (D → DiskState) → Header → RecordingView D → Gate D → ℕ → Type 0
-IsRecorded state header new file count = (bytes : List ℕ) → Reads (state file.disk) bytes
-    → LeavesOnly (StandsForPrefix header count new.history) (state file.disk) (state new.log.file.disk)
-
 abbrev IsUsed : {D : Type 0} → (D → DiskState) → RecordingView D → Gate D → ℕ → Type 0
 IsUsed state new file count =
     Uses 4 (file.end + length (batch_bytes (drop count new.history)) + 6) (state file.disk) (state new.log.file.disk)
 
 pub noted_then : {D : Type 0} (state : D → DiskState) (made : List Entry) (old mid new : RecordingView D)
-    → IsNoted state made old mid → Records state [] mid new → Records state made old new
-noted_then state made old mid new noted then = record {
-  history = then.history ∙ append-nil mid.history ∙ noted.history;
+    → ((disk : D) → IsCoherent (state disk)) → IsNoted state made old mid → Records state [] mid new → Records state made old new
+noted_then state made old mid new coherent noted then = record {
+  follows = subst (λ (l : List Entry). Follows state l old new) (append-nil made)
+      (follows_more state made [] old mid new (noted_only state made old mid coherent noted).follows then.follows);
   room = then.room ∙ noted.room;
-  journal = λ header j.
-      let k = then.journal header (noted.journal header j) in
-      record {
-        journaled = k.journaled;
-        any_moment = subst (λ (n : ℕ). IsRecorded state header new old.log.file n) noted.flushed
-            (subst (λ (f : Gate _). IsRecorded state header new f mid.flushed) noted.file k.any_moment);
-      };
   uses = subst (λ (n : ℕ). IsUsed state new old.log.file n) noted.flushed (subst (λ (f : Gate _). IsUsed state new f mid.flushed) noted.file then.uses);
-  later = subst (λ (f : Gate _). (state f.disk).faults ≤ (state new.log.file.disk).faults) noted.file then.later;
 }
 
 -- a flush before an answer
@@ -138,7 +132,7 @@ due_is state made t old mid pending noted full sum =
 pub kept_step : {D : Type 0} (state : D → DiskState) (t : TableView D) (path : Path) (why : Halt) → t.halt ≡ Some why → ((disk : D) → IsCoherent (state disk))
     → IsStep state (step_of t path) t t (Halted why)
 kept_step state t path why is coherent =
-    subst (λ (h : Option Halt). IsStep state (step_by t path h (bound_of t)) (record t { halt = h }) (record t { halt = h }) (Halted why)) (sym is)
+    subst (λ (h : Option Halt). IsStep state (step_by t path h (bound_of t) (drains t path)) (record t { halt = h }) (record t { halt = h }) (Halted why)) (sym is)
     (record {
       answer = at_once refl refl refl refl;
       records = nothing state t.recording coherent;
@@ -147,3 +141,19 @@ kept_step state t path why is coherent =
       halt = refl;
       verified = refl;
     })
+
+-- the path has to be drained, so the table stays as it is
+pub drain_step : {D : Type 0} (state : D → DiskState) (t : TableView D) (path : Path) → t.halt ≡ None → bound_of t ≡ None → drains t path ≡ true
+    → ((disk : D) → IsCoherent (state disk)) → IsStep state (step_of t path) t t Drain
+drain_step state t path kept bound drain coherent =
+    subst (λ (d : Bool). IsStep state (step_by t path t.halt (bound_of t) d) t t Drain) (sym drain)
+    (subst (λ (b : Option Halt). IsStep state (step_by t path t.halt b true) t t Drain) (sym bound)
+    (subst (λ (h : Option Halt). IsStep state (step_by t path h None true) (record t { halt = h }) (record t { halt = h }) Drain) (sym kept)
+    (record {
+      answer = at_once refl refl refl refl;
+      records = nothing state t.recording coherent;
+      machine = refl;
+      budget = omega arith;
+      halt = refl;
+      verified = refl;
+    })))

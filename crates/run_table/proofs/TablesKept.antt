@@ -17,9 +17,10 @@ use Rattle.two_path.specs.Joined.{RoomyMachine, AreAtTheirWaits}
 use Rattle.two_path.specs.Histories.{list_of, IsLegal, IsKept, Keeps, Counts, TurnOf}
 use Rattle.run_table.specs.declared.answer.TableStep.{TableStep}
 use Rattle.run_table.specs.declared.answer.TableStep.TheVariants.{Turned, DiskFault}
-use Rattle.run_table.specs.Recording.{RecordingView, IsJournaled, Records}
+use Rattle.run_table.specs.Recording.{RecordingView, IsJournaled, Records, MayNote}
+use Rattle.run_table.specs.declared.draining.Owed.{Owed}
 use Rattle.run_table.specs.Kept.{TableView, tapes_in, opening_of, MayGoOn, HasReason, IsTable}
-use Rattle.run_table.specs.Stepping.{is_shown, is_due, bound_of, step_by, step_of, Answers, reason_of, IsStep}
+use Rattle.run_table.specs.Stepping.{is_shown, is_due, bound_of, drains, drained_by, step_by, step_of, Answers, reason_of, IsStep}
 use Rattle.run_table.specs.Stepping.Answers.{at_once, flushed, failed}
 use Rattle.run_table.proofs.AlarmsKept.{alarm_behind, turn_alarm}
 
@@ -83,21 +84,22 @@ turn_comes t = go (length t.recording.history == t.verified.settings.records) (t
     go false false full spent none = (λ same. absurd (grind arith), grind arith)
 
 -- the table that these are
-abbrev pub table_of : {D : Type 0} → Verified → RoomyMachine → RecordingView D → Option Halt → ℕ → TableView D
-table_of v m r why budget = record { verified = v; machine = m.machine; turns = m.room; recording = r; halt = why; budget = budget }
+abbrev pub table_of : {D : Type 0} → Verified → RoomyMachine → RecordingView D → Option Halt → ℕ → Owed → TableView D
+table_of v m r why budget owed = record { verified = v; machine = m.machine; turns = m.room; recording = r; halt = why; budget = budget; owed = owed }
 
-module _ {D : Type 0} (state : D → DiskState) (v : Verified) (m m' : RoomyMachine) (r r' : RecordingView D) (budget budget' : ℕ) (path : Path)
-    (before : Option Halt) (none : before ≡ None) (table : IsTable state (table_of v m r before budget)) where
+module _ {D : Type 0} (state : D → DiskState) (v : Verified) (m m' : RoomyMachine) (r r' : RecordingView D) (budget budget' : ℕ) (owed owed' : Owed) (path : Path)
+    (before : Option Halt) (none : before ≡ None) (table : IsTable state (table_of v m r before budget owed)) where
   may : MayGoOn m.machine r
   may = subst (HasReason m.machine r) none table.reason
 
   -- a turn comes
   module _ (t : Turn) (entry : Option Entry) (answer : TableStep)
       (machine : m'.machine ≡ (turn_of (tapes_in v) path m.machine).machine) (turn_is : t ≡ (turn_of (tapes_in v) path m.machine).turn)
-      (entry_is : entry ≡ entry_of (tapes_in v) path m.machine) (bound : bound_of (table_of v m r before budget) ≡ None)
+      (entry_is : entry ≡ entry_of (tapes_in v) path m.machine) (bound : bound_of (table_of v m r before budget owed) ≡ None)
+      (undrained : drains (table_of v m r before budget owed) path ≡ false)
       (answers : Answers state (is_due r (list_of entry) t) (Turned t) r r' answer) (records : Records state (list_of entry) r r')
       (spent : budget' + length (list_of entry) ≡ budget) where
-    turn_by : IsStep state (step_by (table_of v m r before budget) path None None) (table_of v m r None budget) (table_of v m' r' (reason_of answer) budget') answer
+    turn_by : IsStep state (drained_by (table_of v m r before budget owed) path None None) (table_of v m r None budget owed) (table_of v m' r' (reason_of answer) budget' owed') answer
     turn_by = record {
       answer = subst (λ (e : Option Entry). Answers state (is_due r (list_of e) (turn_of (tapes_in v) path m.machine).turn) (Turned (turn_of (tapes_in v) path m.machine).turn) r r' answer) entry_is
           (subst (λ (u : Turn). Answers state (is_due r (list_of entry) u) (Turned u) r r' answer) turn_is answers);
@@ -108,10 +110,11 @@ module _ {D : Type 0} (state : D → DiskState) (v : Verified) (m m' : RoomyMach
       verified = refl;
     }
 
-    pub turn_step_is : IsStep state (step_of (table_of v m r before budget) path) (table_of v m r before budget) (table_of v m' r' (reason_of answer) budget') answer
+    pub turn_step_is : IsStep state (step_of (table_of v m r before budget owed) path) (table_of v m r before budget owed) (table_of v m' r' (reason_of answer) budget' owed') answer
     turn_step_is =
-        subst (λ (h : Option Halt). IsStep state (step_by (table_of v m r before budget) path h (bound_of (table_of v m r before budget))) (table_of v m r h budget) (table_of v m' r' (reason_of answer) budget') answer) (sym none)
-        (subst (λ (b : Option Halt). IsStep state (step_by (table_of v m r before budget) path None b) (table_of v m r None budget) (table_of v m' r' (reason_of answer) budget') answer) (sym bound) turn_by)
+        subst (λ (d : Bool). IsStep state (step_by (table_of v m r before budget owed) path before (bound_of (table_of v m r before budget owed)) d) (table_of v m r before budget owed) (table_of v m' r' (reason_of answer) budget' owed') answer) (sym undrained)
+        (subst (λ (h : Option Halt). IsStep state (step_by (table_of v m r before budget owed) path h (bound_of (table_of v m r before budget owed)) false) (table_of v m r h budget owed) (table_of v m' r' (reason_of answer) budget' owed') answer) (sym none)
+        (subst (λ (b : Option Halt). IsStep state (step_by (table_of v m r before budget owed) path None b false) (table_of v m r None budget owed) (table_of v m' r' (reason_of answer) budget' owed') answer) (sym bound) turn_by))
 
     module _ (keeps : Keeps (tapes_in v) (opening_of v))
         (counted : (entries : List Entry) → IsLegal (tapes_in v) (opening_of v) entries → Counts (tapes_in v) (opening_of v) entries)
@@ -125,27 +128,27 @@ module _ {D : Type 0} (state : D → DiskState) (v : Verified) (m m' : RoomyMach
       kept' =
           let event = keeps.event r.history m.machine (TurnOf path) table.kept in
           let of_entry : r.history ++ list_of (entry_of (tapes_in v) path m.machine) ≡ r'.history =
-          ap (λ (e : Option Entry). r.history ++ list_of e) (sym entry_is) ∙ sym records.history in
+          ap (λ (e : Option Entry). r.history ++ list_of e) (sym entry_is) ∙ sym records.follows.history in
           subst (λ (l : List Entry). IsKept (tapes_in v) (opening_of v) l m'.machine) of_entry
           (subst (λ (x : MachineView). IsKept (tapes_in v) (opening_of v) (r.history ++ list_of (entry_of (tapes_in v) path m.machine)) x) (sym machine) event)
 
       grown : length r'.history ≡ length r.history + length (list_of entry)
-      grown = ap length records.history ∙ length-append r.history (list_of entry)
+      grown = ap length records.follows.history ∙ length-append r.history (list_of entry)
 
       alarm' : m'.machine.alarm ≡ alarm_behind None t
       alarm' =
           ap (λ (x : MachineView). x.alarm) machine ∙ turn_alarm (tapes_in v) path m.machine
           ∙ ap (λ o. alarm_behind o (turn_of (tapes_in v) path m.machine).turn) may.calm ∙ ap (alarm_behind None) (sym turn_is)
 
-      pub turn_table : IsTable state (table_of v m' r' (reason_of answer) budget')
+      pub turn_table : IsTable state (table_of v m' r' (reason_of answer) budget' owed')
       turn_table = record {
         kept = kept';
         waits = waits;
         few = omega (arith, grown, few_made entry, less);
         turns = omega (arith, roomy, count_of r.history m.machine table.kept, count_of r'.history m'.machine kept', grown, spent, table.turns);
         room = λ some. omega (arith, grown, spent, records.room, table.room (omega (arith, spent, some)));
-        reason = reason_kept state m'.machine r r' (list_of entry) t answer alarm' may.live may.few records.history (few_made entry) answers;
-        journaled = (table.journaled.0, table.journaled.1, (records.journal table.journaled.0 table.journaled.2).journaled);
+        reason = reason_kept state m'.machine r r' (list_of entry) t answer alarm' may.live may.few records.follows.history (few_made entry) answers;
+        journaled = (table.journaled.0, table.journaled.1, (records.follows.journal table.journaled.0 table.journaled.2).journaled);
       }
 
 -- a reason does not hang on the room
@@ -154,7 +157,7 @@ reason_room : {D : Type 0} (m : MachineView) (r : RecordingView D) (room : ℕ) 
 reason_room m r room None may = record { calm = may.calm; live = may.live; few = may.few }
 reason_room m r room (Some (halt.Alarm alarm)) is = is
 reason_room m r room (Some halt.Disk) is = is
-reason_room m r room (Some (halt.Turret path)) is = is
+reason_room m r room (Some (halt.Turret path)) may = record { calm = may.calm; live = may.live; few = may.few }
 reason_room m r room (Some halt.Full) is = is
 reason_room m r room (Some halt.Budget) is = is
 
@@ -163,10 +166,10 @@ journaled_room : {D : Type 0} (state : D → DiskState) (header : Header) (r : R
 journaled_room state header r room j = record { held = j.held; left = j.left }
 
 -- room is made
-pub room_made : {D : Type 0} (state : D → DiskState) (v : Verified) (m m' : RoomyMachine) (r r' : RecordingView D) (why : Option Halt) (budget budget' : ℕ)
-    → IsTable state (table_of v m r why budget) → m'.machine ≡ m.machine → r'.history ≡ r.history → r'.flushed ≡ r.flushed → r'.log ≡ r.log
-    → budget' ≤ m'.room → (1 ≤ budget' → length r'.history + budget' ≤ r'.room) → IsTable state (table_of v m' r' why budget')
-room_made state v m m' r r' why budget budget' table machine history count log turns room =
+pub room_made : {D : Type 0} (state : D → DiskState) (v : Verified) (m m' : RoomyMachine) (r r' : RecordingView D) (why : Option Halt) (budget budget' : ℕ) (owed : Owed)
+    → IsTable state (table_of v m r why budget owed) → m'.machine ≡ m.machine → r'.history ≡ r.history → r'.flushed ≡ r.flushed → r'.log ≡ r.log
+    → budget' ≤ m'.room → (1 ≤ budget' → length r'.history + budget' ≤ r'.room) → IsTable state (table_of v m' r' why budget' owed)
+room_made state v m m' r r' why budget budget' owed table machine history count log turns room =
     let same : r' ≡ record { history = r.history; room = r'.room; flushed = r.flushed; log = r.log } =
     λ i. record { history = history i; room = r'.room; flushed = count i; log = log i } in
     record {
@@ -195,11 +198,20 @@ less_by a b le differ = go (nat_lt a b) refl
         absurd (differ same)
 
 -- a turn has its number of records
-pub few_turns : {D : Type 0} (state : D → DiskState) (v : Verified) (m : RoomyMachine) (r : RecordingView D) (why : Option Halt) (budget : ℕ)
-    → IsTable state (table_of v m r why budget)
+pub few_turns : {D : Type 0} (state : D → DiskState) (v : Verified) (m : RoomyMachine) (r : RecordingView D) (why : Option Halt) (budget : ℕ) (owed : Owed)
+    → IsTable state (table_of v m r why budget owed)
     → ((entries : List Entry) → IsLegal (tapes_in v) (opening_of v) entries → Counts (tapes_in v) (opening_of v) entries)
     → (length r.history ≡ v.settings.records → ⊥) → (m.machine.count < 4000000) × (length r.history < v.settings.records)
-few_turns state v m r why budget table counted differ =
+few_turns state v m r why budget owed table counted differ =
     let count : m.machine.count ≡ length r.history = ap (λ (x : MachineView). x.count) (sym table.kept.folds) ∙ (counted r.history table.kept.legal).count in
     let less = less_by (length r.history) v.settings.records table.few differ in
     (omega (arith, count, less, v.settings.most_records), less)
+
+-- a turn may have its record
+pub may_note : {D : Type 0} (state : D → DiskState) (v : Verified) (m : RoomyMachine) (r : RecordingView D) (why : Option Halt) (budget : ℕ) (owed : Owed)
+    → IsTable state (table_of v m r why budget owed) → why ≡ None → bound_of (table_of v m r why budget owed) ≡ None → MayNote r
+may_note state v m r why budget owed table none bound =
+    let may : MayGoOn m.machine r = subst (HasReason m.machine r) none table.reason in
+    let comes = turn_comes (table_of v m r why budget owed) bound in
+    let less = less_by (length r.history) v.settings.records table.few comes.0 in
+    record { live = may.live; few = may.few; most = omega (arith, less, v.settings.most_records); room = omega (arith, table.room comes.1, comes.1) }

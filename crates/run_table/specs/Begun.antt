@@ -8,6 +8,7 @@ use Rattle.run_records.specs.Room.{Entries}
 use Rattle.run_journal.specs.Kept.{Log}
 use Rattle.nc_verify.specs.declared.verified.Verified.{Verified}
 use Rattle.two_path.specs.Joined.{RoomyMachine}
+use Rattle.run_table.specs.Draining.{none_owed}
 use Rattle.run_table.specs.Kept.{TableView, opening_of}
 
 -- a table without records, with no leave to make any
@@ -15,8 +16,10 @@ pub record IsBegun {D : Type 0} (verified : Verified) (t : TableView D) : Type 0
   pub pair : t.verified ≡ verified
   pub machine : t.machine ≡ opening_of verified
   pub history : t.recording.history ≡ []
+  pub flushed : t.recording.flushed ≡ 0
   pub halt : t.halt ≡ None
   pub budget : t.budget ≡ 0
+  pub owed : t.owed ≡ none_owed
 
 -- the disk in an answer that gives it back either way
 abbrev pub disk_in : {D : Type 0} → Result (TableView D) (D × GateFault) → D
@@ -37,6 +40,7 @@ recovered_table verified m entries log = record {
   recording = record { history = entries.items; room = entries.room; flushed = length entries.items; log = log };
   halt = reason_in m.machine.alarm;
   budget = 0;
+  owed = none_owed;
 }
 
 -- The room for so many records more, and leave to make them. Where there is no memory for it there is no leave for more than before.
@@ -49,6 +53,7 @@ pub record IsPrepared {D T E : Type 0} (n : ℕ) (old new : TableView D) (result
   pub flushed : new.recording.flushed ≡ old.recording.flushed
   pub log : new.recording.log ≡ old.recording.log
   pub halt : new.halt ≡ old.halt
+  pub owed : new.owed ≡ old.owed
 
 -- the first reason stays
 abbrev pub first_reason : Option Halt → Halt → Option Halt

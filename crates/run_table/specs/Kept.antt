@@ -14,6 +14,7 @@ use Rattle.two_path.specs.Machine.{MachineView, opening}
 use Rattle.two_path.specs.Turns.{Tapes, tapes_of}
 use Rattle.two_path.specs.Joined.{AreAtTheirWaits}
 use Rattle.two_path.specs.Histories.{IsKept}
+use Rattle.run_table.specs.declared.draining.Owed.{Owed}
 use Rattle.run_table.specs.Recording.{RecordingView, IsJournaled}
 
 pub record TableView (D : Type 0) : Type 0 where
@@ -23,6 +24,7 @@ pub record TableView (D : Type 0) : Type 0 where
   pub recording : RecordingView D
   pub halt : Option Halt  -- why the table has stopped
   pub budget : ℕ  -- how many records it may still make
+  pub owed : Owed  -- which paths have to be drained before they come to a wait
 
 abbrev pub tapes_in : Verified → Tapes
 tapes_in verified = tapes_of verified.left verified.right
@@ -50,7 +52,7 @@ abbrev pub HasReason : {D : Type 0} → MachineView → RecordingView D → Opti
 HasReason machine r None = MayGoOn machine r
 HasReason machine r (Some (Alarm alarm)) = (machine.alarm ≡ Some alarm) × IsTrue r.log.file.live
 HasReason machine r (Some Disk) = r.log.file.live ≡ false
-HasReason machine r (Some (Turret path)) = (machine.alarm ≡ None) × IsTrue r.log.file.live
+HasReason machine r (Some (Turret path)) = MayGoOn machine r
 HasReason machine r (Some Full) = ⊥
 HasReason machine r (Some Budget) = ⊥
 

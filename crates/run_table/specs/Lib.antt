@@ -1,5 +1,9 @@
 pub mod Begun
+pub mod Draining
+pub mod Holding
 pub mod Kept
 pub mod Recording
 pub mod Recovered
+pub mod Running
+pub mod Since
 pub mod Stepping

@@ -1,10 +1,10 @@
 -- The history of a run, and the journal that holds a beginning of it.
-use Rattle.std.specs.Prelude.{◌≡◌, ℕ, ◌+◌, ◌≤◌, ◌<◌, ◌++◌, List, length, take, drop, IsTrue, Result, OnOk, OnErr, is_ok}
+use Rattle.std.specs.Prelude.{◌≡◌, ℕ, ◌+◌, ◌-◌, ◌*◌, ◌≤◌, ◌<◌, ◌++◌, false, List, length, take, drop, IsTrue, Result, OnOk, OnErr, is_ok, if◌then◌else◌}
 use Rattle.disk_model.specs.Device.{DiskState, Reads}
 use Rattle.disk_model.specs.Moments.{LeavesOnly, Uses}
 use Rattle.run_records.specs.declared.entry.Entry.{Entry}
 use Rattle.run_records.specs.declared.header.Header.{Header}
-use Rattle.run_journal.specs.Batches.{batch_bytes}
+use Rattle.run_journal.specs.Batches.{records_bytes, batch_bytes}
 use Rattle.run_journal.specs.Kept.{Log}
 use Rattle.run_journal.specs.Stands.{Stands, Holds, Pends}
 
@@ -42,15 +42,42 @@ pub record KeepsJournal {D : Type 0} (state : D → DiskState) (header : Header)
   pub any_moment : (bytes : List ℕ) → Reads (state old.log.file.disk) bytes
       → LeavesOnly (StandsForPrefix header old.flushed new.history) (state old.log.file.disk) (state new.log.file.disk)
 
+-- how many records were sent to the disk: those that are flushed, and all once it has failed
+abbrev pub sent : {D : Type 0} → RecordingView D → ℕ
+sent r = if r.log.file.live then r.flushed else length r.history
+
+-- the most bytes that these records take in the file: their own, and six for each batch, which has one record at least
+abbrev pub most_bytes : List Entry → ℕ
+most_bytes entries = length (records_bytes entries) + 6 * length entries
+
+-- What was asked of the disk while this recording came of an earlier one: four calls at most for each record that was sent, and no
+-- write further than the bytes of all that pended reach.
+pub record Sends {D : Type 0} (state : D → DiskState) (old new : RecordingView D) : Type 0 where
+  pub within : new.flushed ≤ length new.history
+  pub more : sent old ≤ sent new
+  pub uses : Uses (4 * (sent new - sent old)) (old.log.file.end + 1 + most_bytes (drop old.flushed new.history))
+      (state old.log.file.disk) (state new.log.file.disk)
+  pub end : IsTrue new.log.file.live → new.log.file.end + most_bytes (drop new.flushed new.history)
+      ≤ old.log.file.end + most_bytes (drop old.flushed new.history)
+
+-- What came of a recording: these records more, some or all of which are flushed.
+pub record Follows {D : Type 0} (state : D → DiskState) (made : List Entry) (old new : RecordingView D) : Type 0 where
+  pub history : new.history ≡ old.history ++ made
+  pub flushed : old.flushed ≤ new.flushed
+  pub journal : (header : Header) → IsJournaled state header old → KeepsJournal state header old new
+  pub sends : old.flushed ≤ length old.history → Sends state old new
+  pub told : (bytes : List ℕ) → Reads (state old.log.file.disk) bytes → (c : List ℕ) × Reads (state new.log.file.disk) c
+  -- no call is made once the disk has failed
+  pub rests : old.log.file.live ≡ false → new.log.file ≡ old.log.file
+  pub later : (state old.log.file.disk).faults ≤ (state new.log.file.disk).faults
+
 -- What a call does that adds these records to the history, and may flush.
 pub record Records {D : Type 0} (state : D → DiskState) (made : List Entry) (old new : RecordingView D) : Type 0 where
-  pub history : new.history ≡ old.history ++ made
+  pub follows : Follows state made old new
   pub room : new.room ≡ old.room
-  pub journal : (header : Header) → IsJournaled state header old → KeepsJournal state header old new
   -- it makes four calls of the disk at most, and writes no further than the one batch of all that pends reaches
   pub uses : Uses 4 (old.log.file.end + length (batch_bytes (drop old.flushed new.history)) + 6)
       (state old.log.file.disk) (state new.log.file.disk)
-  pub later : (state old.log.file.disk).faults ≤ (state new.log.file.disk).faults
 
 -- these records more, which pend
 pub record IsNoted {D : Type 0} (state : D → DiskState) (made : List Entry) (old new : RecordingView D) : Type 0 where

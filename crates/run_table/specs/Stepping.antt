@@ -1,5 +1,5 @@
 -- What a step of a table comes to.
-use Rattle.std.specs.Prelude.{◌≡◌, ℕ, ◌+◌, ◌==◌, ◌||◌, not, nat_lt, Bool, true, false, List, [], ◌++◌, length, Option, Some, None, IsTrue, if◌then◌else◌}
+use Rattle.std.specs.Prelude.{◌≡◌, ℕ, ◌+◌, ◌==◌, ◌||◌, ◌&&◌, not, nat_lt, Bool, true, false, List, [], ◌++◌, length, Option, Some, None, IsTrue, if◌then◌else◌}
 use Rattle.disk_model.specs.Device.{DiskState, Rose}
 use Rattle.nc_number.specs.declared.path.Path.{Path}
 use Rattle.nc_outside.specs.declared.halt.Halt.{Halt}
@@ -11,8 +11,9 @@ use Rattle.two_path.specs.Machine.{MachineView}
 use Rattle.two_path.specs.Turns.{Tapes, TurnResult, turn_of, entry_of}
 use Rattle.two_path.specs.Histories.{list_of}
 use Rattle.run_table.specs.declared.answer.TableStep.{TableStep}
-use Rattle.run_table.specs.declared.answer.TableStep.TheVariants.{Turned, DiskFault, Halted}
+use Rattle.run_table.specs.declared.answer.TableStep.TheVariants.{Turned, Drain, DiskFault, Halted}
 use Rattle.run_table.specs.Recording.{RecordingView, Records}
+use Rattle.run_table.specs.Draining.{owes, is_wait}
 use Rattle.run_table.specs.Kept.{TableView, tapes_in}
 
 -- what a turn shows: moves, that a path waits, goes on or has ended, or an alarm; a block without moves shows nothing
@@ -54,20 +55,45 @@ turn_step t result made = record {
   due = is_due t.recording made result.turn;
 }
 
--- a reason that is kept goes before a full journal, that before a spent budget, and each of them before a turn
-abbrev pub step_by : {D : Type 0} → TableView D → Path → Option Halt → Option Halt → StepResult
-step_by t path (Some why) bound = record { answer = Halted why; machine = t.machine; made = []; due = false }
-step_by t path None (Some why) = record {
+-- the path comes to a wait, and has to be drained first
+abbrev pub drains : {D : Type 0} → TableView D → Path → Bool
+drains t path = owes path t.owed && is_wait (turn_of (tapes_in t.verified) path t.machine).turn
+
+-- nothing is done, as the table keeps a reason, or as the path has to be drained
+abbrev pub idle_step : {D : Type 0} → TableView D → TableStep → StepResult
+idle_step t answer = record { answer = answer; machine = t.machine; made = []; due = false }
+
+-- no turn comes, for a full journal or a spent budget
+abbrev pub bound_step : {D : Type 0} → TableView D → Halt → StepResult
+bound_step t why = record {
   answer = Halted why;
   machine = t.machine;
   made = [];
   due = nat_lt t.recording.flushed (length t.recording.history);
 }
-step_by t path None None =
+
+-- the path's turn
+abbrev pub turn_by : {D : Type 0} → TableView D → Path → StepResult
+turn_by t path =
     turn_step t (turn_of (tapes_in t.verified) path t.machine) (list_of (entry_of (tapes_in t.verified) path t.machine))
 
+-- a reason that is kept goes before a full journal, that before a spent budget, and each of them before a turn
+abbrev pub drained_by : {D : Type 0} → TableView D → Path → Option Halt → Option Halt → StepResult
+drained_by t path (Some why) bound = idle_step t (Halted why)
+drained_by t path None (Some why) = bound_step t why
+drained_by t path None None = turn_by t path
+
+-- a step of a path that was drained
+abbrev pub drained_step_of : {D : Type 0} → TableView D → Path → StepResult
+drained_step_of t path = drained_by t path t.halt (bound_of t)
+
+-- before its turn the path is drained, if it has to be
+abbrev pub step_by : {D : Type 0} → TableView D → Path → Option Halt → Option Halt → Bool → StepResult
+step_by t path None None true = idle_step t Drain
+step_by t path why bound drain = drained_by t path why bound
+
 abbrev pub step_of : {D : Type 0} → TableView D → Path → StepResult
-step_of t path = step_by t path t.halt (bound_of t)
+step_of t path = step_by t path t.halt (bound_of t) (drains t path)
 
 -- The answer that comes where the disk does not fail, with all records flushed before it where that is due, or a fault of the disk,
 -- which failed in that.
@@ -83,6 +109,7 @@ pub data Answers {D : Type 0} (state : D → DiskState) (due : Bool) (answer : T
 abbrev pub reason_of : TableStep → Option Halt
 reason_of (Turned (turn.Alarm alarm)) = Some (halt.Alarm alarm)
 reason_of (Turned _) = None
+reason_of Drain = None
 reason_of DiskFault = Some halt.Disk
 reason_of (Halted why) = None
 

@@ -10,6 +10,9 @@ use two_path::{Machine, Turn};
 pub enum TableStep {
     /// A turn of the path. What it shows is on the disk.
     Turned(Turn),
+    /// The path comes to a wait, and its turret may not have yet all moves that were answered to it.
+    /// There was no turn.
+    Drain,
     /// The disk failed. What the path did is not shown.
     DiskFault,
     /// The run has stopped, or must stop here. There was no turn.

@@ -8,11 +8,18 @@
 #![tactic(auto)]
 
 mod answer;
+mod draining;
+mod handing;
+mod held;
 mod laws;
 mod recording;
+mod running;
 mod stepping;
 mod table;
 
 pub use answer::{Parts, TableStep};
+pub use draining::Owed;
+pub use held::{Held, Opening};
 pub use laws::who_is_waited_for_goes_on;
+pub use running::{RunEnd, run_by_turns};
 pub use table::Table;

@@ -29,7 +29,7 @@ pub(crate) fn reason_of(answer: &TableStep) -> Option<Halt>
 {
     match answer {
         TableStep::Turned(Turn::Alarm { alarm }) => Some(Halt::Alarm(*alarm)),
-        TableStep::Turned(_) | TableStep::Halted(_) => None,
+        TableStep::Turned(_) | TableStep::Drain | TableStep::Halted(_) => None,
         TableStep::DiskFault => Some(Halt::Disk),
     }
 }

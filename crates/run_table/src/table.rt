@@ -1,5 +1,5 @@
 //! The table of a run.
-ghost use Rattle.std.specs.Prelude.{◌≡◌, ℕ, IfOk};
+ghost use Rattle.std.specs.Prelude.{◌≡◌, ◌≢◌, ℕ, ◌+◌, ◌≤◌, false, length, IfOk};
 ghost use Rattle.gate_file.specs.Creation.{without_disk};
 ghost use Rattle.nc_number.specs.declared.path.Path.{Path};
 ghost use Rattle.nc_number.specs.Path.{other_of};
@@ -11,20 +11,27 @@ ghost use Rattle.two_path.specs.declared.turn.Turn.TheVariants as turn;
 ghost use Rattle.two_path.specs.Histories.{IsKept};
 ghost use Rattle.run_table.specs.declared.answer.TableStep.TheVariants as step;
 ghost use Rattle.run_table.specs.Recording.{IsJournaled};
-ghost use Rattle.run_table.specs.Kept.{tapes_in, opening_of, IsVerdictOf};
-ghost use Rattle.run_table.specs.Stepping.{bound_of, step_of, IsStep, GoesOn};
+ghost use Rattle.run_table.specs.Kept.{tapes_in, opening_of, IsVerdictOf, IsTable};
+ghost use Rattle.run_table.specs.Stepping.{bound_of, drains, step_of, drained_step_of, IsStep, GoesOn};
+ghost use Rattle.run_table.specs.Draining.{with_owed, owed_behind};
 ghost use Rattle.run_table.specs.Begun.{IsBegun, disk_in, recovered_table, IsPrepared, first_reason, IsLeft};
 ghost use Rattle.run_table.specs.Recovered.{IsRecovered, HoldsAll};
+ghost use Rattle.run_table.specs.Holding.{without_turret};
+ghost use Rattle.run_table.specs.Running.{end_of};
+ghost use Rattle.run_table.specs.Since.{Since};
 
 use crate::answer::{Parts, TableStep};
+use crate::draining::{Owed, comes_to_wait, flow_of};
 use crate::laws::who_is_waited_for_goes_on;
 use crate::recording::Recording;
+use crate::running::RunEnd;
 use crate::stepping::{flush_before, reason_of, take};
 use disk_model::Disk;
 use gate_file::GateFault;
 use nc_number::{NoMemory, Path};
 use nc_outside::Halt;
 use nc_verify::Verified;
+use path_state::{control_goes_as_the_flow_orders, waits_and_ends_stop_a_path};
 use run_journal::{Journal, a_held_journal_leaves_its_records};
 use run_records::{EntryList, Header};
 use std::alloc::Global;
@@ -43,6 +50,7 @@ pub struct Table<D: Disk> {
     recording: Recording<D>,
     halt: Option<Halt>,
     budget: u32,
+    owed: Owed,
 }
 
 impl<D: Disk> Model for Table<D> {
@@ -61,6 +69,7 @@ impl<D: Disk> Model for Table<D> {
       recording = t.recording;
       halt = t.halt;
       budget = t.budget;
+      owed = t.owed;
     } };
 
     ghost invariant = { λ t. IsTable D.state (record {
@@ -70,6 +79,7 @@ impl<D: Disk> Model for Table<D> {
       recording = t.recording;
       halt = t.halt;
       budget = t.budget;
+      owed = t.owed;
     }) };
 }
 
@@ -133,6 +143,7 @@ impl<D: Disk> Table<D> {
             recording: Recording::over(entries, journal),
             halt,
             budget: 0,
+            owed: Owed::none(),
         }
     }
 
@@ -161,6 +172,15 @@ impl<D: Disk> Table<D> {
         None
     }
 
+    /// Whether the path comes to a wait, and has to be drained first.
+    fn drains(&self, path: Path) -> bool
+        ensures { result ≡ drains self.now path }
+    {
+        control_goes_as_the_flow_orders();
+        waits_and_ends_stop_a_path();
+        self.owed.has(path) && comes_to_wait(&self.machine, flow_of(&self.verified, path), path)
+    }
+
     /// One turn of the path, unless the table has stopped, its journal is full, or its budget
     /// spent. It takes no memory.
     ///
@@ -168,8 +188,13 @@ impl<D: Disk> Table<D> {
     /// All that pends is on the disk before an answer that shows more, before `Full` and `Budget`,
     /// and at 64 that pend. Where the disk failed in that, the answer is `DiskFault`, and
     /// `Halted(Disk)` from then on.
+    ///
+    /// The answer is `Drain`, and nothing is done, where the turn would bring the path to a wait, and
+    /// moves were answered to it since it was last drained.
     pub fn step(&mut self, path: Path) -> TableStep
         ensures step { IsStep D.state (step_of self.old path) self.old self.new result }
+        ensures since { Since D.state self.old self.new }
+        ensures owed { self.new.owed ≡ owed_behind path result self.old.owed }
         // Where the path waits, the other one has a turn of a block.
         ensures goes_on { (code : ℕ) → result ≡ step.Turned (turn.Waiting code)
             → GoesOn (tapes_in self.new.verified) (other_of path) self.new.machine }
@@ -185,12 +210,47 @@ impl<D: Disk> Table<D> {
             self.halt = reason_of(&answer);
             return answer;
         }
+        if self.drains(path) {
+            return TableStep::Drain;
+        }
         let turned = self
             .machine
             .turn(self.verified.left(), self.verified.right(), path);
         let answer = take(&mut self.recording, &mut self.budget, turned);
         self.halt = reason_of(&answer);
+        self.owed = self.owed.behind(path, &answer);
         answer
+    }
+
+    /// The path's turret has all moves that were answered to the path.
+    pub fn drained(&mut self, path: Path)
+        ensures { self.new ≡ record self.old { owed = with_owed path false self.old.owed } }
+    {
+        self.owed = self.owed.with(path, false);
+    }
+
+    /// One turn of the path, as in [`step`](Table::step), but that it is drained at once.
+    pub(crate) fn step_drained(&mut self, path: Path) -> TableStep
+        ensures step { IsStep D.state (drained_step_of self.old path) self.old self.new result }
+        ensures since { Since D.state self.old self.new }
+        ensures drained { result ≢ step.Drain }
+    {
+        self.drained(path);
+        self.step(path)
+    }
+
+    /// The end of a run that an alarm or the ends of both paths have ended.
+    pub(crate) fn end(&self) -> Option<RunEnd>
+        ensures end { result ≡ end_of self.now.machine }
+        ensures table { IsTable D.state self.now }
+    {
+        if let Some(alarm) = self.machine.alarm() {
+            return Some(RunEnd::Alarm(alarm));
+        }
+        if self.machine.finished(Path::One) && self.machine.finished(Path::Two) {
+            return Some(RunEnd::Done);
+        }
+        None
     }
 
     /// Stops the table for a turret that failed, unless it has stopped already.
@@ -203,10 +263,29 @@ impl<D: Disk> Table<D> {
         }
     }
 
+    /// Lets go of a turret that it keeps as the reason.
+    pub(crate) fn drop_turret(&mut self)
+        ensures { self.new ≡ record self.old { halt = without_turret self.old.halt } }
+    {
+        if let Some(Halt::Turret(_)) = self.halt {
+            self.halt = None;
+        }
+    }
+
+    /// How many records there are.
+    pub(crate) fn count(&self) -> usize
+        ensures count { result ≡ length self.now.recording.history }
+        ensures table { IsTable D.state self.now }
+    {
+        self.recording.len()
+    }
+
     /// What the table is made of. Records that pend are not written any more.
     pub fn into_parts(self) -> Parts<D>
         ensures parts { IsLeft self result.verified result.machine result.entries result.halt result.disk }
         ensures kept { IsKept (tapes_in self.verified) (opening_of self.verified) self.recording.history self.machine }
+        ensures few { length self.recording.history ≤ self.verified.settings.records }
+        ensures pending { length self.recording.history ≤ self.recording.flushed + 64 }
     {
         let Table {
             verified,
@@ -214,6 +293,7 @@ impl<D: Disk> Table<D> {
             recording,
             halt,
             budget: _,
+            owed: _,
         } = self;
         let (entries, disk) = recording.into_parts();
         Parts {

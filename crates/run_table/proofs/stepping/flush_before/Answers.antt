@@ -5,7 +5,7 @@ use Rattle.run_table.proofs.stepping.flush_before.Goals as goal
 pub returns-in-Ok-clause-answer : goal.returns-in-Ok-clause-answer
 returns-in-Ok-clause-answer g c =
     let live : c.flush.new.self.log.file.live ≡ true = search rules in
-    answer_flushed g.D.Disk.state c.args.answer c.args.recording.now c.flush.new.self c.flush.ensures.flushed.within c.flush.ensures.records.history
+    answer_flushed g.D.Disk.state c.args.answer c.args.recording.now c.flush.new.self c.flush.ensures.flushed.within c.flush.ensures.records.follows.history
     c.in-Ok.ensures.flushed.flushed live c.flush.ensures.flushed.idle
 
 pub returns-in-Err-clause-answer : goal.returns-in-Err-clause-answer

@@ -1,9 +1,10 @@
-use Rattle.std.proofs.Common.{◌≡◌, sym, ap, subst, ◌∙◌, Option}
+use Rattle.std.proofs.Common.{◌≡◌, length, sym, ap, subst, ◌∙◌, Option}
 use Rattle.nc_number.specs.declared.path.Path.TheVariants.{One, Two}
 use Rattle.nc_outside.specs.declared.halt.Halt.{Halt}
 use Rattle.path_state.specs.Opening.{opening_path}
 use Rattle.run_table.specs.Recording.{RecordingView, IsJournaled}
 use Rattle.run_table.specs.Kept.{tapes_in, IsTable}
+use Rattle.run_table.specs.declared.draining.Owed.{Owed}
 use Rattle.run_table.specs.Begun.{reason_in}
 use Rattle.run_table.proofs.TablesBegin.{recovered_is, all_held}
 use Rattle.run_table.proofs.table.Table.from_recovered.Goals.{in-Some, in-None}
@@ -19,9 +20,18 @@ invariant_of-result g c =
       | in-None w ↦ w.halt-is ∙ ap reason_in (sym w.in-None.is ∙ c.alarm.ensures)
     ] in
     let keeps = c.each_event_keeps_the_history.ensures (tapes_in v) (opening_path c.args.verified.left c.args.verified.settings One) (opening_path c.args.verified.right c.args.verified.settings Two) in
-    subst (λ (h : Option Halt). IsTable d (record { verified = c.args.verified; machine = c.args.machine.machine; turns = c.args.machine.room; recording = c.over.result; halt = h; budget = 0 })) (sym reason)
-    (subst (λ (r : RecordingView g.row.D.Denot). IsTable d (record { verified = c.args.verified; machine = c.args.machine.machine; turns = c.args.machine.room; recording = r; halt = reason_in c.args.machine.machine.alarm; budget = 0 })) (sym c.over.ensures)
-    (recovered_is d c.args.verified c.args.machine c.args.entries c.args.journal keeps c.a_held_journal_leaves_its_records.ensures c.requires))
+    subst (λ (h : Option Halt). IsTable d (record { verified = c.args.verified; machine = c.args.machine.machine; turns = c.args.machine.room; recording = c.over.result; halt = h; budget = 0; owed = c.none.result })) (sym reason)
+    (subst (λ (r : RecordingView g.row.D.Denot). IsTable d (record { verified = c.args.verified; machine = c.args.machine.machine; turns = c.args.machine.room; recording = r; halt = reason_in c.args.machine.machine.alarm; budget = 0; owed = c.none.result })) (sym c.over.ensures)
+    (subst (λ (o : Owed). IsTable d (record {
+      verified = c.args.verified;
+      machine = c.args.machine.machine;
+      turns = c.args.machine.room;
+      recording = record { history = c.args.entries.items; room = c.args.entries.room; flushed = length c.args.entries.items; log = c.args.journal };
+      halt = reason_in c.args.machine.machine.alarm;
+      budget = 0;
+      owed = o;
+    })) (sym c.none.ensures)
+    (recovered_is d c.args.verified c.args.machine c.args.entries c.args.journal keeps c.a_held_journal_leaves_its_records.ensures c.requires)))
 
 pub returns-clause-journal : goal.returns-clause-journal
 returns-clause-journal g c = λ header holds.

@@ -5,13 +5,13 @@ use Rattle.run_table.proofs.table.Table.prepare.Goals as goal
 pub invariant_of-self : goal.invariant_of-self
 invariant_of-self g c =
     let i = c.self.inside in
-    room_made g.D.Disk.state i.verified i.machine c.reserve.new.self i.recording i.recording i.halt i.budget i.budget c.self.invariant
+    room_made g.D.Disk.state i.verified i.machine c.reserve.new.self i.recording i.recording i.halt i.budget i.budget i.owed c.self.invariant
     c.reserve.ensures.machine refl refl refl (omega (arith, c.self.invariant.turns, c.reserve.ensures.no_less)) c.self.invariant.room
 
 pub invariant_of-self-in_err-reserve-2 : goal.invariant_of-self-in_err-reserve-2
 invariant_of-self-in_err-reserve-2 g c =
     let i = c.self.inside in
-    room_made g.D.Disk.state i.verified i.machine c.reserve.new.self i.recording c.reserve-2.new.self i.halt i.budget i.budget c.self.invariant
+    room_made g.D.Disk.state i.verified i.machine c.reserve.new.self i.recording c.reserve-2.new.self i.halt i.budget i.budget i.owed c.self.invariant
     c.reserve.ensures.machine c.reserve-2.ensures.history c.reserve-2.ensures.flushed c.reserve-2.ensures.log
     (omega (arith, c.self.invariant.turns, c.reserve.ensures.no_less))
     (λ some. omega (arith, c.self.invariant.room some, ap length c.reserve-2.ensures.history, c.reserve-2.ensures.no_less))
@@ -19,6 +19,6 @@ invariant_of-self-in_err-reserve-2 g c =
 pub invariant_of-self-2 : goal.invariant_of-self-2
 invariant_of-self-2 g c =
     let i = c.self.inside in
-    room_made g.D.Disk.state i.verified i.machine c.reserve.new.self i.recording c.reserve-2.new.self i.halt i.budget c.args.n c.self.invariant
+    room_made g.D.Disk.state i.verified i.machine c.reserve.new.self i.recording c.reserve-2.new.self i.halt i.budget c.args.n i.owed c.self.invariant
     c.reserve.ensures.machine c.reserve-2.ensures.history c.reserve-2.ensures.flushed c.reserve-2.ensures.log
     c.in_ok-reserve.ensures.room (λ some. c.in_ok-reserve-2.ensures.room)

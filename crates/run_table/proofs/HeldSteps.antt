@@ -1,0 +1,340 @@
+-- A step of a table that is held: what the lists of the records come to.
+use Rattle.std.proofs.Common.{◌≡◌, ◌≢◌, inl, inr, ℕ, ◌+◌, ◌<◌, ◌==◌, ◌&&◌, Bool, true, false, List, [], ◌∷◌, ◌++◌, length, drop, refl, sym, ◌∙◌, ap, subst, arith, append-nil, append_assoc, length-append, Option, Some, None}
+use Rattle.std.specs.Prelude.{nat_lt, not, MatchOption}
+use Rattle.std.proofs.Math.Seq.{drop-append_seam}
+use Rattle.disk_model.specs.Device.{DiskState}
+use Rattle.nc_number.specs.declared.path.Path.{Path}
+use Rattle.nc_outside.specs.declared.halt.Halt.{Halt}
+use Rattle.nc_outside.specs.declared.halt.Halt.TheVariants as halt
+use Rattle.nc_outside.specs.declared.motion.Move.{Move}
+use Rattle.nc_verify.specs.declared.verified.Verified.{Verified}
+use Rattle.run_records.specs.declared.entry.Entry.{Entry}
+use Rattle.run_records.specs.declared.entry.EntryKind.{EntryKind}
+use Rattle.two_path.specs.declared.turn.Turn.{Turn}
+use Rattle.two_path.specs.declared.turn.Turn.TheVariants as turn
+use Rattle.two_path.specs.Machine.{MachineView, own_first, without_reads}
+use Rattle.two_path.specs.Turns.{Tapes, turn_of, kind_of, entry_with, entry_of}
+use Rattle.two_path.specs.Histories.{list_of, fold, IsKept}
+use Rattle.two_path.specs.Again.{turn_of_entry}
+use Rattle.seat_table.specs.Turning.{Answers as Adds}
+use Rattle.run_table.specs.declared.answer.TableStep.{TableStep}
+use Rattle.run_table.specs.declared.answer.TableStep.TheVariants.{Turned, Drain, DiskFault, Halted}
+use Rattle.run_table.specs.declared.draining.Owed.{Owed}
+use Rattle.run_table.specs.Draining.{owed_behind}
+use Rattle.run_table.specs.Kept.{TableView, tapes_in, opening_of, MayGoOn, HasReason, IsTable}
+use Rattle.run_table.specs.Since.{Since}
+use Rattle.run_table.specs.Stepping.{is_due, bound_of, drains, step_by, step_of, Answers, reason_behind, IsStep}
+use Rattle.run_table.specs.Stepping.Answers.{at_once, flushed, failed}
+use Rattle.nc_outside.specs.Calls.{IsOfTurret}
+use Rattle.run_table.specs.Begun.{first_reason}
+use Rattle.run_table.specs.Holding.{HeldView, held_of, IsOf, IsHeld, without_turret, moves_of, answered_from, records_since, next_of, is_lost}
+use Rattle.run_table.proofs.OtherGoesOn.{waits_still}
+use Rattle.run_table.proofs.ListsGrow.{GrowsBy, fold_parts, shown_grows, lost_grows, turn_adds, turn_stays}
+use Rattle.run_table.proofs.Redone.{redone}
+use Rattle.run_table.proofs.Then.{since_more}
+
+-- no record is lost where none was made
+none_lost : (result : TableStep) (n n' : ℕ) → n' ≡ n → is_lost result n n' ≡ false
+none_lost (Turned t) n n' same = refl
+none_lost Drain n n' same = refl
+none_lost DiskFault n n' same = let is : (n == n') ≡ true = grind arith in ap not is
+none_lost (Halted why) n n' same = refl
+
+one_lost : (n n' : ℕ) → n' ≡ n + 1 → is_lost DiskFault n n' ≡ true
+one_lost n n' more = let is : (n == n') ≡ false = grind arith in ap not is
+
+not_full : (written n m : ℕ) → m ≡ n → n < written + 64 → (written + 64 == m) ≡ false
+not_full written n m same few = grind arith
+
+still : (b : Bool) → (b && true) ≡ b
+still true = refl
+still false = refl
+
+lost_now : (b : Bool) → (b && false) ≡ false
+lost_now true = refl
+lost_now false = refl
+
+module _ {D : Type 0} (state : D → DiskState) (path : Path) (start t t' : TableView D) (result : TableStep) (shown shown' : Bool)
+    (table : IsTable state t) (since : Since state start t) (lost : shown ≡ false → t.halt ≡ Some halt.Disk)
+    (step : IsStep state (step_of t path) t t' result) (owed : t'.owed ≡ owed_behind path result t.owed)
+    (shown_is : shown' ≡ (shown && not (is_lost result (length t.recording.history) (length t'.recording.history)))) where
+  abbrev tapes : Tapes
+  tapes = tapes_in start.verified
+
+  abbrev first : MachineView
+  first = fold (tapes_in start.verified) (opening_of start.verified) start.recording.history
+
+  abbrev before : Path → List (List Move)
+  before p = records_since (Some start) (held_of t shown) p
+
+  abbrev after : Path → List (List Move)
+  after p = records_since (Some start) (held_of t' shown') p
+
+  -- what each path's list comes to
+  abbrev Comes : TableStep → Type 0
+  Comes answer =
+      MatchOption (next_of answer) (◌≡◌ {A = HeldView D} (held_of t' shown') (held_of t shown)) (λ next. Adds (before path) next (after path))
+      × ((p : Path) → p ≢ path → after p ≡ before p)
+
+  behind : drop (length start.recording.history) t.recording.history ≡ since.made
+  behind = ap (drop (length start.recording.history)) since.recording.history ∙ drop-append_seam start.recording.history since.made
+
+  module _ (made : List Entry) (grown : t'.recording.history ≡ t.recording.history ++ made) where
+    behind' : drop (length start.recording.history) t'.recording.history ≡ since.made ++ made
+    behind' =
+        ap (drop (length start.recording.history)) (grown ∙ ap (λ (l : List Entry). l ++ made) since.recording.history ∙ append_assoc start.recording.history since.made made)
+        ∙ drop-append_seam start.recording.history (since.made ++ made)
+
+    pub count' : length t'.recording.history ≡ length t.recording.history + length made
+    count' = ap length grown ∙ length-append t.recording.history made
+
+  -- no record
+  module _ (grown : t'.recording.history ≡ t.recording.history ++ []) where
+    shown_same : shown' ≡ shown
+    shown_same = shown_is ∙ ap (λ (b : Bool). shown && not b) (none_lost result (length t.recording.history) (length t'.recording.history) (ap length (grown ∙ append-nil t.recording.history))) ∙ still shown
+
+    pub stays : (p : Path) → after p ≡ before p
+    stays p =
+        ap (λ (b : Bool). answered_from tapes first p b (drop (length start.recording.history) t'.recording.history)) shown_same
+        ∙ ap (λ (l : List Entry). answered_from tapes first p shown (drop (length start.recording.history) l)) (grown ∙ append-nil t.recording.history)
+
+  -- a table that nothing has stopped
+  module _ (why : t.halt ≡ None) where
+    shown_before : shown ≡ true
+    shown_before = go shown refl
+      where
+        go : (b : Bool) → shown ≡ b → shown ≡ true
+        go true is = is
+        go false is = absurd (let clash : None ≡ Some halt.Disk = sym why ∙ lost is in cc)
+
+    may : MayGoOn t.machine t.recording
+    may = subst (HasReason t.machine t.recording) why table.reason
+
+    abbrev the_turn : Turn
+    the_turn = (turn_of (tapes_in t.verified) path t.machine).turn
+
+    abbrev entry : EntryKind → Entry
+    entry k = record { path = path; kind = k; stamps = (own_first path t.machine).first.stamps }
+
+    made_is : (k : Option EntryKind) → kind_of the_turn ≡ k → list_of (entry_of (tapes_in t.verified) path t.machine) ≡ list_of (entry_with path (own_first path t.machine).first.stamps k)
+    made_is k is = ap (λ (o : Option EntryKind). list_of (entry_with path (own_first path t.machine).first.stamps o)) is
+
+    kept : IsKept tapes (opening_of start.verified) t.recording.history t.machine
+    kept = subst (λ (v : Verified). IsKept (tapes_in v) (opening_of v) t.recording.history t.machine) since.verified table.kept
+
+    same_moves : (k : EntryKind) → moves_of (turn_of_entry tapes (entry k) (fold tapes first since.made)) ≡ moves_of the_turn
+    same_moves k =
+        let there : fold tapes first since.made ≡ without_reads t.machine =
+        sym (fold_parts tapes (opening_of start.verified) start.recording.history since.made) ∙ ap (fold tapes (opening_of start.verified)) (sym since.recording.history) ∙ kept.folds in
+        ap (λ (m : MachineView). moves_of (turn_of_entry tapes (entry k) m)) there
+        ∙ ap moves_of (redone tapes path t.machine k kept.lawful)
+        ∙ ap (λ (v : Verified). moves_of (turn_of (tapes_in v) path t.machine).turn) (sym since.verified)
+
+    -- a record, and its answer
+    module _ (k : EntryKind) (grown : t'.recording.history ≡ t.recording.history ++ entry k ∷ []) where
+      pub shown_grown : (is_lost result (length t.recording.history) (length t'.recording.history) ≡ false) → GrowsBy path (moves_of the_turn) before after
+      shown_grown kept_it =
+          let now : shown' ≡ true = shown_is ∙ ap (λ (b : Bool). shown && not b) kept_it ∙ still shown ∙ shown_before in
+          subst (λ (b : Bool). GrowsBy path (moves_of the_turn) (λ p. answered_from tapes first p b (drop (length start.recording.history) t.recording.history)) after) (sym shown_before)
+          (subst (λ (b : Bool). GrowsBy path (moves_of the_turn) (λ p. answered_from tapes first p true (drop (length start.recording.history) t.recording.history))
+          (λ p. answered_from tapes first p b (drop (length start.recording.history) t'.recording.history))) (sym now)
+          (subst (λ (l : List Entry). GrowsBy path (moves_of the_turn) (λ p. answered_from tapes first p true l)
+          (λ p. answered_from tapes first p true (drop (length start.recording.history) t'.recording.history))) (sym behind)
+          (subst (λ (l : List Entry). GrowsBy path (moves_of the_turn) (λ p. answered_from tapes first p true since.made) (λ p. answered_from tapes first p true l)) (sym (behind' (entry k ∷ []) grown))
+          (shown_grows tapes first path since.made (entry k) refl (moves_of the_turn) (same_moves k)))))
+
+      pub lost_grown : (is_lost result (length t.recording.history) (length t'.recording.history) ≡ true) → GrowsBy path [] before after
+      lost_grown lost_it =
+          let now : shown' ≡ false = shown_is ∙ ap (λ (b : Bool). shown && not b) lost_it ∙ lost_now shown in
+          subst (λ (b : Bool). GrowsBy path [] (λ p. answered_from tapes first p b (drop (length start.recording.history) t.recording.history)) after) (sym shown_before)
+          (subst (λ (b : Bool). GrowsBy path [] (λ p. answered_from tapes first p true (drop (length start.recording.history) t.recording.history))
+          (λ p. answered_from tapes first p b (drop (length start.recording.history) t'.recording.history))) (sym now)
+          (subst (λ (l : List Entry). GrowsBy path [] (λ p. answered_from tapes first p true l)
+          (λ p. answered_from tapes first p false (drop (length start.recording.history) t'.recording.history))) (sym behind)
+          (subst (λ (l : List Entry). GrowsBy path [] (λ p. answered_from tapes first p true since.made) (λ p. answered_from tapes first p false l)) (sym (behind' (entry k ∷ []) grown))
+          (lost_grows tapes first path since.made (entry k) refl))))
+
+    -- a path that waits: nothing changes
+    module _ (turned : IsStep state (step_by t path None None false) t t' result) (code : ℕ) (waits : the_turn ≡ turn.Waiting code) where
+      none_made : list_of (entry_of (tapes_in t.verified) path t.machine) ≡ []
+      none_made = made_is None (ap kind_of waits)
+
+      same_history : t'.recording.history ≡ t.recording.history ++ []
+      same_history = turned.records.follows.history ∙ ap (λ (l : List Entry). t.recording.history ++ l) none_made
+
+      not_due : is_due t.recording (list_of (entry_of (tapes_in t.verified) path t.machine)) the_turn ≡ false
+      not_due =
+          ap (λ (l : List Entry). is_due t.recording l the_turn) none_made ∙ ap (is_due t.recording []) waits
+          ∙ not_full t.recording.flushed (length t.recording.history) (length (t.recording.history ++ [])) (ap length (append-nil t.recording.history)) may.few
+
+      rests : Answers state (is_due t.recording (list_of (entry_of (tapes_in t.verified) path t.machine)) the_turn) (Turned the_turn) t.recording t'.recording result
+          → (result ≡ Turned the_turn) × (t'.recording.log.file ≡ t.recording.log.file) × (t'.recording.flushed ≡ t.recording.flushed)
+      rests (at_once now same file even) = (same, file, even)
+      rests (flushed due same live all) = absurd (let clash : true ≡ false = sym due ∙ not_due in cc)
+      rests (failed due same dead stay rose) = absurd (let clash : true ≡ false = sym due ∙ not_due in cc)
+
+      pub unchanged : ◌≡◌ {A = HeldView D} (held_of t' shown') (held_of t shown)
+      unchanged =
+          let at = rests turned.answer in
+          let is : result ≡ Turned (turn.Waiting code) = at.0 ∙ ap Turned waits in
+          let machine : t'.machine ≡ t.machine = turned.machine ∙ waits_still (tapes_in t.verified) path t.machine code waits in
+          let history : t'.recording.history ≡ t.recording.history = same_history ∙ append-nil t.recording.history in
+          let halts : t'.halt ≡ t.halt = turned.halt ∙ ap (reason_behind t.halt) is ∙ (ap (λ (h : Option Halt). reason_behind h (Turned (turn.Waiting code))) why ∙ sym why) in
+          let spent : t'.budget ≡ t.budget = let none : length (list_of (entry_of (tapes_in t.verified) path t.machine)) ≡ 0 = ap length none_made in omega (arith, turned.budget, none) in
+          let owes : t'.owed ≡ t.owed = owed ∙ ap (λ (r : TableStep). owed_behind path r t.owed) is in
+          λ i. record {
+            verified = turned.verified i;
+            machine = machine i;
+            history = history i;
+            flushed = at.2 i;
+            file = at.1 i;
+            halt = halts i;
+            budget = spent i;
+            owed = owes i;
+            shown = shown_same same_history i;
+          }
+
+    -- a turn comes
+    module _ (turned : IsStep state (step_by t path None None false) t t' result) where
+      history_by : (k : Option EntryKind) → kind_of the_turn ≡ k → t'.recording.history ≡ t.recording.history ++ list_of (entry_with path (own_first path t.machine).first.stamps k)
+      history_by k is = turned.records.follows.history ∙ ap (λ (l : List Entry). t.recording.history ++ l) (made_is k is)
+
+      shown_result : (k : Option EntryKind) → kind_of the_turn ≡ k → result ≡ Turned the_turn → Comes (Turned the_turn)
+      shown_result None is same = (
+        turn_stays (held_of t shown) (held_of t' shown') (before path) (after path) the_turn is (stays (history_by None is) path) (λ code waits. unchanged turned code waits),
+        λ p differ. stays (history_by None is) p,
+      )
+      shown_result (Some k) is same =
+          let grows = shown_grown k (history_by (Some k) is) (ap (λ (r : TableStep). is_lost r (length t.recording.history) (length t'.recording.history)) same) in
+          (turn_adds (held_of t shown) (held_of t' shown') (before path) (after path) the_turn k is grows.own, grows.others)
+
+      failed_result : (k : Option EntryKind) → kind_of the_turn ≡ k → result ≡ DiskFault → Comes DiskFault
+      failed_result None is same = (inl (stays (history_by None is) path), λ p differ. stays (history_by None is) p)
+      failed_result (Some k) is same =
+          let more : length t'.recording.history ≡ length t.recording.history + 1 = count' (entry k ∷ []) (history_by (Some k) is) in
+          let grows = lost_grown k (history_by (Some k) is)
+          (ap (λ (r : TableStep). is_lost r (length t.recording.history) (length t'.recording.history)) same ∙ one_lost (length t.recording.history) (length t'.recording.history) more) in
+          (inr grows.own, grows.others)
+
+      pub turn_comes : Answers state (is_due t.recording (list_of (entry_of (tapes_in t.verified) path t.machine)) the_turn) (Turned the_turn) t.recording t'.recording result → Comes result
+      turn_comes (at_once now same file even) = subst Comes (sym same) (shown_result (kind_of the_turn) refl same)
+      turn_comes (flushed due same live all) = subst Comes (sym same) (shown_result (kind_of the_turn) refl same)
+      turn_comes (failed due same dead stay rose) = subst Comes (sym same) (failed_result (kind_of the_turn) refl same)
+
+  -- no turn comes
+  halted_comes : (why : Halt) (due : Bool) → t'.recording.history ≡ t.recording.history ++ []
+      → Answers state due (Halted why) t.recording t'.recording result → Comes result
+  halted_comes why due grown (at_once now same file even) = subst Comes (sym same) (inl (stays grown path), λ p differ. stays grown p)
+  halted_comes why due grown (flushed was same live all) = subst Comes (sym same) (inl (stays grown path), λ p differ. stays grown p)
+  halted_comes why due grown (failed was same dead stay rose) = subst Comes (sym same) (inl (stays grown path), λ p differ. stays grown p)
+
+  drain_comes : t'.recording.history ≡ t.recording.history ++ [] → Answers state false Drain t.recording t'.recording result → Comes result
+  drain_comes grown (at_once now same file even) = subst Comes (sym same) (stays grown path, λ p differ. stays grown p)
+  drain_comes grown (flushed was same live all) = absurd (let clash : false ≡ true = was in cc)
+  drain_comes grown (failed was same dead stay rose) = absurd (let clash : false ≡ true = was in cc)
+
+  pub comes : Comes result
+  comes = go t.halt (bound_of t) (drains t path) refl step
+    where
+      go : (why bound : Option Halt) (drain : Bool) → t.halt ≡ why → IsStep state (step_by t path why bound drain) t t' result → Comes result
+      go (Some why) bound drain is s = halted_comes why false s.records.follows.history s.answer
+      go None (Some why) drain is s = halted_comes why (nat_lt t.recording.flushed (length t.recording.history)) s.records.follows.history s.answer
+      go None None true is s = drain_comes s.records.follows.history s.answer
+      go None None false is s = turn_comes is s s.answer
+
+  -- a record is lost only as the disk fails
+  pub still_lost : shown' ≡ false → t'.halt ≡ Some halt.Disk
+  still_lost is = before_it shown refl
+    where
+      only_fault : (r : TableStep) → is_lost r (length t.recording.history) (length t'.recording.history) ≡ true → r ≡ DiskFault
+      only_fault (Turned u) clash = absurd cc
+      only_fault Drain clash = absurd cc
+      only_fault DiskFault same = refl
+      only_fault (Halted why) clash = absurd cc
+
+      opposite : (b : Bool) → not b ≡ false → b ≡ true
+      opposite true e = refl
+      opposite false e = absurd cc
+
+      idle : (why : Halt) → Answers state false (Halted why) t.recording t'.recording result → result ≡ DiskFault → ⊥
+      idle why (at_once now same file even) fault = let clash : Halted why ≡ DiskFault = sym same ∙ fault in cc
+      idle why (flushed was same live all) fault = let clash : false ≡ true = was in cc
+      idle why (failed was same dead stay rose) fault = let clash : false ≡ true = was in cc
+
+      by_halt : (why : Option Halt) → t.halt ≡ why → result ≡ DiskFault → t'.halt ≡ Some halt.Disk
+      by_halt None none fault = step.halt ∙ ap (λ (h : Option Halt). reason_behind h result) none ∙ ap (reason_behind None) fault
+      by_halt (Some why) some fault =
+          absurd (idle why (subst (λ (h : Option Halt). IsStep state (step_by t path h (bound_of t) (drains t path)) t t' result) some step).answer fault)
+
+      before_it : (b : Bool) → shown ≡ b → t'.halt ≡ Some halt.Disk
+      before_it false was = step.halt ∙ ap (λ (h : Option Halt). reason_behind h result) (lost was)
+      before_it true was =
+          let same : not (is_lost result (length t.recording.history) (length t'.recording.history)) ≡ false =
+          sym (ap (λ (b : Bool). b && not (is_lost result (length t.recording.history) (length t'.recording.history))) was) ∙ sym shown_is ∙ is in
+          by_halt t.halt refl (only_fault result (opposite (is_lost result (length t.recording.history) (length t'.recording.history)) same))
+
+pub lost_by : (shown : Bool) (result : TableStep) {a a' b b' : ℕ} → a ≡ a' → b ≡ b' → (shown && not (is_lost result a b)) ≡ (shown && not (is_lost result a' b'))
+lost_by shown result first second = λ i. shown && not (is_lost result (first i) (second i))
+
+-- over any opening
+pub of_more : {D : Type 0} (state : D → DiskState) (opened : Option (TableView D)) (t t' : TableView D) → IsOf state opened t → Since state t t' → IsOf state opened t'
+of_more state None t t' of since = absurd of
+of_more state (Some start) t t' of since = since_more state start t t' of since
+
+module _ {D : Type 0} (state : D → DiskState) (opened : Option (TableView D)) (path : Path) (t t' : TableView D) (result : TableStep) (shown shown' : Bool)
+    (table : IsTable state t) (held : IsHeld state opened t shown) (step : IsStep state (step_of t path) t t' result) (since : Since state t t')
+    (owed : t'.owed ≡ owed_behind path result t.owed)
+    (shown_is : shown' ≡ (shown && not (is_lost result (length t.recording.history) (length t'.recording.history)))) where
+  pub held_on : IsHeld state opened t' shown'
+  held_on = record { of = of_more state opened t t' held.of since; lost = go opened held.of }
+    where
+      go : (o : Option (TableView D)) → IsOf state o t → shown' ≡ false → t'.halt ≡ Some halt.Disk
+      go None of = absurd of
+      go (Some start) of = still_lost state path start t t' result shown shown' table of held.lost step owed shown_is
+
+  pub held_answers : MatchOption (next_of result) (◌≡◌ {A = HeldView D} (held_of t' shown') (held_of t shown))
+      (λ next. Adds (records_since opened (held_of t shown) path) next (records_since opened (held_of t' shown') path))
+  held_answers = go opened held.of
+    where
+      go : (o : Option (TableView D)) → IsOf state o t → MatchOption (next_of result) (◌≡◌ {A = HeldView D} (held_of t' shown') (held_of t shown))
+          (λ next. Adds (records_since o (held_of t shown) path) next (records_since o (held_of t' shown') path))
+      go None of = absurd of
+      go (Some start) of = (comes state path start t t' result shown shown' table of held.lost step owed shown_is).0
+
+  pub held_others : (p : Path) → p ≢ path → records_since opened (held_of t' shown') p ≡ records_since opened (held_of t shown) p
+  held_others = go opened held.of
+    where
+      go : (o : Option (TableView D)) → IsOf state o t → (p : Path) → p ≢ path → records_since o (held_of t' shown') p ≡ records_since o (held_of t shown) p
+      go None of = absurd of
+      go (Some start) of = (comes state path start t t' result shown shown' table of held.lost step owed shown_is).1
+
+-- what is no record changes nothing of it
+pub of_owed : {D : Type 0} (state : D → DiskState) (opened : Option (TableView D)) (t : TableView D) (owed : Owed) → IsOf state opened t → IsOf state opened (record t { owed = owed })
+of_owed state None t owed of = absurd of
+of_owed state (Some start) t owed of =
+    record { verified = of.verified; made = of.made; recording = of.recording; budget = of.budget; cause = of.cause }
+
+pub of_halt : {D : Type 0} (state : D → DiskState) (opened : Option (TableView D)) (t : TableView D) (why : Option Halt) → (why ≡ Some halt.Disk → t.halt ≡ Some halt.Disk)
+    → IsOf state opened t → IsOf state opened (record t { halt = why })
+of_halt state None t why disk of = absurd of
+of_halt state (Some start) t why disk of =
+    record { verified = of.verified; made = of.made; recording = of.recording; budget = of.budget; cause = λ is. of.cause (disk is) }
+
+pub no_turret_disk : (why : Option Halt) → without_turret why ≡ Some halt.Disk → why ≡ Some halt.Disk
+no_turret_disk None is = absurd (let clash : None ≡ Some halt.Disk = is in cc)
+no_turret_disk (Some (halt.Alarm alarm)) is = is
+no_turret_disk (Some halt.Disk) is = is
+no_turret_disk (Some (halt.Turret path)) is = absurd (let clash : None ≡ Some halt.Disk = is in cc)
+no_turret_disk (Some halt.Full) is = is
+no_turret_disk (Some halt.Budget) is = is
+
+pub first_disk : (kept : Option Halt) (why : Halt) → IsOfTurret why → first_reason kept why ≡ Some halt.Disk → kept ≡ Some halt.Disk
+first_disk None (halt.Alarm alarm) turret is = absurd turret
+first_disk None halt.Disk turret is = absurd turret
+first_disk None (halt.Turret path) turret is = absurd (let clash : Some (halt.Turret path) ≡ Some halt.Disk = is in cc)
+first_disk None halt.Full turret is = absurd turret
+first_disk None halt.Budget turret is = absurd turret
+first_disk (Some first) why turret is = is
+
+pub disk_first : (kept : Option Halt) (why : Halt) → kept ≡ Some halt.Disk → first_reason kept why ≡ Some halt.Disk
+disk_first kept why is = ap (λ (k : Option Halt). first_reason k why) is

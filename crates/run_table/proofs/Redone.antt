@@ -1,0 +1,54 @@
+-- The turn of a record that is done again is the turn that made it.
+use Rattle.std.proofs.Common.{◌≡◌, ℕ, ◌==◌, Bool, true, false, List, refl, sym, ◌∙◌, ap, Option, Some, None}
+use Rattle.nc_number.specs.declared.path.Path.{Path}
+use Rattle.nc_number.specs.declared.path.Path.TheVariants.{One, Two}
+use Rattle.nc_number.specs.declared.value.Var.{Var}
+use Rattle.nc_outside.specs.declared.halt.Alarm.{Alarm}
+use Rattle.path_state.specs.Effect.{Effect, Need, Done, AtWait, AtEnd}
+use Rattle.path_state.specs.Effect as effect
+use Rattle.run_records.specs.declared.entry.EntryKind.{EntryKind}
+use Rattle.two_path.specs.Machine.{MachineView, own_first, part_without_reads, without_reads}
+use Rattle.two_path.specs.Turns.{Blocks, Tapes, result_at_wait, result_by, unless_idle, block_turn, own_turn, turn_of}
+use Rattle.two_path.specs.Histories.{with_values, with_reads, IsLawful, AreLawful}
+use Rattle.two_path.specs.Again.{turn_of_entry}
+
+-- what the second path's block has read is nothing to a turn of the first
+abbrev aside : MachineView → MachineView
+aside m = record m { second = part_without_reads m.second }
+
+wait_aside : (path : Path) (line : ℕ) (m : MachineView) (code : ℕ) (there : Option ℕ)
+    → (result_at_wait path line (aside m) code there).turn ≡ (result_at_wait path line m code there).turn
+wait_aside path line m code None = refl
+wait_aside path line m code (Some there) = go (code == there) refl
+  where
+    go : (b : Bool) → (code == there) ≡ b → (result_at_wait path line (aside m) code (Some there)).turn ≡ (result_at_wait path line m code (Some there)).turn
+    go true e = rw e refl
+    go false e = rw e refl
+
+by_aside : (path : Path) (line : ℕ) (m : MachineView) (e : Effect) → (result_by path line (aside m) e).turn ≡ (result_by path line m e).turn
+by_aside path line m (Need variable) = refl
+by_aside path line m (Done after write moves) = refl
+by_aside path line m (AtWait code) = wait_aside path line m code m.second.waiting
+by_aside path line m (AtEnd after moves) = refl
+by_aside path line m (effect.Alarm number value) = refl
+
+idle_aside : (blocks : Blocks) (path : Path) (m : MachineView) (a : Option Alarm) (f : Bool) (w : Option ℕ)
+    → (unless_idle (aside m) a f w (block_turn blocks path (aside m))).turn ≡ (unless_idle m a f w (block_turn blocks path m)).turn
+idle_aside blocks path m (Some alarm) f w = refl
+idle_aside blocks path m None true w = refl
+idle_aside blocks path m None false (Some code) = refl
+idle_aside blocks path m None false None =
+    by_aside path (blocks.line m.first.path.place) m (blocks.effect m.first.path m.first.values)
+
+own_aside : (blocks : Blocks) (path : Path) (m : MachineView) → (own_turn blocks path (aside m)).turn ≡ (own_turn blocks path m).turn
+own_aside blocks path m = idle_aside blocks path m m.alarm m.first.finished m.first.waiting
+
+own_redone : (blocks : Blocks) (path : Path) (m : MachineView) → IsLawful blocks m
+    → (own_turn blocks path (with_reads blocks m.first.stamps (without_reads m))).turn ≡ (own_turn blocks path m).turn
+own_redone blocks path m lawful =
+    ap (λ (values : List Var). (own_turn blocks path (with_values values m.first.stamps (aside m))).turn) (sym lawful.values) ∙ own_aside blocks path m
+
+pub redone : (tapes : Tapes) (path : Path) (m : MachineView) (kind : EntryKind) → AreLawful tapes m
+    → turn_of_entry tapes (record { path = path; kind = kind; stamps = (own_first path m).first.stamps }) (without_reads m) ≡ (turn_of tapes path m).turn
+redone tapes One m kind lawful = own_redone tapes.first One m lawful.first
+redone tapes Two m kind lawful = own_redone tapes.second Two (own_first Two m) lawful.second

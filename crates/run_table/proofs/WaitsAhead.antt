@@ -1,0 +1,85 @@
+-- A path's turn brings it to a wait exactly where it stands on one, and the other path does not wait at another.
+use Rattle.std.proofs.Common.{◌≡◌, ℕ, ◌==◌, Bool, true, false, refl, sym, ◌∙◌, ap, subst, Option, Some, None}
+use Rattle.std.specs.Prelude.{slice_get}
+use Rattle.nc_number.specs.declared.path.Path.{Path}
+use Rattle.nc_number.specs.declared.path.Path.TheVariants.{One, Two}
+use Rattle.nc_number.specs.Path.{other_of}
+use Rattle.nc_outside.specs.declared.halt.Alarm.{Alarm}
+use Rattle.block_order.specs.declared.control.Control.{Control}
+use Rattle.block_order.specs.declared.control.Control.TheVariants.{Next, Goto, While, Do, EndLoop, Wait, End, Call, Back, BackTo}
+use Rattle.block_order.specs.declared.frame.Frame.{Frame}
+use Rattle.block_order.specs.Steps.{standing}
+use Rattle.tape_flow.specs.declared.flow.Flow.{Flow}
+use Rattle.tape_flow.specs.Places.{label_of, label_at}
+use Rattle.path_state.specs.View.{PathView}
+use Rattle.path_state.specs.Effect.{Effect, Need, Done, AtWait, AtEnd, effect_of}
+use Rattle.path_state.specs.Effect as effect
+use Rattle.path_state.specs.Controlled.{GoesAsOrdered, IsControlled}
+use Rattle.two_path.specs.Machine.{MachineView, own_first}
+use Rattle.two_path.specs.Turns.{blocks_of, result_at_wait, result_by, unless_idle, block_turn, own_turn, turn_of}
+use Rattle.nc_verify.specs.declared.verified.Verified.{Verified}
+use Rattle.run_table.specs.Kept.{tapes_in}
+use Rattle.run_table.specs.Draining.{is_wait, flow_for, may_come, comes_to, comes_by}
+
+-- a label that is no wait
+no_label : (caller : Option Frame) (s : Option Control) (there : Option ℕ) → ((code : ℕ) → s ≡ Some (Wait code) → ⊥) → comes_to (label_of caller s) there ≡ false
+no_label caller None there never = refl
+no_label caller (Some (Wait code)) there never = absurd (never code refl)
+no_label caller (Some Next) there never = refl
+no_label caller (Some (Goto n)) there never = refl
+no_label caller (Some (While m)) there never = refl
+no_label caller (Some (Do m)) there never = refl
+no_label caller (Some (EndLoop m)) there never = refl
+no_label caller (Some End) there never = refl
+no_label caller (Some (Call program repeats)) there never = refl
+no_label None (Some Back) there never = refl
+no_label (Some f) (Some Back) there never = refl
+no_label caller (Some (BackTo n)) there never = refl
+
+at_wait : (path : Path) (line : ℕ) (m : MachineView) (code : ℕ) (there : Option ℕ) → is_wait (result_at_wait path line m code there).turn ≡ may_come code there
+at_wait path line m code None = refl
+at_wait path line m code (Some there) = go (code == there) refl
+  where
+    go : (b : Bool) → (code == there) ≡ b → is_wait (result_at_wait path line m code (Some there)).turn ≡ may_come code (Some there)
+    go true e = rw e refl
+    go false e = rw e refl
+
+module _ (flow : Flow) (control : IsControlled flow)
+    (waits : (path : PathView) (code : ℕ) (reads : _) → standing flow.order path.place ≡ Some (Wait code) → effect_of flow path reads ≡ AtWait code)
+    (path : Path) (m : MachineView) where
+  -- what is at no wait stands on none
+  elsewhere : (e : Effect) → effect_of flow m.first.path m.first.values ≡ e → ((code : ℕ) → e ≡ AtWait code → ⊥)
+      → comes_to (label_at flow.order m.first.path.place) m.second.waiting ≡ false
+  elsewhere e is never =
+      no_label (slice_get m.first.path.place 1) (standing flow.order m.first.path.place) m.second.waiting
+      (λ code on. never code (sym is ∙ waits m.first.path code m.first.values on))
+
+  here : (e : Effect) → effect_of flow m.first.path m.first.values ≡ e → (line : ℕ)
+      → is_wait (result_by path line m e).turn ≡ comes_to (label_at flow.order m.first.path.place) m.second.waiting
+  here (Need variable) is line = sym (elsewhere (Need variable) is (λ code clash. cc))
+  here (Done after write moves) is line = sym (elsewhere (Done after write moves) is (λ code clash. cc))
+  here (AtWait code) is line =
+      let stands : standing flow.order m.first.path.place ≡ Some (Wait code) = subst (GoesAsOrdered flow.order m.first.path) is (control m.first.path m.first.values) in
+      at_wait path line m code m.second.waiting ∙ sym (ap (λ (s : Option Control). comes_to (label_of (slice_get m.first.path.place 1) s) m.second.waiting) stands)
+  here (AtEnd after moves) is line = sym (elsewhere (AtEnd after moves) is (λ code clash. cc))
+  here (effect.Alarm number value) is line = sym (elsewhere (effect.Alarm number value) is (λ code clash. cc))
+
+  by_idle : (a : Option Alarm) (f : Bool) (w : Option ℕ)
+      → is_wait (unless_idle m a f w (block_turn (blocks_of flow) path m)).turn ≡ comes_by a f w (label_at flow.order m.first.path.place) m.second.waiting
+  by_idle (Some alarm) f w = refl
+  by_idle None true w = refl
+  by_idle None false (Some code) = refl
+  by_idle None false None = here (effect_of flow m.first.path m.first.values) refl ((blocks_of flow).line m.first.path.place)
+
+  pub own_wait : is_wait (own_turn (blocks_of flow) path m).turn ≡ comes_by m.alarm m.first.finished m.first.waiting (label_at flow.order m.first.path.place) m.second.waiting
+  own_wait = by_idle m.alarm m.first.finished m.first.waiting
+
+-- either path's turn
+pub wait_ahead : (verified : Verified) → ((flow : Flow) → IsControlled flow)
+    → ((flow : Flow) (path : PathView) (code : ℕ) (reads : _) → standing flow.order path.place ≡ Some (Wait code) → effect_of flow path reads ≡ AtWait code)
+    → (path : Path) (m : MachineView)
+    → comes_by m.alarm (own_first path m).first.finished (own_first path m).first.waiting
+    (label_at (flow_for verified path).order (own_first path m).first.path.place) (own_first (other_of path) m).first.waiting
+    ≡ is_wait (turn_of (tapes_in verified) path m).turn
+wait_ahead verified control waits One m = sym (own_wait verified.left (control verified.left) (waits verified.left) One m)
+wait_ahead verified control waits Two m = sym (own_wait verified.right (control verified.right) (waits verified.right) Two (own_first Two m))

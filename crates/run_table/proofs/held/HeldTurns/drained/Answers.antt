@@ -1,0 +1,15 @@
+use Rattle.std.proofs.Common.{false, sym, subst}
+use Rattle.run_table.specs.Kept.{TableView}
+use Rattle.run_table.specs.Draining.{with_owed}
+use Rattle.run_table.specs.Holding.{IsHeld}
+use Rattle.run_table.proofs.HeldSteps.{of_owed}
+use Rattle.run_table.proofs.held.HeldTurns.drained.Goals as goal
+
+pub invariant_of-self : goal.invariant_of-self
+invariant_of-self g c =
+    let i = c.self.inside in
+    subst (λ (t : TableView g.row.D.Denot). IsHeld g.D.Disk.state g.O.Opening.opened t i.shown) (sym c.drained.ensures)
+    (record {
+      of = of_owed g.D.Disk.state g.O.Opening.opened i.table (with_owed c.args.path false i.table.owed) c.self.invariant.of;
+      lost = c.self.invariant.lost;
+    })

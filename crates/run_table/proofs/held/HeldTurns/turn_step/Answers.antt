@@ -1,0 +1,52 @@
+use Rattle.std.proofs.Common.{◌≡◌, ◌≢◌, refl, sym, ◌∙◌, subst, Option}
+use Rattle.std.specs.Prelude.{MatchOption}
+use Rattle.nc_number.specs.declared.path.Path.{Path}
+use Rattle.nc_outside.specs.declared.halt.Next.{Next}
+use Rattle.seat_table.specs.Turning.{Answers}
+use Rattle.run_table.specs.Holding.{HeldView, held_of, records_since, HasStepped}
+use Rattle.run_table.proofs.HeldSteps.{lost_by, held_on, held_answers, held_others}
+use Rattle.run_table.proofs.held.HeldTurns.turn_step.Goals as goal
+
+pub invariant_of-self : goal.invariant_of-self
+invariant_of-self g c =
+    let i = c.self.inside in
+    held_on g.D.Disk.state g.O.Opening.opened c.args.path i.table c.step-step.new.self c.step-step.result i.shown c.is_still_shown-shown.result
+    c.count-before.ensures.table c.self.invariant c.step-step.ensures.step c.step-step.ensures.since c.step-step.ensures.owed
+    (c.is_still_shown-shown.ensures ∙ lost_by i.shown c.step-step.result (c.count-before.ensures.count) (c.count-after.ensures.count))
+
+pub returns-clause-step : goal.returns-clause-step
+returns-clause-step g c =
+    let d = g.D.Disk.state in
+    let i = c.self.inside in
+    subst (λ (h : HeldView g.row.D.Denot). HasStepped d c.args.path h (held_of c.step-step.new.self c.is_still_shown-shown.result) c.next_of.result) c.self.view_is
+    (record {
+      before = i.table;
+      after = c.step-step.new.self;
+      step = c.step-step.result;
+      old_is = refl;
+      new_is = refl;
+      is = c.step-step.ensures.step;
+      next = c.next_of.ensures;
+    })
+
+pub returns-clause-answer : goal.returns-clause-answer
+returns-clause-answer g c =
+    let i = c.self.inside in
+    let o = g.O.Opening.opened in
+    let path = c.args.path in
+    let new = held_of c.step-step.new.self c.is_still_shown-shown.result in
+    subst (λ (h : HeldView g.row.D.Denot). MatchOption c.next_of.result (new ≡ h) (λ next. Answers (records_since o h path) next (records_since o new path))) c.self.view_is
+    (subst (λ (n : Option Next). MatchOption n (new ≡ held_of i.table i.shown) (λ next. Answers (records_since o (held_of i.table i.shown) path) next (records_since o new path))) (sym c.next_of.ensures)
+    (held_answers g.D.Disk.state o path i.table c.step-step.new.self c.step-step.result i.shown c.is_still_shown-shown.result
+    c.count-before.ensures.table c.self.invariant c.step-step.ensures.step c.step-step.ensures.since c.step-step.ensures.owed
+    (c.is_still_shown-shown.ensures ∙ lost_by i.shown c.step-step.result (c.count-before.ensures.count) (c.count-after.ensures.count))))
+
+pub returns-clause-others : goal.returns-clause-others
+returns-clause-others g c =
+    let i = c.self.inside in
+    let o = g.O.Opening.opened in
+    let new = held_of c.step-step.new.self c.is_still_shown-shown.result in
+    subst (λ (h : HeldView g.row.D.Denot). (p : Path) → p ≢ c.args.path → records_since o new p ≡ records_since o h p) c.self.view_is
+    (held_others g.D.Disk.state o c.args.path i.table c.step-step.new.self c.step-step.result i.shown c.is_still_shown-shown.result
+    c.count-before.ensures.table c.self.invariant c.step-step.ensures.step c.step-step.ensures.since c.step-step.ensures.owed
+    (c.is_still_shown-shown.ensures ∙ lost_by i.shown c.step-step.result (c.count-before.ensures.count) (c.count-after.ensures.count)))

@@ -1,0 +1,70 @@
+-- When a path has to be drained: it comes to a wait, and moves were answered to it that its turret may not have.
+use Rattle.std.specs.Prelude.{ℕ, ◌==◌, not, Bool, true, false, length, Option, Some, None}
+use Rattle.nc_number.specs.declared.path.Path.{Path}
+use Rattle.nc_number.specs.declared.path.Path.TheVariants.{One, Two}
+use Rattle.nc_outside.specs.declared.halt.Alarm.{Alarm}
+use Rattle.block_order.specs.declared.label.Label.{Label}
+use Rattle.block_order.specs.declared.label.Label.TheVariants as label
+use Rattle.tape_flow.specs.declared.flow.Flow.{Flow}
+use Rattle.nc_verify.specs.declared.verified.Verified.{Verified}
+use Rattle.two_path.specs.declared.turn.Turn.{Turn}
+use Rattle.two_path.specs.declared.turn.Turn.TheVariants as turn
+use Rattle.run_table.specs.declared.draining.Owed.{Owed}
+use Rattle.run_table.specs.declared.answer.TableStep.{TableStep}
+use Rattle.run_table.specs.declared.answer.TableStep.TheVariants.{Turned}
+
+-- no path has to be drained
+abbrev pub none_owed : Owed
+none_owed = record { one = false; two = false }
+
+abbrev pub owes : Path → Owed → Bool
+owes One owed = owed.one
+owes Two owed = owed.two
+
+abbrev pub with_owed : Path → Bool → Owed → Owed
+with_owed One is owed = record owed { one = is }
+with_owed Two is owed = record owed { two = is }
+
+-- the turn brings the path to a wait, at which it waits or goes on
+abbrev pub is_wait : Turn → Bool
+is_wait (turn.Arrived code) = true
+is_wait (turn.Met code) = true
+is_wait other = false
+
+-- the turn has moves
+abbrev pub has_moves : Turn → Bool
+has_moves (turn.Did moves) = not (length moves.list == 0)
+has_moves (turn.Ended moves) = not (length moves.list == 0)
+has_moves other = false
+
+-- the step answered moves
+abbrev pub answers_moves : TableStep → Bool
+answers_moves (Turned turn) = has_moves turn
+answers_moves other = false
+
+-- behind a step of the path
+abbrev pub owed_by : Bool → Path → Owed → Owed
+owed_by true path owed = with_owed path true owed
+owed_by false path owed = owed
+
+abbrev pub owed_behind : Path → TableStep → Owed → Owed
+owed_behind path step owed = owed_by (answers_moves step) path owed
+
+-- the flow of the path's tape
+abbrev pub flow_for : Verified → Path → Flow
+flow_for verified One = verified.left
+flow_for verified Two = verified.right
+
+-- a path comes to a wait of this code, where the other path waits at that code or does not wait
+abbrev pub may_come : ℕ → Option ℕ → Bool
+may_come code None = true
+may_come code (Some there) = code == there
+
+abbrev pub comes_to : Option Label → Option ℕ → Bool
+comes_to (Some (label.Wait code)) there = may_come code there
+comes_to other there = false
+
+-- a path comes to a wait that is not stopped, has not ended and does not wait, and stands on that label
+abbrev pub comes_by : Option Alarm → Bool → Option ℕ → Option Label → Option ℕ → Bool
+comes_by None false None here there = comes_to here there
+comes_by alarm finished waiting here there = false

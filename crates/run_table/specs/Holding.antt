@@ -1,0 +1,146 @@
+-- A table that keeps what it began with, and the moves that were answered since.
+use Rattle.std.specs.Prelude.{◌≡◌, ℕ, ◌==◌, not, Bool, true, false, List, [], ◌∷◌, ◌++◌, length, drop, Option, Some, None, if◌then◌else◌}
+use Rattle.disk_model.specs.Device.{DiskState}
+use Rattle.gate_file.specs.Gate.{Gate}
+use Rattle.nc_number.specs.declared.path.Path.{Path}
+use Rattle.nc_outside.specs.declared.halt.Halt.{Halt}
+use Rattle.nc_outside.specs.declared.halt.Halt.TheVariants as halt
+use Rattle.nc_outside.specs.declared.halt.Next.{Next}
+use Rattle.nc_outside.specs.declared.halt.Next.TheVariants as next
+use Rattle.nc_outside.specs.declared.motion.Move.{Move}
+use Rattle.nc_outside.specs.declared.motion.Moves.{Moves}
+use Rattle.nc_verify.specs.declared.verified.Verified.{Verified}
+use Rattle.run_records.specs.declared.entry.Entry.{Entry}
+use Rattle.two_path.specs.declared.turn.Turn.{Turn}
+use Rattle.two_path.specs.declared.turn.Turn.TheVariants as turn
+use Rattle.two_path.specs.Machine.{MachineView}
+use Rattle.two_path.specs.Turns.{Tapes}
+use Rattle.two_path.specs.Histories.{behind_entry, fold, is_same}
+use Rattle.two_path.specs.Again.{turn_of_entry}
+use Rattle.run_table.specs.declared.answer.TableStep.{TableStep}
+use Rattle.run_table.specs.declared.answer.TableStep.TheVariants as step
+use Rattle.run_table.specs.declared.draining.Owed.{Owed}
+use Rattle.run_table.specs.Kept.{TableView, tapes_in, opening_of}
+use Rattle.run_table.specs.Since.{Since}
+use Rattle.run_table.specs.Stepping.{step_of, IsStep}
+
+-- what callers see of a table that is held, and whether the moves of its last record were answered
+pub record HeldView (D : Type 0) : Type 0 where
+  pub verified : Verified
+  pub machine : MachineView
+  pub history : List Entry
+  pub flushed : ℕ
+  pub file : Gate D
+  pub halt : Option Halt
+  pub budget : ℕ
+  pub owed : Owed
+  pub shown : Bool
+
+abbrev pub held_of : {D : Type 0} → TableView D → Bool → HeldView D
+held_of t shown = record {
+  verified = t.verified;
+  machine = t.machine;
+  history = t.recording.history;
+  flushed = t.recording.flushed;
+  file = t.recording.log.file;
+  halt = t.halt;
+  budget = t.budget;
+  owed = t.owed;
+  shown = shown;
+}
+
+-- the table is what has come of this one
+abbrev pub IsOf : {D : Type 0} → (D → DiskState) → Option (TableView D) → TableView D → Type 0
+IsOf state None t = ⊥
+IsOf state (Some start) t = Since state start t
+
+-- What is true of a held table. Only a record that did not get to the disk stands without its moves.
+pub record IsHeld {D : Type 0} (state : D → DiskState) (opened : Option (TableView D)) (t : TableView D) (shown : Bool) : Type 0 where
+  pub of : IsOf state opened t
+  pub lost : shown ≡ false → t.halt ≡ Some halt.Disk
+
+-- the moves of a turn
+abbrev pub moves_of : Turn → List Move
+moves_of (turn.Did moves) = moves.list
+moves_of (turn.Ended moves) = moves.list
+moves_of other = []
+
+-- the moves of a record, where it is one of the path
+abbrev pub if_of : Path → Entry → List Move → List (List Move)
+if_of path entry moves = if is_same path entry.path then moves ∷ [] else []
+
+-- of each record of the path the moves of its turn, from this machine on
+abbrev pub shown_from : Tapes → MachineView → Path → List Entry → List (List Move)
+shown_from tapes m path [] = []
+shown_from tapes m path (e ∷ entries) =
+    if_of path e (moves_of (turn_of_entry tapes e m)) ++ shown_from tapes (behind_entry tapes e m) path entries
+
+-- the same, but that the last record of all stands there without a move
+abbrev pub lost_from : Tapes → MachineView → Path → List Entry → List (List Move)
+lost_from tapes m path [] = []
+lost_from tapes m path (e ∷ []) = if_of path e []
+lost_from tapes m path (e ∷ f ∷ entries) =
+    if_of path e (moves_of (turn_of_entry tapes e m)) ++ lost_from tapes (behind_entry tapes e m) path (f ∷ entries)
+
+abbrev pub answered_from : Tapes → MachineView → Path → Bool → List Entry → List (List Move)
+answered_from tapes m path true entries = shown_from tapes m path entries
+answered_from tapes m path false entries = lost_from tapes m path entries
+
+-- the path's records since the opening, of each the moves that its step answered
+abbrev pub records_since : {D : Type 0} → Option (TableView D) → HeldView D → Path → List (List Move)
+records_since None h path = []
+records_since (Some start) h path =
+    answered_from (tapes_in start.verified) (fold (tapes_in start.verified) (opening_of start.verified) start.recording.history)
+    path h.shown (drop (length start.recording.history) h.history)
+
+-- moves are handed on, and a block without any is silent
+abbrev pub handed : Moves → Next
+handed moves = if length moves.list == 0 then next.Silent else next.Moves moves
+
+abbrev pub next_of_turn : Turn → Option Next
+next_of_turn (turn.Read variable stamp) = Some next.Silent
+next_of_turn (turn.Did moves) = Some (handed moves)
+next_of_turn (turn.Arrived code) = Some next.Silent
+next_of_turn (turn.Met code) = Some next.Silent
+next_of_turn (turn.Ended moves) = Some (handed moves)
+next_of_turn (turn.Waiting code) = None
+next_of_turn turn.Finished = Some next.Finished
+next_of_turn (turn.Alarm alarm) = Some (next.Halted (halt.Alarm alarm))
+next_of_turn (turn.Halted alarm) = Some (next.Halted (halt.Alarm alarm))
+
+-- a step as it is handed on to the worker of its path; None where the path waits
+abbrev pub next_of : TableStep → Option Next
+next_of (step.Turned turn) = next_of_turn turn
+next_of step.Drain = Some next.Drain
+next_of step.DiskFault = Some (next.Halted halt.Disk)
+next_of (step.Halted why) = Some (next.Halted why)
+
+-- a step in which the disk failed made a record: it did from one number of records to another
+abbrev pub is_lost : TableStep → ℕ → ℕ → Bool
+is_lost step.DiskFault before after = not (before == after)
+is_lost other before after = false
+
+-- one step of the table that is held, and its answer handed on
+pub record HasStepped {D : Type 0} (state : D → DiskState) (path : Path) (old new : HeldView D) (result : Option Next) : Type 0 where
+  pub before : TableView D
+  pub after : TableView D
+  pub step : TableStep
+  pub old_is : old ≡ held_of before old.shown
+  pub new_is : new ≡ held_of after new.shown
+  pub is : IsStep state (step_of before path) before after step
+  pub next : result ≡ next_of step
+
+-- a kept turret is let go
+abbrev pub without_turret : Option Halt → Option Halt
+without_turret (Some (halt.Turret path)) = None
+without_turret why = why
+
+-- what a table is that was held
+pub record IsTaken {D : Type 0} (held : HeldView D) (t : TableView D) : Type 0 where
+  pub verified : t.verified ≡ held.verified
+  pub machine : t.machine ≡ held.machine
+  pub history : t.recording.history ≡ held.history
+  pub flushed : t.recording.flushed ≡ held.flushed
+  pub file : t.recording.log.file ≡ held.file
+  pub budget : t.budget ≡ held.budget
+  pub halt : t.halt ≡ without_turret held.halt

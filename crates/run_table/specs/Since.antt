@@ -1,0 +1,17 @@
+-- What has come of a table.
+use Rattle.std.specs.Prelude.{◌≡◌, ◌⊎◌, ◌+◌, List, length, Some}
+use Rattle.disk_model.specs.Device.{DiskState, Rose}
+use Rattle.nc_outside.specs.declared.halt.Halt.TheVariants.{Disk}
+use Rattle.run_records.specs.declared.entry.Entry.{Entry}
+use Rattle.run_table.specs.Recording.{Follows}
+use Rattle.run_table.specs.Kept.{TableView}
+
+-- What has come of a table since it was the old one: records of the same pair, each within its budget. Where it keeps that the disk
+-- failed, and did not before, a call has failed.
+pub record Since {D : Type 0} (state : D → DiskState) (old new : TableView D) : Type 0 where
+  pub verified : new.verified ≡ old.verified
+  pub made : List Entry
+  pub recording : Follows state made old.recording new.recording
+  pub budget : new.budget + length made ≡ old.budget
+  pub cause : new.halt ≡ Some Disk → (old.halt ≡ Some Disk)
+      ⊎ Rose (state old.recording.log.file.disk).faults (state new.recording.log.file.disk).faults

@@ -1,0 +1,116 @@
+//! A table that keeps what it began with.
+ghost use Rattle.std.specs.Prelude.{◌≡◌, ◌≢◌, true, false, MatchOption};
+ghost use Rattle.nc_outside.specs.Calls.{IsOfTurret};
+ghost use Rattle.seat_table.specs.Turning.{Answers};
+ghost use Rattle.run_table.specs.Draining.{with_owed};
+ghost use Rattle.run_table.specs.Begun.{first_reason};
+ghost use Rattle.run_table.specs.Holding.{held_of, IsOf, HasStepped, IsTaken, records_since};
+
+use crate::handing::{is_still_shown, next_of};
+use crate::table::Table;
+use disk_model::Disk;
+use nc_number::Path;
+use nc_outside::{Halt, Next};
+use seat_table::Turns;
+use std::marker::{Brand, Model, PhantomData};
+
+/// What a table began with. The call that makes one picks it.
+pub trait Opening<D> {
+    ghost use Rattle.std.specs.Prelude.{Option};
+    ghost use Rattle.run_table.specs.Kept.{TableView};
+
+    /// The table as it was then.
+    ghost opened: { Option (TableView D) };
+}
+
+impl<D> Opening<D> for Brand {
+    ghost use Rattle.std.specs.Prelude.{None};
+
+    ghost opened = { None };
+}
+
+/// A table of the opening O, of which two paths take turns. It is what has come of the table as it
+/// was then: a run of the same pair, with more records.
+pub struct Held<D: Disk, O: Opening<D>> {
+    table: Table<D>,
+    shown: bool,
+    of: PhantomData<O>,
+}
+
+impl<D: Disk, O: Opening<D>> Model for Held<D, O> {
+    ghost use Rattle.std.specs.Coded.{codes};
+    ghost use Rattle.nc_verify.specs.contracts.verified.Verified.{the_row};
+    ghost use Rattle.run_table.specs.Holding.{HeldView, held_of, IsHeld};
+
+    ghost Value = { HeldView D };
+
+    ghost coded = { Prim.hlevel (codes, the_row.coded) };
+
+    ghost view = { λ h. held_of h.table h.shown };
+
+    ghost invariant = { λ h. IsHeld D.state O.opened h.table h.shown };
+}
+
+impl<D: Disk, O: Opening<D>> Held<D, O> {
+    /// The table, which is of this opening.
+    pub fn new(table: Table<D>) -> Held<D, O>
+        requires { IsOf D.state O.opened table }
+        ensures { result ≡ held_of table true }
+    {
+        Held {
+            table,
+            shown: true,
+            of: PhantomData,
+        }
+    }
+
+    /// The table, which is of this opening. That a turret failed it keeps no longer.
+    pub fn into_table(self) -> Table<D>
+        ensures of { IsOf D.state O.opened result }
+        ensures taken { IsTaken self result }
+    {
+        let Held {
+            mut table,
+            shown: _,
+            of: _,
+        } = self;
+        table.drop_turret();
+        table
+    }
+}
+
+impl<D: Disk, O: Opening<D>> Turns for Held<D, O> {
+    ghost use Rattle.run_table.specs.Holding.{records_since};
+
+    ghost records = { λ h path. records_since O.opened h path };
+
+    fn turn_step(&mut self, path: Path) -> Option<Next>
+        ensures step { HasStepped D.state path self.old self.new result }
+        ensures answer { MatchOption result (self.new ≡ self.old) (λ next. Answers
+            (records_since O.opened self.old path) next (records_since O.opened self.new path)) }
+        ensures others { (p : Path) → p ≢ path
+            → records_since O.opened self.new p ≡ records_since O.opened self.old p }
+    {
+        let before = self.table.count();
+        let step = self.table.step(path);
+        let after = self.table.count();
+        let shown = is_still_shown(self.shown, &step, before, after);
+        self.shown = shown;
+        next_of(step)
+    }
+
+    fn drained(&mut self, path: Path)
+        ensures new { self.new ≡ record self.old { owed = with_owed path false self.old.owed } }
+        ensures records { (p : Path) → records_since O.opened self.new p ≡ records_since O.opened self.old p }
+    {
+        self.table.drained(path);
+    }
+
+    fn halt(&mut self, why: Halt)
+        requires { IsOfTurret why }
+        ensures new { self.new ≡ record self.old { halt = first_reason self.old.halt why } }
+        ensures records { (p : Path) → records_since O.opened self.new p ≡ records_since O.opened self.old p }
+    {
+        self.table.halt(why);
+    }
+}
