@@ -1,0 +1,20 @@
+//! Tables of tests of stops and restarts: a run that is stopped at each call of its disk and restarted comes to the very history
+//! of a run that meets no stop.
+//!
+//! The histories that are expected stem from the rules of turns, and never from what a run recorded.
+#![tactic(auto)]
+
+#[cfg(test)]
+mod record_text;
+#[cfg(test)]
+mod run;
+#[cfg(test)]
+mod step_rows;
+#[cfg(test)]
+mod step_text;
+#[cfg(test)]
+mod stop_rows;
+#[cfg(test)]
+mod texts;
+#[cfg(test)]
+mod turns;

@@ -1,0 +1,166 @@
+//! A run of a pair on a disk that stops, and its restart.
+ghost use Rattle.run_records.specs.Headers.{IsShort};
+ghost use Rattle.nc_restart.specs.Recovered.{IsRecovered};
+ghost use Rattle.run_table.specs.Kept.{IsVerdictOf};
+
+use crate::record_text::history_text;
+use crate::texts::pair_of;
+use crate::turns::{Count, step_on};
+use disk_model::{Crash, Disk, FuseDisk, MemoryDisk};
+use nc_restart::{Recovered, RestartFault, recover};
+use nc_verify::Verified;
+use run_records::Header;
+use run_table::{Parts, Table};
+use std::alloc::{AllocError, Global};
+use std::test::Fail;
+
+/// What a stop leaves: the bytes of the disk, and how many records it must have.
+#[derive(Drop)]
+pub(crate) struct Left {
+    pub(crate) bytes: Vec<u8>,
+    pub(crate) shown: usize,
+}
+
+/// A disk of these bytes, which passes so many calls.
+fn disk_of(alloc: Global, bytes: &[u8], passes: u64) -> Result<FuseDisk, Fail> {
+    let disk = MemoryDisk::of_bytes(alloc, bytes.to_vec(alloc)?, 10_000, &[])?;
+    Ok(FuseDisk::new(disk, passes))
+}
+
+/// A table of a run of the pair that begins on the disk, or the disk where it fails.
+fn begun<D: Disk>(alloc: Global, pair: Verified, header: &Header, disk: D) -> Result<Table<D>, D>
+    requires short { IsShort header.now }
+    requires verdict { IsVerdictOf header.now pair }
+{
+    match Table::begin(alloc, pair, disk, header) {
+        Ok(table) => Ok(table),
+        Err((disk, _fault)) => Err(disk),
+    }
+}
+
+/// A table of a run of the header's pair that begins on the disk, or the disk where it fails.
+pub(crate) fn begun_on<D: Disk + Drop>(
+    alloc: Global,
+    header: &Header,
+    disk: D,
+) -> Result<Result<Table<D>, D>, Fail>
+    requires { IsShort header.now }
+{
+    match pair_of(alloc, header) {
+        Ok(pair) => Ok(begun(alloc, pair, header, disk)),
+        Err(fail) => Err(fail),
+    }
+}
+
+/// What a crash leaves of a disk.
+fn crashed(alloc: Global, disk: FuseDisk, pick: Crash, shown: usize) -> Result<Left, Fail> {
+    let bytes = disk.into_inner().crash(pick).bytes().to_vec(alloc)?;
+    Ok(Left { bytes, shown })
+}
+
+/// The table runs until it stops, or both paths have ended.
+fn run_on<D: Disk>(table: &mut Table<D>, from: Count) -> Result<Count, Fail> {
+    table.prepare(1_000)?;
+    Ok(step_on(table, from))
+}
+
+/// The disk of a table.
+pub(crate) fn disk_left<D: Disk>(table: Table<D>) -> D {
+    let Parts {
+        verified: _,
+        machine: _,
+        entries: _,
+        halt: _,
+        disk,
+    } = table.into_parts();
+    disk
+}
+
+/// The history of a table.
+fn history_left<D: Disk + Drop>(alloc: Global, table: Table<D>) -> Result<String, AllocError> {
+    history_text(alloc, table.into_parts().entries.as_slice())
+}
+
+/// The table runs until its disk stops or both paths have ended, and then comes a crash.
+fn stopped(alloc: Global, table: Table<FuseDisk>, pick: Crash) -> Result<Left, Fail> {
+    let mut table = table;
+    match run_on(&mut table, Count::of(&[])) {
+        Ok(count) => crashed(alloc, disk_left(table), pick, count.shown),
+        Err(fail) => Err(fail),
+    }
+}
+
+/// A run from the beginning, whose disk stops behind so many calls.
+pub(crate) fn run_to_stop(
+    alloc: Global,
+    header: &Header,
+    passes: u64,
+    pick: Crash,
+) -> Result<Left, Fail>
+    requires { IsShort header.now }
+{
+    match begun_on(alloc, header, disk_of(alloc, &[], passes)?)? {
+        Ok(table) => stopped(alloc, table, pick),
+        Err(disk) => crashed(alloc, disk, pick, 0),
+    }
+}
+
+/// The history of a table whose run goes to its end.
+fn finished<D: Disk + Drop>(alloc: Global, table: Table<D>, from: Count) -> Result<String, Fail> {
+    let mut table = table;
+    match run_on(&mut table, from) {
+        Ok(_count) => Ok(history_left(alloc, table)?),
+        Err(fail) => Err(fail),
+    }
+}
+
+/// The history of a run that begins on this disk and goes to its end.
+fn run_whole(alloc: Global, header: &Header, bytes: &[u8]) -> Result<String, Fail>
+    requires { IsShort header.now }
+{
+    match begun_on(alloc, header, disk_of(alloc, bytes, 1_000_000)?)? {
+        Ok(table) => finished(alloc, table, Count::of(&[])),
+        Err(_disk) => Err(Fail::new("no run begins")),
+    }
+}
+
+/// The table of a run that was recovered.
+fn table_of<D: Disk>(run: Recovered<D>) -> Table<D>
+    requires { IsRecovered D.state run.header run.verified run.machine.machine run.entries.items run.journal }
+{
+    let Recovered {
+        header: _,
+        verified,
+        machine,
+        entries,
+        journal,
+    } = run;
+    Table::from_recovered(verified, machine, entries, journal)
+}
+
+/// The run goes on behind its recovery, and to its end.
+fn went_on<D: Disk + Drop>(alloc: Global, run: Recovered<D>) -> Result<String, Fail>
+    requires { IsRecovered D.state run.header run.verified run.machine.machine run.entries.items run.journal }
+{
+    let from = Count::of(run.entries.as_slice());
+    finished(alloc, table_of(run), from)
+}
+
+/// The history that a restart over these bytes comes to. Where they hold no run, it begins anew.
+pub(crate) fn restarted(alloc: Global, header: &Header, bytes: &[u8]) -> Result<String, Fail>
+    requires { IsShort header.now }
+{
+    match recover(alloc, disk_of(alloc, bytes, 1_000_000)?) {
+        Ok(run) => went_on(alloc, run),
+        Err((_disk, RestartFault::NoRun)) => run_whole(alloc, header, bytes),
+        Err((_disk, fault)) => Err(Fail::new(format_args!("{fault}"))),
+    }
+}
+
+/// The history that these bytes hold, or why none.
+pub(crate) fn recovered(alloc: Global, bytes: &[u8]) -> Result<String, Fail> {
+    match recover(alloc, disk_of(alloc, bytes, 1_000_000)?) {
+        Ok(run) => Ok(history_text(alloc, run.entries.as_slice())?),
+        Err((_disk, fault)) => Ok(format!(in alloc; "{fault}")?),
+    }
+}

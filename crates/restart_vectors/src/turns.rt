@@ -1,0 +1,128 @@
+//! Turns of a table, which hang on the history alone: the path with fewer records has the next one, and where it waits or has
+//! ended, the other. So a run and the rest of it behind a restart give the same turns.
+use crate::record_text::records_of;
+use disk_model::Disk;
+use nc_number::Path;
+use run_records::Entry;
+use run_table::{Table, TableStep};
+use two_path::Turn;
+
+/// How many records each path has made, and how many of all the last answer that showed something has left on the disk.
+#[derive(Clone, Copy)]
+pub(crate) struct Count {
+    one: usize,
+    two: usize,
+    pub(crate) shown: usize,
+}
+
+/// What a step came to.
+#[derive(Drop)]
+enum Said {
+    /// A read of a block.
+    Read,
+    /// A record, which shows nothing to the outside.
+    Silent,
+    /// A record, which does.
+    Shown,
+    /// The path waits, or has ended.
+    Idle,
+    /// The run has stopped.
+    Stopped,
+}
+
+fn said_of(answer: &TableStep) -> Said {
+    match answer {
+        TableStep::Drain | TableStep::DiskFault | TableStep::Halted(_) => Said::Stopped,
+        TableStep::Turned(turn) => said_of_turn(turn),
+    }
+}
+
+fn said_of_turn(turn: &Turn) -> Said {
+    match turn {
+        Turn::Read { .. } => Said::Read,
+        Turn::Did { moves } => if moves.list.as_slice().is_empty() {
+            Said::Silent
+        } else {
+            Said::Shown
+        },
+        Turn::Arrived { .. } | Turn::Met { .. } | Turn::Ended { .. } | Turn::Alarm { .. } => {
+            Said::Shown
+        }
+        Turn::Waiting { .. } | Turn::Finished | Turn::Halted { .. } => Said::Idle,
+    }
+}
+
+impl Count {
+    /// The counts of a history, all of which is on the disk.
+    pub(crate) fn of(entries: &[Entry]) -> Count {
+        Count {
+            one: records_of(entries, Path::One),
+            two: records_of(entries, Path::Two),
+            shown: entries.len(),
+        }
+    }
+
+    /// The path whose turn it is.
+    fn next(&self) -> Path {
+        if self.one <= self.two {
+            Path::One
+        } else {
+            Path::Two
+        }
+    }
+
+    /// A record more of the path.
+    fn add(&mut self, path: Path, is_shown: bool) {
+        match path {
+            Path::One => self.one = self.one.saturating_add(1),
+            Path::Two => self.two = self.two.saturating_add(1),
+        }
+        if is_shown {
+            self.shown = self.one.saturating_add(self.two);
+        }
+    }
+
+    /// Whether the path of this step goes on.
+    fn goes_on(&mut self, path: Path, said: &Said) -> bool {
+        match said {
+            Said::Read => true,
+            Said::Silent => {
+                self.add(path, false);
+                true
+            }
+            Said::Shown => {
+                self.add(path, true);
+                true
+            }
+            Said::Idle | Said::Stopped => false,
+        }
+    }
+}
+
+/// A step of a path that is drained: there is no turret behind it.
+fn step_of<D: Disk>(table: &mut Table<D>, path: Path) -> Said {
+    table.drained(path);
+    said_of(&table.step(path))
+}
+
+/// One step of the table. Whether the run goes on.
+fn step<D: Disk>(table: &mut Table<D>, count: &mut Count) -> bool {
+    let path = count.next();
+    let said = step_of(table, path);
+    if let Said::Idle = said {
+        let said = step_of(table, path.other());
+        return count.goes_on(path.other(), &said);
+    }
+    count.goes_on(path, &said)
+}
+
+/// Steps of the table until it stops, or both paths have ended.
+pub(crate) fn step_on<D: Disk>(table: &mut Table<D>, from: Count) -> Count {
+    let mut count = from;
+    for _ in 0..1_000u32 {
+        if !step(table, &mut count) {
+            break;
+        }
+    }
+    count
+}
