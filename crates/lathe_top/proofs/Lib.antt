@@ -1,5 +1,11 @@
 pub mod Ended
 pub mod NotHad
-pub mod DueOnce
-pub mod StraightRuns
 pub mod Judging
+pub mod GoingOn
+pub mod GoingReported
+pub mod Opened
+pub mod RunsBegun
+pub mod RunsFound
+pub mod DueOnce
+pub mod BadJournal
+pub mod StopsLeave

@@ -7,7 +7,7 @@ use Rattle.nc_outside.specs.Files.{Files, ShelfState, HoldsMore, HoldsOn, Lacks,
 use Rattle.block_order.specs.Answers.{IfFault}
 use Rattle.lathe_top.specs.declared.fetching.FileFault.{FileFault}
 use Rattle.lathe_top.specs.declared.fetching.Unfetched.{Unfetched}
-use Rattle.lathe_top.specs.Command.{Named, most_bytes}
+use Rattle.lathe_top.specs.Named.{Named, most_bytes}
 use Rattle.lathe_top.specs.Fetched.{AreTexts, FileCause, failed, absent, too_long, IsNotHad, IsText, Reaches, fault_status, file_of}
 
 -- what follows from the fault of a call follows from its error

@@ -1,46 +1,66 @@
--- What the program answers to its words, over the files of a shelf.
-use Rattle.std.specs.Prelude.{◌≡◌, ℕ, Some, None, Ok, Err, Result, List, [], ◌∷◌, take, codes}
+-- What the program answers to its words, over the files of a shelf and the journal on a disk.
+use Rattle.std.specs.Prelude.{◌≡◌, ℕ, Some, None, Ok, Err, Option, Result, List, take, codes}
+use Rattle.command_words.specs.declared.command.Command.{Command}
+use Rattle.command_words.specs.declared.command.Command.TheVariants as command
+use Rattle.command_words.specs.Listed.{listed_command}
+use Rattle.disk_model.specs.Device.{DiskState, Reads}
+use Rattle.disk_model.specs.Device.{Rose as DiskRose}
 use Rattle.nc_outside.specs.declared.sink.PutFault.{PutFault}
 use Rattle.nc_outside.specs.declared.sink.PutFault.TheVariants.{Failed, NoMemory}
 use Rattle.nc_outside.specs.Faults.{Rose}
 use Rattle.nc_outside.specs.Files.{Files, ShelfState}
 use Rattle.nc_outside.specs.Written.{SinkState, Writes}
+use Rattle.nc_verify.specs.Verdict.{Texts}
 use Rattle.lathe_top.specs.declared.fetching.FileFault.{FileFault}
-use Rattle.lathe_top.specs.Command.{Asked, verify, run, Named, command_of, files_of}
+use Rattle.lathe_top.specs.Named.{Named, files_of, listed}
 use Rattle.lathe_top.specs.Fetched.{AreTexts, IsNotHad, fault_status, fault_text}
 use Rattle.lathe_top.specs.Judged.{IsJudged}
-use Rattle.lathe_top.specs.Straight.Ran.{IsRan}
+use Rattle.lathe_top.specs.Ran.{IsRun, IsResumed, IsShown, moves_text, state_of}
 
--- What the program works on, at one moment: the shelf of the files and the sink of the answer.
-pub record TopState : Type 0 where
+-- What the program works on, at one moment: the shelf of the files, the disk of the journal, and the sink of the answer.
+pub record TopState : Type 1 where
   pub shelf : ShelfState
+  pub disk : DiskState
   pub sink : SinkState
 
--- All that is known of a call: its words, and the shelf and the sink before and after it.
-pub record Call : Type 0 where
+-- All that is known of a call: its words, and what it works on before and after it.
+pub record Call : Type 1 where
   pub words : List (List ℕ)
   pub before : TopState
   pub after : TopState
 
--- what a command answers over the texts of its files
-abbrev pub IsFrom : Asked → List (List ℕ) → ℕ → List ℕ → Type 0
-IsFrom (verify _ _ _) (left ∷ right ∷ settings ∷ []) status text =
-    IsJudged (record { left = left; right = right; settings = settings }) status text
-IsFrom (run _ _) (left ∷ right ∷ []) status text = IsRan left right status text
-IsFrom _ _ status text = ⊥
+-- the command of a call, if its words are one
+abbrev pub command_of : Call → Option Command
+command_of call = listed_command call.words
 
--- the status and the text that are due to a command: those of its first file that is not had, or its answer
-pub data IsDueTo (command : Asked) (old new : ShelfState) : ℕ → List ℕ → Type 0 where
-  not_had : {file : Named} {fault : FileFault} → IsNotHad old new (files_of command) file fault
-      → IsDueTo command old new (fault_status fault) (fault_text file.name fault)
-  answers : (texts : List (List ℕ)) {status : ℕ} {text : List ℕ} → AreTexts old.files (files_of command) texts
-      → IsFrom command texts status text → IsDueTo command old new status text
+-- this status and this text are due, and no other
+abbrev pub IsJust : ℕ → List ℕ → ℕ → List ℕ → Type 0
+IsJust due_status due_text status text = (status ≡ due_status) × (text ≡ due_text)
+
+-- the status and the text that are due to a command of these files: those of its first file that is not had, or its answer over
+-- their texts
+pub data IsOfFiles (files : List Named) (IsAnswer : Texts → ℕ → List ℕ → Type 0) (old new : ShelfState) : ℕ → List ℕ → Type 0 where
+  not_had : {file : Named} {fault : FileFault} → IsNotHad old new files file fault
+      → IsOfFiles files IsAnswer old new (fault_status fault) (fault_text file.name fault)
+  answers : {status : ℕ} {text : List ℕ} (texts : Texts) → AreTexts old.files files (listed texts)
+      → IsAnswer texts status text → IsOfFiles files IsAnswer old new status text
+
+-- the status and the text that are due to a command; a pair is not made yet
+abbrev pub IsDueTo : Command → TopState → TopState → ℕ → List ℕ → Type 0
+IsDueTo (command.Verify left right settings) old new =
+    IsOfFiles (files_of left right settings) IsJudged old.shelf new.shelf
+IsDueTo (command.Run left right settings limit) old new =
+    IsOfFiles (files_of left right settings) (λ texts. IsRun limit texts old.disk new.disk) old.shelf new.shelf
+IsDueTo (command.Resume limit) old new = IsResumed limit old.disk new.disk
+IsDueTo command.Moves old new = IsShown moves_text old.disk new.disk
+IsDueTo command.State old new = IsShown state_of old.disk new.disk
+IsDueTo (command.Make number) old new = IsJust 2 (codes "usage\n")
 
 -- the status and the text that are due to a call
 pub data IsDue (call : Call) : ℕ → List ℕ → Type 0 where
-  usage : command_of call.words ≡ None → IsDue call 2 (codes "usage\n")
-  commanded : {command : Asked} {status : ℕ} {text : List ℕ} → command_of call.words ≡ Some command
-      → IsDueTo command call.before.shelf call.after.shelf status text → IsDue call status text
+  usage : command_of call ≡ None → IsDue call 2 (codes "usage\n")
+  commanded : {command : Command} {status : ℕ} {text : List ℕ} → command_of call ≡ Some command
+      → IsDueTo command call.before call.after status text → IsDue call status text
 
 -- how a call ends, by what is due: the text stands whole behind what was there, and the status is its own; or the sink
 -- failed behind a part of the text; or memory ran out
@@ -53,10 +73,6 @@ pub data Ends (Due : ℕ → List ℕ → Type 0) (old new : SinkState) : ℕ �
 -- the program's answer: the text that is due and its status, or the fault of the sink, or want of memory
 abbrev pub IsAnswered : Call → ℕ → Type 0
 IsAnswered call result = Ends (IsDue call) call.before.sink call.after.sink result
-
--- this status and this text are due, and no other
-abbrev pub IsJust : ℕ → List ℕ → ℕ → List ℕ → Type 0
-IsJust due_status due_text status text = (status ≡ due_status) × (text ≡ due_text)
 
 -- the status behind a text that was put with this result
 abbrev pub status_behind : Result (Unit {0}) PutFault → ℕ → ℕ
@@ -71,11 +87,21 @@ pub data IsOr (old new : SinkState) (status : ℕ) : ℕ → Type 0 where
   memory_wanting : IsOr old new status 12
 
 -- the shelf tells these files, and did not fail
-abbrev pub Serves : Call → Files → Type 0
-Serves call files = (call.before.shelf.files ≡ Some files) × (¬ Rose call.before.shelf.faults call.after.shelf.faults)
+pub record ServesFiles (call : Call) (files : Files) : Type 0 where
+  pub tells : call.before.shelf.files ≡ Some files
+  pub served : Rose call.before.shelf.faults call.after.shelf.faults → ⊥
 
--- What is due is answered: its status, or 5 where the sink failed, or 12 for want of memory.
+-- the shelf tells these files, the disk tells these bytes, and neither failed
+pub record Serves (call : Call) (files : Files) (bytes : List ℕ) : Type 0 where
+  pub shelf : ServesFiles call files
+  pub disk_tells : Reads call.before.disk bytes
+  pub disk_served : DiskRose call.before.disk.faults call.after.disk.faults → ⊥
+
+-- What is due is answered: its status, or 5 where the sink failed, or 12 for want of memory. A verdict asks nothing of the disk.
 pub record GetsItsStatus (call : Call) (result : ℕ) : Type 0 where
-  pub usage : command_of call.words ≡ None → IsOr call.before.sink call.after.sink 2 result
-  pub served : (files : Files) → Serves call files → (status : ℕ) (text : List ℕ) → IsDue call status text
+  pub usage : command_of call ≡ None → IsOr call.before.sink call.after.sink 2 result
+  pub judged : (left right settings : List ℕ) → command_of call ≡ Some (command.Verify left right settings) → (files : Files)
+      → ServesFiles call files → (status : ℕ) (text : List ℕ) → IsDue call status text
       → IsOr call.before.sink call.after.sink status result
+  pub served : (files : Files) (bytes : List ℕ) → Serves call files bytes → (status : ℕ) (text : List ℕ)
+      → IsDue call status text → IsOr call.before.sink call.after.sink status result

@@ -5,7 +5,7 @@ use Rattle.nc_outside.specs.Files.{Files, ShelfState, Holds, HoldsMore, Lacks}
 use Rattle.lathe_top.specs.declared.fetching.FileFault.{FileFault}
 use Rattle.lathe_top.specs.declared.fetching.FileFault.TheVariants.{Failed, Absent, TooLong}
 use Rattle.lathe_top.specs.declared.fetching.Unfetched.{Unfetched}
-use Rattle.lathe_top.specs.Command.{Named, named, most_bytes}
+use Rattle.lathe_top.specs.Named.{Named, named, most_bytes}
 
 -- the shelf has this text under the name of the file, and it is not too long
 abbrev pub IsText : Option Files → Named → List ℕ → Type 0

@@ -1,7 +1,12 @@
 -- What callers read.
 pub mod Answer
-pub mod Command
+pub mod Named
 pub mod Fetched
 pub mod Judged
--- What only `run L R` needs.
-pub mod Straight
+pub mod Session
+pub mod Kept
+pub mod Ran
+pub mod Stops
+-- Words of the inside.
+pub mod Texts
+pub mod Going

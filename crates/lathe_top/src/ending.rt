@@ -10,11 +10,17 @@ pub(crate) enum Status {
     Done = 0,
     Refused = 1,
     Usage = 2,
+    Alarm = 3,
     ShelfFault = 4,
     SinkFault = 5,
+    DiskFault = 6,
+    TurretFault = 7,
+    RunOrNone = 8,
+    BadJournal = 9,
+    Stopped = 10,
     NoMemory = 12,
     NoFile = 13,
-    NotBuilt = 15,
+    Full = 14,
 }
 
 /// The status behind a text that was put: that of the text, or of what went wrong.

@@ -3,11 +3,12 @@ ghost use Rattle.std.specs.Prelude.{◌≡◌, ◌≤◌, [], ◌∷◌, ◌++�
 ghost use Rattle.block_order.specs.Answers.{IfFault};
 ghost use Rattle.nc_outside.specs.Files.{HoldsOn};
 ghost use Rattle.lathe_top.specs.Answer.{Ends, IsJust};
-ghost use Rattle.lathe_top.specs.Command.{named, tapes_of};
+ghost use Rattle.lathe_top.specs.Named.{listed, named, tapes_of};
+ghost use Rattle.lathe_top.specs.Texts.{files_in, texts_of};
 ghost use Rattle.lathe_top.specs.Fetched.{AreTexts, FileCause, IsNotHad, IsText, fault_status, fault_text, file_of};
 
 use crate::ending::{Status, write_text};
-use crate::files::CommandFile;
+use crate::files::{CommandFile, FileNames};
 use crate::printing::push_bytes;
 use nc_number::{Failing, NoMemory};
 use nc_outside::{FetchFault, Shelf, Sink};
@@ -37,6 +38,14 @@ pub struct Unfetched<'a> {
 pub(crate) struct Tapes {
     pub left: Vec<u8>,
     pub right: Vec<u8>,
+}
+
+/// The texts of both tapes and of the settings.
+#[derive(Drop)]
+pub(crate) struct Texts {
+    pub left: Vec<u8>,
+    pub right: Vec<u8>,
+    pub settings: Vec<u8>,
 }
 
 /// The text of a file.
@@ -77,7 +86,8 @@ pub(crate) fn fetch_tapes<'a, H: Shelf>(
 ) -> Result<Tapes, Failing<Unfetched<'a>>>
     ensures texts { IfOk result (λ tapes. AreTexts (H.state shelf.old).files (tapes_of left.now right.now)
         (tapes.left.items ∷ tapes.right.items ∷ [])) }
-    ensures not_had { IfErr result (λ error. IfFault error (λ unfetched. IsNotHad (H.state shelf.old) (H.state shelf.new)
+    ensures not_had { IfErr result (λ error. IfFault error
+        (λ unfetched. IsNotHad (H.state shelf.old) (H.state shelf.new)
         (tapes_of left.now right.now) (file_of unfetched) unfetched.fault)) }
     ensures files { HoldsOn (H.state shelf.old) (H.state shelf.new) }
     ensures later { (H.state shelf.old).faults ≤ (H.state shelf.new).faults }
@@ -91,6 +101,33 @@ pub(crate) fn fetch_tapes<'a, H: Shelf>(
         Err(error) => return Err(error),
     };
     Ok(Tapes { left, right })
+}
+
+/// The texts of both tapes, and then of the settings.
+pub(crate) fn fetch_texts<'a, H: Shelf>(
+    alloc: Global,
+    shelf: &mut H,
+    names: &FileNames<'a>,
+) -> Result<Texts, Failing<Unfetched<'a>>>
+    ensures texts { IfOk result (λ texts. AreTexts (H.state shelf.old).files (files_in names.now)
+        (listed (texts_of texts))) }
+    ensures not_had { IfErr result (λ error. IfFault error
+        (λ unfetched. IsNotHad (H.state shelf.old) (H.state shelf.new)
+        (files_in names.now) (file_of unfetched) unfetched.fault)) }
+{
+    let tapes = match fetch_tapes(alloc, shelf, names.left, names.right) {
+        Ok(tapes) => tapes,
+        Err(error) => return Err(error),
+    };
+    let Tapes { left, right } = tapes;
+    match fetch(alloc, shelf, CommandFile::Settings, names.settings) {
+        Ok(settings) => Ok(Texts {
+            left,
+            right,
+            settings,
+        }),
+        Err(error) => Err(error),
+    }
 }
 
 /// Writes the line of a file that is not had, and gives its status.

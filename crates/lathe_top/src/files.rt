@@ -1,6 +1,6 @@
 //! The files that a command names.
 ghost use Rattle.std.specs.Prelude.{◌≡◌};
-ghost use Rattle.lathe_top.specs.Command.{most_bytes};
+ghost use Rattle.lathe_top.specs.Named.{most_bytes};
 
 /// The most bytes of a tape.
 const LONGEST_TAPE: usize = 4_194_304;
@@ -29,4 +29,12 @@ impl CommandFile {
             CommandFile::Settings => LONGEST_SETTINGS,
         }
     }
+}
+
+/// The names of the files of a pair.
+#[derive(Clone, Copy, Debug)]
+pub(crate) struct FileNames<'a> {
+    pub left: &'a str,
+    pub right: &'a str,
+    pub settings: &'a str,
 }

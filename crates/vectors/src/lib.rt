@@ -5,6 +5,8 @@
 #![tactic(auto)]
 
 #[cfg(test)]
+mod commands;
+#[cfg(test)]
 mod flow;
 #[cfg(test)]
 mod hostile;
@@ -20,7 +22,5 @@ mod realistic;
 mod refusals;
 #[cfg(test)]
 mod settings;
-#[cfg(test)]
-mod straight_pair;
 #[cfg(test)]
 mod verdicts;

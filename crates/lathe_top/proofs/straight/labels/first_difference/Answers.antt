@@ -1,7 +1,0 @@
-use Rattle.std.proofs.Common.{arith}
-use Rattle.lathe_top.proofs.StraightRuns.Ends.{same_to_end}
-use Rattle.lathe_top.proofs.straight.labels.first_difference.Goals as goal
-
-pub returns-clause-none : goal.returns-clause-none
-returns-clause-none c =
-    same_to_end c.args.left.now c.args.right.now c.loop-after.after (omega (arith, c.min-after-end.ensures)) c.requires.left_ended c.requires.right_ended c.loop-after.invariant

@@ -1,0 +1,82 @@
+-- A session of a run: what one call made of it, from its opening on.
+use Rattle.std.specs.Prelude.{◌≡◌, ℕ, ◌+◌, ◌-◌, max, Bool, true, false, ◌&&◌, ◌||◌, is_some, List, length, take, Option, Some, None}
+use Rattle.disk_model.specs.Device.{DiskState, Rose}
+use Rattle.nc_outside.specs.declared.halt.Alarm.{Alarm}
+use Rattle.move_list.specs.declared.end_line.Reason.{Reason}
+use Rattle.move_list.specs.Report.{report_text}
+use Rattle.nc_verify.specs.declared.verified.Verified.{Verified}
+use Rattle.run_records.specs.declared.entry.Entry.{Entry}
+use Rattle.run_records.specs.declared.header.Header.{Header}
+use Rattle.two_path.specs.Machine.{MachineView}
+use Rattle.two_path.specs.Stuck.{IsFree}
+use Rattle.nc_restart.specs.Pair.{texts_of, IsPairOf, tapes_in, opening_of, machine_behind}
+use Rattle.nc_restart.specs.History.{IsHistory}
+
+-- the header of the journal, the pair that its texts are, the records that were found at the opening, and those at
+-- the end
+pub record Session : Type 0 where
+  pub header : Header
+  pub pair : Verified
+  pub found : List Entry
+  pub history : List Entry
+
+-- the machine at the end
+abbrev pub machine_of : Session → MachineView
+machine_of s = machine_behind s.pair s.history
+
+-- why a machine stands where it does, if nothing else stopped it: an alarm, or both paths have ended, or neither
+abbrev pub reason_by : Option Alarm → Bool → Reason
+reason_by (Some alarm) finished = Reason.Alarm alarm
+reason_by None true = Reason.Done
+reason_by None false = Reason.Stopped
+
+abbrev pub are_finished : MachineView → Bool
+are_finished m = m.first.finished && m.second.finished
+
+abbrev pub reason_of : MachineView → Reason
+reason_of m = reason_by m.alarm (are_finished m)
+
+-- the run is over: there is an alarm, or both paths have ended
+abbrev pub is_over : MachineView → Bool
+is_over m = is_some m.alarm || are_finished m
+
+-- The records at the end are a history of the pair, and begin with those that were found. Behind a run that is
+-- over none are made.
+pub record GoesOn (pair : Verified) (found history : List Entry) : Type 0 where
+  pub history_is : IsHistory pair history
+  pub extends : take (length found) history ≡ found
+  pub rests : is_over (machine_behind pair found) ≡ true → history ≡ found
+
+-- The header's texts are accepted, and the records went on. The paths are not stuck, and no wait met another.
+pub record IsSession (s : Session) : Type 0 where
+  pub accepted : IsPairOf (texts_of s.header) s.pair
+  pub goes_on : GoesOn s.pair s.found s.history
+  pub free : IsFree (tapes_in s.pair) (machine_of s)
+
+-- Why a session of at most so many records ended: the run is over; or the journal has as many records as it may
+-- have; or the session made as many as it was allowed; or the disk failed.
+pub data EndsBy (limit : ℕ) (s : Session) (old new : DiskState) : Reason → Type 0 where
+  over : is_over (machine_of s) ≡ true → EndsBy limit s old new (reason_of (machine_of s))
+  full : is_over (machine_of s) ≡ false → length s.history ≡ s.pair.settings.records → EndsBy limit s old new Reason.Full
+  stopped : is_over (machine_of s) ≡ false → length s.history ≡ length s.found + limit
+      → (length s.history ≡ s.pair.settings.records → ⊥) → EndsBy limit s old new Reason.Stopped
+  disk_failed : Rose old.faults new.faults → EndsBy limit s old new Reason.DiskFault
+
+-- the status of a reason
+abbrev pub reason_status : Reason → ℕ
+reason_status Reason.Done = 0
+reason_status (Reason.Alarm alarm) = 3
+reason_status Reason.Stopped = 10
+reason_status Reason.Full = 14
+reason_status Reason.DiskFault = 6
+reason_status (Reason.TurretFault path) = 7
+
+-- how many records of a session the disk holds at least: all, but where it failed; and then all but 64 at most,
+-- and those that were found
+abbrev pub least_left : Reason → Session → ℕ
+least_left Reason.DiskFault s = max (length s.found) (length s.history - 64)
+least_left other s = length s.history
+
+-- the report of a history of a pair
+abbrev pub report_of : Verified → List Entry → Reason → List ℕ
+report_of pair entries reason = report_text (tapes_in pair) (opening_of pair) entries reason
