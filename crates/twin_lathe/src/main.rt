@@ -1,9 +1,11 @@
-//! Runs a command of the lathe: its words stand on the command line, tapes are files, and the report goes to standard
-//! output. The exit status is that of the command.
+//! Runs a command of the lathe: its words stand on the command line, tapes are files, the journal of a run is a file
+//! of the current folder, and the report goes to standard output. The exit status is that of the command.
 #![tactic(auto)]
 
 mod ending;
+mod file_disk;
 mod file_shelf;
+mod journal_file;
 mod std_sink;
 
 use ending::Ending;
