@@ -1,2 +1,3 @@
+mod HeadsStand
 pub mod Stamps
 pub mod Texts

@@ -1,5 +1,6 @@
 pub mod Causes
 pub mod Headers
+pub mod Heads
 pub mod Room
 pub mod Spelling
 pub mod Stamps

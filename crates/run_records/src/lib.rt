@@ -7,6 +7,7 @@
 
 mod bad_record;
 mod entry;
+mod head;
 mod header;
 mod laws;
 mod lists;

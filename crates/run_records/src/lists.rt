@@ -1,8 +1,9 @@
 // The lists that records and headers are made of.
-ghost use Rattle.std.specs.Prelude.{◌≡◌, ◌+◌, ◌^◌, ◌≤◌, ◌<◌, ◌++◌, [], ◌∷◌, List, ℕ, length, OnOk, OnErr, vec_capacity};
+ghost use Rattle.std.specs.Prelude.{◌≡◌, ◌+◌, ◌^◌, ◌≤◌, ◌<◌, ◌++◌, [], ◌∷◌, List, ℕ, length, get_or, OnOk};
 ghost use Rattle.run_records.specs.Stamps.{AreStamps};
 
 use crate::Entry;
+use crate::head::Head;
 use arrayvec::ArrayVec;
 use nc_number::NoMemory;
 use std::alloc::Global;
@@ -39,6 +40,18 @@ impl StampList {
         }
     }
 
+    // These stamps.
+    pub(crate) fn of(stamps: &[u32]) -> StampList
+        requires { length stamps.now ≤ 32 }
+        ensures { result ≡ stamps.now }
+    {
+        let mut list = StampList::empty();
+        for stamp in stamps {
+            list.push(*stamp);
+        }
+        list
+    }
+
     /// The stamps, in order.
     pub fn as_slice(&self) -> &[u32]
         ensures stamps { result.now ≡ self.now }
@@ -57,19 +70,26 @@ impl StampList {
     }
 }
 
-/// A list of records, the first one first.
+/// A list of records, the first one first. It keeps the stamps of all of them in one place, so that a record without stamps is small.
 #[derive(Debug, Drop)]
 pub struct EntryList {
-    entries: Vec<Entry>,
+    heads: Vec<Head>,
+    stamps: Vec<u32>,
+    /// How many records there is room for in all.
+    room: usize,
 }
 
 impl Model for EntryList {
-    ghost use Rattle.std.specs.Prelude.{List, ℕ, vec_capacity};
+    ghost use Rattle.std.specs.Prelude.{All, vec_len, vec_capacity};
     ghost use Rattle.run_records.specs.Room.{Entries};
+    ghost use Rattle.run_records.specs.Heads.{entries_of, StandsIn, HasRoom};
 
     ghost Value = { Entries };
 
-    ghost view = { λ l. record { items = l.entries.items; room = vec_capacity l.entries } };
+    ghost view = { λ l. record { items = entries_of l.stamps.items l.heads.items; room = l.room } };
+
+    ghost invariant = { λ l. All (StandsIn l.stamps.items) l.heads.items
+        × HasRoom l.room (vec_len l.heads) (vec_capacity l.heads) (vec_len l.stamps) (vec_capacity l.stamps) };
 }
 
 impl EntryList {
@@ -78,15 +98,31 @@ impl EntryList {
         ensures { result.items ≡ [] }
     {
         EntryList {
-            entries: Vec::new(alloc),
+            heads: Vec::new(alloc),
+            stamps: Vec::new(alloc),
+            room: 0,
         }
     }
 
-    /// The records, in order.
-    pub fn as_slice(&self) -> &[Entry]
-        ensures { result.now ≡ self.now.items }
+    /// How many records there are.
+    pub fn len(&self) -> usize
+        ensures { result ≡ length self.now.items }
     {
-        &self.entries
+        self.heads.len()
+    }
+
+    /// The record of this index. It takes no memory.
+    pub fn get(&self, index: usize) -> Entry
+        requires { index < length self.now.items }
+        ensures { result ≡ get_or self.now.items index result }
+    {
+        let head = self.heads[index];
+        let end = head.first + head.count as usize;
+        Entry {
+            path: head.path,
+            kind: head.kind,
+            stamps: StampList::of(&self.stamps[head.first..end]),
+        }
     }
 
     /// Makes room for so many records more.
@@ -95,7 +131,12 @@ impl EntryList {
         ensures room { OnOk result (length self.new.items + n ≤ self.new.room) }
         ensures stays { self.old.room ≤ self.new.room }
     {
-        self.entries.reserve(n)?;
+        let Some(stamps) = n.checked_mul(MOST_STAMPS) else {
+            return Err(NoMemory);
+        };
+        self.heads.reserve(n)?;
+        self.stamps.reserve(stamps)?;
+        self.room = self.room.max(self.heads.len() + n);
         Ok(())
     }
 
@@ -105,6 +146,13 @@ impl EntryList {
         ensures items { self.new.items ≡ self.old.items ++ entry ∷ [] }
         ensures room { self.new.room ≡ self.old.room }
     {
-        self.entries.push_reserved(entry);
+        let stamps = entry.stamps.as_slice();
+        self.heads.push_reserved(Head {
+            path: entry.path,
+            kind: entry.kind,
+            count: stamps.len() as u8,
+            first: self.stamps.len(),
+        });
+        self.stamps.extend_from_slice(stamps).unwrap();
     }
 }

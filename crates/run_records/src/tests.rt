@@ -152,6 +152,37 @@ fn a_list_of_records_grows_within_its_room(rt: HostRuntime) -> Result<(), Fail> 
             stamps: StampList::empty(),
         });
     }
-    assert_eq!(rt; list.as_slice().len(), 2);
+    assert_eq!(rt; list.len(), 2);
+    Ok(())
+}
+
+// A record with these stamps.
+fn stamped(stamps: &[u32]) -> Result<Entry, Fail> {
+    if 32 < stamps.len() {
+        return Err(Fail::new("a record has 32 stamps at most"));
+    }
+    Ok(Entry {
+        path: Path::Two,
+        kind: EntryKind::Did,
+        stamps: StampList::of(stamps),
+    })
+}
+
+#[test]
+fn a_record_has_its_own_stamps_again(rt: HostRuntime) -> Result<(), Fail> {
+    let mut most = [5; 32];
+    most[0] = 4;
+    most[31] = 6;
+    let rows: [&[u32]; 6] = [&[], &[7], &[100, 101], &most, &[], &[9]];
+    let mut list = EntryList::empty(rt.alloc());
+    for stamps in &rows {
+        list.reserve(1)?;
+        list.push(stamped(stamps)?);
+    }
+    assert_eq!(rt; list.len(), 6);
+    for index in 0..list.len() {
+        let entry = list.get(index);
+        assert_eq!(rt; Some(entry.stamps.as_slice()), rows.get(index).copied());
+    }
     Ok(())
 }
