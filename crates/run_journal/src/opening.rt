@@ -44,7 +44,7 @@ pub fn open_journal<D: Disk>(alloc: Global, disk: D) -> Result<Opened<D>, (D, Jo
                     offsets,
                 },
             ) => {
-                let count = entries.as_slice().len();
+                let count = entries.len();
                 Ok(Opened {
                     journal: Journal::over(file, batch, count),
                     header,

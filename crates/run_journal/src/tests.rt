@@ -67,7 +67,7 @@ fn file(alloc: Global, bodies: &[&[u8]]) -> Result<Vec<u8>, Fail> {
 fn opened(alloc: Global, bytes: Vec<u8>) -> Result<Result<usize, JournalFault>, Fail> {
     let disk = MemoryDisk::of_bytes(alloc, bytes, 100, &[])?;
     match open_journal(alloc, disk) {
-        Ok(opened) => Ok(Ok(opened.entries.as_slice().len())),
+        Ok(opened) => Ok(Ok(opened.entries.len())),
         Err((_disk, fault)) => Ok(Err(fault)),
     }
 }
@@ -155,7 +155,7 @@ fn each_record_stands_at_its_offset(rt: HostRuntime) -> Result<(), Fail> {
         panic!(&rt; "the journal is whole");
     };
     assert_eq!(rt; opened.offsets.as_slice(), [75, 84, 87, 94, 103].as_slice());
-    assert_eq!(rt; opened.entries.as_slice().len(), 5);
+    assert_eq!(rt; opened.entries.len(), 5);
     assert_eq!(rt; opened.header.left.as_slice().len(), 23);
     assert_eq!(rt; opened.journal.count(), 5);
     assert_eq!(rt; opened.journal.pending(), 0);
