@@ -49,7 +49,6 @@ pub(crate) fn rebuild(
         Ok(pair) => pair,
         Err(fault) => return Err(fault),
     };
-    let entries = entries.as_slice();
     let mut machine = match opening_machine(alloc, &pair, entries.len()) {
         Ok(machine) => machine,
         Err(NoMemory) => return Err(RestartFault::NoMemory),

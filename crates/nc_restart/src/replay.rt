@@ -7,7 +7,7 @@ ghost use Rattle.nc_restart.specs.Pair.{opening_of};
 ghost use Rattle.nc_restart.specs.History.{IsBehind, IsOutOfPlace, IsOutOfPlaceAt};
 
 use nc_verify::Verified;
-use run_records::{BadRecord, Entry};
+use run_records::{BadRecord, Entry, EntryList};
 use two_path::{Illegal, Machine, histories_are_runs};
 
 /// The record of this index is the first that may not stand where it stands.
@@ -47,15 +47,16 @@ fn redo(machine: &mut Machine, pair: &Verified, entry: &Entry) -> Result<(), Bad
 pub(crate) fn replay(
     machine: &mut Machine,
     pair: &Verified,
-    entries: &[Entry],
+    entries: &EntryList,
 ) -> Result<(), OutOfPlace>
     requires opening { machine.old.machine ≡ opening_of pair.now }
-    requires room { length entries.now ≤ machine.old.room }
-    ensures behind { OnOk result (IsBehind pair.now entries.now machine.new.machine) }
-    ensures bad { IfErr result (λ bad. IsOutOfPlaceAt pair.now entries.now bad.index bad.cause) }
+    requires room { length entries.now.items ≤ machine.old.room }
+    ensures behind { OnOk result (IsBehind pair.now entries.now.items machine.new.machine) }
+    ensures bad { IfErr result (λ bad. IsOutOfPlaceAt pair.now entries.now.items bad.index bad.cause) }
 {
-    for (index, entry) in entries.iter().enumerate() {
-        if let Err(cause) = redo(machine, pair, entry) {
+    for index in 0..entries.len() {
+        let entry = entries.get(index);
+        if let Err(cause) = redo(machine, pair, &entry) {
             let cause: BadRecord = cause;
             return Err(OutOfPlace { index, cause });
         }

@@ -1,6 +1,4 @@
 use Rattle.std.proofs.Common.{ℕ, List, get_or, sym, subst}
-use Rattle.run_records.specs.declared.entry.Entry.{Entry}
-use Rattle.nc_restart.specs.History.{IsOutOfPlaceAt}
 use Rattle.nc_restart.specs.Meaning.{IsBadReading, out_of_place}
 use Rattle.nc_restart.proofs.rebuilding.rebuild.Goals as goal
 
@@ -14,5 +12,4 @@ returns-in-Err-replay-clause-refused c =
     let index = c.in-Err-replay.field-0.index in
     let cause = c.in-Err-replay.field-0.cause in
     subst (λ (begins : List ℕ). IsBadReading header c.args.entries.now.items c.args.offsets.now (get_or begins index 0) cause) (sym c.as_slice.ensures)
-    (out_of_place pair index cause c.in-Ok.ensures.accepted
-    (subst (λ (entries : List Entry). IsOutOfPlaceAt pair entries index cause) c.as_slice-entries.ensures c.in-Err-replay.ensures.bad))
+    (out_of_place pair index cause c.in-Ok.ensures.accepted c.in-Err-replay.ensures.bad)

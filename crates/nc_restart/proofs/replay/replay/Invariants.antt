@@ -2,4 +2,4 @@ use Rattle.nc_restart.specs.Reading.{AreDone}
 use Rattle.nc_restart.proofs.replay.replay.Given as goal
 
 abbrev pub invariant-loop-index : goal.invariant-loop-index
-invariant-loop-index l = AreDone l.pair l.entries l.index l.machine
+invariant-loop-index l = AreDone l.pair l.entries.items l.index l.machine
