@@ -7,3 +7,4 @@ pub mod DoneAgain
 pub mod Replays
 pub mod SharedNumbers
 pub mod ReportOfMoves
+pub mod SummaryOfMoves

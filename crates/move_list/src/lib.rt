@@ -15,9 +15,13 @@ mod putting;
 mod report;
 mod standing;
 mod state;
+mod summary;
+#[cfg(test)]
+mod tests;
 mod turns;
 
 pub use end_line::Reason;
 pub use moves::LinedMove;
 pub use report::write_report;
 pub use state::write_state;
+pub use summary::write_summary;

@@ -61,6 +61,16 @@ impl Piece {
         self.add(buffer.format(number).as_bytes());
     }
 
+    /// Adds a count in decimal digits.
+    pub(crate) fn add_count(&mut self, count: u128)
+        requires { length self.old + 40 ≤ 512 }
+        ensures text { self.new ≡ self.old ++ decimal count }
+        ensures size { length self.new ≤ length self.old + 40 }
+    {
+        let mut buffer = Buffer::new();
+        self.add(buffer.format(count).as_bytes());
+    }
+
     /// Adds a length of 0.001 mm with three decimals.
     pub(crate) fn add_length(&mut self, increments: i64)
         requires { length self.old + 24 ≤ 512 }

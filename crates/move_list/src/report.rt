@@ -13,12 +13,12 @@ use crate::end_line::{Reason, end_lines};
 use crate::moves::{LinedMove, move_line};
 use crate::piece::Piece;
 use crate::putting::put_piece;
-use crate::turns::{PathMoves, moves_made};
+use crate::turns::{PathMoves, history_done};
 use cell_settings::Settings;
 use nc_number::Path;
 use nc_outside::{PutFault, Sink};
 use nc_verify::Verified;
-use run_records::{Entry, EntryList};
+use run_records::EntryList;
 use std::alloc::Global;
 use tape_flow::Flow;
 
@@ -134,17 +134,17 @@ fn put_report<K: Sink>(
     left: &Flow,
     right: &Flow,
     settings: &Settings,
-    entries: &[Entry],
+    entries: &EntryList,
     reason: &Reason,
     sink: &mut K,
 ) -> Result<(), PutFault>
-    requires legal { IsLegal (tapes_of left.now right.now) (machine_at_start left.now right.now settings.now) entries.now }
-    requires few { length entries.now ≤ 4000000 }
+    requires legal { IsLegal (tapes_of left.now right.now) (machine_at_start left.now right.now settings.now) entries.now.items }
+    requires few { length entries.now.items ≤ 4000000 }
     ensures { IsPut (K.state sink.old) (K.state sink.new) (report_text (tapes_of left.now right.now)
-        (machine_at_start left.now right.now settings.now) entries.now reason.now) result }
+        (machine_at_start left.now right.now settings.now) entries.now.items reason.now) result }
 {
-    match moves_made(alloc, left, right, settings, entries) {
-        Ok(made) => put_made(sink, &made, entries.len() as u64, reason),
+    match history_done(alloc, left, right, settings, entries) {
+        Ok(done) => put_made(sink, &done.made, entries.len() as u64, reason),
         Err(_) => Err(PutFault::NoMemory),
     }
 }
@@ -173,7 +173,7 @@ pub fn write_report<K: Sink>(
         verified.left(),
         verified.right(),
         verified.settings(),
-        entries.as_slice(),
+        entries,
         &reason,
         sink,
     )

@@ -3,7 +3,7 @@ ghost use Rattle.std.specs.Prelude.{◌≡◌, ◌≤◌, ◌<◌, ◌+◌, [], 
 ghost use Rattle.nc_number.specs.declared.path.Path.TheVariants.{One, Two};
 ghost use Rattle.two_path.specs.Machine.{without_reads};
 ghost use Rattle.two_path.specs.Turns.{tapes_of};
-ghost use Rattle.two_path.specs.Histories.{IsLegal, IsNext};
+ghost use Rattle.two_path.specs.Histories.{IsLegal, IsNext, fold};
 ghost use Rattle.two_path.specs.Joined.{AreAtTheirWaits};
 ghost use Rattle.two_path.specs.Again.{IsDoneAgain};
 ghost use Rattle.move_list.specs.Report.{lined, made_by, made_in, machine_at_start, moves_of};
@@ -12,7 +12,7 @@ use crate::moves::LinedMove;
 use cell_settings::Settings;
 use nc_number::{NoMemory, Path};
 use nc_outside::{Move, Moves};
-use run_records::Entry;
+use run_records::{Entry, EntryList};
 use std::alloc::Global;
 use tape_flow::Flow;
 use two_path::{Machine, Turn, histories_are_runs};
@@ -89,28 +89,38 @@ fn done_again(machine: &mut Machine, left: &Flow, right: &Flow, entry: &Entry) -
     machine.apply(left, right, entry).unwrap()
 }
 
-/// The moves of a history, whose records are done again on a machine of the pair.
-pub(crate) fn moves_made(
+/// A history that was done again: the moves that its records made, and the machine behind them.
+#[derive(Drop)]
+pub(crate) struct DoneAgain {
+    pub(crate) made: PathMoves,
+    pub(crate) machine: Machine,
+}
+
+/// Does the records of a history again, one by one, on a machine of the pair.
+pub(crate) fn history_done(
     alloc: Global,
     left: &Flow,
     right: &Flow,
     settings: &Settings,
-    entries: &[Entry],
-) -> Result<PathMoves, NoMemory>
-    requires legal { IsLegal (tapes_of left.now right.now) (machine_at_start left.now right.now settings.now) entries.now }
-    requires few { length entries.now ≤ 4000000 }
-    ensures one { IfOk result (λ made. made.one.items
-        ≡ moves_of (tapes_of left.now right.now) (machine_at_start left.now right.now settings.now) One entries.now) }
-    ensures two { IfOk result (λ made. made.two.items
-        ≡ moves_of (tapes_of left.now right.now) (machine_at_start left.now right.now settings.now) Two entries.now) }
+    entries: &EntryList,
+) -> Result<DoneAgain, NoMemory>
+    requires legal { IsLegal (tapes_of left.now right.now) (machine_at_start left.now right.now settings.now) entries.now.items }
+    requires few { length entries.now.items ≤ 4000000 }
+    ensures one { IfOk result (λ done. done.made.one.items
+        ≡ moves_of (tapes_of left.now right.now) (machine_at_start left.now right.now settings.now) One entries.now.items) }
+    ensures two { IfOk result (λ done. done.made.two.items
+        ≡ moves_of (tapes_of left.now right.now) (machine_at_start left.now right.now settings.now) Two entries.now.items) }
+    ensures machine { IfOk result (λ done. done.machine.machine
+        ≡ fold (tapes_of left.now right.now) (machine_at_start left.now right.now settings.now) entries.now.items) }
 {
     histories_are_runs();
     let mut machine = Machine::new(alloc, left, right, settings)?;
     machine.reserve(entries.len())?;
     let mut made = PathMoves::empty(alloc);
-    for entry in entries {
-        let turn = done_again(&mut machine, left, right, entry);
+    for index in 0..entries.len() {
+        let entry = entries.get(index);
+        let turn = done_again(&mut machine, left, right, &entry);
         made.add(entry.path, &turn)?;
     }
-    Ok(made)
+    Ok(DoneAgain { made, machine })
 }

@@ -2,7 +2,7 @@ use Rattle.move_list.proofs.report.write_report.Goals as goal
 
 pub put_report-requires-clause-legal : goal.put_report-requires-clause-legal
 put_report-requires-clause-legal g c =
-    rw (c.left.ensures.same, c.right.ensures.same, c.settings.ensures, c.as_slice.ensures) c.requires.legal
+    rw (c.left.ensures.same, c.right.ensures.same, c.settings.ensures) c.requires.legal
 
 pub returns : goal.returns
-returns g c = rw (c.left.ensures.same, c.right.ensures.same, c.settings.ensures, c.as_slice.ensures) at c.put_report.ensures
+returns g c = rw (c.left.ensures.same, c.right.ensures.same, c.settings.ensures) at c.put_report.ensures
