@@ -23,8 +23,9 @@ pub record IsInOrder {T : Type 0} (held : List T) (logs : List (Log T)) : Type 0
   pub sends : (pass : ℕ) (v : Log T) → get_elem? logs pass ≡ some v → v.sends ≡ true → (pass ≡ sender) × (v.sent ≡ sent)
   pub takes : (pass : ℕ) (v : Log T) → get_elem? logs pass ≡ some v → v.takes ≡ true → (pass ≡ taker) × (v.taken ≡ taken)
 
--- Which wire an end belongs to.
+-- Which wire an end belongs to, and how many items the wire holds at most.
 pub record WireId (T : Type 0) : Type 0 where
+  pub bound : ℕ
   pub table : TableId
   pub key : Badge (Key T)
 
@@ -33,6 +34,6 @@ pub record WireEnd (T : Type 0) : Type 0 where
   pub wire : WireId T
   pub items : List T
 
--- the wire of a pass
-abbrev pub wire_of : {T : Type 0} → Pass T (Log T) → WireId T
-wire_of pass = record { table = pass.table_id; key = pass.me.0.of }
+-- the wire of a pass, which holds so many items at most
+abbrev pub wire_of : {T : Type 0} → ℕ → Pass T (Log T) → WireId T
+wire_of bound pass = record { bound = bound; table = pass.table_id; key = pass.me.0.of }

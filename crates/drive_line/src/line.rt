@@ -23,6 +23,7 @@ impl Line {
         ensures one { IfOk result (λ r. r.0.line ≡ r.1.line) }
         ensures sending { IfOk result (λ r. (r.0.items ≡ []) × (r.0.received ≡ [])) }
         ensures taking { IfOk result (λ r. r.1.items ≡ []) }
+        ensures bound { IfOk result (λ r. (r.0.line.forth.bound ≡ bound) × (r.0.line.back.bound ≡ bound)) }
     {
         let (to_drive, from_worker) = new_wire::<Item>(alloc, bound)?;
         let (to_worker, from_drive) = new_wire::<u64>(alloc, bound)?;

@@ -130,12 +130,15 @@ pub struct WireIn<T: Drop> {
 impl<T: Drop> Model for WireIn<T> {
     ghost use Rattle.std.specs.Prelude.{◌≡◌, true, false, []};
     ghost use Rattle.crossbeam_channel.specs.Claims.{view as seen, IsSeatAt};
-    ghost use Rattle.crossbeam_channel.specs.Ends.{sends_on};
+    ghost use Rattle.crossbeam_channel.specs.Ends.{sends_on, ruled_capacity};
     ghost use Rattle.drive_line.specs.Wire.{log, WireEnd, wire_of};
 
     ghost Value = { WireEnd T };
 
-    ghost view = { λ e. record { wire = wire_of e.pass; items = (seen e.pass).sent } };
+    ghost view = { λ e. record {
+      wire = wire_of (ruled_capacity (sends_on e.sender)) e.pass;
+      items = (seen e.pass).sent;
+    } };
 
     ghost invariant = { λ e. IsSeatAt (sends_on e.sender) e.pass
         × (seen e.pass ≡ log true false (seen e.pass).sent []) };
@@ -151,12 +154,15 @@ pub struct WireOut<T: Drop> {
 impl<T: Drop> Model for WireOut<T> {
     ghost use Rattle.std.specs.Prelude.{◌≡◌, true, false, []};
     ghost use Rattle.crossbeam_channel.specs.Claims.{view as seen, IsSeatAt};
-    ghost use Rattle.crossbeam_channel.specs.Ends.{receives_on};
+    ghost use Rattle.crossbeam_channel.specs.Ends.{receives_on, ruled_capacity};
     ghost use Rattle.drive_line.specs.Wire.{log, WireEnd, wire_of};
 
     ghost Value = { WireEnd T };
 
-    ghost view = { λ e. record { wire = wire_of e.pass; items = (seen e.pass).taken } };
+    ghost view = { λ e. record {
+      wire = wire_of (ruled_capacity (receives_on e.receiver)) e.pass;
+      items = (seen e.pass).taken;
+    } };
 
     ghost invariant = { λ e. IsSeatAt (receives_on e.receiver) e.pass
         × (seen e.pass ≡ log false true [] (seen e.pass).taken) };
@@ -167,6 +173,7 @@ pub fn new_wire<T: Drop>(alloc: Global, bound: usize) -> Result<(WireIn<T>, Wire
     requires { 0 < bound }
     ensures one { IfOk result (λ r. r.0.wire ≡ r.1.wire) }
     ensures empty { IfOk result (λ r. (r.0.items ≡ []) × (r.1.items ≡ [])) }
+    ensures bound { IfOk result (λ r. r.0.wire.bound ≡ bound) }
 {
     let (sender, receiver, mut pass) = bounded_with::<T, Log<T>, FirstOut, Global>(alloc, bound)?;
     let other = sender.another::<Ends>(&mut pass);
