@@ -109,10 +109,10 @@ module _ {C : Type 0} (records : C → Path → Records) where
       )
 
   pub gives_turn : (slots id : ℕ) (m : Sat) (v : Knows) (c : C) → m ≡ (v, (0, Some c) ∷ []) → v.busy ≡ true → ((p : Path) → has (steps p) v.rights ≡ false → records c p ≡ list_of p v.found)
-      → Allows Rule slots id m 0 (λ _. 0) (λ _. gave records (step slots 0 0 0 maybe.none) m 0)
-  gives_turn slots id m v c is busy others = subst (λ (x : Sat). Allows Rule slots id x 0 (λ _. 0) (λ _. gave records (step slots 0 0 0 maybe.none) x 0)) (sym is) gives_here
+      → Allows Rule slots id m 0 (λ _. 0) (gave records (step slots 0 0 0 maybe.none) m)
+  gives_turn slots id m v c is busy others = subst (λ (x : Sat). Allows Rule slots id x 0 (λ _. 0) (gave records (step slots 0 0 0 maybe.none) x)) (sym is) gives_here
     where
-      gives_here : Allows Rule slots id (v, (0, Some c) ∷ []) 0 (λ _. 0) (λ _. gave records (step slots 0 0 0 maybe.none) (v, (0, Some c) ∷ []) 0)
+      gives_here : Allows Rule slots id (v, (0, Some c) ∷ []) 0 (λ _. 0) (gave records (step slots 0 0 0 maybe.none) (v, (0, Some c) ∷ []))
       gives_here s k long at small = let l : Lists = lists_of records c in let w : Knows = idle v.rights l v.calls in let mine = k.each id v at in let had = mine.busy busy in
           let fits : (j : ℕ) (u : Knows) → j ≢ id → get_elem? s.views j ≡ some u → Fits l k.owner 0 0 j u =
           λ j u other there. let f = k.each j u there in record {
@@ -245,6 +245,35 @@ module _ {C : Type 0} (records : C → Path → Records) where
         k.now k.owner k.holder (subst (λ (n : ℕ). 0 < n) (sym (length-set s.words 1 (f (get_or s.words 1 0)))) k.wide) k.deep k.each k.home k.away),
     refl,
   )
+
+  -- a wake is asked for, where a seat has the turn
+  pub asks : (slots id : ℕ) (m : Sat) → Allows Rule slots id m 0 (λ n. either (eqb n 1) 2 n) (λ _ w. w ≡ m)
+  asks slots id m s k long at small = exchanged (get_or s.words 0 0) 1 2 Goal hit miss
+    where
+      Goal : ℕ → Type 0
+      Goal n = (w : Knows) × (a : Act (Option C)) × Valid s.homes m.1 a × Rule (stepped s 0 n id m.1 w a) × ((w, carried_after m.1 a) ≡ m)
+
+      hit : get_or s.words 0 0 ≡ 1 → Goal 2
+      hit e = (
+        m.0,
+        keeps,
+        tt,
+        subst (λ (vs : List Knows). Rule record { words = set s.words 0 2; homes = s.homes; views = vs }) (sym (set_again s.views id m.0 at))
+            (rule_of record { words = set s.words 0 2; homes = s.homes; views = s.views } 2 (get_or-set_same s.words 0 2 0 k.wide) k.now k.owner k.holder
+            (subst (λ (n : ℕ). 0 < n) (sym (length-set s.words 0 2)) k.wide) k.deep
+            (λ j v there. let f = k.each j v there in record { owns = f.owns; lists = f.lists; busy = λ z. let b = f.busy z in (b.0, b.1, (omega arith), b.3, b.4) })
+            (λ z. absurd (omega arith)) (λ _. k.away (subst (λ (n : ℕ). 0 < n) (sym e) (omega arith)))),
+        refl,
+      )
+
+      miss : get_or s.words 0 0 ≢ 1 → Goal (get_or s.words 0 0)
+      miss ne = (
+        m.0,
+        keeps,
+        tt,
+        subst (λ (t : List ℕ × List Knows). Rule record { words = t.0; homes = s.homes; views = t.1 }) (λ i. (sym (set-get_or s.words 0 0) i, sym (set_again s.views id m.0 at) i)) k,
+        refl,
+      )
 
   -- calls are noted at the second word, by a seat that has not the turn
   pub notes : (slots id : ℕ) (m : Sat) (calls : List Call) → m.0.busy ≡ false → Allows Rule slots id m 1 (λ n. n) (λ _ w. w ≡ (called calls m.0, m.1))

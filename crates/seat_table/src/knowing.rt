@@ -65,6 +65,13 @@ impl<S> Play<S, Knows> for Count {
     ghost then = { λ _ m _ w. w ≡ m };
 }
 
+/// Asks who has the turn for a wake.
+pub struct Ask;
+
+impl<S> Play<S, Knows> for Ask {
+    ghost then = { λ _ m _ w. w ≡ m };
+}
+
 /// The calls that a note is to be of. Who notes one picks it.
 pub trait Noted {
     ghost calls: { List Called };

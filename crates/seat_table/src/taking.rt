@@ -5,7 +5,7 @@ ghost use Rattle.seat_table.specs.Taking.{Tries, IsGiven};
 ghost use Rattle.seat_table.specs.Turning.{Answers};
 ghost use Rattle.seat_table.specs.Knowing.{Right, steps, halts, has, list_of, lists_of, idle, called, Idle, IsAt, IsOf, Took, Keeps, list_at};
 
-use crate::knowing::{Count, Give, Glue, Knows, Law, Note, Noted, Take};
+use crate::knowing::{Ask, Count, Give, Glue, Knows, Law, Note, Noted, Take};
 use crate::turning::Turns;
 use atomic_table::{Seat, Shared, Table};
 use nc_number::Path;
@@ -36,7 +36,12 @@ pub enum Notice {
     Halt(Halt),
 }
 
-// Takes the turn if nobody has it, and the table with it.
+// How often a seat looks for the turn before it sleeps until the turn is given back. A step in memory is done by then, and
+// one that waits for a disk is not.
+const LOOKS: u32 = 64;
+
+// Takes the turn if nobody has it, and the table with it. The word of the turn is 0 where nobody has it, 1 where a seat has
+// it, and 2 where another seat sleeps until it is given back.
 fn take<C: Turns>(shared: &Shared<Option<C>, Knows, (), Law>, place: &mut Place<C>) -> Option<C>
     requires table { IsAt place.old.table_id shared.now.table_id }
     requires idle { Idle place.old.me }
@@ -54,7 +59,7 @@ fn take<C: Turns>(shared: &Shared<Option<C>, Knows, (), Law>, place: &mut Place<
     Some(table)
 }
 
-// Puts the table back, and gives the turn back.
+// Puts the table back, and gives the turn back. It wakes those that sleep until then.
 fn give<C: Turns>(shared: &Shared<Option<C>, Knows, (), Law>, place: &mut Place<C>, table: C)
     requires table { IsAt place.old.table_id shared.now.table_id }
     requires busy { (place.old.me.0.busy ≡ true) × (place.old.me.1 ≡ (0, None) ∷ []) }
@@ -66,7 +71,27 @@ fn give<C: Turns>(shared: &Shared<Option<C>, Knows, (), Law>, place: &mut Place<
 {
     let before = shared.exchange(place, 0, Some(table));
     let None = before else { unreachable!() };
-    shared.store::<Give>(place, 0, 0);
+    if shared.swap::<Give>(place, 0, 0) == 2 {
+        shared.wake_all(0);
+    }
+}
+
+// Lets the seat that has the turn go on: yields, and after many looks sleeps until the turn is given back.
+fn stand_by<C: Turns, R: Wait>(
+    rt: &R,
+    shared: &Shared<Option<C>, Knows, (), Law>,
+    place: &mut Place<C>,
+    looks: u32,
+)
+    requires { IsAt place.old.table_id shared.now.table_id }
+    ensures { (place.new.table_id ≡ place.old.table_id) × (place.new.id ≡ place.old.id)
+        × (place.new.me ≡ place.old.me) }
+{
+    if looks < LOOKS {
+        thread::yield_now();
+    } else if shared.compare_exchange::<Ask>(place, 0, 1, 2) != 0 {
+        shared.park(rt, 0, 2);
+    }
 }
 
 // Counts a change of the table, and wakes those that wait for one.
@@ -186,13 +211,15 @@ pub(crate) fn step_until<C: Turns, R: Wait>(
     ensures calls { place.new.me.0.calls ≡ place.old.me.0.calls }
     ensures list { Answers (list_at path place.old.me) result (list_at path place.new.me) }
 {
+    let mut looks = 0u32;
     for _ in rt.forever() {
         let seen = shared.peek(1);
         match turn(shared, place, path) {
             Tried::Stepped(next) => return next,
-            Tried::Busy => thread::yield_now(),
+            Tried::Busy => stand_by(rt, shared, place, looks),
             Tried::Waits => shared.park(rt, 1, (seen % (1 << 32)) as u32),
         }
+        looks = looks.saturating_add(1);
     }
     unreachable!()
 }
@@ -212,11 +239,13 @@ pub(crate) fn tell_until<C: Turns, R: Wait>(
     ensures list { (p : Path) → has (steps p) place.old.me.0.rights ≡ true
         → list_at p place.new.me ≡ list_at p place.old.me }
 {
+    let mut looks = 0u32;
     for _ in rt.forever() {
         if tell_turn(shared, place, &notice) {
             return;
         }
-        thread::yield_now();
+        stand_by(rt, shared, place, looks);
+        looks = looks.saturating_add(1);
     }
     unreachable!()
 }

@@ -9,6 +9,7 @@ use nc_outside::{Halt, Move, MoveList, Moves, Next};
 use std::alloc::Global;
 use std::sync::atomic::AtomicU64;
 use std::sync::atomic::Ordering::SeqCst;
+use std::thread;
 
 #[derive(Drop)]
 pub struct MemoryTable {
@@ -16,6 +17,8 @@ pub struct MemoryTable {
     pub second: Vec<u16>,
     // So many records each path makes.
     pub goal: usize,
+    // So long a turn lasts, in yields.
+    pub lasts: u32,
     // How often a path was found to wait.
     pub looks: AtomicU64,
     // How many drains it was told.
@@ -24,17 +27,25 @@ pub struct MemoryTable {
 }
 
 impl MemoryTable {
-    pub fn new(alloc: Global, goal: usize) -> MemoryTable
+    pub fn new(alloc: Global, goal: usize, lasts: u32) -> MemoryTable
         ensures { (result.first.items ≡ []) × (result.second.items ≡ []) }
     {
         MemoryTable {
             first: Vec::new(alloc),
             second: Vec::new(alloc),
             goal,
+            lasts,
             looks: AtomicU64::new(0),
             drains: 0,
             halt: None,
         }
+    }
+}
+
+/// Lets other threads run, so often.
+pub fn yield_often(times: u32) {
+    for _ in 0..times {
+        thread::yield_now();
     }
 }
 
@@ -69,6 +80,7 @@ impl Turns for MemoryTable {
     }) };
 
     fn turn_step(&mut self, path: Path) -> Option<Next> {
+        yield_often(self.lasts);
         if let Some(path) = self.halt {
             return Some(Next::Halted(Halt::Turret(path)));
         }

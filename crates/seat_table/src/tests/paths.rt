@@ -2,7 +2,7 @@ ghost use Rattle.std.specs.Prelude.{◌≡◌};
 ghost use Rattle.nc_outside.specs.Calls.{moves_answered};
 ghost use Rattle.seat_table.specs.Turning.{moves_in};
 
-use super::memory::MemoryTable;
+use super::memory::{MemoryTable, yield_often};
 use crate::{HaltPass, SeatPass, SeatTable, Seated};
 use nc_number::{NoMemory, Path};
 use nc_outside::{Drained, Drains, Halt, Move, Moves, Next, Stepper};
@@ -93,12 +93,6 @@ fn work<R: Wait + Sync>(
     (stepper.into_pass(), codes)
 }
 
-fn yield_often() {
-    for _ in 0..20_000u32 {
-        thread::yield_now();
-    }
-}
-
 // Looks on for a while, and then halts for the turret of path 1.
 fn look_on<R: Wait + Sync>(
     rt: &R,
@@ -108,7 +102,7 @@ fn look_on<R: Wait + Sync>(
     requires { pass.table ≡ table.now }
     ensures { result ≡ pass }
 {
-    yield_often();
+    yield_often(20_000);
     let mut halter = table.halter(rt, pass);
     is_sent(&halter);
     halter.halt(Halt::Turret(Path::One));
@@ -122,9 +116,14 @@ struct Ran {
     second: Vec<u16>,
 }
 
-// Both paths, up to so many records each.
-fn run_both<R: Threads + Wait + Sync>(rt: &R, alloc: Global, goal: usize) -> Result<Ran, NoMemory> {
-    let Ok(seated) = SeatTable::new(alloc, MemoryTable::new(alloc, goal)) else {
+// Both paths, up to so many records each, where a turn lasts so long.
+fn run_both<R: Threads + Wait + Sync>(
+    rt: &R,
+    alloc: Global,
+    goal: usize,
+    lasts: u32,
+) -> Result<Ran, NoMemory> {
+    let Ok(seated) = SeatTable::new(alloc, MemoryTable::new(alloc, goal, lasts)) else {
         return Err(NoMemory);
     };
     let Seated {
@@ -159,7 +158,7 @@ fn run_second<R: Threads + Wait + Sync>(
     rt: &R,
     alloc: Global,
 ) -> Result<(MemoryTable, Vec<u16>), NoMemory> {
-    let Ok(seated) = SeatTable::new(alloc, MemoryTable::new(alloc, 5)) else {
+    let Ok(seated) = SeatTable::new(alloc, MemoryTable::new(alloc, 5, 0)) else {
         return Err(NoMemory);
     };
     let Seated {
@@ -187,14 +186,40 @@ fn run_second<R: Threads + Wait + Sync>(
 
 #[test]
 fn each_path_gets_the_moves_of_its_records(rt: HostRuntime) -> Result<(), Fail> {
-    for goal in [0usize, 1, 100] {
-        let ran = run_both(&rt, rt.alloc(), goal)?;
+    for (goal, lasts) in [(0usize, 0u32), (1, 0), (100, 0), (20, 2_000)] {
+        let ran = run_both(&rt, rt.alloc(), goal, lasts)?;
         assert_eq!(rt; ran.first.len(), goal);
         assert_eq!(rt; ran.first.as_slice(), ran.table.first.as_slice());
         assert_eq!(rt; ran.second.len(), goal);
         assert_eq!(rt; ran.second.as_slice(), ran.table.second.as_slice());
         assert_eq!(rt; ran.table.drains, 2 * goal as u64);
     }
+    Ok(())
+}
+
+// Path 1, which halts the run by its own pass and then asks for a step.
+fn halt_first<R: Wait>(rt: &R, alloc: Global) -> Result<(MemoryTable, Next), NoMemory> {
+    let Ok(seated) = SeatTable::new(alloc, MemoryTable::new(alloc, 5, 0)) else {
+        return Err(NoMemory);
+    };
+    let Seated {
+        table,
+        mut first,
+        second,
+        first_halt,
+        second_halt,
+    } = seated;
+    table.halt_path(rt, &mut first, Halt::Turret(Path::One));
+    let next = table.step(rt, &mut first);
+    let table = table.close(first, second, first_halt, second_halt);
+    Ok((table, next))
+}
+
+#[test]
+fn a_path_halts_the_run(rt: HostRuntime) -> Result<(), Fail> {
+    let (table, next) = halt_first(&rt, rt.alloc())?;
+    assert_eq!(rt; table.halt, Some(Path::One));
+    assert!(rt; matches!(next, Next::Halted(Halt::Turret(Path::One))));
     Ok(())
 }
 
