@@ -1,0 +1,4 @@
+-- What callers read.
+pub mod Serving
+-- Words of the inside.
+pub mod Seats

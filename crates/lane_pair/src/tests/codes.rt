@@ -1,0 +1,108 @@
+// A table in memory, whose paths make records of an auxiliary code each, and wait for nobody.
+ghost use Rattle.std.specs.Prelude.{◌≡◌, map, [], ◌∷◌};
+ghost use Rattle.nc_outside.specs.declared.motion.Move.TheVariants.{Aux};
+ghost use Rattle.seat_table.specs.Turning.{Answers};
+
+use nc_number::Path;
+use nc_outside::{Halt, Move, MoveList, Moves, Next};
+use seat_table::Turns;
+use std::alloc::Global;
+use std::sync::atomic::AtomicU64;
+use std::sync::atomic::Ordering::SeqCst;
+
+#[derive(Drop)]
+pub struct CodeTable<'a> {
+    pub first: Vec<u16>,
+    pub second: Vec<u16>,
+    // So many records each path makes.
+    pub goals: (usize, usize),
+    // How many steps there were.
+    pub steps: &'a AtomicU64,
+    // Whether each record is to be drained.
+    pub drains: bool,
+    // Whether a record was made that is not drained.
+    pub owed: bool,
+    // How many drains it was told.
+    pub drained: u64,
+    pub halt: Option<Path>,
+}
+
+impl<'a> CodeTable<'a> {
+    pub fn new(
+        alloc: Global,
+        goals: (usize, usize),
+        drains: bool,
+        steps: &'a AtomicU64,
+    ) -> CodeTable<'a>
+        ensures { (result.first.items ≡ []) × (result.second.items ≡ []) }
+    {
+        CodeTable {
+            first: Vec::new(alloc),
+            second: Vec::new(alloc),
+            goals,
+            steps,
+            drains,
+            owed: false,
+            drained: 0,
+            halt: None,
+        }
+    }
+}
+
+// The moves of a block with an auxiliary code.
+fn block(m: u16) -> Moves
+    ensures { result.list ≡ Aux m ∷ [] }
+{
+    let mut list = MoveList::empty();
+    list.push(Move::Aux { m });
+    Moves { line: 1, list }
+}
+
+// One record more of a path, up to so many.
+fn make(records: &mut Vec<u16>, goal: usize) -> Next
+    ensures { Answers (map (λ m. Aux m ∷ []) records.old.items) result (map (λ m. Aux m ∷ []) records.new.items) }
+{
+    if records.len() >= goal {
+        return Next::Finished;
+    }
+    let m = (records.len() % 1000) as u16;
+    if records.push(m).is_err() {
+        return Next::Finished;
+    }
+    Next::Moves(block(m))
+}
+
+impl<'a> Turns for CodeTable<'a> {
+    ghost use Rattle.std.specs.Prelude.{map, [], ◌∷◌};
+    ghost use Rattle.nc_number.specs.declared.path.Path.TheVariants.{One};
+    ghost use Rattle.nc_outside.specs.declared.motion.Move.TheVariants.{Aux};
+    ghost use Rattle.lane_pair.specs.Seats.{of_path};
+
+    ghost records = { λ t path. of_path path (map (λ m. Aux m ∷ []) t.first.items) (map (λ m. Aux m ∷ []) t.second.items) };
+
+    fn turn_step(&mut self, path: Path) -> Option<Next> {
+        self.steps.fetch_add(1, SeqCst);
+        if let Some(path) = self.halt {
+            return Some(Next::Halted(Halt::Turret(path)));
+        }
+        if self.owed && self.drains {
+            return Some(Next::Drain);
+        }
+        self.owed = true;
+        match path {
+            Path::One => Some(make(&mut self.first, self.goals.0)),
+            Path::Two => Some(make(&mut self.second, self.goals.1)),
+        }
+    }
+
+    fn drained(&mut self, _path: Path) {
+        self.owed = false;
+        self.drained = self.drained.saturating_add(1);
+    }
+
+    fn halt(&mut self, why: Halt) {
+        if let Halt::Turret(path) = why {
+            self.halt = Some(path);
+        }
+    }
+}
