@@ -19,19 +19,16 @@ use Rattle.two_path.specs.Again.{turn_of_entry}
 use Rattle.seat_table.specs.Turning.{Answers as Adds}
 use Rattle.run_table.specs.declared.answer.TableStep.{TableStep}
 use Rattle.run_table.specs.declared.answer.TableStep.TheVariants.{Turned, Drain, DiskFault, Halted}
-use Rattle.run_table.specs.declared.draining.Owed.{Owed}
 use Rattle.run_table.specs.Draining.{owed_behind}
 use Rattle.run_table.specs.Kept.{TableView, tapes_in, opening_of, MayGoOn, HasReason, IsTable}
 use Rattle.run_table.specs.Since.{Since}
 use Rattle.run_table.specs.Stepping.{is_due, bound_of, drains, step_by, step_of, Answers, reason_behind, IsStep}
 use Rattle.run_table.specs.Stepping.Answers.{at_once, flushed, failed}
-use Rattle.nc_outside.specs.Calls.{IsOfTurret}
-use Rattle.run_table.specs.Begun.{first_reason}
-use Rattle.run_table.specs.Holding.{HeldView, held_of, IsOf, IsHeld, without_turret, moves_of, answered_from, records_since, next_of, is_lost}
+use Rattle.run_table.specs.Made.{moves_of}
+use Rattle.run_table.specs.Holding.{HeldView, held_of, answered_from, records_since, next_of, is_lost}
 use Rattle.run_table.proofs.OtherGoesOn.{waits_still}
 use Rattle.run_table.proofs.ListsGrow.{GrowsBy, fold_parts, shown_grows, lost_grows, turn_adds, turn_stays}
 use Rattle.run_table.proofs.Redone.{redone}
-use Rattle.run_table.proofs.Then.{since_more}
 
 -- no record is lost where none was made
 none_lost : (result : TableStep) (n n' : ℕ) → n' ≡ n → is_lost result n n' ≡ false
@@ -272,69 +269,3 @@ module _ {D : Type 0} (state : D → DiskState) (path : Path) (start t t' : Tabl
           let same : not (is_lost result (length t.recording.history) (length t'.recording.history)) ≡ false =
           sym (ap (λ (b : Bool). b && not (is_lost result (length t.recording.history) (length t'.recording.history))) was) ∙ sym shown_is ∙ is in
           by_halt t.halt refl (only_fault result (opposite (is_lost result (length t.recording.history) (length t'.recording.history)) same))
-
-pub lost_by : (shown : Bool) (result : TableStep) {a a' b b' : ℕ} → a ≡ a' → b ≡ b' → (shown && not (is_lost result a b)) ≡ (shown && not (is_lost result a' b'))
-lost_by shown result first second = λ i. shown && not (is_lost result (first i) (second i))
-
--- over any opening
-pub of_more : {D : Type 0} (state : D → DiskState) (opened : Option (TableView D)) (t t' : TableView D) → IsOf state opened t → Since state t t' → IsOf state opened t'
-of_more state None t t' of since = absurd of
-of_more state (Some start) t t' of since = since_more state start t t' of since
-
-module _ {D : Type 0} (state : D → DiskState) (opened : Option (TableView D)) (path : Path) (t t' : TableView D) (result : TableStep) (shown shown' : Bool)
-    (table : IsTable state t) (held : IsHeld state opened t shown) (step : IsStep state (step_of t path) t t' result) (since : Since state t t')
-    (owed : t'.owed ≡ owed_behind path result t.owed)
-    (shown_is : shown' ≡ (shown && not (is_lost result (length t.recording.history) (length t'.recording.history)))) where
-  pub held_on : IsHeld state opened t' shown'
-  held_on = record { of = of_more state opened t t' held.of since; lost = go opened held.of }
-    where
-      go : (o : Option (TableView D)) → IsOf state o t → shown' ≡ false → t'.halt ≡ Some halt.Disk
-      go None of = absurd of
-      go (Some start) of = still_lost state path start t t' result shown shown' table of held.lost step owed shown_is
-
-  pub held_answers : MatchOption (next_of result) (◌≡◌ {A = HeldView D} (held_of t' shown') (held_of t shown))
-      (λ next. Adds (records_since opened (held_of t shown) path) next (records_since opened (held_of t' shown') path))
-  held_answers = go opened held.of
-    where
-      go : (o : Option (TableView D)) → IsOf state o t → MatchOption (next_of result) (◌≡◌ {A = HeldView D} (held_of t' shown') (held_of t shown))
-          (λ next. Adds (records_since o (held_of t shown) path) next (records_since o (held_of t' shown') path))
-      go None of = absurd of
-      go (Some start) of = (comes state path start t t' result shown shown' table of held.lost step owed shown_is).0
-
-  pub held_others : (p : Path) → p ≢ path → records_since opened (held_of t' shown') p ≡ records_since opened (held_of t shown) p
-  held_others = go opened held.of
-    where
-      go : (o : Option (TableView D)) → IsOf state o t → (p : Path) → p ≢ path → records_since o (held_of t' shown') p ≡ records_since o (held_of t shown) p
-      go None of = absurd of
-      go (Some start) of = (comes state path start t t' result shown shown' table of held.lost step owed shown_is).1
-
--- what is no record changes nothing of it
-pub of_owed : {D : Type 0} (state : D → DiskState) (opened : Option (TableView D)) (t : TableView D) (owed : Owed) → IsOf state opened t → IsOf state opened (record t { owed = owed })
-of_owed state None t owed of = absurd of
-of_owed state (Some start) t owed of =
-    record { verified = of.verified; made = of.made; recording = of.recording; budget = of.budget; cause = of.cause }
-
-pub of_halt : {D : Type 0} (state : D → DiskState) (opened : Option (TableView D)) (t : TableView D) (why : Option Halt) → (why ≡ Some halt.Disk → t.halt ≡ Some halt.Disk)
-    → IsOf state opened t → IsOf state opened (record t { halt = why })
-of_halt state None t why disk of = absurd of
-of_halt state (Some start) t why disk of =
-    record { verified = of.verified; made = of.made; recording = of.recording; budget = of.budget; cause = λ is. of.cause (disk is) }
-
-pub no_turret_disk : (why : Option Halt) → without_turret why ≡ Some halt.Disk → why ≡ Some halt.Disk
-no_turret_disk None is = absurd (let clash : None ≡ Some halt.Disk = is in cc)
-no_turret_disk (Some (halt.Alarm alarm)) is = is
-no_turret_disk (Some halt.Disk) is = is
-no_turret_disk (Some (halt.Turret path)) is = absurd (let clash : None ≡ Some halt.Disk = is in cc)
-no_turret_disk (Some halt.Full) is = is
-no_turret_disk (Some halt.Budget) is = is
-
-pub first_disk : (kept : Option Halt) (why : Halt) → IsOfTurret why → first_reason kept why ≡ Some halt.Disk → kept ≡ Some halt.Disk
-first_disk None (halt.Alarm alarm) turret is = absurd turret
-first_disk None halt.Disk turret is = absurd turret
-first_disk None (halt.Turret path) turret is = absurd (let clash : Some (halt.Turret path) ≡ Some halt.Disk = is in cc)
-first_disk None halt.Full turret is = absurd turret
-first_disk None halt.Budget turret is = absurd turret
-first_disk (Some first) why turret is = is
-
-pub disk_first : (kept : Option Halt) (why : Halt) → kept ≡ Some halt.Disk → first_reason kept why ≡ Some halt.Disk
-disk_first kept why is = ap (λ (k : Option Halt). first_reason k why) is

@@ -1,7 +1,11 @@
 mod AlarmsKept
+mod EndsTold
+mod FlushedShown
+mod HeldKept
 mod HeldSteps
 mod JournalsOn
 mod ListsGrow
+mod MovesFew
 mod OtherGoesOn
 mod RecordingsFollow
 mod Redone

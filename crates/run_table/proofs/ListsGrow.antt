@@ -17,7 +17,8 @@ use Rattle.two_path.specs.Turns.{Tapes, kind_of}
 use Rattle.two_path.specs.Histories.{is_same, behind_entry, fold}
 use Rattle.two_path.specs.Again.{turn_of_entry}
 use Rattle.seat_table.specs.Turning.{Answers as Adds}
-use Rattle.run_table.specs.Holding.{moves_of, if_of, shown_from, lost_from, answered_from, handed, next_of_turn}
+use Rattle.run_table.specs.Made.{moves_of, if_of, shown_from}
+use Rattle.run_table.specs.Holding.{lost_from, answered_from, handed, next_of_turn}
 
 -- one record more
 shown_more : (tapes : Tapes) (m : MachineView) (path : Path) (entries : List Entry) (e : Entry)

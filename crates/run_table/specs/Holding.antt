@@ -11,16 +11,18 @@ use Rattle.nc_outside.specs.declared.motion.Move.{Move}
 use Rattle.nc_outside.specs.declared.motion.Moves.{Moves}
 use Rattle.nc_verify.specs.declared.verified.Verified.{Verified}
 use Rattle.run_records.specs.declared.entry.Entry.{Entry}
+use Rattle.seat_table.specs.Turning.{moves_in}
 use Rattle.two_path.specs.declared.turn.Turn.{Turn}
 use Rattle.two_path.specs.declared.turn.Turn.TheVariants as turn
 use Rattle.two_path.specs.Machine.{MachineView}
 use Rattle.two_path.specs.Turns.{Tapes}
-use Rattle.two_path.specs.Histories.{behind_entry, fold, is_same}
+use Rattle.two_path.specs.Histories.{behind_entry, fold}
 use Rattle.two_path.specs.Again.{turn_of_entry}
 use Rattle.run_table.specs.declared.answer.TableStep.{TableStep}
 use Rattle.run_table.specs.declared.answer.TableStep.TheVariants as step
 use Rattle.run_table.specs.declared.draining.Owed.{Owed}
 use Rattle.run_table.specs.Kept.{TableView, tapes_in, opening_of}
+use Rattle.run_table.specs.Made.{moves_of, if_of, shown_from, moves_made}
 use Rattle.run_table.specs.Since.{Since}
 use Rattle.run_table.specs.Stepping.{step_of, IsStep}
 
@@ -54,28 +56,7 @@ abbrev pub IsOf : {D : Type 0} → (D → DiskState) → Option (TableView D) �
 IsOf state None t = ⊥
 IsOf state (Some start) t = Since state start t
 
--- What is true of a held table. Only a record that did not get to the disk stands without its moves.
-pub record IsHeld {D : Type 0} (state : D → DiskState) (opened : Option (TableView D)) (t : TableView D) (shown : Bool) : Type 0 where
-  pub of : IsOf state opened t
-  pub lost : shown ≡ false → t.halt ≡ Some halt.Disk
-
--- the moves of a turn
-abbrev pub moves_of : Turn → List Move
-moves_of (turn.Did moves) = moves.list
-moves_of (turn.Ended moves) = moves.list
-moves_of other = []
-
--- the moves of a record, where it is one of the path
-abbrev pub if_of : Path → Entry → List Move → List (List Move)
-if_of path entry moves = if is_same path entry.path then moves ∷ [] else []
-
--- of each record of the path the moves of its turn, from this machine on
-abbrev pub shown_from : Tapes → MachineView → Path → List Entry → List (List Move)
-shown_from tapes m path [] = []
-shown_from tapes m path (e ∷ entries) =
-    if_of path e (moves_of (turn_of_entry tapes e m)) ++ shown_from tapes (behind_entry tapes e m) path entries
-
--- the same, but that the last record of all stands there without a move
+-- of each record of the path its moves, but that the last record of all stands there without a move
 abbrev pub lost_from : Tapes → MachineView → Path → List Entry → List (List Move)
 lost_from tapes m path [] = []
 lost_from tapes m path (e ∷ []) = if_of path e []
@@ -92,6 +73,24 @@ records_since None h path = []
 records_since (Some start) h path =
     answered_from (tapes_in start.verified) (fold (tapes_in start.verified) (opening_of start.verified) start.recording.history)
     path h.shown (drop (length start.recording.history) h.history)
+
+-- The moves that were answered since the opening are those of the records that the disk has: a record that pends, or that was lost,
+-- shows none.
+abbrev pub ShowsFlushed : {D : Type 0} → Option (TableView D) → HeldView D → TableView D → Type 0
+ShowsFlushed None h t = ⊥
+ShowsFlushed (Some start) h t = (path : Path) → moves_in (records_since (Some start) h path)
+    ≡ moves_made t.verified path (length start.recording.history) t.recording.flushed t.recording.history
+
+-- A table that may be held under the opening: it is of the opening, and what it showed since is on the disk.
+pub record MayHold {D : Type 0} (state : D → DiskState) (opened : Option (TableView D)) (t : TableView D) : Type 0 where
+  pub of : IsOf state opened t
+  pub shows : ShowsFlushed opened (held_of t true) t
+
+-- What is true of a held table. Only a record that did not get to the disk stands without its moves.
+pub record IsHeld {D : Type 0} (state : D → DiskState) (opened : Option (TableView D)) (t : TableView D) (shown : Bool) : Type 0 where
+  pub of : IsOf state opened t
+  pub lost : shown ≡ false → t.halt ≡ Some halt.Disk
+  pub shows : ShowsFlushed opened (held_of t shown) t
 
 -- moves are handed on, and a block without any is silent
 abbrev pub handed : Moves → Next
@@ -144,3 +143,8 @@ pub record IsTaken {D : Type 0} (held : HeldView D) (t : TableView D) : Type 0 w
   pub file : t.recording.log.file ≡ held.file
   pub budget : t.budget ≡ held.budget
   pub halt : t.halt ≡ without_turret held.halt
+
+-- A table that was held, may be held again, and has the same records since the opening then.
+pub record MayHoldAgain {D : Type 0} (state : D → DiskState) (opened : Option (TableView D)) (held : HeldView D) (t : TableView D) : Type 0 where
+  pub may : MayHold state opened t
+  pub records : (path : Path) → records_since opened (held_of t true) path ≡ records_since opened held path

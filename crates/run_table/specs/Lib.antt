@@ -1,7 +1,9 @@
 pub mod Begun
 pub mod Draining
+pub mod Ending
 pub mod Holding
 pub mod Kept
+pub mod Made
 pub mod Recording
 pub mod Recovered
 pub mod Running

@@ -1,12 +1,15 @@
 //! A table that keeps what it began with.
-ghost use Rattle.std.specs.Prelude.{◌≡◌, ◌≢◌, true, false, MatchOption};
+ghost use Rattle.std.specs.Prelude.{◌≡◌, ◌≢◌, true, false, Some, IfSome, IfNone, MatchOption};
 ghost use Rattle.nc_outside.specs.Calls.{IsOfTurret};
+ghost use Rattle.nc_outside.specs.declared.halt.Halt.TheVariants as halt;
 ghost use Rattle.seat_table.specs.Turning.{Answers};
 ghost use Rattle.run_table.specs.Draining.{with_owed};
 ghost use Rattle.run_table.specs.Begun.{first_reason};
-ghost use Rattle.run_table.specs.Holding.{held_of, IsOf, HasStepped, IsTaken, records_since};
+ghost use Rattle.run_table.specs.Ending.{HasEnded, HasNotEnded, KeepsRest};
+ghost use Rattle.run_table.specs.Holding.{held_of, IsOf, ShowsFlushed, MayHold, MayHoldAgain, HasStepped, IsTaken, records_since};
 
 use crate::handing::{is_still_shown, next_of};
+use crate::running::RunEnd;
 use crate::table::Table;
 use disk_model::Disk;
 use nc_number::Path;
@@ -52,9 +55,10 @@ impl<D: Disk, O: Opening<D>> Model for Held<D, O> {
 }
 
 impl<D: Disk, O: Opening<D>> Held<D, O> {
-    /// The table, which is of this opening.
+    /// The table, which is of this opening, and of which all moves that were answered since are on the
+    /// disk.
     pub fn new(table: Table<D>) -> Held<D, O>
-        requires { IsOf D.state O.opened table }
+        requires { MayHold D.state O.opened table }
         ensures { result ≡ held_of table true }
     {
         Held {
@@ -64,10 +68,27 @@ impl<D: Disk, O: Opening<D>> Held<D, O> {
         }
     }
 
-    /// The table, which is of this opening. That a turret failed it keeps no longer.
+    /// Why the run has ended, with all its records on the disk. None where a path can go on.
+    ///
+    /// Of several causes it is the first of: a fault of the disk, an alarm, the ends of both paths, a
+    /// full journal, a spent budget. A turret that failed is none of them. The records that pend are
+    /// written before the answer, and where the disk fails in that, this is the end.
+    pub fn end(&mut self) -> Option<RunEnd>
+        ensures ends { IfSome result (λ end. HasEnded self.new end) }
+        ensures goes_on { IfNone result (HasNotEnded self.new) }
+        ensures rest { KeepsRest self.old self.new result }
+        ensures same { (p : Path) → records_since O.opened self.new p ≡ records_since O.opened self.old p }
+    {
+        self.table.ended()
+    }
+
+    /// The table, which is of this opening. That a turret failed it keeps no longer. Unless its disk
+    /// has failed it may be held again.
     pub fn into_table(self) -> Table<D>
         ensures of { IsOf D.state O.opened result }
         ensures taken { IsTaken self result }
+        ensures shown { ShowsFlushed O.opened self result }
+        ensures again { result.halt ≢ Some halt.Disk → MayHoldAgain D.state O.opened self result }
     {
         let Held {
             mut table,

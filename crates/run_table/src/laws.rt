@@ -1,5 +1,5 @@
 //! What holds of every table, for the crates above: who calls the function has the law.
-ghost use Rattle.std.specs.Prelude.{◌≡◌, ℕ, List};
+ghost use Rattle.std.specs.Prelude.{◌≡◌, ◌≢◌, ℕ, ◌-◌, ◌*◌, ◌≤◌, List, length, Some};
 ghost use Rattle.nc_number.specs.declared.path.Path.{Path};
 ghost use Rattle.nc_number.specs.Path.{other_of};
 ghost use Rattle.nc_verify.specs.declared.verified.Verified.{Verified};
@@ -9,9 +9,17 @@ ghost use Rattle.two_path.specs.Machine.{MachineView, without_reads};
 ghost use Rattle.two_path.specs.Stuck.{IsStuck};
 ghost use Rattle.two_path.specs.Turns.{turn_of};
 ghost use Rattle.two_path.specs.Histories.{IsKept};
-ghost use Rattle.run_table.specs.Kept.{tapes_in, opening_of};
+ghost use Rattle.nc_outside.specs.declared.halt.Halt.TheVariants as halt;
+ghost use Rattle.run_table.specs.declared.running.RunEnd.{RunEnd};
+ghost use Rattle.run_table.specs.Ending.{HasEnded};
+ghost use Rattle.run_table.specs.Holding.{HeldView, MayHold, IsTaken};
+ghost use Rattle.run_table.specs.Kept.{TableView, tapes_in, opening_of};
+ghost use Rattle.run_table.specs.Made.{moves_made};
+ghost use Rattle.run_table.specs.Running.{EndsBy};
+ghost use Rattle.run_table.specs.Since.{Since};
 ghost use Rattle.run_table.specs.Stepping.{GoesOn};
 
+use disk_model::Disk;
 use path_state::control_goes_as_the_flow_orders;
 use two_path::no_legal_history_is_stuck;
 
@@ -33,3 +41,21 @@ pub fn who_is_waited_for_goes_on()
 {
     kept_paths_are_not_stuck();
 }
+
+/// A record has seven moves at most.
+pub fn a_record_makes_seven_moves_at_most()
+    ensures { (pair : Verified) (path : Path) (from upto : ℕ) (history : List Entry)
+        → length (moves_made pair path from upto history) ≤ 7 * (upto - from) }
+{}
+
+/// A table may be held under the opening that it is.
+pub fn a_table_opens_itself<D: Disk>()
+    ensures { (t : TableView D) → MayHold D.state (Some t) t }
+{}
+
+/// The end of the run of a held table is that of the table that was taken out, since the table at
+/// which it began.
+pub fn a_taken_table_ended_so<D: Disk>()
+    ensures { (start taken : TableView D) (held : HeldView D) (end : RunEnd) → Since D.state start taken
+        → start.halt ≢ Some halt.Disk → IsTaken held taken → HasEnded held end → EndsBy D.state start taken end }
+{}

@@ -20,6 +20,9 @@ mod table;
 pub use answer::{Parts, TableStep};
 pub use draining::Owed;
 pub use held::{Held, Opening};
-pub use laws::who_is_waited_for_goes_on;
+pub use laws::{
+    a_record_makes_seven_moves_at_most, a_table_opens_itself, a_taken_table_ended_so,
+    who_is_waited_for_goes_on,
+};
 pub use running::{RunEnd, run_by_turns};
 pub use table::Table;

@@ -54,7 +54,7 @@ impl<D: Disk> Recording<D> {
           log = journal;
         } }
     {
-        let flushed = history.as_slice().len();
+        let flushed = history.len();
         Recording {
             history,
             journal,
@@ -75,9 +75,10 @@ impl<D: Disk> Recording<D> {
 
     /// How many records there are.
     pub(crate) fn len(&self) -> usize
-        ensures { result ≡ length self.now.history }
+        ensures count { result ≡ length self.now.history }
+        ensures within { self.now.flushed ≤ length self.now.history }
     {
-        self.history.as_slice().len()
+        self.history.len()
     }
 
     /// How many records pend.
@@ -85,7 +86,7 @@ impl<D: Disk> Recording<D> {
         ensures count { self.now.flushed + result ≡ length self.now.history }
         ensures few { result ≤ 64 }
     {
-        self.history.as_slice().len() - self.flushed
+        self.history.len() - self.flushed
     }
 
     /// One record more, which pends. It takes no memory.
@@ -108,7 +109,7 @@ impl<D: Disk> Recording<D> {
     {
         a_held_journal_leaves_its_records::<D>();
         self.journal.flush()?;
-        self.flushed = self.history.as_slice().len();
+        self.flushed = self.history.len();
         Ok(())
     }
 

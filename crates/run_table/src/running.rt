@@ -71,7 +71,7 @@ fn give_turn<D: Disk>(table: &mut Table<D>, path: Path) -> Option<RunEnd>
 }
 
 /// The end of a run that a full journal stops, or else a spent budget.
-fn end_at(why: Halt) -> RunEnd
+pub(crate) fn end_at(why: Halt) -> RunEnd
     ensures { result ≡ end_at why }
 {
     match why {

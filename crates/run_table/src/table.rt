@@ -9,6 +9,7 @@ ghost use Rattle.run_records.specs.Headers.{IsShort};
 ghost use Rattle.run_journal.specs.Beginning.{BeginsRun};
 ghost use Rattle.two_path.specs.declared.turn.Turn.TheVariants as turn;
 ghost use Rattle.two_path.specs.Histories.{IsKept};
+ghost use Rattle.two_path.specs.Machine.{own_first};
 ghost use Rattle.run_table.specs.declared.answer.TableStep.TheVariants as step;
 ghost use Rattle.run_table.specs.Recording.{IsJournaled};
 ghost use Rattle.run_table.specs.Kept.{tapes_in, opening_of, IsVerdictOf, IsTable};
@@ -16,6 +17,7 @@ ghost use Rattle.run_table.specs.Stepping.{bound_of, drains, step_of, drained_st
 ghost use Rattle.run_table.specs.Draining.{with_owed, owed_behind};
 ghost use Rattle.run_table.specs.Begun.{IsBegun, disk_in, recovered_table, IsPrepared, first_reason, IsLeft};
 ghost use Rattle.run_table.specs.Recovered.{IsRecovered, HoldsAll};
+ghost use Rattle.run_table.specs.Ending.{end_ahead, Asks};
 ghost use Rattle.run_table.specs.Holding.{without_turret};
 ghost use Rattle.run_table.specs.Running.{end_of};
 ghost use Rattle.run_table.specs.Since.{Since};
@@ -24,11 +26,11 @@ use crate::answer::{Parts, TableStep};
 use crate::draining::{Owed, comes_to_wait, flow_of};
 use crate::laws::who_is_waited_for_goes_on;
 use crate::recording::Recording;
-use crate::running::RunEnd;
+use crate::running::{RunEnd, end_at};
 use crate::stepping::{flush_before, reason_of, take};
 use disk_model::Disk;
 use gate_file::GateFault;
-use nc_number::{NoMemory, Path};
+use nc_number::{NoMemory, Path, Point};
 use nc_outside::Halt;
 use nc_verify::Verified;
 use path_state::{control_goes_as_the_flow_orders, waits_and_ends_stop_a_path};
@@ -253,6 +255,47 @@ impl<D: Disk> Table<D> {
         None
     }
 
+    /// The end of a run whose disk has not failed, and of which records may pend: an alarm, the ends of
+    /// both paths, a full journal, or a spent budget.
+    fn end_ahead(&self) -> Option<RunEnd>
+        ensures { result ≡ end_ahead self.now }
+    {
+        if let Some(end) = self.end() {
+            return Some(end);
+        }
+        match self.bound() {
+            Some(why) => Some(end_at(why)),
+            None => None,
+        }
+    }
+
+    /// The end of a run, with all its records on the disk. Where the disk fails in that, it is the
+    /// reason that the table keeps.
+    pub(crate) fn ended(&mut self) -> Option<RunEnd>
+        ensures since { Since D.state self.old self.new }
+        ensures asks { Asks self.old self.new result }
+        ensures table { IsTable D.state self.old }
+    {
+        if let Some(Halt::Disk) = self.halt {
+            return Some(RunEnd::DiskFault);
+        }
+        let end = self.end_ahead()?;
+        match self.recording.flush() {
+            Ok(()) => Some(end),
+            Err(_) => {
+                self.halt = Some(Halt::Disk);
+                Some(RunEnd::DiskFault)
+            }
+        }
+    }
+
+    /// Where the turret of the path stands, in 0.001 mm.
+    pub fn position(&self, path: Path) -> Point
+        ensures { result ≡ (own_first path self.now.machine).first.path.position }
+    {
+        self.machine.path(path).position()
+    }
+
     /// Stops the table for a turret that failed, unless it has stopped already.
     pub fn halt(&mut self, why: Halt)
         requires { (path : Path) × (why ≡ halt.Turret path) }
@@ -275,6 +318,7 @@ impl<D: Disk> Table<D> {
     /// How many records there are.
     pub(crate) fn count(&self) -> usize
         ensures count { result ≡ length self.now.recording.history }
+        ensures within { self.now.recording.flushed ≤ length self.now.recording.history }
         ensures table { IsTable D.state self.now }
     {
         self.recording.len()

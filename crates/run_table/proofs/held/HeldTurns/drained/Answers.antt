@@ -2,7 +2,7 @@ use Rattle.std.proofs.Common.{false, sym, subst}
 use Rattle.run_table.specs.Kept.{TableView}
 use Rattle.run_table.specs.Draining.{with_owed}
 use Rattle.run_table.specs.Holding.{IsHeld}
-use Rattle.run_table.proofs.HeldSteps.{of_owed}
+use Rattle.run_table.proofs.HeldKept.{of_owed, shows_owed}
 use Rattle.run_table.proofs.held.HeldTurns.drained.Goals as goal
 
 pub invariant_of-self : goal.invariant_of-self
@@ -12,4 +12,5 @@ invariant_of-self g c =
     (record {
       of = of_owed g.D.Disk.state g.O.Opening.opened i.table (with_owed c.args.path false i.table.owed) c.self.invariant.of;
       lost = c.self.invariant.lost;
+      shows = shows_owed g.O.Opening.opened i.table i.shown (with_owed c.args.path false i.table.owed) c.self.invariant.shows;
     })

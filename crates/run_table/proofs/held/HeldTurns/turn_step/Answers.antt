@@ -4,14 +4,14 @@ use Rattle.nc_number.specs.declared.path.Path.{Path}
 use Rattle.nc_outside.specs.declared.halt.Next.{Next}
 use Rattle.seat_table.specs.Turning.{Answers}
 use Rattle.run_table.specs.Holding.{HeldView, held_of, records_since, HasStepped}
-use Rattle.run_table.proofs.HeldSteps.{lost_by, held_on, held_answers, held_others}
+use Rattle.run_table.proofs.HeldKept.{lost_by, held_on, held_answers, held_others}
 use Rattle.run_table.proofs.held.HeldTurns.turn_step.Goals as goal
 
 pub invariant_of-self : goal.invariant_of-self
 invariant_of-self g c =
     let i = c.self.inside in
     held_on g.D.Disk.state g.O.Opening.opened c.args.path i.table c.step-step.new.self c.step-step.result i.shown c.is_still_shown-shown.result
-    c.count-before.ensures.table c.self.invariant c.step-step.ensures.step c.step-step.ensures.since c.step-step.ensures.owed
+    c.count-before.ensures.table c.count-before.ensures.within c.self.invariant c.step-step.ensures.step c.step-step.ensures.since c.step-step.ensures.owed
     (c.is_still_shown-shown.ensures ∙ lost_by i.shown c.step-step.result (c.count-before.ensures.count) (c.count-after.ensures.count))
 
 pub returns-clause-step : goal.returns-clause-step
@@ -38,7 +38,7 @@ returns-clause-answer g c =
     subst (λ (h : HeldView g.row.D.Denot). MatchOption c.next_of.result (new ≡ h) (λ next. Answers (records_since o h path) next (records_since o new path))) c.self.view_is
     (subst (λ (n : Option Next). MatchOption n (new ≡ held_of i.table i.shown) (λ next. Answers (records_since o (held_of i.table i.shown) path) next (records_since o new path))) (sym c.next_of.ensures)
     (held_answers g.D.Disk.state o path i.table c.step-step.new.self c.step-step.result i.shown c.is_still_shown-shown.result
-    c.count-before.ensures.table c.self.invariant c.step-step.ensures.step c.step-step.ensures.since c.step-step.ensures.owed
+    c.count-before.ensures.table c.count-before.ensures.within c.self.invariant c.step-step.ensures.step c.step-step.ensures.since c.step-step.ensures.owed
     (c.is_still_shown-shown.ensures ∙ lost_by i.shown c.step-step.result (c.count-before.ensures.count) (c.count-after.ensures.count))))
 
 pub returns-clause-others : goal.returns-clause-others
@@ -48,5 +48,5 @@ returns-clause-others g c =
     let new = held_of c.step-step.new.self c.is_still_shown-shown.result in
     subst (λ (h : HeldView g.row.D.Denot). (p : Path) → p ≢ c.args.path → records_since o new p ≡ records_since o h p) c.self.view_is
     (held_others g.D.Disk.state o c.args.path i.table c.step-step.new.self c.step-step.result i.shown c.is_still_shown-shown.result
-    c.count-before.ensures.table c.self.invariant c.step-step.ensures.step c.step-step.ensures.since c.step-step.ensures.owed
+    c.count-before.ensures.table c.count-before.ensures.within c.self.invariant c.step-step.ensures.step c.step-step.ensures.since c.step-step.ensures.owed
     (c.is_still_shown-shown.ensures ∙ lost_by i.shown c.step-step.result (c.count-before.ensures.count) (c.count-after.ensures.count)))

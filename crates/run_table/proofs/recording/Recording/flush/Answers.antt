@@ -1,4 +1,4 @@
-use Rattle.std.proofs.Common.{rules, ◌≡◌, [], true, false, length, sym, ap, subst}
+use Rattle.std.proofs.Common.{rules, ◌≡◌, [], true, false, sym, subst}
 use Rattle.std.specs.Prelude.{IsTrue}
 use Rattle.run_table.specs.Recording.{RecordingView, Records}
 use Rattle.run_table.proofs.JournalsOn.{done, not_done}
@@ -20,8 +20,8 @@ returns-clause-records g c =
     let i = c.self.inside in
     let live : IsTrue i.journal.file.live = subst (λ (r : RecordingView g.row.D.Denot). IsTrue r.log.file.live) (sym c.self.view_is) c.requires in
     let alive : c.flush.new.self.file.live ≡ true = search rules in
-    subst (λ (r : RecordingView g.row.D.Denot). Records d [] r (record { history = i.history.items; room = i.history.room; flushed = length c.as_slice.result.now; log = c.flush.new.self })) c.self.view_is
+    subst (λ (r : RecordingView g.row.D.Denot). Records d [] r (record { history = i.history.items; room = i.history.room; flushed = c.len-self-inside.result; log = c.flush.new.self })) c.self.view_is
     (done d i.history.items i.history.room i.flushed i.journal c.flush.new.self c.self.invariant.within c.self.invariant.pends live
-    c.flush.ensures.any_moment c.flush.ensures.uses c.flush.ensures.cause.later c.flush.ensures.idle (length c.as_slice.result.now) (ap length c.as_slice.ensures)
+    c.flush.ensures.any_moment c.flush.ensures.uses c.flush.ensures.cause.later c.flush.ensures.idle c.len-self-inside.result c.len-self-inside.ensures
     alive c.in_ok-flush.ensures.flushed.moved
     c.a_held_journal_leaves_its_records.ensures c.in_ok-flush.ensures.acknowledged)

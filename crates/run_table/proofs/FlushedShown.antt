@@ -1,0 +1,205 @@
+-- What a held table has answered is on the disk: an invariant of each step.
+use Rattle.std.proofs.Common.{◌≡◌, ◌≢◌, inl, inr, ℕ, ◌≤◌, ◌==◌, Bool, true, false, List, [], ◌∷◌, ◌++◌, length, take, drop, refl, sym, ◌∙◌, ap, subst, arith, append-nil, append_assoc, length-append, Option, Some, None}
+use Rattle.std.specs.Prelude.{MatchOption, not, ◌&&◌, ◌||◌}
+use Rattle.std.proofs.Math.Seq.{take-length, take-append_seam, drop-length, drop-append_seam}
+use Rattle.std.proofs.Math.ListN.{drop_of_length-le}
+use Rattle.std.proofs.lemmas.List.{take-append-le, length-take}
+use Rattle.disk_model.specs.Device.{DiskState, IsCoherent}
+use Rattle.nc_number.specs.declared.path.Path.{Path}
+use Rattle.nc_number.specs.declared.path.Path.TheVariants.{One, Two}
+use Rattle.nc_outside.specs.declared.halt.Halt.{Halt}
+use Rattle.nc_outside.specs.declared.halt.Halt.TheVariants as halt
+use Rattle.nc_outside.specs.declared.motion.Move.{Move}
+use Rattle.nc_outside.specs.declared.motion.Moves.{Moves}
+use Rattle.nc_verify.specs.declared.verified.Verified.{Verified}
+use Rattle.run_records.specs.declared.entry.Entry.{Entry}
+use Rattle.seat_table.specs.Turning.{moves_in, MayRecord, Answers as Adds}
+use Rattle.two_path.specs.declared.turn.Turn.{Turn}
+use Rattle.two_path.specs.declared.turn.Turn.TheVariants as turn
+use Rattle.two_path.specs.Turns.{turn_of}
+use Rattle.two_path.specs.Histories.{fold}
+use Rattle.run_table.specs.declared.answer.TableStep.{TableStep}
+use Rattle.run_table.specs.declared.answer.TableStep.TheVariants.{Turned, Drain, DiskFault, Halted}
+use Rattle.run_table.specs.Draining.{owed_behind}
+use Rattle.run_table.specs.Kept.{TableView, tapes_in, opening_of, IsTable}
+use Rattle.run_table.specs.Made.{shown_from, moves_made}
+use Rattle.run_table.specs.Since.{Since}
+use Rattle.run_table.specs.Stepping.{is_shown, bound_of, drains, step_by, step_of, Answers, IsStep}
+use Rattle.run_table.specs.Stepping.Answers.{at_once, flushed, failed}
+use Rattle.run_table.specs.Holding.{HeldView, held_of, ShowsFlushed, MayHold, handed, next_of_turn, next_of, is_lost, records_since}
+use Rattle.run_table.proofs.HeldSteps.{comes}
+use Rattle.run_table.proofs.Then.{since_none, since_more}
+
+-- the moves of one record more
+moves_more : (records : List (List Move)) (moves : List Move) → moves_in (records ++ moves ∷ []) ≡ moves_in records ++ moves
+moves_more [] moves = append-nil moves
+moves_more (first ∷ records) moves = ap (λ (l : List Move). first ++ l) (moves_more records moves) ∙ sym (append_assoc first (moves_in records) moves)
+
+may_same : (before after : List (List Move)) → MayRecord before after → moves_in after ≡ moves_in before
+may_same before after (inl is) = ap moves_in is
+may_same before after (inr is) = ap moves_in is ∙ moves_more before [] ∙ append-nil (moves_in before)
+
+-- an answer that shows nothing adds no moves
+module _ {H : Type 0} (old new : H) (before after : List (List Move)) (same : new ≡ old → after ≡ before) where
+  quiet_handed : (moves : Moves) (b : Bool) → (length moves.list == 0) ≡ b → not b ≡ false → Adds before (handed moves) after → moves_in after ≡ moves_in before
+  quiet_handed moves true none quiet adds = may_same before after (rw none at adds)
+  quiet_handed moves false some quiet adds = absurd cc
+
+  pub quiet_turn : (t : Turn) → is_shown t ≡ false → MatchOption (next_of_turn t) (new ≡ old) (λ next. Adds before next after) → moves_in after ≡ moves_in before
+  quiet_turn (turn.Read variable stamp) quiet adds = may_same before after adds
+  quiet_turn (turn.Did moves) quiet adds = quiet_handed moves (length moves.list == 0) refl quiet adds
+  quiet_turn (turn.Arrived code) quiet adds = absurd cc
+  quiet_turn (turn.Met code) quiet adds = absurd cc
+  quiet_turn (turn.Ended moves) quiet adds = absurd cc
+  quiet_turn (turn.Waiting code) quiet adds = ap moves_in (same adds)
+  quiet_turn turn.Finished quiet adds = ap moves_in adds
+  quiet_turn (turn.Alarm alarm) quiet adds = absurd cc
+  quiet_turn (turn.Halted alarm) quiet adds = may_same before after adds
+
+-- each path is the one that stepped, or the other
+by_path : (path p : Path) {before after : Path → List (List Move)} → moves_in (after path) ≡ moves_in (before path) → ((q : Path) → q ≢ path → after q ≡ before q)
+    → moves_in (after p) ≡ moves_in (before p)
+by_path One One own others = own
+by_path One Two own others = ap moves_in (others Two (λ clash. cc))
+by_path Two One own others = ap moves_in (others One (λ clash. cc))
+by_path Two Two own others = own
+
+-- the moves up to a record are the same in a longer history
+made_same : (pair : Verified) (path : Path) (from upto : ℕ) (history made : List Entry) → from ≤ length history → upto ≤ length history
+    → moves_made pair path from upto (history ++ made) ≡ moves_made pair path from upto history
+made_same pair path from upto history made first last =
+    λ i. moves_in (shown_from (tapes_in pair) (fold (tapes_in pair) (opening_of pair) (take-append-le from history made first i)) path
+    (drop from (take-append-le upto history made last i)))
+
+-- the moves of all records behind a history
+made_behind : (pair : Verified) (path : Path) (history made : List Entry)
+    → moves_made pair path (length history) (length (history ++ made)) (history ++ made)
+    ≡ moves_in (shown_from (tapes_in pair) (fold (tapes_in pair) (opening_of pair) history) path made)
+made_behind pair path history made =
+    let all : drop (length history) (take (length (history ++ made)) (history ++ made)) ≡ made =
+    ap (drop (length history)) (take-length (history ++ made)) ∙ drop-append_seam history made in
+    λ i. moves_in (shown_from (tapes_in pair) (fold (tapes_in pair) (opening_of pair) (take-append_seam history made i)) path (all i))
+
+-- where all records are on the disk
+pub shows_all : {D : Type 0} (state : D → DiskState) (start t : TableView D) → Since state start t → t.recording.flushed ≡ length t.recording.history
+    → ShowsFlushed (Some start) (held_of t true) t
+shows_all state start t since all = λ path.
+    let grown = since.recording.history in
+    let behind : drop (length start.recording.history) t.recording.history ≡ since.made = ap (drop (length start.recording.history)) grown ∙ drop-append_seam start.recording.history since.made in
+    ap (λ (l : List Entry). moves_in (shown_from (tapes_in start.verified) (fold (tapes_in start.verified) (opening_of start.verified) start.recording.history) path l)) behind
+    ∙ sym (made_behind start.verified path start.recording.history since.made)
+    ∙ sym (ap (λ (l : List Entry). moves_made start.verified path (length start.recording.history) (length l) l) grown)
+    ∙ sym (ap (λ (n : ℕ). moves_made start.verified path (length start.recording.history) n t.recording.history) all)
+    ∙ sym (ap (λ (v : Verified). moves_made v path (length start.recording.history) t.recording.flushed t.recording.history) since.verified)
+
+-- where no move was shown, and no record got to the disk
+pub shows_still : {D : Type 0} (state : D → DiskState) (start t t' : TableView D) (shown shown' : Bool) (made : List Entry) → Since state start t
+    → t.recording.flushed ≤ length t.recording.history → t'.verified ≡ t.verified → t'.recording.history ≡ t.recording.history ++ made → t'.recording.flushed ≡ t.recording.flushed
+    → ((p : Path) → moves_in (records_since (Some start) (held_of t' shown') p) ≡ moves_in (records_since (Some start) (held_of t shown) p))
+    → ShowsFlushed (Some start) (held_of t shown) t → ShowsFlushed (Some start) (held_of t' shown') t'
+shows_still state start t t' shown shown' made since within pair grown still same shows = λ path.
+    let from = length start.recording.history in
+    let less : from ≤ length t.recording.history = omega (arith, ap length since.recording.history, length-append start.recording.history since.made) in
+    same path ∙ shows path
+    ∙ sym (made_same t.verified path from t.recording.flushed t.recording.history made less within)
+    ∙ sym (ap (λ (l : List Entry). moves_made t.verified path from t.recording.flushed l) grown)
+    ∙ sym (ap (λ (n : ℕ). moves_made t.verified path from n t'.recording.history) still)
+    ∙ sym (ap (λ (v : Verified). moves_made v path from t'.recording.flushed t'.recording.history) pair)
+
+-- a table that is its own opening
+pub shows_none : {D : Type 0} (t : TableView D) → ShowsFlushed (Some t) (held_of t true) t
+shows_none t = λ path.
+    let few : length (take t.recording.flushed t.recording.history) ≤ length t.recording.history = omega (arith, length-take t.recording.flushed t.recording.history) in
+    let none : drop (length t.recording.history) t.recording.history ≡ drop (length t.recording.history) (take t.recording.flushed t.recording.history) =
+    drop-length t.recording.history ∙ sym (drop_of_length-le (take t.recording.flushed t.recording.history) few) in
+    λ i. moves_in (shown_from (tapes_in t.verified) (fold (tapes_in t.verified) (opening_of t.verified) (sym (take-length t.recording.history) i)) path (none i))
+
+pub opens_itself : {D : Type 0} (state : D → DiskState) (t : TableView D) → ((disk : D) → IsCoherent (state disk)) → MayHold state (Some t) t
+opens_itself state t coherent = record { of = since_none state t coherent; shows = shows_none t }
+
+-- which tables have not stopped for a fault of the disk, by whether the moves of the last record were answered
+pub shown_unless : {D : Type 0} (t : TableView D) (shown : Bool) → (shown ≡ false → t.halt ≡ Some halt.Disk) → t.halt ≢ Some halt.Disk → shown ≡ true
+shown_unless t true lost free = refl
+shown_unless t false lost free = absurd (free (lost refl))
+
+-- a step
+module _ {D : Type 0} (state : D → DiskState) (path : Path) (start t t' : TableView D) (result : TableStep) (shown shown' : Bool)
+    (table : IsTable state t) (since : Since state start t) (lost : shown ≡ false → t.halt ≡ Some halt.Disk)
+    (within : t.recording.flushed ≤ length t.recording.history) (shows : ShowsFlushed (Some start) (held_of t shown) t)
+    (step : IsStep state (step_of t path) t t' result) (then : Since state t t') (owed : t'.owed ≡ owed_behind path result t.owed)
+    (shown_is : shown' ≡ (shown && not (is_lost result (length t.recording.history) (length t'.recording.history)))) where
+  abbrev before : Path → List (List Move)
+  before p = records_since (Some start) (held_of t shown) p
+
+  abbrev after : Path → List (List Move)
+  after p = records_since (Some start) (held_of t' shown') p
+
+  abbrev Comes : TableStep → Type 0
+  Comes answer =
+      MatchOption (next_of answer) (◌≡◌ {A = HeldView D} (held_of t' shown') (held_of t shown)) (λ next. Adds (before path) next (after path))
+      × ((p : Path) → p ≢ path → after p ≡ before p)
+
+  came : Comes result
+  came = comes state path start t t' result shown shown' table since lost step owed shown_is
+
+  still : t'.recording.flushed ≡ t.recording.flushed → moves_in (after path) ≡ moves_in (before path) → ShowsFlushed (Some start) (held_of t' shown') t'
+  still same own =
+      shows_still state start t t' shown shown' (step_of t path).made since within step.verified step.records.follows.history same
+      (λ p. by_path path p {before = before} {after = after} own came.1) shows
+
+  -- an answer that shows nothing
+  quiet : t'.recording.flushed ≡ t.recording.flushed → (answer : TableStep) → result ≡ answer
+      → (MatchOption (next_of answer) (◌≡◌ {A = HeldView D} (held_of t' shown') (held_of t shown)) (λ next. Adds (before path) next (after path)) → moves_in (after path) ≡ moves_in (before path))
+      → ShowsFlushed (Some start) (held_of t' shown') t'
+  quiet same answer is none =
+      still same (none (subst (λ (r : TableStep). MatchOption (next_of r) (◌≡◌ {A = HeldView D} (held_of t' shown') (held_of t shown)) (λ next. Adds (before path) next (after path))) is came.0))
+
+  quiet_one : (t'.recording.flushed ≡ t.recording.flushed) → (u : Turn) → result ≡ Turned u → is_shown u ≡ false → ShowsFlushed (Some start) (held_of t' shown') t'
+  quiet_one same u is none =
+      quiet same (Turned u) is
+      (λ adds. quiet_turn {H = HeldView D} (held_of t shown) (held_of t' shown') (before path) (after path) (λ even. ap (λ (h : HeldView D). records_since (Some start) h path) even) u none adds)
+
+  halted : (t'.recording.flushed ≡ t.recording.flushed) → (why : Halt) → result ≡ Halted why → ShowsFlushed (Some start) (held_of t' shown') t'
+  halted same why is = quiet same (Halted why) is (λ adds. may_same (before path) (after path) adds)
+
+  fault : (t'.recording.flushed ≡ t.recording.flushed) → result ≡ DiskFault → ShowsFlushed (Some start) (held_of t' shown') t'
+  fault same is = quiet same DiskFault is (λ adds. may_same (before path) (after path) adds)
+
+  drain : (t'.recording.flushed ≡ t.recording.flushed) → result ≡ Drain → ShowsFlushed (Some start) (held_of t' shown') t'
+  drain same is = quiet same Drain is (λ adds. ap moves_in adds)
+
+  -- all are on the disk
+  all : t.halt ≡ None → result ≢ DiskFault → t'.recording.flushed ≡ length t'.recording.history → ShowsFlushed (Some start) (held_of t' shown') t'
+  all calm fine flushed_all =
+      let free : t.halt ≢ Some halt.Disk = λ is. let clash : None ≡ Some halt.Disk = sym calm ∙ is in cc in
+      let now : shown' ≡ true = shown_is ∙ ap (λ (b : Bool). b && not (is_lost result (length t.recording.history) (length t'.recording.history))) (shown_unless t shown lost free)
+      ∙ ap not (not_lost result fine) in
+      subst (λ (b : Bool). ShowsFlushed (Some start) (held_of t' b) t') (sym now) (shows_all state start t' (since_more state start t t' since then) flushed_all)
+    where
+      not_lost : (r : TableStep) → r ≢ DiskFault → is_lost r (length t.recording.history) (length t'.recording.history) ≡ false
+      not_lost (Turned u) fine = refl
+      not_lost Drain fine = refl
+      not_lost DiskFault fine = absurd (fine refl)
+      not_lost (Halted why) fine = refl
+
+  by_answer : (due : Bool) (answer : TableStep) → answer ≢ DiskFault → (due ≡ true → t.halt ≡ None) → Answers state due answer t.recording t'.recording result
+      → (t'.recording.flushed ≡ t.recording.flushed → result ≡ answer → due ≡ false → ShowsFlushed (Some start) (held_of t' shown') t')
+      → ShowsFlushed (Some start) (held_of t' shown') t'
+  by_answer due answer fine calm (at_once now same file even) none = none even same now
+  by_answer due answer fine calm (flushed now same live every) none = all (calm now) (λ is. fine (sym same ∙ is)) every
+  by_answer due answer fine calm (failed now same dead even rose) none = fault even same
+
+  first_false : (a b : Bool) → (a || b) ≡ false → a ≡ false
+  first_false true b is = absurd cc
+  first_false false b is = refl
+
+  pub shows_on : ShowsFlushed (Some start) (held_of t' shown') t'
+  shows_on = go t.halt (bound_of t) (drains t path) refl step
+    where
+      go : (why bound : Option Halt) (drained : Bool) → t.halt ≡ why → IsStep state (step_by t path why bound drained) t t' result → ShowsFlushed (Some start) (held_of t' shown') t'
+      go (Some why) bound drained is s = by_answer false (Halted why) (λ clash. cc) (λ clash. absurd cc) s.answer (λ even same quiet. halted even why same)
+      go None (Some why) drained is s = by_answer _ (Halted why) (λ clash. cc) (λ due. is) s.answer (λ even same quiet. halted even why same)
+      go None None true is s = by_answer false Drain (λ clash. cc) (λ clash. absurd cc) s.answer (λ even same quiet. drain even same)
+      go None None false is s =
+          let u = (turn_of (tapes_in t.verified) path t.machine).turn in
+          by_answer _ (Turned u) (λ clash. cc) (λ due. is) s.answer (λ even same quiet. quiet_one even u same (first_false (is_shown u) _ quiet))

@@ -1,0 +1,133 @@
+-- A held table stays one: over each call that changes it, and taken out.
+use Rattle.std.proofs.Common.{◌≡◌, ◌≢◌, ℕ, ◌≤◌, ◌&&◌, Bool, true, false, length, refl, sym, ◌∙◌, ap, subst, Option, Some, None}
+use Rattle.std.specs.Prelude.{not, MatchOption}
+use Rattle.disk_model.specs.Device.{DiskState}
+use Rattle.nc_number.specs.declared.path.Path.{Path}
+use Rattle.nc_outside.specs.declared.halt.Halt.{Halt}
+use Rattle.nc_outside.specs.declared.halt.Halt.TheVariants as halt
+use Rattle.nc_outside.specs.Calls.{IsOfTurret}
+use Rattle.seat_table.specs.Turning.{Answers as Adds}
+use Rattle.run_table.specs.declared.answer.TableStep.{TableStep}
+use Rattle.run_table.specs.declared.draining.Owed.{Owed}
+use Rattle.run_table.specs.Draining.{owed_behind}
+use Rattle.run_table.specs.Kept.{TableView, IsTable}
+use Rattle.run_table.specs.Since.{Since}
+use Rattle.run_table.specs.Stepping.{step_of, IsStep}
+use Rattle.run_table.specs.Begun.{first_reason}
+use Rattle.run_table.specs.Holding.{HeldView, held_of, IsOf, ShowsFlushed, MayHold, IsHeld, MayHoldAgain, without_turret, records_since, next_of, is_lost}
+use Rattle.run_table.proofs.HeldSteps.{comes, still_lost}
+use Rattle.run_table.proofs.FlushedShown.{shows_on, shown_unless}
+use Rattle.run_table.proofs.Then.{since_more}
+
+pub lost_by : (shown : Bool) (result : TableStep) {a a' b b' : ℕ} → a ≡ a' → b ≡ b' → (shown && not (is_lost result a b)) ≡ (shown && not (is_lost result a' b'))
+lost_by shown result first second = λ i. shown && not (is_lost result (first i) (second i))
+
+-- over any opening
+pub of_more : {D : Type 0} (state : D → DiskState) (opened : Option (TableView D)) (t t' : TableView D) → IsOf state opened t → Since state t t' → IsOf state opened t'
+of_more state None t t' of since = absurd of
+of_more state (Some start) t t' of since = since_more state start t t' of since
+
+module _ {D : Type 0} (state : D → DiskState) (opened : Option (TableView D)) (path : Path) (t t' : TableView D) (result : TableStep) (shown shown' : Bool)
+    (table : IsTable state t) (within : t.recording.flushed ≤ length t.recording.history) (held : IsHeld state opened t shown) (step : IsStep state (step_of t path) t t' result) (since : Since state t t')
+    (owed : t'.owed ≡ owed_behind path result t.owed)
+    (shown_is : shown' ≡ (shown && not (is_lost result (length t.recording.history) (length t'.recording.history)))) where
+  pub held_on : IsHeld state opened t' shown'
+  held_on = record { of = of_more state opened t t' held.of since; lost = go opened held.of; shows = shows opened held.of held.shows }
+    where
+      shows : (o : Option (TableView D)) → IsOf state o t → ShowsFlushed o (held_of t shown) t → ShowsFlushed o (held_of t' shown') t'
+      shows None of is = absurd of
+      shows (Some start) of is = shows_on state path start t t' result shown shown' table of held.lost within is step since owed shown_is
+
+      go : (o : Option (TableView D)) → IsOf state o t → shown' ≡ false → t'.halt ≡ Some halt.Disk
+      go None of = absurd of
+      go (Some start) of = still_lost state path start t t' result shown shown' table of held.lost step owed shown_is
+
+  pub held_answers : MatchOption (next_of result) (◌≡◌ {A = HeldView D} (held_of t' shown') (held_of t shown))
+      (λ next. Adds (records_since opened (held_of t shown) path) next (records_since opened (held_of t' shown') path))
+  held_answers = go opened held.of
+    where
+      go : (o : Option (TableView D)) → IsOf state o t → MatchOption (next_of result) (◌≡◌ {A = HeldView D} (held_of t' shown') (held_of t shown))
+          (λ next. Adds (records_since o (held_of t shown) path) next (records_since o (held_of t' shown') path))
+      go None of = absurd of
+      go (Some start) of = (comes state path start t t' result shown shown' table of held.lost step owed shown_is).0
+
+  pub held_others : (p : Path) → p ≢ path → records_since opened (held_of t' shown') p ≡ records_since opened (held_of t shown) p
+  held_others = go opened held.of
+    where
+      go : (o : Option (TableView D)) → IsOf state o t → (p : Path) → p ≢ path → records_since o (held_of t' shown') p ≡ records_since o (held_of t shown) p
+      go None of = absurd of
+      go (Some start) of = (comes state path start t t' result shown shown' table of held.lost step owed shown_is).1
+
+-- what is no record changes nothing of it
+pub of_owed : {D : Type 0} (state : D → DiskState) (opened : Option (TableView D)) (t : TableView D) (owed : Owed) → IsOf state opened t → IsOf state opened (record t { owed = owed })
+of_owed state None t owed of = absurd of
+of_owed state (Some start) t owed of =
+    record { verified = of.verified; made = of.made; recording = of.recording; budget = of.budget; cause = of.cause }
+
+pub of_halt : {D : Type 0} (state : D → DiskState) (opened : Option (TableView D)) (t : TableView D) (why : Option Halt) → (why ≡ Some halt.Disk → t.halt ≡ Some halt.Disk)
+    → IsOf state opened t → IsOf state opened (record t { halt = why })
+of_halt state None t why disk of = absurd of
+of_halt state (Some start) t why disk of =
+    record { verified = of.verified; made = of.made; recording = of.recording; budget = of.budget; cause = λ is. of.cause (disk is) }
+
+pub no_turret_disk : (why : Option Halt) → without_turret why ≡ Some halt.Disk → why ≡ Some halt.Disk
+no_turret_disk None is = absurd (let clash : None ≡ Some halt.Disk = is in cc)
+no_turret_disk (Some (halt.Alarm alarm)) is = is
+no_turret_disk (Some halt.Disk) is = is
+no_turret_disk (Some (halt.Turret path)) is = absurd (let clash : None ≡ Some halt.Disk = is in cc)
+no_turret_disk (Some halt.Full) is = is
+no_turret_disk (Some halt.Budget) is = is
+
+pub first_disk : (kept : Option Halt) (why : Halt) → IsOfTurret why → first_reason kept why ≡ Some halt.Disk → kept ≡ Some halt.Disk
+first_disk None (halt.Alarm alarm) turret is = absurd turret
+first_disk None halt.Disk turret is = absurd turret
+first_disk None (halt.Turret path) turret is = absurd (let clash : Some (halt.Turret path) ≡ Some halt.Disk = is in cc)
+first_disk None halt.Full turret is = absurd turret
+first_disk None halt.Budget turret is = absurd turret
+first_disk (Some first) why turret is = is
+
+pub disk_first : (kept : Option Halt) (why : Halt) → kept ≡ Some halt.Disk → first_reason kept why ≡ Some halt.Disk
+disk_first kept why is = ap (λ (k : Option Halt). first_reason k why) is
+
+-- what it showed does not hang on the reason, nor on who has to be drained
+pub shows_owed : {D : Type 0} (opened : Option (TableView D)) (t : TableView D) (shown : Bool) (owed : Owed) → ShowsFlushed opened (held_of t shown) t
+    → ShowsFlushed opened (held_of (record t { owed = owed }) shown) (record t { owed = owed })
+shows_owed None t shown owed is = is
+shows_owed (Some start) t shown owed is = is
+
+pub shows_halt : {D : Type 0} (opened : Option (TableView D)) (t : TableView D) (shown : Bool) (why : Option Halt) → ShowsFlushed opened (held_of t shown) t
+    → ShowsFlushed opened (held_of (record t { halt = why }) shown) (record t { halt = why })
+shows_halt None t shown why is = is
+shows_halt (Some start) t shown why is = is
+
+-- the first moment
+pub held_first : {D : Type 0} (state : D → DiskState) (opened : Option (TableView D)) (t : TableView D) → MayHold state opened t → IsHeld state opened t true
+held_first state opened t may = record { of = may.of; lost = λ clash. absurd cc; shows = may.shows }
+
+-- taken out, without the turret
+taken_shown : {D : Type 0} (opened : Option (TableView D)) (t : TableView D) (shown : Bool) (why : Option Halt) → ShowsFlushed opened (held_of t shown) t
+    → ShowsFlushed opened (held_of t shown) (record t { halt = why })
+taken_shown None t shown why is = is
+taken_shown (Some start) t shown why is = is
+
+records_halt : {D : Type 0} (opened : Option (TableView D)) (t : TableView D) (shown : Bool) (why : Option Halt) (p : Path)
+    → records_since opened (held_of (record t { halt = why }) shown) p ≡ records_since opened (held_of t shown) p
+records_halt None t shown why p = refl
+records_halt (Some start) t shown why p = refl
+
+module _ {D : Type 0} (state : D → DiskState) (opened : Option (TableView D)) (t : TableView D) (shown : Bool) (held : IsHeld state opened t shown) where
+  pub taken_shows : ShowsFlushed opened (held_of t shown) (record t { halt = without_turret t.halt })
+  taken_shows = taken_shown opened t shown (without_turret t.halt) held.shows
+
+  pub taken_again : without_turret t.halt ≢ Some halt.Disk → MayHoldAgain state opened (held_of t shown) (record t { halt = without_turret t.halt })
+  taken_again free =
+      let free' : t.halt ≢ Some halt.Disk = λ is. free (ap without_turret is) in
+      let now : shown ≡ true = shown_unless t shown held.lost free' in
+      record {
+        may = record {
+          of = of_halt state opened t (without_turret t.halt) (no_turret_disk t.halt) held.of;
+          shows = shows_halt opened t true (without_turret t.halt) (subst (λ (b : Bool). ShowsFlushed opened (held_of t b) t) now held.shows);
+        };
+        records = λ p.
+            records_halt opened t true (without_turret t.halt) p ∙ ap (λ (b : Bool). records_since opened (held_of t b) p) (sym now);
+      }

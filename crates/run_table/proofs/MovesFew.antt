@@ -1,0 +1,302 @@
+-- A block has seven moves at most, and so has a record.
+use Rattle.std.proofs.Common.{◌≡◌, ℕ, ◌*◌, ◌-◌, ◌≤◌, ◌==◌, Bool, true, false, List, [], ◌∷◌, ◌++◌, length, take, drop, refl, arith, length-append, Option, Some, None, Result, Ok, Err, ℤ}
+use Rattle.std.specs.Prelude.{if◌then◌else◌}
+use Rattle.std.proofs.lemmas.List.{length-take, length-drop}
+use Rattle.nc_number.specs.declared.cause.Cause.{Cause}
+use Rattle.nc_number.specs.declared.cause.Cause.TheVariants.{FeedZero}
+use Rattle.nc_number.specs.declared.path.Path.{Path}
+use Rattle.nc_number.specs.declared.path.Path.TheVariants.{One, Two}
+use Rattle.nc_number.specs.declared.point.Point.{Point}
+use Rattle.nc_number.specs.declared.value.Var.{Var}
+use Rattle.nc_number.specs.declared.value.Var.TheVariants.{Vacant, Is}
+use Rattle.nc_number.specs.Arithmetic.{is_zero}
+use Rattle.nc_number.specs.Results.{◌>>=◌}
+use Rattle.nc_outside.specs.declared.halt.Alarm.{Alarm}
+use Rattle.nc_outside.specs.declared.motion.Move.{Move}
+use Rattle.nc_outside.specs.declared.motion.Move.TheVariants as move
+use Rattle.nc_verify.specs.declared.verified.Verified.{Verified}
+use Rattle.code_tables.specs.declared.kind.CodeKind.{CodeKind}
+use Rattle.code_tables.specs.declared.kind.CodeKind.TheVariants as kind
+use Rattle.modal_state.specs.View.{ModalView}
+use Rattle.motion_track.specs.declared.block.BlockMotion.{BlockMotion}
+use Rattle.motion_track.specs.declared.fault.MotionFault.{MotionFault}
+use Rattle.motion_track.specs.Block.{names_axis, is_move_due, target_in, arc_in, moves_due, moves_of as track_of}
+use Rattle.motion_track.specs.Faults.{fault}
+use Rattle.turn_cycles.specs.declared.pass.CyclePass.{CyclePass}
+use Rattle.turn_cycles.specs.declared.rectangle.CycleKind.{CycleKind}
+use Rattle.turn_cycles.specs.declared.rectangle.CycleKind.TheVariants.{G90, G92, G94}
+use Rattle.turn_cycles.specs.Cycles.{cycle_moves}
+use Rattle.turn_cycles.specs.End.{cycle_end_of}
+use Rattle.turn_cycles.specs.Pass.{cycle_kind_of, pass_to_end, pass_of}
+use Rattle.offset_store.specs.declared.fault.OffsetFault.{OffsetFault}
+use Rattle.offset_store.specs.declared.slot.Slot.{Slot}
+use Rattle.block_order.specs.declared.control.Control.{Control}
+use Rattle.block_order.specs.declared.control.Control.TheVariants as control
+use Rattle.block_order.specs.declared.program.ControlProgram.{ControlProgram}
+use Rattle.block_forms.specs.declared.word.FlowWord.{FlowWord}
+use Rattle.block_forms.specs.declared.block.FlowBlock.{FlowBlock}
+use Rattle.block_forms.specs.declared.body.FlowBody.{FlowBody}
+use Rattle.block_forms.specs.declared.body.FlowBody.TheVariants.{Words, Statement}
+use Rattle.block_forms.specs.declared.purpose.Purpose.{Purpose}
+use Rattle.block_forms.specs.declared.purpose.Purpose.TheVariants.{MacroCall}
+use Rattle.block_forms.specs.Codes.{gives, is_limit, m_code}
+use Rattle.tape_flow.specs.declared.flow.Flow.{Flow}
+use Rattle.path_state.specs.View.{Fixed, PathView}
+use Rattle.path_state.specs.Outcomes.{Outcome, Gives, Needs, Alarms}
+use Rattle.path_state.specs.Values.{Values, nothing_said, sense_of, words_taken}
+use Rattle.path_state.specs.Moves.{speed_moves, tool_moves, is_auxiliary, auxiliary_moves, all_moves}
+use Rattle.path_state.specs.Motion.{Motion, motion_number, offset_number, setting_of, set_motion, passed_motion, tracked, cut_motion, block_motion, motion_of}
+use Rattle.path_state.specs.Places.{Standing, goes_on}
+use Rattle.path_state.specs.Statements.{After, standing_of}
+use Rattle.path_state.specs.Effect.{Effect, Need, Done, AtWait, AtEnd, Moved, moved_by, after_motion, motion_with, modal_after, acted, done_by, controlled, of_moved, of_values, of_arguments, of_purpose, block_of_words, of_after, effect_of_body, effect_of_block, block_at, effect_of}
+use Rattle.path_state.specs.Effect as effect
+use Rattle.run_records.specs.declared.entry.Entry.{Entry}
+use Rattle.seat_table.specs.Turning.{moves_in}
+use Rattle.two_path.specs.Machine.{MachineView, own_first}
+use Rattle.two_path.specs.Turns.{TurnResult, blocks_of, tapes_of, tape_of, result_at_wait, result_by, unless_idle, block_turn, own_turn}
+use Rattle.two_path.specs.Histories.{is_same, with_reads, behind_entry, fold}
+use Rattle.two_path.specs.Again.{turn_of_entry}
+use Rattle.run_table.specs.Kept.{tapes_in, opening_of}
+use Rattle.run_table.specs.Made.{moves_of, shown_from, moves_made}
+
+-- a track of two moves at most, and a pass and a motion of four, unless there is a fault
+abbrev FewTracked : {E : Type 0} → Result (List Move) E → Type 0
+FewTracked (Ok moves) = length moves ≤ 2
+FewTracked (Err fault) = Unit {0}
+
+abbrev FewPassed : {E : Type 0} → Result CyclePass E → Type 0
+FewPassed (Ok pass) = length pass.moves ≤ 4
+FewPassed (Err fault) = Unit {0}
+
+abbrev FewMotion : {E : Type 0} → Result Motion E → Type 0
+FewMotion (Ok motion) = length motion.moves ≤ 4
+FewMotion (Err fault) = Unit {0}
+
+-- a step more
+then_tracked : {A E : Type 0} (r : Result A E) (f : A → Result (List Move) E) → ((a : A) → FewTracked (f a)) → FewTracked (r >>= f)
+then_tracked (Ok a) f few = few a
+then_tracked (Err fault) f few = tt
+
+then_passed : {A E : Type 0} (r : Result A E) (f : A → Result CyclePass E) → ((a : A) → FewPassed (f a)) → FewPassed (r >>= f)
+then_passed (Ok a) f few = few a
+then_passed (Err fault) f few = tt
+
+one_cut : (r : Result Move MotionFault) → FewTracked (r >>= λ one. Ok (one ∷ []))
+one_cut (Ok one) = omega arith
+one_cut (Err fault) = tt
+
+one_rapid : (to : Result Point MotionFault) → FewTracked (to >>= λ at. Ok (move.Rapid at ∷ []))
+one_rapid (Ok at) = omega arith
+one_rapid (Err fault) = tt
+
+due_few : (k : CodeKind) (block : BlockMotion) → FewTracked (moves_due k block)
+due_few kind.Rapid block = one_rapid (target_in block)
+due_few kind.Feed block = then_tracked (target_in block) _ (λ to. one_cut _)
+due_few kind.ArcCw block = one_cut (arc_in true block)
+due_few kind.ArcCcw block = one_cut (arc_in false block)
+due_few kind.Thread block = then_tracked (target_in block) _ (λ to. one_cut _)
+due_few kind.Home block = then_tracked (target_in block) _ (λ between. omega arith)
+due_few kind.Machine block = one_rapid _
+due_few _ block = omega arith
+
+track_few : (k : CodeKind) (block : BlockMotion) → FewTracked (track_of k block)
+track_few k block = go (is_move_due k block)
+  where
+    go : (b : Bool) → FewTracked (if b then moves_due k block else Ok [])
+    go true = due_few k block
+    go false = omega arith
+
+cycle_few : (cycle : CycleKind) (start end : Point) (feed : ℤ) (per_rev : Bool) → length (cycle_moves cycle start end feed per_rev) ≤ 4
+cycle_few G90 start end feed per_rev = omega arith
+cycle_few G92 start end feed per_rev = omega arith
+cycle_few G94 start end feed per_rev = omega arith
+
+pass_few : (cycle : CycleKind) (kept : Option Point) (block : BlockMotion) → FewPassed (pass_of cycle kept block)
+pass_few cycle kept block = go (names_axis block)
+  where
+    cut : (end : Point) (b : Bool) → FewPassed {E = MotionFault} ((if b then Err (fault FeedZero) else Ok (cycle_moves cycle block.start end block.feed block.per_rev)) >>= λ moves. Ok (record { moves = moves; kept = Some end }))
+    cut end true = tt
+    cut end false = cycle_few cycle block.start end block.feed block.per_rev
+
+    to_end : FewPassed (pass_to_end cycle kept block)
+    to_end = then_passed (cycle_end_of block.start kept block.shift block.x block.z) _ (λ end. cut end (is_zero block.feed))
+
+    go : (b : Bool) → FewPassed (if b then pass_to_end cycle kept block else Ok (record { moves = []; kept = kept }))
+    go true = to_end
+    go false = omega arith
+
+passed_few : (r : Result CyclePass MotionFault) → FewPassed r → FewMotion (passed_motion r)
+passed_few (Ok pass) few = few
+passed_few (Err fault) few = tt
+
+tracked_few : (kept : Option Point) (r : Result (List Move) MotionFault) → FewTracked r → FewMotion (tracked kept r)
+tracked_few kept (Ok moves) few = omega arith
+tracked_few kept (Err fault) few = tt
+
+cut_few : (cycle : Option CycleKind) (k : CodeKind) (kept : Option Point) (block : BlockMotion) → FewMotion (cut_motion cycle k kept block)
+cut_few (Some cycle) k kept block = passed_few (pass_of cycle kept block) (pass_few cycle kept block)
+cut_few None k kept block = tracked_few kept (track_of k block) (track_few k block)
+
+set_few : (kept : Option Point) (r : Result (Slot × Point) OffsetFault) → FewMotion (offset_number (set_motion kept r))
+set_few kept (Ok set) = omega arith
+set_few kept (Err fault) = tt
+
+numbered_few : (r : Result Motion MotionFault) → FewMotion r → FewMotion (motion_number r)
+numbered_few (Ok motion) few = few
+numbered_few (Err fault) few = tt
+
+motion_few : (fixed : Fixed) (path : PathView) (modal : ModalView) (k : CodeKind) (has_l : Bool) (values : Values) → FewMotion (motion_of fixed path modal k has_l values)
+motion_few fixed path modal kind.Dwell has_l values = omega arith
+motion_few fixed path modal kind.Setting has_l values = set_few modal.cycle (setting_of path.offsets has_l values)
+motion_few fixed path modal k has_l values = numbered_few _ (cut_few (cycle_kind_of k) k modal.cycle (block_motion fixed path modal values))
+
+-- beside the motion there are three at most
+speed_few : (limits : Bool) (modal : ModalView) (speed : Var) → length (speed_moves limits modal speed) ≤ 1
+speed_few limits modal Vacant = omega arith
+speed_few true modal (Is s) = omega arith
+speed_few false modal (Is s) = omega arith
+
+tool_few : (tool : Option ℕ) → length (tool_moves tool) ≤ 1
+tool_few None = omega arith
+tool_few (Some t) = omega arith
+
+auxiliary_few : (code : Option ℕ) → length (auxiliary_moves code) ≤ 1
+auxiliary_few None = omega arith
+auxiliary_few (Some m) = go (is_auxiliary m)
+  where
+    go : (b : Bool) → length (if b then move.Aux m ∷ [] else []) ≤ 1
+    go true = omega arith
+    go false = omega arith
+
+all_few : (limits : Bool) (modal : ModalView) (values : Values) (motion : List Move) (code : Option ℕ) → length motion ≤ 4
+    → length (all_moves limits modal values motion code) ≤ 7
+all_few limits modal values motion code few =
+    let speed = speed_moves limits modal values.speed in
+    let tool = tool_moves values.tool in
+    let auxiliary = auxiliary_moves code in
+    omega (
+      arith,
+      few,
+      speed_few limits modal values.speed,
+      tool_few values.tool,
+      auxiliary_few code,
+      length-append speed (tool ++ (motion ++ auxiliary)),
+      length-append tool (motion ++ auxiliary),
+      length-append motion auxiliary,
+    )
+
+-- what a block comes to
+abbrev FewMoved : Result Moved ℕ → Type 0
+FewMoved (Ok moved) = length moved.moves ≤ 7
+FewMoved (Err number) = Unit {0}
+
+abbrev FewMoves : Effect → Type 0
+FewMoves (Done after write moves) = length moves ≤ 7
+FewMoves (AtEnd after moves) = length moves ≤ 7
+FewMoves _ = Unit {0}
+
+after_few : (path : PathView) (modal : ModalView) (words : List FlowWord) (values : Values) (motion : Result Motion ℕ) → FewMotion motion
+    → FewMoved (after_motion path modal words values motion)
+after_few path modal words values (Ok motion) few = all_few (gives is_limit words) modal values motion.moves (m_code words) few
+after_few path modal words values (Err number) few = tt
+
+with_few : (fixed : Fixed) (path : PathView) (words : List FlowWord) (values : Values) (modal : Result ModalView ℕ) → FewMoved (motion_with fixed path words values modal)
+with_few fixed path words values (Ok modal) = after_few path modal words values _ (motion_few fixed path modal _ _ values)
+with_few fixed path words values (Err number) = tt
+
+module _ (tape : List ControlProgram) (fixed : Fixed) (path : PathView) where
+  done_few : (moved : Moved) (to : Result Standing Cause) → length moved.moves ≤ 7 → FewMoves (done_by moved to)
+  done_few moved (Ok to) few = few
+  done_few moved (Err cause) few = tt
+
+  controlled_few : (moved : Moved) (arguments : Option (List Var)) (c : Control) → length moved.moves ≤ 7 → FewMoves (controlled tape moved arguments c)
+  controlled_few moved arguments control.End few = few
+  controlled_few moved arguments c few = done_few moved (goes_on tape (standing_of moved.path) arguments c) few
+
+  moved_few : (c : Control) (moved : Result Moved ℕ) → FewMoved moved → FewMoves (of_moved tape c moved)
+  moved_few c (Ok moved) few = controlled_few moved None c few
+  moved_few c (Err number) few = tt
+
+  values_few : (words : List FlowWord) (c : Control) (values : Outcome Values) → FewMoves (of_values tape fixed path words c values)
+  values_few words c (Gives values left) = moved_few c (acted fixed path words values) (with_few fixed path words values (modal_after path.modal words values))
+  values_few words c (Needs variable) = tt
+  values_few words c (Alarms number value) = tt
+
+  arguments_few : (c : Control) (arguments : Outcome (List Var)) → FewMoves (of_arguments tape path c arguments)
+  arguments_few c (Gives arguments left) = controlled_few (record { path = path; moves = [] }) (Some arguments) c (omega arith)
+  arguments_few c (Needs variable) = tt
+  arguments_few c (Alarms number value) = tt
+
+  statement_few : (after : Outcome After) → FewMoves (of_after after)
+  statement_few (Gives after left) = omega arith
+  statement_few (Needs variable) = tt
+  statement_few (Alarms number value) = tt
+
+  purpose_few : (purpose : Purpose) (words : List FlowWord) (c : Control) (reads : List Var) → FewMoves (of_purpose tape fixed path purpose words c reads)
+  purpose_few MacroCall words c reads = arguments_few c _
+  purpose_few purpose words c reads = values_few words c (words_taken fixed path (sense_of path purpose words) words nothing_said reads)
+
+  words_few : (purpose : Purpose) (words : List FlowWord) (c : Control) (reads : List Var) → FewMoves (block_of_words tape fixed path purpose words c reads)
+  words_few purpose words (control.Wait code) reads = tt
+  words_few purpose words c reads = purpose_few purpose words c reads
+
+  body_few : (body : FlowBody) (c : Control) (reads : List Var) → FewMoves (effect_of_body tape fixed path body c reads)
+  body_few (Words words) c reads = words_few words.purpose words.words c reads
+  body_few (Statement statement) c reads = statement_few _
+
+found_few : (tape : List ControlProgram) (path : PathView) (found : Option FlowBlock) (reads : List Var) → FewMoves (effect_of_block tape path found reads)
+found_few tape path None reads = tt
+found_few tape path (Some block) reads = body_few tape path.fixed path block.body block.control reads
+
+block_few : (flow : Flow) (path : PathView) (reads : List Var) → FewMoves (effect_of flow path reads)
+block_few flow path reads = found_few flow.order path (block_at flow.programs path.place) reads
+
+-- what its turn has
+wait_few : (path : Path) (line : ℕ) (m : MachineView) (code : ℕ) (there : Option ℕ) → length (moves_of (result_at_wait path line m code there).turn) ≤ 7
+wait_few path line m code None = omega arith
+wait_few path line m code (Some there) = go (code == there) refl
+  where
+    go : (b : Bool) → (code == there) ≡ b → length (moves_of (result_at_wait path line m code (Some there)).turn) ≤ 7
+    go true e = rw e (omega arith)
+    go false e = rw e (omega arith)
+
+result_few : (path : Path) (line : ℕ) (m : MachineView) (e : Effect) → FewMoves e → length (moves_of (result_by path line m e).turn) ≤ 7
+result_few path line m (Need variable) few = omega arith
+result_few path line m (Done after write moves) few = few
+result_few path line m (AtWait code) few = wait_few path line m code m.second.waiting
+result_few path line m (AtEnd after moves) few = few
+result_few path line m (effect.Alarm number value) few = omega arith
+
+unless_few : (m : MachineView) (a : Option Alarm) (f : Bool) (w : Option ℕ) (rest : TurnResult) → length (moves_of rest.turn) ≤ 7 → length (moves_of (unless_idle m a f w rest).turn) ≤ 7
+unless_few m (Some alarm) f w rest few = omega arith
+unless_few m None true w rest few = omega arith
+unless_few m None false (Some code) rest few = omega arith
+unless_few m None false None rest few = few
+
+turn_few : (flow : Flow) (path : Path) (m : MachineView) → length (moves_of (own_turn (blocks_of flow) path m).turn) ≤ 7
+turn_few flow path m =
+    unless_few m m.alarm m.first.finished m.first.waiting (block_turn (blocks_of flow) path m)
+    (result_few path ((blocks_of flow).line m.first.path.place) m (effect_of flow m.first.path m.first.values) (block_few flow m.first.path m.first.values))
+
+either_few : (left right : Flow) (path own : Path) (m : MachineView) → length (moves_of (own_turn (tape_of (tapes_of left right) path) own m).turn) ≤ 7
+either_few left right One own m = turn_few left own m
+either_few left right Two own m = turn_few right own m
+
+-- what the records have
+records_few : (left right : Flow) (path : Path) (entries : List Entry) (m : MachineView) → length (moves_in (shown_from (tapes_of left right) m path entries)) ≤ 7 * length entries
+records_few left right path [] m = omega arith
+records_few left right path (e ∷ entries) m =
+    go (is_same path e.path) (moves_of (turn_of_entry (tapes_of left right) e m))
+    (either_few left right e.path e.path (with_reads (tape_of (tapes_of left right) e.path) e.stamps (own_first e.path m)))
+    (records_few left right path entries (behind_entry (tapes_of left right) e m))
+  where
+    go : (b : Bool) (moves : List Move) → length moves ≤ 7 → length (moves_in (shown_from (tapes_of left right) (behind_entry (tapes_of left right) e m) path entries)) ≤ 7 * length entries
+        → length (moves_in ((if b then moves ∷ [] else []) ++ shown_from (tapes_of left right) (behind_entry (tapes_of left right) e m) path entries)) ≤ 7 * length (e ∷ entries)
+    go true moves few rest = omega (arith, few, rest, length-append moves (moves_in (shown_from (tapes_of left right) (behind_entry (tapes_of left right) e m) path entries)))
+    go false moves few rest = omega (arith, rest)
+
+pub made_few : (pair : Verified) (path : Path) (from upto : ℕ) (history : List Entry) → length (moves_made pair path from upto history) ≤ 7 * (upto - from)
+made_few pair path from upto history =
+    let part = drop from (take upto history) in
+    let few = records_few pair.left pair.right path part (fold (tapes_in pair) (opening_of pair) (take from history)) in
+    omega (arith, few, length-drop from (take upto history), length-take upto history)

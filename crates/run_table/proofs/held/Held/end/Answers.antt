@@ -1,0 +1,35 @@
+use Rattle.std.proofs.Common.{◌≡◌, subst}
+use Rattle.nc_number.specs.declared.path.Path.{Path}
+use Rattle.run_table.specs.Ending.{KeepsRest}
+use Rattle.run_table.specs.Holding.{HeldView, held_of, records_since}
+use Rattle.run_table.proofs.EndsTold.{ends, goes_on, rest_kept, records_kept, held_asked}
+use Rattle.run_table.proofs.held.Held.end.Goals as goal
+
+pub invariant_of-self : goal.invariant_of-self
+invariant_of-self g c =
+    let i = c.self.inside in
+    held_asked g.D.Disk.state i.table c.ended.new.self c.ended.result c.ended.ensures.table c.ended.ensures.asks g.O.Opening.opened i.shown c.ended.ensures.since
+    c.self.invariant
+
+pub returns-clause-ends : goal.returns-clause-ends
+returns-clause-ends g c =
+    let i = c.self.inside in
+    ends g.D.Disk.state i.table c.ended.new.self c.ended.result c.ended.ensures.table c.ended.ensures.asks i.shown
+
+pub returns-clause-goes_on : goal.returns-clause-goes_on
+returns-clause-goes_on g c =
+    let i = c.self.inside in
+    goes_on g.D.Disk.state i.table c.ended.new.self c.ended.result c.ended.ensures.table c.ended.ensures.asks i.shown
+
+pub returns-clause-rest : goal.returns-clause-rest
+returns-clause-rest g c =
+    let i = c.self.inside in
+    subst (λ (h : HeldView g.row.D.Denot). KeepsRest h (held_of c.ended.new.self i.shown) c.ended.result) c.self.view_is
+    (rest_kept g.D.Disk.state i.table c.ended.new.self c.ended.result c.ended.ensures.table c.ended.ensures.asks i.shown)
+
+pub returns-clause-same : goal.returns-clause-same
+returns-clause-same g c =
+    let i = c.self.inside in
+    let o = g.O.Opening.opened in
+    subst (λ (h : HeldView g.row.D.Denot). (p : Path) → records_since o (held_of c.ended.new.self i.shown) p ≡ records_since o h p) c.self.view_is
+    (records_kept g.D.Disk.state i.table c.ended.new.self c.ended.result c.ended.ensures.table c.ended.ensures.asks o i.shown)
