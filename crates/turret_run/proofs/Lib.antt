@@ -1,0 +1,3 @@
+mod TablesCross
+mod TurretsGet
+mod TurretsRun

@@ -1,0 +1,257 @@
+-- How a run with turrets ends, from what its threads and the turns behind them left.
+use Rattle.std.proofs.Common.{arith, ◌≡◌, ◌≢◌, ◌*◌, ◌≤◌, ℕ, Bool, true, false, true≢false, List, [], ◌-◌, length, map, refl, ap, sym, ◌∙◌, subst, length-append, Option, Some, None, ⊎_elim, inl, inr}
+use Rattle.std.proofs.lemmas.List.{drop_all}
+use Rattle.disk_model.specs.Device.{DiskState, Rose}
+use Rattle.gate_file.specs.Gate.{Gate}
+use Rattle.nc_number.specs.declared.path.Path.{Path}
+use Rattle.nc_number.specs.declared.path.Path.TheVariants.{One, Two}
+use Rattle.nc_number.specs.Path.{other_of}
+use Rattle.nc_outside.specs.declared.halt.Halt.{Halt}
+use Rattle.nc_outside.specs.declared.halt.Halt.TheVariants as halt
+use Rattle.nc_outside.specs.declared.motion.Got.{Got}
+use Rattle.nc_outside.specs.declared.motion.Got.TheVariants.{Moved}
+use Rattle.nc_outside.specs.Received.{TurretState}
+use Rattle.nc_verify.specs.declared.verified.Verified.{Verified}
+use Rattle.run_records.specs.declared.entry.Entry.{Entry}
+use Rattle.two_path.specs.Machine.{MachineView}
+use Rattle.two_path.specs.Histories.{fold}
+use Rattle.path_worker.specs.Drive.{Filled}
+use Rattle.seat_table.specs.Turning.{moves_in}
+use Rattle.lane_pair.specs.Serving.{Serves}
+use Rattle.run_table.specs.declared.running.RunEnd.{RunEnd}
+use Rattle.run_table.specs.declared.running.RunEnd.TheVariants as run
+use Rattle.run_table.specs.Ending.{HasEnded as Ends}
+use Rattle.run_table.specs.Holding.{HeldView, held_of, IsOf, ShowsFlushed, answered_from, records_since, without_turret}
+use Rattle.run_table.specs.Kept.{TableView, tapes_in, opening_of}
+use Rattle.run_table.specs.Made.{moves_made}
+use Rattle.run_table.specs.Recording.{RecordingView, Follows}
+use Rattle.run_table.specs.Running.{EndsBy, IsNoneOrAlarm}
+use Rattle.run_table.specs.Since.{Since}
+use Rattle.turret_run.specs.declared.ending.TurretEnd.{TurretEnd}
+use Rattle.turret_run.specs.declared.ending.TurretEnd.TheVariants.{Ended, TurretFault, NoMemory}
+use Rattle.turret_run.specs.Served.{told, GetsFirst, GetsAll, GetsPart, FailsAmong, GetsSome}
+use Rattle.turret_run.specs.Runs.{Turrets, turret_for, place_of, due, GetsAt, GetsBeside, Stays, HasFailed, RunsWith}
+use Rattle.turret_run.specs.Rests.{ArePlaced, FailsAtPlace, first_failed, HasCause}
+use Rattle.turret_run.proofs.TurretsGet.{GotBy, of_longer, served}
+
+-- a recording with these records, so many of which are flushed, and with this file
+abbrev with_file : {D : Type 0} → RecordingView D → List Entry → ℕ → Gate D → RecordingView D
+with_file r history flushed file = record { history = history; room = r.room; flushed = flushed; log = record r.log { file = file } }
+
+follows_with : {D : Type 0} (state : D → DiskState) (made : List Entry) (a b new : RecordingView D)
+    → Follows state made (with_file b a.history a.flushed a.log.file) new → Follows state made a new
+follows_with state made a b new p = record {
+  history = p.history;
+  flushed = p.flushed;
+  journal = λ header j.
+      let k = p.journal header (record { held = j.held; left = j.left }) in
+      record { journaled = k.journaled; any_moment = k.any_moment };
+  sends = λ within. let s = p.sends within in record { within = s.within; more = s.more; uses = s.uses; end = s.end };
+  told = p.told;
+  rests = p.rests;
+  later = p.later;
+}
+
+-- What comes of a recording follows any other with the same records, as many of them flushed, and the same file.
+follows_as : {D : Type 0} (state : D → DiskState) (made : List Entry) (a b new : RecordingView D) → b.history ≡ a.history → b.flushed ≡ a.flushed
+    → b.log.file ≡ a.log.file → Follows state made b new → Follows state made a new
+follows_as state made a b new history flushed file p = follows_with state made a b new
+    (subst (λ x. Follows state made (with_file b a.history a.flushed x) new) file
+    (subst (λ n. Follows state made (with_file b a.history n b.log.file) new) flushed
+    (subst (λ l. Follows state made (with_file b l b.flushed b.log.file) new) history p)))
+
+module _ {D : Type 0} (state : D → DiskState) (limit : ℕ) (old ready : TableView D) (stays : Stays old ready) (leave : ready.budget ≡ limit) where
+  -- what comes of a table that was made ready is what comes of it before, with that leave
+  pub since_ready : (new : TableView D) → Since state ready new → Since state (record old { budget = limit }) new
+  since_ready new since = record {
+    verified = since.verified ∙ stays.verified;
+    made = since.made;
+    recording = follows_as state since.made old.recording ready.recording new.recording stays.history stays.flushed stays.file since.recording;
+    budget = since.budget ∙ leave;
+    cause = λ is. ⊎_elim (λ before. inl (sym stays.halt ∙ before))
+        (λ rose. inr (subst (λ (file : Gate D). Rose (state file.disk).faults (state new.recording.log.file.disk).faults) stays.file rose)) (since.cause is);
+  }
+
+  ends_ready : (new : TableView D) (end : RunEnd) → EndsBy state ready new end → EndsBy state old new end
+  ends_ready new (run.Alarm alarm) e = e
+  ends_ready new run.Done e = e
+  ends_ready new run.Full e = e
+  ends_ready new run.Stopped e = e
+  ends_ready new run.DiskFault e =
+      (e.0, subst (λ (file : Gate D). Rose (state file.disk).faults (state new.recording.log.file.disk).faults) stays.file e.1)
+
+  pub due_ready : (path : Path) (new : TableView D) → due path ready new ≡ due path old new
+  due_ready path new =
+      ap (λ (m : MachineView). due path (record ready { machine = m }) new) stays.machine
+      ∙ ap (λ (n : ℕ). told (place_of path old.machine) (moves_made new.verified path n new.recording.flushed new.recording.history)) (ap length stays.history)
+
+  -- the run of a table that was made ready is one of the table before
+  pub runs_ready : (new : TableView D) (before after : Turrets) (end : TurretEnd) → RunsWith state ready.budget ready new before after end → RunsWith state limit old new before after end
+  runs_ready new before after (Ended end) r = record {
+    since = since_ready new r.since;
+    ends = ends_ready new end r.ends;
+    turrets = λ path. subst (λ what. GetsAt end what (turret_for path before) (turret_for path after)) (due_ready path new) (r.turrets path);
+  }
+  runs_ready new before after (TurretFault path) r = record {
+    since = since_ready new r.since;
+    disk = r.disk;
+    failed = subst (λ what. FailsAmong what (turret_for path before) (turret_for path after)) (due_ready path new) r.failed;
+    other = subst (λ what. GetsBeside path what (turret_for (other_of path) before) (turret_for (other_of path) after)) (due_ready (other_of path) new) r.other;
+  }
+  runs_ready new before after NoMemory r = record {
+    same = record {
+      verified = r.same.verified ∙ stays.verified;
+      machine = r.same.machine ∙ stays.machine;
+      history = r.same.history ∙ stays.history;
+      flushed = r.same.flushed ∙ stays.flushed;
+      file = r.same.file ∙ stays.file;
+      halt = r.same.halt ∙ stays.halt;
+    };
+    turrets = λ path. subst (λ (m : MachineView). GetsPart (told (place_of path m) []) (turret_for path before) (turret_for path after)) stays.machine (r.turrets path);
+  }
+
+-- all of these are a first part of them
+part_of_all : (what : List Got) (a b : TurretState) → GetsAll what a b → GetsPart what a b
+part_of_all what a b g = (length what, g)
+
+some_of : (failed : Bool) (what : List Got) (a b : TurretState) → GotBy failed what a b → GetsSome what a b
+some_of true what a b g = (g.0, true, g.1)
+some_of false what a b g = (length what, false, g)
+
+all_of : (failed : Bool) (what : List Got) (a b : TurretState) → failed ≡ false → GotBy failed what a b → GetsAll what a b
+all_of true what a b is g = absurd (true≢false is)
+all_of false what a b is g = g
+
+fails_of : (failed : Bool) (what : List Got) (a b : TurretState) → failed ≡ true → GotBy failed what a b → FailsAmong what a b
+fails_of true what a b is g = g
+fails_of false what a b is g = absurd (true≢false (sym is))
+
+none_failed : (left right : Bool) → first_failed left right ≡ None → (left ≡ false) × (right ≡ false)
+none_failed true right is = absurd cc
+none_failed false true is = absurd cc
+none_failed false false is = (refl, refl)
+
+-- a turret that is let go hides no fault of the disk
+not_disk : (why : Option Halt) → why ≢ Some halt.Disk → without_turret why ≢ Some halt.Disk
+not_disk None other is = absurd cc
+not_disk (Some (halt.Alarm alarm)) other is = absurd cc
+not_disk (Some halt.Disk) other is = other is
+not_disk (Some (halt.Turret path)) other is = absurd cc
+not_disk (Some halt.Full) other is = absurd cc
+not_disk (Some halt.Budget) other is = absurd cc
+
+pub calm_is_no_disk : (why : Option Halt) → IsNoneOrAlarm why → why ≢ Some halt.Disk
+calm_is_no_disk None may is = absurd cc
+calm_is_no_disk (Some (halt.Alarm alarm)) may is = absurd cc
+calm_is_no_disk (Some halt.Disk) may is = may
+calm_is_no_disk (Some (halt.Turret path)) may is = may
+calm_is_no_disk (Some halt.Full) may is = may
+calm_is_no_disk (Some halt.Budget) may is = may
+
+pub calm_stays : (why : Option Halt) → IsNoneOrAlarm why → without_turret why ≡ why
+calm_stays None may = refl
+calm_stays (Some (halt.Alarm alarm)) may = refl
+calm_stays (Some halt.Disk) may = absurd may
+calm_stays (Some (halt.Turret path)) may = absurd may
+calm_stays (Some halt.Full) may = absurd may
+calm_stays (Some halt.Budget) may = absurd may
+
+-- a table that is held from its opening on has made no record since
+pub none_since : {D : Type 0} (opened : Option (TableView D)) (t : TableView D) (held : HeldView D) → opened ≡ Some t → held ≡ held_of t true → (path : Path) → records_since opened held path ≡ []
+none_since opened t held is held_is path = subst (λ o. records_since o held path ≡ []) (sym is) (subst (λ h. records_since (Some t) h path ≡ []) (sym held_is)
+    (ap (λ l. answered_from (tapes_in t.verified) (fold (tapes_in t.verified) (opening_of t.verified) t.recording.history) path true l) (drop_all (length t.recording.history) t.recording.history (omega arith))))
+
+-- What each turret got by a run, of which the table was taken out.
+module _ {D : Type 0} (state : D → DiskState) (opened : Option (TableView D)) (start taken : TableView D) (held : HeldView D) (is : opened ≡ Some start)
+    (of : IsOf state opened taken) (shown : ShowsFlushed opened held taken) (all : start.recording.flushed ≡ length start.recording.history)
+    (law : (pair : Verified) (path : Path) (from upto : ℕ) (history : List Entry) → length (moves_made pair path from upto history) ≤ 7 * (upto - from)) where
+  pub taken_since : Since state start taken
+  taken_since = subst (λ o. IsOf state o taken) is of
+
+  -- the records that were made since are within the leave, so there was room for the moves of those that are on the disk
+  fits : (count : ℕ) → count ≤ 7 * (taken.recording.flushed - length start.recording.history) → count ≤ 8 * start.budget
+  fits count less =
+      let within = (taken_since.recording.sends (omega (arith, all))).within in
+      let long = ap length taken_since.recording.history ∙ length-append start.recording.history taken_since.made in
+      let budget = taken_since.budget in
+      omega (arith, less, within, long, budget)
+
+  pub got : (path : Path) (room handed : Filled) (failed : Bool) (before now after : TurretState) → room ≡ record { list = []; room = 8 * start.budget }
+      → GetsAll (told (place_of path start.machine) []) before now → Serves (moves_in (records_since opened held path)) room now after handed failed
+      → GotBy failed (due path start taken) before after
+  got path room handed failed before now after room_is place s =
+      let at : Serves (moves_in (records_since (Some start) held path)) room now after handed failed =
+      subst (λ o. Serves (moves_in (records_since o held path)) room now after handed failed) is s in
+      let moves = moves_made taken.verified path (length start.recording.history) taken.recording.flushed taken.recording.history in
+      let told_of = subst (λ o. ShowsFlushed o held taken) is shown path in
+      served (place_of path start.machine) moves room handed failed before now after
+      (subst (λ (r : Filled). length moves ≤ r.room) (sym room_is) (fits (length moves) (law taken.verified path (length start.recording.history) taken.recording.flushed taken.recording.history))) place (subst (λ ms. Serves ms room now after handed failed) told_of at)
+
+-- each turret got no more than its place
+pub placed_only : (m : MachineView) (before now after : Turrets) → ArePlaced m before now → now.left ≡ after.left → now.right ≡ after.right
+    → (path : Path) → GetsPart (told (place_of path m) []) (turret_for path before) (turret_for path after)
+placed_only m before now after placed left right One = (1, subst (λ s. GetsAll (told (place_of One m) []) before.left s) left (placed One))
+placed_only m before now after placed left right Two = (1, subst (λ s. GetsAll (told (place_of Two m) []) before.right s) right (placed Two))
+
+-- a turret failed at its place, and nothing else was done
+module _ {D : Type 0} (state : D → DiskState) (limit : ℕ) (old ready : TableView D) (stays : Stays old ready) (leave : ready.budget ≡ limit)
+    (itself : Since state ready ready) (may : IsNoneOrAlarm old.halt) (before after : Turrets) where
+  more : (path : Path) (n : ℕ) (failed : Bool) (a b : TurretState) → GetsFirst (told (place_of path ready.machine) []) n failed a b → GetsFirst (due path old ready) n failed a b
+  more path n failed a b g = of_longer (told (place_of path old.machine) [])
+      (map Moved (moves_made ready.verified path (length old.recording.history) ready.recording.flushed ready.recording.history)) n failed a b
+      (subst (λ (m : MachineView). GetsFirst (told (place_of path m) []) n failed a b) stays.machine g)
+
+  beside : (path : Path) (a b : TurretState) → GetsBeside path (told (place_of (other_of path) ready.machine) []) a b → GetsBeside path (due (other_of path) old ready) a b
+  beside One a b g = (g.0, g.1, more Two g.0 g.1 a b g.2)
+  beside Two a b g = (g.0, more One g.0 false a b g.1)
+
+  pub place_failed : (path : Path) → FailsAtPlace ready.machine before after path → HasFailed state limit old ready before after path
+  place_failed path f = record {
+    since = since_ready state limit old ready stays leave ready itself;
+    disk = subst (λ h. h ≢ Some halt.Disk) (sym stays.halt) (calm_is_no_disk old.halt may);
+    failed = (f.0.0, more path f.0.0 true (turret_for path before) (turret_for path after) f.0.1);
+    other = beside path (turret_for (other_of path) before) (turret_for (other_of path) after) f.1;
+  }
+
+-- The end of a run: the turns that were left found this cause.
+module _ {D : Type 0} (state : D → DiskState) (start taken : TableView D) (since : Since state start taken) (held : HeldView D) (before after : Turrets) (left right : Bool)
+    (ends : (end : RunEnd) → Ends held end → EndsBy state start taken end) (halt_is : taken.halt ≡ without_turret held.halt)
+    (first : GotBy left (due One start taken) before.left after.left) (second : GotBy right (due Two start taken) before.right after.right) where
+  ended_all : (end : RunEnd) → (first_failed left right ≡ None) → (path : Path) → GetsAll (due path start taken) (turret_for path before) (turret_for path after)
+  ended_all end none One = all_of left (due One start taken) before.left after.left (none_failed left right none).0 first
+  ended_all end none Two = all_of right (due Two start taken) before.right after.right (none_failed left right none).1 second
+
+  ended_at : (end : RunEnd) → (end ≢ run.DiskFault → first_failed left right ≡ None) → (path : Path) → GetsAt end (due path start taken) (turret_for path before) (turret_for path after)
+  ended_at (run.Alarm alarm) none path = ended_all (run.Alarm alarm) (none (λ is. absurd cc)) path
+  ended_at run.Done none path = ended_all run.Done (none (λ is. absurd cc)) path
+  ended_at run.Full none path = ended_all run.Full (none (λ is. absurd cc)) path
+  ended_at run.Stopped none path = ended_all run.Stopped (none (λ is. absurd cc)) path
+  ended_at run.DiskFault none One = some_of left (due One start taken) before.left after.left first
+  ended_at run.DiskFault none Two = some_of right (due Two start taken) before.right after.right second
+
+  failed_at : (path : Path) → first_failed left right ≡ Some path → FailsAmong (due path start taken) (turret_for path before) (turret_for path after)
+      × GetsBeside path (due (other_of path) start taken) (turret_for (other_of path) before) (turret_for (other_of path) after)
+  failed_at One is =
+      (fails_of left (due One start taken) before.left after.left (one_failed left right is) first, some_of right (due Two start taken) before.right after.right second)
+    where
+      one_failed : (l r : Bool) → first_failed l r ≡ Some One → l ≡ true
+      one_failed true r e = refl
+      one_failed false true e = absurd cc
+      one_failed false false e = absurd cc
+  failed_at Two is =
+      let b = two_failed left right is in (
+        fails_of right (due Two start taken) before.right after.right b.1 second,
+        part_of_all (due One start taken) before.left after.left (all_of left (due One start taken) before.left after.left b.0 first),
+      )
+    where
+      two_failed : (l r : Bool) → first_failed l r ≡ Some Two → (l ≡ false) × (r ≡ true)
+      two_failed true r e = absurd cc
+      two_failed false true e = (refl, refl)
+      two_failed false false e = absurd cc
+
+  pub run_ends : (end : TurretEnd) → HasCause held (first_failed left right) end → RunsWith state start.budget start taken before after end
+  run_ends (Ended end) cause = record { since = since; ends = ends end cause.0; turrets = ended_at end cause.1 }
+  run_ends (TurretFault path) cause =
+      let failed = failed_at path cause.1 in
+      record { since = since; disk = subst (λ h. h ≢ Some halt.Disk) (sym halt_is) (not_disk held.halt cause.0); failed = failed.0; other = failed.1 }
+  run_ends NoMemory cause = absurd cause

@@ -1,0 +1,45 @@
+-- How both turrets are placed, and how the turns that are left behind the threads are given.
+use Rattle.std.specs.Prelude.{◌≡◌, ◌≢◌, Bool, true, false, [], Option, Some, None}
+use Rattle.nc_number.specs.declared.path.Path.{Path}
+use Rattle.nc_number.specs.declared.path.Path.TheVariants.{One, Two}
+use Rattle.nc_number.specs.Path.{other_of}
+use Rattle.nc_outside.specs.declared.halt.Halt.TheVariants.{Disk}
+use Rattle.nc_outside.specs.Received.{TurretState}
+use Rattle.path_worker.specs.Drive.{Filled}
+use Rattle.seat_table.specs.Turning.{Records, moves_in}
+use Rattle.lane_pair.specs.Serving.{Serves}
+use Rattle.two_path.specs.Machine.{MachineView}
+use Rattle.run_table.specs.declared.running.RunEnd.TheVariants as run
+use Rattle.run_table.specs.Ending.{HasEnded}
+use Rattle.run_table.specs.Holding.{HeldView}
+use Rattle.turret_run.specs.declared.ending.TurretEnd.{TurretEnd}
+use Rattle.turret_run.specs.declared.ending.TurretEnd.TheVariants.{Ended, TurretFault, NoMemory}
+use Rattle.turret_run.specs.Served.{told, GetsAll, FailsAmong}
+use Rattle.turret_run.specs.Runs.{Turrets, turret_for, place_of, GetsBeside}
+
+-- each turret got its place
+abbrev pub ArePlaced : MachineView → Turrets → Turrets → Type 0
+ArePlaced m before after = (path : Path) → GetsAll (told (place_of path m) []) (turret_for path before) (turret_for path after)
+
+-- the turret of this path failed at its place, and that of path 1 was placed before that of path 2
+abbrev pub FailsAtPlace : MachineView → Turrets → Turrets → Path → Type 0
+FailsAtPlace m before after path =
+    FailsAmong (told (place_of path m) []) (turret_for path before) (turret_for path after)
+    × GetsBeside path (told (place_of (other_of path) m) []) (turret_for (other_of path) before) (turret_for (other_of path) after)
+
+-- a turret that had served the old records serves the new ones
+abbrev pub ServesOn : Records → TurretState → Filled → Bool → Records → TurretState → Filled → Bool → Type 0
+ServesOn old was taken had_failed new is handed failed = (room : Filled) (start : TurretState)
+    → Serves (moves_in old) room start was taken had_failed → Serves (moves_in new) room start is handed failed
+
+-- the path whose turret failed, that of path 1 first
+abbrev pub first_failed : Bool → Bool → Option Path
+first_failed true right = Some One
+first_failed false true = Some Two
+first_failed false false = None
+
+-- Why no turn is given any more: a fault of the disk, the turret that failed, or another end of the run.
+abbrev pub HasCause : {D : Type 0} → HeldView D → Option Path → TurretEnd → Type 0
+HasCause held failed (Ended end) = HasEnded held end × (end ≢ run.DiskFault → failed ≡ None)
+HasCause held failed (TurretFault path) = (held.halt ≢ Some Disk) × (failed ≡ Some path)
+HasCause held failed NoMemory = ⊥

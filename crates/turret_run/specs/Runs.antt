@@ -1,0 +1,86 @@
+-- A run with turrets, and how it ends.
+use Rattle.std.specs.Prelude.{◌≡◌, ◌≢◌, ℕ, List, [], length, Some}
+use Rattle.disk_model.specs.Device.{DiskState}
+use Rattle.nc_number.specs.declared.path.Path.{Path}
+use Rattle.nc_number.specs.declared.path.Path.TheVariants.{One, Two}
+use Rattle.nc_number.specs.declared.point.Point.{Point}
+use Rattle.nc_number.specs.Path.{other_of}
+use Rattle.nc_outside.specs.declared.halt.Halt.TheVariants.{Disk}
+use Rattle.nc_outside.specs.declared.motion.Got.{Got}
+use Rattle.nc_outside.specs.Received.{TurretState}
+use Rattle.two_path.specs.Machine.{MachineView, own_first}
+use Rattle.run_table.specs.declared.running.RunEnd.{RunEnd}
+use Rattle.run_table.specs.declared.running.RunEnd.TheVariants as run
+use Rattle.run_table.specs.Kept.{TableView}
+use Rattle.run_table.specs.Made.{moves_made}
+use Rattle.run_table.specs.Running.{EndsBy}
+use Rattle.run_table.specs.Since.{Since}
+use Rattle.turret_run.specs.declared.ending.TurretEnd.{TurretEnd}
+use Rattle.turret_run.specs.declared.ending.TurretEnd.TheVariants.{Ended, TurretFault, NoMemory}
+use Rattle.turret_run.specs.Served.{told, GetsAll, GetsPart, GetsSome, FailsAmong}
+
+-- The turrets of both paths at one moment.
+pub record Turrets : Type 0 where
+  pub left : TurretState
+  pub right : TurretState
+
+abbrev pub turret_for : Path → Turrets → TurretState
+turret_for One turrets = turrets.left
+turret_for Two turrets = turrets.right
+
+-- where the turret of a path stands
+abbrev pub place_of : Path → MachineView → Point
+place_of path m = (own_first path m).first.path.position
+
+-- What is due to the turret of a path: its place at the beginning, and the moves of the path's records since then that are on the
+-- disk at the end.
+abbrev pub due : {D : Type 0} → Path → TableView D → TableView D → List Got
+due path old new = told (place_of path old.machine)
+    (moves_made new.verified path (length old.recording.history) new.recording.flushed new.recording.history)
+
+-- at an end of the run a turret got all that is due, and where the disk failed a first part of it
+abbrev pub GetsAt : RunEnd → List Got → TurretState → TurretState → Type 0
+GetsAt (run.Alarm alarm) what old new = GetsAll what old new
+GetsAt run.Done what old new = GetsAll what old new
+GetsAt run.Full what old new = GetsAll what old new
+GetsAt run.Stopped what old new = GetsAll what old new
+GetsAt run.DiskFault what old new = GetsSome what old new
+
+-- beside the turret that is named as failed the other one got a first part; that of path 1 did not fail, else it were named
+abbrev pub GetsBeside : Path → List Got → TurretState → TurretState → Type 0
+GetsBeside One what old new = GetsSome what old new
+GetsBeside Two what old new = GetsPart what old new
+
+-- The table is as it was, but for the room for records and the leave to make them.
+pub record Stays {D : Type 0} (old new : TableView D) : Type 0 where
+  pub verified : new.verified ≡ old.verified
+  pub machine : new.machine ≡ old.machine
+  pub history : new.recording.history ≡ old.recording.history
+  pub flushed : new.recording.flushed ≡ old.recording.flushed
+  pub file : new.recording.log.file ≡ old.recording.log.file
+  pub halt : new.halt ≡ old.halt
+
+module _ {D : Type 0} (state : D → DiskState) (limit : ℕ) (old new : TableView D) (before after : Turrets) where
+  -- The run ended: the table is one that has come of the old one with so many records at most.
+  pub record HasEnded (end : RunEnd) : Type 0 where
+    pub since : Since state (record old { budget = limit }) new
+    pub ends : EndsBy state old new end
+    pub turrets : (path : Path) → GetsAt end (due path old new) (turret_for path before) (turret_for path after)
+
+  -- A turret failed, and the disk did not.
+  pub record HasFailed (path : Path) : Type 0 where
+    pub since : Since state (record old { budget = limit }) new
+    pub disk : new.halt ≢ Some Disk
+    pub failed : FailsAmong (due path old new) (turret_for path before) (turret_for path after)
+    pub other : GetsBeside path (due (other_of path) old new) (turret_for (other_of path) before) (turret_for (other_of path) after)
+
+  -- Memory was wanting before the first step: no record was made, and no turret got more than its place.
+  pub record HasNotBegun : Type 0 where
+    pub same : Stays old new
+    pub turrets : (path : Path) → GetsPart (told (place_of path old.machine) []) (turret_for path before) (turret_for path after)
+
+  -- What a run with turrets comes to, for at most so many records.
+  abbrev pub RunsWith : TurretEnd → Type 0
+  RunsWith (Ended end) = HasEnded end
+  RunsWith (TurretFault path) = HasFailed path
+  RunsWith NoMemory = HasNotBegun

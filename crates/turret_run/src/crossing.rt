@@ -1,0 +1,77 @@
+//! A held table may go to another thread. Each law stands on the ones before it, which keeps each proof short.
+ghost use denote.Param.Send.{IsSend};
+ghost use Rattle.cell_settings.specs.contracts.settings.Settings.{the_row as settings_row};
+ghost use Rattle.nc_verify.specs.contracts.verified.Verified.{the_row as pair_row};
+ghost use Rattle.run_records.specs.contracts.lists.EntryList.{the_row as entries_row};
+ghost use Rattle.run_table.specs.contracts.held.Held.{the_row as held_row};
+ghost use Rattle.run_table.specs.contracts.table.Table.{the_row as table_row};
+ghost use Rattle.tape_flow.specs.contracts.flow.Flow.{the_row as flow_row};
+ghost use Rattle.tape_flow.specs.contracts.program.FlowProgramList.{the_row as programs_row};
+ghost use Rattle.two_path.specs.contracts.machine.Machine.{the_row as machine_row};
+
+use cell_settings::Settings;
+use disk_model::Disk;
+use run_records::EntryList;
+use run_table::Opening;
+use tape_flow::{Flow, FlowBlockList, FlowProgram, FlowProgramList};
+use two_path::Machine;
+
+// What may go to another thread does.
+fn crosses<T: Send>()
+    ensures { IsSend T.row }
+{}
+
+fn programs_cross()
+    ensures { IsSend programs_row }
+{
+    crosses::<FlowBlockList>();
+    crosses::<FlowProgram>();
+    crosses::<FlowProgramList>();
+}
+
+fn flow_crosses()
+    ensures { IsSend flow_row }
+{
+    programs_cross();
+    crosses::<Flow>();
+}
+
+fn settings_cross()
+    ensures { IsSend settings_row }
+{
+    crosses::<Settings>();
+}
+
+fn pair_crosses()
+    ensures { IsSend pair_row }
+{
+    flow_crosses();
+    settings_cross();
+}
+
+fn machine_crosses()
+    ensures { IsSend machine_row }
+{
+    crosses::<Machine>();
+}
+
+fn entries_cross()
+    ensures { IsSend entries_row }
+{
+    crosses::<EntryList>();
+}
+
+fn table_crosses<D: Disk + Send>()
+    ensures { IsSend (table_row D.row D.Disk) }
+{
+    pair_crosses();
+    machine_crosses();
+    entries_cross();
+}
+
+/// A held table may go to another thread, where its disk may.
+pub(crate) fn held_crosses<D: Disk + Send, O: Opening<D> + Send + Sync>()
+    ensures { IsSend (held_row D.row O.row D.Disk O.Opening) }
+{
+    table_crosses::<D>();
+}

@@ -1,0 +1,17 @@
+//! A run with its turrets: both paths of an opened table at once, in four threads, each turret with its place first.
+//!
+//! Each turret gets its place and then, in order and a call each, just the moves of its path's records that the run made; a
+//! first part of them where it or the disk failed. The layer above leans on that, and on the first of the causes that
+//! stand together: a fault of the disk, a fault of a turret, and then as a run of two paths ends.
+#![tactic(auto)]
+
+mod crossing;
+mod ending;
+mod placing;
+mod rest;
+mod run;
+#[cfg(test)]
+mod tests;
+
+pub use ending::{TurretEnd, TurretRun};
+pub use run::run_with_turrets;

@@ -1,0 +1,96 @@
+ghost use Rattle.std.specs.Prelude.{◌≡◌, None};
+ghost use Rattle.run_table.specs.Running.{MayRun, end_of};
+
+use super::pairs::{header_of, table_of};
+use crate::{TurretEnd, TurretRun, run_with_turrets};
+use disk_model::MemoryDisk;
+use nc_outside::MemoryTurret;
+use run_table::{RunEnd, Table};
+use std::alloc::{AllocError, Global};
+use std::sync::Wait;
+use std::test::Fail;
+use std::thread::Threads;
+
+// The blocks of both tapes before their M30, the limit, the number of the call that fails for each turret, or 0; how the run
+// ends, and how much each turret got.
+const ROWS: &str = "\
+M03|M08~M09|9|0|0|done 2 3
+M03~M101~M08|M101~M09|9|0|0|done 3 2
+M03|M08|0|0|0|stopped 1 1
+#3000=1||9|0|0|alarm 1 1
+M03~M08||9|1|0|turret 1 0 0
+M03~M08||9|2|0|turret 1 1 1
+M03~M08||9|3|0|turret 1 2 1
+|M03~M08|9|0|1|turret 2 1 0
+|M03~M08|9|0|3|turret 2 1 2";
+
+fn end_word(end: TurretEnd) -> &'static str {
+    match end {
+        TurretEnd::Ended(RunEnd::Done) => "done",
+        TurretEnd::Ended(RunEnd::Alarm(_)) => "alarm",
+        TurretEnd::Ended(RunEnd::Stopped) => "stopped",
+        TurretEnd::Ended(RunEnd::Full) => "full",
+        TurretEnd::Ended(RunEnd::DiskFault) => "disk fault",
+        TurretEnd::TurretFault(nc_number::Path::One) => "turret 1",
+        TurretEnd::TurretFault(nc_number::Path::Two) => "turret 2",
+        TurretEnd::NoMemory => "no memory",
+    }
+}
+
+fn text_of(alloc: Global, run: &TurretRun<MemoryDisk, MemoryTurret>) -> Result<String, AllocError> {
+    let (left, right) = (run.left.got().len(), run.right.got().len());
+    format!(in alloc; "{} {left} {right}", end_word(run.end))
+}
+
+// How the run of a table ends, and how much each turret got.
+fn run_text<R: Threads + Wait + Sync>(
+    rt: &R,
+    alloc: Global,
+    table: Table<MemoryDisk>,
+    limit: u32,
+    left: MemoryTurret,
+    right: MemoryTurret,
+) -> Result<String, AllocError>
+    requires may { MayRun table }
+    requires unended { end_of table.machine ≡ None }
+{
+    let run = run_with_turrets(rt, alloc, table, limit, left, right);
+    text_of(alloc, &run)
+}
+
+fn row_text<R: Threads + Wait + Sync>(
+    rt: &R,
+    alloc: Global,
+    tapes: (&str, &str),
+    limit: u32,
+    failing: (u64, u64),
+) -> Result<String, Fail> {
+    let header = header_of(alloc, tapes.0, tapes.1)?;
+    let disk = MemoryDisk::of_bytes(alloc, Vec::new(alloc), 10_000, &[])?;
+    let left = MemoryTurret::new(alloc, 73, &[failing.0])?;
+    let right = MemoryTurret::new(alloc, 73, &[failing.1])?;
+    match table_of(alloc, &header, disk) {
+        Ok(table) => Ok(run_text(rt, alloc, table, limit, left, right)?),
+        Err(fail) => Err(fail),
+    }
+}
+
+#[test]
+fn each_turret_gets_its_place_and_its_moves(rt: HostRuntime) -> Result<(), Fail> {
+    for row in ROWS.lines() {
+        let words: Vec<&str> = row.split('|').collect(rt.alloc())?;
+        let [left, right, limit, first, second, expected] = words.as_slice() else {
+            return Err(Fail::new("a row of six words"));
+        };
+        let failing = (first.parse::<u64>()?, second.parse::<u64>()?);
+        let text = row_text(
+            &rt,
+            rt.alloc(),
+            (left, right),
+            limit.parse::<u32>()?,
+            failing,
+        )?;
+        assert_eq!(rt; text.as_str(), *expected, "{row}");
+    }
+    Ok(())
+}
