@@ -7,17 +7,19 @@ use Rattle.nc_outside.specs.Files.{Files, ShelfState, HoldsMore, HoldsOn, Lacks,
 use Rattle.block_order.specs.Answers.{IfFault}
 use Rattle.lathe_top.specs.declared.fetching.FileFault.{FileFault}
 use Rattle.lathe_top.specs.declared.fetching.Unfetched.{Unfetched}
+use Rattle.nc_verify.specs.Verdict.{Texts}
+use Rattle.lathe_top.specs.Answer.{IsOfFiles, not_had}
+use Rattle.lathe_top.specs.Going.{IsUnfetched}
 use Rattle.lathe_top.specs.Named.{Named, most_bytes}
 use Rattle.lathe_top.specs.Fetched.{AreTexts, FileCause, failed, absent, too_long, IsNotHad, IsText, Reaches, fault_status, file_of}
 
--- what follows from the fault of a call follows from its error
-pub if_fault : {E : Type 0} (P Q : E → Type 0) (error : Failing E) → ((fault : E) → P fault → Q fault) → IfFault error P → IfFault error Q
-if_fault P Q (Fault fault) follows p = follows fault p
-if_fault P Q NoMemory follows p = tt
-
--- what holds of the fault, where the error is one
-pub the_fault : {E : Type 0} (P : E → Type 0) (error : Failing E) (fault : E) → error ≡ Fault fault → IfFault error P → P fault
-the_fault P error fault is holds = subst (λ e. IfFault e P) is holds
+-- the line of a file that is not had is due
+pub unfetched_due : {Rests : Type 0} {Answer : Texts → ℕ → List ℕ → Type 0} (files : List Named) (old new : ShelfState) (error : Failing Unfetched) → IfFault error (λ unfetched. IsNotHad old new files (file_of unfetched) unfetched.fault) → Rests
+    → (status : ℕ) (text : List ℕ) → IsUnfetched error status text → IsOfFiles files Rests Answer old new status text
+unfetched_due {Rests} {Answer} files old new (Fault unfetched) absent_is rests status text is =
+    subst (λ s. IsOfFiles files Rests Answer old new s text) (sym is.0)
+    (subst (λ t. IsOfFiles files Rests Answer old new (fault_status unfetched.fault) t) (sym is.1) (not_had absent_is rests))
+unfetched_due files old new NoMemory absent_is rests status text is = absurd is
 
 -- the cause at an earlier moment
 pub cause_before : (old middle new : ShelfState) (file : Named) (fault : FileFault) → HoldsOn old middle → old.faults ≤ middle.faults
@@ -88,9 +90,9 @@ text_had files old new file fault text told calm is (too_long more) =
 -- where all files of a list have a text, none is not had
 pub all_had : (files : Files) (old new : ShelfState) (list : List Named) (file : Named) (fault : FileFault) (texts : List (List ℕ))
     → old.files ≡ Some files → (Rose old.faults new.faults → ⊥) → AreTexts old.files list texts → IsNotHad old new list file fault → ⊥
-all_had files old new list file fault texts told calm are not_had =
-    let found = reached_text old.files file list texts not_had.reached are in
-    text_had files old new file fault found.0 told calm (subst (λ v. IsText v file found.0) told found.1) not_had.cause
+all_had files old new list file fault texts told calm are missing =
+    let found = reached_text old.files file list texts missing.reached are in
+    text_had files old new file fault found.0 told calm (subst (λ v. IsText v file found.0) told found.1) missing.cause
 
 -- where the shelf did not fail, a file that is not had is status 13
 pub calm_status : (old new : ShelfState) (file : Named) (fault : FileFault) → (Rose old.faults new.faults → ⊥)

@@ -1,10 +1,13 @@
 -- A session: an opening of the disk, and a run that goes on from it.
-use Rattle.std.proofs.Common.{◌≡◌, inl, inr, ℕ, ◌+◌, ◌-◌, ◌*◌, ◌≤◌, max, List, [], length, take, Ok, refl, ap, arith}
+use Rattle.std.proofs.Common.{◌≡◌, inl, inr, ℕ, ◌+◌, ◌-◌, ◌*◌, ◌≤◌, max, List, [], length, take, Option, Some, None, Ok, refl, ap, arith}
 use Rattle.std.proofs.lemmas.List.{length-take}
+use Rattle.command_words.specs.declared.command.Command.{Command}
+use Rattle.command_words.specs.declared.command.Command.TheVariants as command
 use Rattle.disk_model.specs.Device.{DiskState, IsCoherent, Reads}
 use Rattle.disk_model.specs.Moments.{LeavesOnly, Uses}
 use Rattle.disk_model.proofs.Runs.{joined, uses_add, uses_widened, unwritten_none, uses_none}
 use Rattle.move_list.specs.declared.end_line.Reason.{Reason}
+use Rattle.turret_run.specs.Runs.{Turrets}
 use Rattle.nc_verify.specs.declared.verified.Verified.{Verified}
 use Rattle.nc_verify.specs.Verdict.{Texts}
 use Rattle.run_records.specs.declared.entry.Entry.{Entry}
@@ -16,20 +19,35 @@ use Rattle.two_path.specs.Stuck.{IsFree}
 use Rattle.nc_restart.specs.Pair.{texts_of, IsPairOf, tapes_in, machine_behind}
 use Rattle.nc_restart.specs.History.{IsHistory}
 use Rattle.nc_restart.specs.Recovered.{FoundRun, Recovers}
-use Rattle.lathe_top.specs.Session.{Session, EndsBy, over, full, stopped, disk_failed, GoesOn, IsSession}
-use Rattle.lathe_top.specs.Kept.{Opening, anew, again, opening_calls, IsOfSession, IsOpened, IsLeast, ended, unprepared, end_of, HasSession, KeepsSession, Untouched}
+use Rattle.lathe_top.specs.Lathe.{LatheState}
+use Rattle.lathe_top.specs.Session.{Session, EndsBy, over, full, stopped, disk_failed, turret_failed, GoesOn, IsSession}
+use Rattle.lathe_top.specs.Turrets.{IsEnding, IsSessionEnd}
+use Rattle.lathe_top.specs.Kept.{Opening, anew, again, opening_calls, IsOfSession, IsOpened, end_of, HasSession, KeepsSession, Untouched, IsLook, OnlyBegins, OnlyLooks, RestsWhole, Leaves}
 use Rattle.lathe_top.specs.Going.{Standing, session_to, KeepsGoing, HasGone}
 
--- what ends a run after the opening ends the session
-pub ends_since : (limit : ℕ) (s : Session) (a b c : DiskState) {reason : Reason} → a.faults ≤ b.faults → EndsBy limit s b c reason → EndsBy limit s a c reason
-ends_since limit s a b c later (over is) = over is
-ends_since limit s a b c later (full unended is) = full unended is
-ends_since limit s a b c later (stopped unended is less) = stopped unended is less
-ends_since limit s a b c later (disk_failed rose) = disk_failed (omega (arith, later, rose))
+-- what ends a run after the opening ends the session; an opening calls no turret
+pub ends_since : (limit : ℕ) (s : Session) (a b : DiskState) (before : Turrets) (c : LatheState) {reason : Reason} → a.faults ≤ b.faults
+    → EndsBy limit s (record { disk = b; turrets = before }) c reason → EndsBy limit s (record { disk = a; turrets = before }) c reason
+ends_since limit s a b before c later (over is) = over is
+ends_since limit s a b before c later (full unended is) = full unended is
+ends_since limit s a b before c later (stopped unended is less) = stopped unended is less
+ends_since limit s a b before c later (disk_failed rose) = disk_failed (omega (arith, later, rose))
+ends_since limit s a b before c later (turret_failed path rose) = turret_failed path rose
 
-least_since : (limit : ℕ) (s : Session) (a b c : DiskState) {least : ℕ} → a.faults ≤ b.faults → IsLeast limit s b c least → IsLeast limit s a c least
-least_since limit s a b c later (ended by) = ended (ends_since limit s a b c later by)
-least_since limit s a b c later (unprepared same) = unprepared same
+pub ending_since : (limit : ℕ) (s : Session) (a b : DiskState) (before : Turrets) (c : LatheState) (reason : Reason) (least : ℕ) → a.faults ≤ b.faults
+    → IsEnding limit reason s least (record { disk = b; turrets = before }) c
+    → IsEnding limit reason s least (record { disk = a; turrets = before }) c
+ending_since limit s a b before c reason least later ends = record {
+  few = ends.few;
+  cause = ends_since limit s a b before c later ends.cause;
+  enough = ends.enough;
+  turrets = record { over = ends.turrets.over; goes_on = ends.turrets.goes_on };
+}
+
+ended_since : (limit : ℕ) (s : Session) (a b : DiskState) (before : Turrets) (c : LatheState) (least : ℕ) → a.faults ≤ b.faults
+    → IsSessionEnd limit s least (record { disk = b; turrets = before }) c → IsSessionEnd limit s least (record { disk = a; turrets = before }) c
+ended_since limit s a b before c least later (inl ends) = inl (ends.0, ending_since limit s a b before c ends.0 least later ends.1)
+ended_since limit s a b before c least later (inr none) = inr (record { unended = none.unended; none = none.none; all = none.all; places = none.places })
 
 -- the records that were found are no more than those at the end
 pub no_fewer : (found history : List Entry) → take (length found) history ≡ found → length found ≤ length history
@@ -102,15 +120,16 @@ module _ (found : FoundRun) (a b c : DiskState) (recovers : Recovers a b (Ok fou
       (found_image pair history) recovers.later more nothing no_less keeps
 
 -- a session, from an opening that keeps it
-pub has_session : NoneIsStuck → (opening : Opening) (limit : ℕ) (run : Standing) (a b c : DiskState) → a.faults ≤ b.faults
-    → IsPairOf (texts_of run.header) run.pair → (gone : HasGone limit run b c)
-    → IsOpened opening (session_to run gone.history) a → KeepsSession opening (session_to run gone.history) gone.least a c → HasSession opening limit a c
-has_session law opening limit run a b c later accepted gone opened keeps = record {
+pub has_session : NoneIsStuck → (opening : Opening) (limit : ℕ) (run : Standing) (a b : DiskState) (before : Turrets) (c : LatheState)
+    → a.faults ≤ b.faults → IsPairOf (texts_of run.header) run.pair → (gone : HasGone limit run (record { disk = b; turrets = before }) c)
+    → IsOpened opening (session_to run gone.history) a → KeepsSession opening (session_to run gone.history) gone.least a c.disk
+    → HasSession opening limit (record { disk = a; turrets = before }) c
+has_session law opening limit run a b before c later accepted gone opened keeps = record {
   session = session_to run gone.history;
   is = is_session law run gone.history accepted gone.goes_on;
   opened = opened;
   least = gone.least;
-  enough = least_since limit (session_to run gone.history) a b c later gone.enough;
+  ended = ended_since limit (session_to run gone.history) a b before c gone.least later gone.ended;
   keeps = keeps;
 }
 
@@ -121,3 +140,32 @@ none_made disk coherent = record {
   uses = uses_none 0 0 disk;
   faults = refl;
 }
+
+-- no call of the disk was made, and none of a turret
+pub none_called : (disk : DiskState) (turrets : Turrets) → IsCoherent disk
+    → RestsWhole (record { disk = disk; turrets = turrets }) (record { disk = disk; turrets = turrets })
+none_called disk turrets coherent = record { disk = none_made disk coherent; turrets = refl }
+
+pub none_begun : (disk : DiskState) (turrets : Turrets) → IsCoherent disk
+    → OnlyBegins (record { disk = disk; turrets = turrets }) (record { disk = disk; turrets = turrets })
+none_begun disk turrets coherent = record { disk = inl (none_made disk coherent); turrets = refl }
+
+-- the disk alone was looked at
+pub looked : (a c : DiskState) (turrets : Turrets) → IsLook a c
+    → OnlyLooks (record { disk = a; turrets = turrets }) (record { disk = c; turrets = turrets })
+looked a c turrets look = record { disk = inr look; turrets = refl }
+
+pub none_looked : (disk : DiskState) (turrets : Turrets) → IsCoherent disk
+    → OnlyLooks (record { disk = disk; turrets = turrets }) (record { disk = disk; turrets = turrets })
+none_looked disk turrets coherent = record { disk = inl (none_made disk coherent); turrets = refl }
+
+-- nothing was called, whatever was asked
+pub none_leaves : (asked : Option Command) (disk : DiskState) (turrets : Turrets) → IsCoherent disk
+    → Leaves asked (record { disk = disk; turrets = turrets }) (record { disk = disk; turrets = turrets })
+none_leaves None disk turrets coherent = none_called disk turrets coherent
+none_leaves (Some (command.Verify left right settings)) disk turrets coherent = none_called disk turrets coherent
+none_leaves (Some (command.Run left right settings limit)) disk turrets coherent = inl (none_begun disk turrets coherent)
+none_leaves (Some (command.Make number)) disk turrets coherent = inl (none_begun disk turrets coherent)
+none_leaves (Some (command.Resume limit)) disk turrets coherent = inl (none_looked disk turrets coherent)
+none_leaves (Some command.Moves) disk turrets coherent = none_looked disk turrets coherent
+none_leaves (Some command.State) disk turrets coherent = none_looked disk turrets coherent

@@ -15,6 +15,7 @@ use Rattle.run_table.specs.Begun.{reason_in}
 use Rattle.run_table.specs.Recording.{StandsForPrefix}
 use Rattle.run_table.specs.Recovered as table
 use Rattle.run_table.specs.Running.{IsNoneOrAlarm}
+use Rattle.turret_run.specs.Runs.{Turrets}
 use Rattle.two_path.specs.Machine.{MachineView}
 use Rattle.nc_restart.specs.declared.fault.RestartFault.{RestartFault}
 use Rattle.nc_restart.specs.declared.fault.RestartFault.TheVariants as restart
@@ -23,10 +24,12 @@ use Rattle.nc_restart.specs.History.{IsHistory}
 use Rattle.nc_restart.specs.Recovered.{FoundRun, IsRecovered, Recovers, RefusesRecovery}
 use Rattle.lathe_top.specs.Going.{HasGone, IsReport, report, IsUnfound, KeepsGoing}
 use Rattle.lathe_top.specs.Kept.{again, HasSession, end_of}
+use Rattle.lathe_top.specs.Lathe.{LatheState}
 use Rattle.lathe_top.specs.Ran.{IsNotFound, disk_failed, no_run_there, cut, bad, IsResumed, resumed, reported, IsShown, shown, moves_text, state_of}
-use Rattle.lathe_top.specs.Session.{Session, GoesOn, EndsBy, over, are_finished, is_over, reason_by, reason_of, report_of, least_left}
+use Rattle.lathe_top.specs.Session.{Session, GoesOn, IsLeast, EndsBy, over, are_finished, is_over, reason_by, reason_of, report_of}
+use Rattle.lathe_top.specs.Turrets.{IsEnding}
 use Rattle.lathe_top.proofs.GoingReported.{standing}
-use Rattle.lathe_top.proofs.Opened.{NoneIsStuck, found_keeps, ends_since, has_session, is_session}
+use Rattle.lathe_top.proofs.Opened.{NoneIsStuck, found_keeps, ending_since, has_session, is_session}
 use Rattle.lathe_top.proofs.RunsBegun.{due_by}
 
 -- why nothing is found
@@ -38,19 +41,22 @@ unfound a c (restart.Cut at) refuses status text is = due_by (IsNotFound a c) st
 unfound a c (restart.BadRecord offset cause) refuses status text is = due_by (IsNotFound a c) status text is (bad refuses)
 unfound a c restart.NoMemory refuses status text is = absurd is
 
-module _ (law : NoneIsStuck) (limit : ℕ) (found : FoundRun) (pair : Verified) (a b c : DiskState) (recovers : Recovers a b (Ok found))
-    (accepted : IsPairOf (texts_of found.header) pair) where
-  pub found_report : (status : ℕ) (text : List ℕ) → IsReport limit (standing found.header pair found.entries) b c status text
-      → IsResumed limit a c status text
-  found_report status text (report history {reason} goes by keeps) =
+module _ (law : NoneIsStuck) (limit : ℕ) (found : FoundRun) (pair : Verified) (a b : DiskState) (before : Turrets) (c : LatheState)
+    (recovers : Recovers a b (Ok found)) (accepted : IsPairOf (texts_of found.header) pair) where
+  pub found_report : (status : ℕ) (text : List ℕ)
+      → IsReport limit report_of (standing found.header pair found.entries) (record { disk = b; turrets = before }) c status text
+      → IsResumed limit (record { disk = a; turrets = before }) c status text
+  found_report status text (report history {reason} least goes ends keeps) =
       let s : Session = record { header = found.header; pair = pair; found = found.entries; history = history } in
       resumed s (is_session law (standing found.header pair found.entries) history accepted goes) recovers.found.means
-      (reported (ends_since limit s a b c recovers.later by) (found_keeps found a b c recovers pair history _ goes.extends keeps))
+      (reported least (ending_since limit s a b before c reason least recovers.later ends)
+      (found_keeps found a b c.disk recovers pair history least goes.extends keeps))
 
-  pub found_session : HasGone limit (standing found.header pair found.entries) b c → HasSession again limit a c
+  pub found_session : HasGone limit (standing found.header pair found.entries) (record { disk = b; turrets = before }) c
+      → HasSession again limit (record { disk = a; turrets = before }) c
   found_session gone =
-      has_session law again limit (standing found.header pair found.entries) a b c recovers.later accepted gone recovers.found.means
-      (found_keeps found a b c recovers pair gone.history gone.least gone.goes_on.extends gone.keeps)
+      has_session law again limit (standing found.header pair found.entries) a b before c recovers.later accepted gone recovers.found.means
+      (found_keeps found a b c.disk recovers pair gone.history gone.least gone.goes_on.extends gone.keeps)
 
 -- the parts of a recovery as the table takes them
 pub parts_of : {D : Type 0} (state : D → DiskState) (header : Header) (pair : Verified) (machine : MachineView) (entries : List Entry) (log : Log D)
@@ -73,22 +79,27 @@ abbrev pub LeavesRecords : {D : Type 0} → (D → DiskState) → Type 0
 LeavesRecords {D} state = (disk : D) (header : Header) (entries : List Entry) (end : ℕ) → Holds header entries (state disk) end
     → (c : List ℕ) → (state disk).image c → Stands header entries c
 
-pub least_by : (s : Session) (alarm : Option Alarm) (finished : Bool) → least_left (reason_by alarm finished) s ≡ length s.history
+-- a run that is over leaves all its records
+pub least_by : (s : Session) (alarm : Option Alarm) (finished : Bool) → IsLeast (reason_by alarm finished) s (length s.history)
 least_by s (Some alarm) finished = refl
 least_by s None true = refl
 least_by s None false = refl
 
--- a run that is over leaves all its records
-least_of : (s : Session) (m : MachineView) (reason : Reason) → reason ≡ reason_of m → least_left reason s ≡ length s.history
-least_of s m reason same =
-    subst (λ (r : Reason). least_left r s ≡ length s.history) (sym same) (least_by s m.alarm (are_finished m))
+pub least_is : (s : Session) (least : ℕ) (alarm : Option Alarm) (finished : Bool) → IsLeast (reason_by alarm finished) s least
+    → least ≡ length s.history
+least_is s least (Some alarm) finished is = is
+least_is s least None true is = is
+least_is s least None false is = is
 
 -- a run that is over does not go on
 module _ {D : Type 0} (state : D → DiskState) (coherent : (disk : D) → IsCoherent (state disk)) (leaves : LeavesRecords state) (limit : ℕ)
     (header : Header) (pair : Verified) (machine : MachineView) (entries : List Entry) (log : Log D)
-    (is : IsRecovered state header pair machine entries log) where
+    (is : IsRecovered state header pair machine entries log) (turrets : Turrets) where
   abbrev pub disk : DiskState
   disk = state log.file.disk
+
+  abbrev pub lathe : LatheState
+  lathe = record { disk = disk; turrets = turrets }
 
   abbrev pub session : Session
   session = record { header = header; pair = pair; found = entries; history = entries }
@@ -105,20 +116,27 @@ module _ {D : Type 0} (state : D → DiskState) (coherent : (disk : D) → IsCoh
         (leaves log.file.disk header entries log.file.end (is.holds bytes reads) c image),
   )
 
-  pub keeps_there : (reason : Reason) → reason ≡ reason_of (machine_behind pair entries) → KeepsGoing session (least_left reason session) disk disk
-  keeps_there reason same = record {
-    left = λ bytes reads c image.
-        subst (λ n. StandsForPrefix header n entries c) (sym (least_of session (machine_behind pair entries) reason same)) (all_left bytes reads c image);
+  pub keeps_there : KeepsGoing session (length entries) disk disk
+  keeps_there = record {
+    left = all_left;
     moments = λ bytes reads. no_call (StandsForPrefix header (length entries) entries) disk (coherent log.file.disk) (all_left bytes reads);
     uses = uses_none (4 * (length entries - length entries)) (end_of session) disk;
     later = omega arith;
   }
 
-  pub over_there : (reason : Reason) → is_over machine ≡ true → reason ≡ reason_of machine → EndsBy limit session disk disk reason
+  pub over_there : (reason : Reason) → is_over machine ≡ true → reason ≡ reason_of machine
+      → IsEnding limit reason session (length entries) lathe lathe
   over_there reason ends same =
       let there : is_over (machine_behind pair entries) ≡ true = subst (λ (m : MachineView). is_over m ≡ true) is.behind.folds ends in
       let by : reason ≡ reason_of (machine_behind pair entries) = same ∙ ap reason_of is.behind.folds in
-      subst (EndsBy limit session disk disk) (sym by) (over there)
+      record {
+        few = omega arith;
+        cause = subst (EndsBy limit session lathe lathe) (sym by) (over there);
+        enough =
+            subst (λ (r : Reason). IsLeast r session (length entries)) (sym by)
+            (least_by session (machine_behind pair entries).alarm (are_finished (machine_behind pair entries)));
+        turrets = record { over = λ is_there. refl; goes_on = λ open_there. absurd (cc) };
+      }
 
 -- what is shown of a run that was found
 pub found_shown : (text_of : Verified → List Entry → List ℕ) (found : FoundRun) (pair : Verified) (a c : DiskState) → IsPairOf (texts_of found.header) pair

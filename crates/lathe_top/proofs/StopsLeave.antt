@@ -13,7 +13,8 @@ use Rattle.run_journal.specs.Stands.{Stands}
 use Rattle.run_table.specs.Recording.{StandsForPrefix}
 use Rattle.nc_restart.specs.Meaning.{HasHistory, StandsForRun}
 use Rattle.lathe_top.specs.Session.{Session, IsSession}
-use Rattle.lathe_top.specs.Kept.{anew, again, HasSession, LeavesDisk, IsOfOpening, IsRefusedBeginning}
+use Rattle.lathe_top.specs.Lathe.{LatheState}
+use Rattle.lathe_top.specs.Kept.{anew, again, HasSession, Leaves, IsOfOpening, IsRefusedBeginning, OnlyBegins, OnlyLooks}
 use Rattle.lathe_top.specs.Stops.{GoesOnAs, IsSomeRun}
 use Rattle.lathe_top.proofs.DueOnce.{OneRun, header_in, entries_in}
 
@@ -39,8 +40,9 @@ module _ (one_run : OneRun) (never_bad : NeverBad) where
   same_image bytes c header found stands same =
       (found, subst (λ x. StandsForRun (a_run header found) x) (sym same) stands, take-length found)
 
-  session_image : (limit : ℕ) (old new : DiskState) (bytes : List ℕ) (header : Header) (found : List Entry) → Reads old bytes → IsSettled old
-      → StandsForRun (a_run header found) bytes → HasSession again limit old new → (c : List ℕ) → new.image_since old.clock c → GoesOnAs header found c
+  session_image : (limit : ℕ) (old new : LatheState) (bytes : List ℕ) (header : Header) (found : List Entry) → Reads old.disk bytes
+      → IsSettled old.disk → StandsForRun (a_run header found) bytes → HasSession again limit old new → (c : List ℕ)
+      → new.disk.image_since old.disk.clock c → GoesOnAs header found c
   session_image limit old new bytes header found reads settled stands has c since =
       ⊎_elim (λ earlier. same_image bytes c header found stands (settled bytes reads c earlier))
       (λ standing. part (prefix_run has.session has.is (length has.session.found) c standing)) ((has.keeps.moments bytes reads).each c since)
@@ -60,15 +62,19 @@ module _ (one_run : OneRun) (never_bad : NeverBad) where
             subst (λ (l : List Entry). take (length l) (take p.0 s.history) ≡ l) records begins,
           )
 
+  looking_image : (old new : LatheState) (bytes : List ℕ) (header : Header) (found : List Entry) → Reads old.disk bytes → IsSettled old.disk
+      → StandsForRun (a_run header found) bytes → OnlyLooks old new → (c : List ℕ) → new.disk.image_since old.disk.clock c → GoesOnAs header found c
+  looking_image old new bytes header found reads settled stands looks c since =
+      ⊎_elim (λ untouched. same_image bytes c header found stands (settled bytes reads c (untouched.unwritten.moments.each c since)))
+      (λ look. same_image bytes c header found stands (settled bytes reads c (look.recovers.unwritten.moments.each c since))) looks.disk
+
   -- a stop of a call that resumes
-  pub resumed_image : (limit : ℕ) (old new : DiskState) (bytes : List ℕ) (header : Header) (found : List Entry) → Reads old bytes → IsSettled old
-      → StandsForRun (a_run header found) bytes → LeavesDisk (Some (command.Resume limit)) old new → (c : List ℕ) → new.image_since old.clock c
-      → GoesOnAs header found c
-  resumed_image limit old new bytes header found reads settled stands (inl untouched) c since =
-      same_image bytes c header found stands (settled bytes reads c (untouched.unwritten.moments.each c since))
-  resumed_image limit old new bytes header found reads settled stands (inr (inl look)) c since =
-      same_image bytes c header found stands (settled bytes reads c (look.recovers.unwritten.moments.each c since))
-  resumed_image limit old new bytes header found reads settled stands (inr (inr has)) c since =
+  pub resumed_image : (limit : ℕ) (old new : LatheState) (bytes : List ℕ) (header : Header) (found : List Entry) → Reads old.disk bytes
+      → IsSettled old.disk → StandsForRun (a_run header found) bytes → Leaves (Some (command.Resume limit)) old new → (c : List ℕ)
+      → new.disk.image_since old.disk.clock c → GoesOnAs header found c
+  resumed_image limit old new bytes header found reads settled stands (inl looks) c since =
+      looking_image old new bytes header found reads settled stands looks c since
+  resumed_image limit old new bytes header found reads settled stands (inr has) c since =
       session_image limit old new bytes header found reads settled stands has c since
 
   -- an image from before the call, no run, or a run
@@ -94,13 +100,17 @@ module _ (one_run : OneRun) (never_bad : NeverBad) where
       record { pair = refused.pair; accepted = refused.accepted; history = record { legal = tt; few = omega arith } } in
       inr (refused.header, [], never_bad refused.header [] 0 c has stands)
 
-  -- a stop of a call that runs
-  pub begun_image : (left right settings : List ℕ) (limit : ℕ) (old new : DiskState) (bytes : List ℕ) → Reads old bytes → IsSettled old → IsNoRun bytes
-      → LeavesDisk (Some (command.Run left right settings limit)) old new → (c : List ℕ) → new.image_since old.clock c → IsNoneOr c
-  begun_image left right settings limit old new bytes reads settled none (inl untouched) c since =
-      none_there bytes c none (settled bytes reads c (untouched.unwritten.moments.each c since))
-  begun_image left right settings limit old new bytes reads settled none (inr (inl refused)) c since =
-      refused_there old new bytes reads settled none refused c ((refused.begins.any_moment bytes reads).each c since)
-  begun_image left right settings limit old new bytes reads settled none (inr (inr has)) c since =
-      ⊎_elim (opening_there bytes c old.image none (λ earlier. settled bytes reads c earlier))
+  beginning_image : (old new : LatheState) (bytes : List ℕ) → Reads old.disk bytes → IsSettled old.disk → IsNoRun bytes → OnlyBegins old new
+      → (c : List ℕ) → new.disk.image_since old.disk.clock c → IsNoneOr c
+  beginning_image old new bytes reads settled none begins c since =
+      ⊎_elim (λ untouched. none_there bytes c none (settled bytes reads c (untouched.unwritten.moments.each c since)))
+      (λ refused. refused_there old.disk new.disk bytes reads settled none refused c ((refused.begins.any_moment bytes reads).each c since))
+      begins.disk
+
+  -- a stop of a call that runs a pair anew
+  pub begun_image : (limit : ℕ) (old new : LatheState) (bytes : List ℕ) → Reads old.disk bytes → IsSettled old.disk → IsNoRun bytes
+      → OnlyBegins old new ⊎ HasSession anew limit old new → (c : List ℕ) → new.disk.image_since old.disk.clock c → IsNoneOr c
+  begun_image limit old new bytes reads settled none (inl begins) c since = beginning_image old new bytes reads settled none begins c since
+  begun_image limit old new bytes reads settled none (inr has) c since =
+      ⊎_elim (opening_there bytes c old.disk.image none (λ earlier. settled bytes reads c earlier))
       (begun_there has.session has.is (length has.session.found) c) ((has.keeps.moments bytes reads).each c since)

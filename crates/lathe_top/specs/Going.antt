@@ -1,5 +1,7 @@
 -- How a run goes on from what its journal has, and the words of what was refused.
-use Rattle.std.specs.Prelude.{ℕ, ◌-◌, ◌*◌, ◌≤◌, List, length, codes}
+use Rattle.std.specs.Prelude.{ℕ, ◌-◌, ◌*◌, ◌≤◌, Option, Some, None, List, length, codes}
+use Rattle.nc_number.specs.declared.fault.Failing.{Failing}
+use Rattle.nc_number.specs.declared.fault.Failing.TheVariants.{Fault, NoMemory}
 use Rattle.disk_model.specs.Device.{DiskState, Reads}
 use Rattle.disk_model.specs.Moments.{LeavesOnly, Uses}
 use Rattle.gate_file.specs.declared.fault.GateFault.{GateFault}
@@ -11,10 +13,14 @@ use Rattle.nc_verify.specs.declared.verified.Verified.{Verified}
 use Rattle.run_records.specs.declared.entry.Entry.{Entry}
 use Rattle.run_records.specs.declared.header.Header.{Header}
 use Rattle.run_table.specs.Recording.{StandsForPrefix}
+use Rattle.lathe_top.specs.declared.fetching.Unfetched.{Unfetched}
 use Rattle.lathe_top.specs.Answer.{IsJust}
-use Rattle.lathe_top.specs.Kept.{IsLeast, end_of}
-use Rattle.lathe_top.specs.Ran.{bad_text}
-use Rattle.lathe_top.specs.Session.{Session, EndsBy, GoesOn, least_left, reason_status, report_of}
+use Rattle.lathe_top.specs.Fetched.{fault_status, fault_text}
+use Rattle.lathe_top.specs.Kept.{end_of}
+use Rattle.lathe_top.specs.Lathe.{LatheState}
+use Rattle.lathe_top.specs.Ran.{TextOf, bad_text}
+use Rattle.lathe_top.specs.Session.{Session, GoesOn, reason_status}
+use Rattle.lathe_top.specs.Turrets.{IsSessionEnd, IsEnding}
 
 -- the run that goes on: the header of its journal, its pair, and the records so far
 pub record Standing : Type 0 where
@@ -35,19 +41,30 @@ pub record KeepsGoing (s : Session) (least : ℕ) (old new : DiskState) : Type 0
   pub later : old.faults ≤ new.faults
 
 -- a run went on, by at most so many records
-pub record HasGone (limit : ℕ) (run : Standing) (old new : DiskState) : Type 0 where
+pub record HasGone (limit : ℕ) (run : Standing) (old new : LatheState) : Type 0 where
   pub history : List Entry
   pub goes_on : GoesOn run.pair run.found history
   pub least : ℕ
-  pub enough : IsLeast limit (session_to run history) old new least
-  pub keeps : KeepsGoing (session_to run history) least old new
+  pub ended : IsSessionEnd limit (session_to run history) least old new
+  pub keeps : KeepsGoing (session_to run history) least old.disk new.disk
 
--- the status and the report of a run that went on
-pub data IsReport (limit : ℕ) (run : Standing) (old new : DiskState) : ℕ → List ℕ → Type 0 where
-  report : (history : List Entry) {reason : Reason} → GoesOn run.pair run.found history
-      → EndsBy limit (session_to run history) old new reason
-      → KeepsGoing (session_to run history) (least_left reason (session_to run history)) old new
-      → IsReport limit run old new (reason_status reason) (report_of run.pair history reason)
+-- the status and the text of a run that went on
+pub data IsReport (limit : ℕ) (text_of : TextOf) (run : Standing) (old new : LatheState) : ℕ → List ℕ → Type 0 where
+  report : (history : List Entry) {reason : Reason} (least : ℕ) → GoesOn run.pair run.found history
+      → IsEnding limit reason (session_to run history) least old new
+      → KeepsGoing (session_to run history) least old.disk new.disk
+      → IsReport limit text_of run old new (reason_status reason) (text_of run.pair history reason)
+
+-- the status and the text of a history whose run ended for this reason; want of memory has none
+abbrev pub IsTold : TextOf → Verified → List Entry → Option Reason → ℕ → List ℕ → Type 0
+IsTold text_of pair entries (Some reason) status text = IsJust (reason_status reason) (text_of pair entries reason) status text
+IsTold text_of pair entries None status text = ⊥
+
+-- the status and the text of a file that is not had; want of memory has none
+abbrev pub IsUnfetched : Failing Unfetched → ℕ → List ℕ → Type 0
+IsUnfetched (Fault unfetched) status text =
+    IsJust (fault_status unfetched.fault) (fault_text unfetched.name.now unfetched.fault) status text
+IsUnfetched NoMemory status text = ⊥
 
 -- the status and the text of a journal that is not begun; want of memory has none
 abbrev pub IsUnbegun : GateFault → ℕ → List ℕ → Type 0

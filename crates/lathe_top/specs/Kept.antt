@@ -1,4 +1,4 @@
--- What a call does to the disk.
+-- What a call does to the disk and to the turrets.
 use Rattle.std.specs.Prelude.{◌≡◌, ◌⊎◌, ℕ, ◌+◌, ◌*◌, ◌≤◌, List, [], length, Option, Some, None, Result, Err}
 use Rattle.disk_model.specs.Device.{DiskState, Reads}
 use Rattle.disk_model.specs.Moments.{LeavesOnly, Unwritten, Uses}
@@ -6,7 +6,6 @@ use Rattle.gate_file.specs.declared.fault.GateFault.{GateFault}
 use Rattle.gate_file.specs.Chain.{IsNoRun, IsRunThere}
 use Rattle.command_words.specs.declared.command.Command.{Command}
 use Rattle.command_words.specs.declared.command.Command.TheVariants as command
-use Rattle.move_list.specs.declared.end_line.Reason.{Reason}
 use Rattle.nc_verify.specs.declared.verified.Verified.{Verified}
 use Rattle.run_records.specs.declared.header.Header.{Header}
 use Rattle.run_records.specs.Headers.{header_bytes}
@@ -18,7 +17,9 @@ use Rattle.nc_restart.specs.declared.fault.RestartFault.{RestartFault}
 use Rattle.nc_restart.specs.Pair.{texts_of, IsPairOf}
 use Rattle.nc_restart.specs.Meaning.{StandsForRun}
 use Rattle.nc_restart.specs.Recovered.{FoundRun, Recovers}
-use Rattle.lathe_top.specs.Session.{Session, IsSession, EndsBy, least_left}
+use Rattle.lathe_top.specs.Lathe.{LatheState, AreAtRest}
+use Rattle.lathe_top.specs.Session.{Session, IsSession}
+use Rattle.lathe_top.specs.Turrets.{IsSessionEnd}
 
 -- a session opens by a new journal, or by a recovery
 pub data Opening : Type 0 where
@@ -60,20 +61,14 @@ abbrev pub IsOpened : Opening → Session → DiskState → Type 0
 IsOpened anew s old = (s.found ≡ []) × HadNoRun old
 IsOpened again s old = (bytes : List ℕ) → Reads old bytes → StandsForRun (a_run s.header s.found) bytes
 
--- how many records the disk holds at least behind a session: by the reason for which it ended, or all, where there
--- was no memory for a first record
-pub data IsLeast (limit : ℕ) (s : Session) (old new : DiskState) : ℕ → Type 0 where
-  ended : {reason : Reason} → EndsBy limit s old new reason → IsLeast limit s old new (least_left reason s)
-  unprepared : s.history ≡ s.found → IsLeast limit s old new (length s.history)
-
 -- a session of at most so many records
-pub record HasSession (opening : Opening) (limit : ℕ) (old new : DiskState) : Type 0 where
+pub record HasSession (opening : Opening) (limit : ℕ) (old new : LatheState) : Type 0 where
   pub session : Session
   pub is : IsSession session
-  pub opened : IsOpened opening session old
+  pub opened : IsOpened opening session old.disk
   pub least : ℕ
-  pub enough : IsLeast limit session old new least
-  pub keeps : KeepsSession opening session least old new
+  pub ended : IsSessionEnd limit session least old new
+  pub keeps : KeepsSession opening session least old.disk new.disk
 
 -- the call made no call of the disk
 pub record Untouched (old new : DiskState) : Type 0 where
@@ -94,15 +89,32 @@ pub record IsRefusedBeginning (old new : DiskState) : Type 0 where
   pub fault : GateFault
   pub begins : BeginsRun {A = Unit {0}} header old new (Err fault)
 
--- What a command does to the disk: to run is to begin a journal or to be refused that, and to go on; to resume is
--- to look for a run and to go on; to show is to look.
-abbrev pub LeavesDisk : Option Command → DiskState → DiskState → Type 0
-LeavesDisk (Some (command.Run left right settings limit)) old new =
-    Untouched old new ⊎ (IsRefusedBeginning old new ⊎ HasSession anew limit old new)
-LeavesDisk (Some (command.Resume limit)) old new =
-    Untouched old new ⊎ (IsLook old new ⊎ HasSession again limit old new)
-LeavesDisk (Some command.Moves) old new = Untouched old new ⊎ IsLook old new
-LeavesDisk (Some command.State) old new = Untouched old new ⊎ IsLook old new
-LeavesDisk (Some (command.Verify left right settings)) old new = Untouched old new
-LeavesDisk (Some (command.Make number)) old new = Untouched old new
-LeavesDisk None old new = Untouched old new
+-- no turret was called, and the call looked for a run at most
+pub record OnlyLooks (old new : LatheState) : Type 0 where
+  pub disk : Untouched old.disk new.disk ⊎ IsLook old.disk new.disk
+  pub turrets : AreAtRest old new
+
+-- no turret was called, and a new journal was refused, or not asked for
+pub record OnlyBegins (old new : LatheState) : Type 0 where
+  pub disk : Untouched old.disk new.disk ⊎ IsRefusedBeginning old.disk new.disk
+  pub turrets : AreAtRest old new
+
+-- neither the disk nor a turret was called
+pub record RestsWhole (old new : LatheState) : Type 0 where
+  pub disk : Untouched old.disk new.disk
+  pub turrets : AreAtRest old new
+
+-- the most records that a made pair makes in a call
+abbrev pub made_limit : ℕ
+made_limit = 100000
+
+-- What a command does to the disk and to the turrets: to run is to begin a journal or to be refused that, and to go on; to resume
+-- is to look for a run and to go on; to show is to look. Only who goes on calls a turret.
+abbrev pub Leaves : Option Command → LatheState → LatheState → Type 0
+Leaves (Some (command.Run left right settings limit)) old new = OnlyBegins old new ⊎ HasSession anew limit old new
+Leaves (Some (command.Make number)) old new = OnlyBegins old new ⊎ HasSession anew made_limit old new
+Leaves (Some (command.Resume limit)) old new = OnlyLooks old new ⊎ HasSession again limit old new
+Leaves (Some command.Moves) old new = OnlyLooks old new
+Leaves (Some command.State) old new = OnlyLooks old new
+Leaves (Some (command.Verify left right settings)) old new = RestsWhole old new
+Leaves None old new = RestsWhole old new

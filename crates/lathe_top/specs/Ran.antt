@@ -14,7 +14,9 @@ use Rattle.nc_verify.specs.Verdict.{Texts, IsRefusalOf}
 use Rattle.nc_restart.specs.Pair.{texts_of, IsPairOf, tapes_in, machine_behind}
 use Rattle.nc_restart.specs.History.{IsHistory}
 use Rattle.nc_restart.specs.Recovered.{FoundRun, IsFoundRun, IsMeant}
-use Rattle.lathe_top.specs.Session.{Session, IsSession, EndsBy, reason_of, reason_status, least_left, report_of}
+use Rattle.lathe_top.specs.Lathe.{LatheState, AreAtRest}
+use Rattle.lathe_top.specs.Session.{Session, IsSession, reason_of, reason_status, report_of}
+use Rattle.lathe_top.specs.Turrets.{IsEnding}
 use Rattle.lathe_top.specs.Kept.{Opening, anew, again, IsOpened, KeepsSession}
 
 -- an offset of the journal
@@ -25,25 +27,30 @@ at_text offset = codes " at " ++ decimal offset
 abbrev pub bad_text : ℕ → List ℕ
 bad_text offset = codes "bad journal" ++ at_text offset ++ codes "\n"
 
--- the status and the report of a session
-pub data IsReported (opening : Opening) (limit : ℕ) (s : Session) (old new : DiskState) : ℕ → List ℕ → Type 0 where
-  reported : {reason : Reason} → EndsBy limit s old new reason → KeepsSession opening s (least_left reason s) old new
-      → IsReported opening limit s old new (reason_status reason) (report_of s.pair s.history reason)
+-- a text of a history of a pair, by the reason for which its run ended
+abbrev pub TextOf : Type 0
+TextOf = Verified → List Entry → Reason → List ℕ
+
+-- the status and the text of a session
+pub data IsReported (opening : Opening) (limit : ℕ) (text_of : TextOf) (s : Session) (old new : LatheState) : ℕ → List ℕ → Type 0 where
+  reported : {reason : Reason} (least : ℕ) → IsEnding limit reason s least old new → KeepsSession opening s least old.disk new.disk
+      → IsReported opening limit text_of s old new (reason_status reason) (text_of s.pair s.history reason)
 
 -- the disk had a run already, where it tells its content
 abbrev pub HadRun : DiskState → Type 0
 HadRun old = (bytes : List ℕ) → Reads old bytes → IsRunThere bytes
 
--- What `run` answers over the texts of its files: the refusal of the texts; or that the disk has a run already, or
--- failed before the journal was begun; or the report of the session that it made.
-pub data IsRun (limit : ℕ) (texts : Texts) (old new : DiskState) : ℕ → List ℕ → Type 0 where
+-- What is answered to run these texts: their refusal; or that the disk has a run already, or failed before the journal was
+-- begun; or what is told of the session that it made. Only in a session a turret is called.
+pub data IsRun (limit : ℕ) (text_of : TextOf) (texts : Texts) (old new : LatheState) : ℕ → List ℕ → Type 0 where
   refused : {refusal : Refusal} {text : List ℕ} → IsRefusalOf texts refusal → IsVerdictText (Some refusal) text
-      → IsRun limit texts old new 1 text
-  run_there : (pair : Verified) → IsPairOf texts pair → HadRun old → IsRun limit texts old new 8 (codes "run there\n")
-  not_begun : (pair : Verified) → IsPairOf texts pair → Rose old.faults new.faults
-      → IsRun limit texts old new 6 (codes "disk fault\n")
-  ran : {status : ℕ} {text : List ℕ} → (s : Session) → IsSession s → texts_of s.header ≡ texts → IsOpened anew s old
-      → IsReported anew limit s old new status text → IsRun limit texts old new status text
+      → AreAtRest old new → IsRun limit text_of texts old new 1 text
+  run_there : (pair : Verified) → IsPairOf texts pair → HadRun old.disk → AreAtRest old new
+      → IsRun limit text_of texts old new 8 (codes "run there\n")
+  not_begun : (pair : Verified) → IsPairOf texts pair → Rose old.disk.faults new.disk.faults → AreAtRest old new
+      → IsRun limit text_of texts old new 6 (codes "disk fault\n")
+  ran : {status : ℕ} {text : List ℕ} → (s : Session) → IsSession s → texts_of s.header ≡ texts → IsOpened anew s old.disk
+      → IsReported anew limit text_of s old new status text → IsRun limit text_of texts old new status text
 
 -- Why nothing is found on the disk: it failed, or what it holds is no run, and on the disk.
 pub data IsNotFound (old new : DiskState) : ℕ → List ℕ → Type 0 where
@@ -53,10 +60,11 @@ pub data IsNotFound (old new : DiskState) : ℕ → List ℕ → Type 0 where
   bad : {offset : ℕ} {cause : BadRecord} → IsMeant (bad_at offset cause) old new → IsNotFound old new 9 (bad_text offset)
 
 -- What `resume` answers: why nothing is found; or the report of the session that went on from what was found.
-pub data IsResumed (limit : ℕ) (old new : DiskState) : ℕ → List ℕ → Type 0 where
-  not_found : {status : ℕ} {text : List ℕ} → IsNotFound old new status text → IsResumed limit old new status text
-  resumed : {status : ℕ} {text : List ℕ} → (s : Session) → IsSession s → IsOpened again s old
-      → IsReported again limit s old new status text → IsResumed limit old new status text
+pub data IsResumed (limit : ℕ) (old new : LatheState) : ℕ → List ℕ → Type 0 where
+  not_found : {status : ℕ} {text : List ℕ} → IsNotFound old.disk new.disk status text → AreAtRest old new
+      → IsResumed limit old new status text
+  resumed : {status : ℕ} {text : List ℕ} → (s : Session) → IsSession s → IsOpened again s old.disk
+      → IsReported again limit report_of s old new status text → IsResumed limit old new status text
 
 -- What a command answers that shows what the disk holds, by the text of it: why nothing is found, or that text.
 pub data IsShown (text_of : Verified → List Entry → List ℕ) (old new : DiskState) : ℕ → List ℕ → Type 0 where

@@ -1,7 +1,9 @@
 -- A session of a run: what one call made of it, from its opening on.
-use Rattle.std.specs.Prelude.{◌≡◌, ℕ, ◌+◌, ◌-◌, max, Bool, true, false, ◌&&◌, ◌||◌, is_some, List, length, take, Option, Some, None}
-use Rattle.disk_model.specs.Device.{DiskState, Rose}
+use Rattle.std.specs.Prelude.{◌≡◌, ℕ, ◌+◌, ◌≤◌, Bool, true, false, ◌&&◌, ◌||◌, is_some, List, length, take, Option, Some, None}
+use Rattle.nc_number.specs.declared.path.Path.{Path}
+use Rattle.disk_model.specs.Device.{Rose}
 use Rattle.nc_outside.specs.declared.halt.Alarm.{Alarm}
+use Rattle.nc_outside.specs.Faults.{Rose as TurretRose}
 use Rattle.move_list.specs.declared.end_line.Reason.{Reason}
 use Rattle.move_list.specs.Report.{report_text}
 use Rattle.nc_verify.specs.declared.verified.Verified.{Verified}
@@ -11,6 +13,8 @@ use Rattle.two_path.specs.Machine.{MachineView}
 use Rattle.two_path.specs.Stuck.{IsFree}
 use Rattle.nc_restart.specs.Pair.{texts_of, IsPairOf, tapes_in, opening_of, machine_behind}
 use Rattle.nc_restart.specs.History.{IsHistory}
+use Rattle.turret_run.specs.Runs.{turret_for}
+use Rattle.lathe_top.specs.Lathe.{LatheState}
 
 -- the header of the journal, the pair that its texts are, the records that were found at the opening, and those at
 -- the end
@@ -19,6 +23,10 @@ pub record Session : Type 0 where
   pub pair : Verified
   pub found : List Entry
   pub history : List Entry
+
+-- the machine at the opening
+abbrev pub machine_found : Session → MachineView
+machine_found s = machine_behind s.pair s.found
 
 -- the machine at the end
 abbrev pub machine_of : Session → MachineView
@@ -54,13 +62,15 @@ pub record IsSession (s : Session) : Type 0 where
   pub free : IsFree (tapes_in s.pair) (machine_of s)
 
 -- Why a session of at most so many records ended: the run is over; or the journal has as many records as it may
--- have; or the session made as many as it was allowed; or the disk failed.
-pub data EndsBy (limit : ℕ) (s : Session) (old new : DiskState) : Reason → Type 0 where
+-- have; or the session made as many as it was allowed; or the disk failed; or the turret of this path did.
+pub data EndsBy (limit : ℕ) (s : Session) (old new : LatheState) : Reason → Type 0 where
   over : is_over (machine_of s) ≡ true → EndsBy limit s old new (reason_of (machine_of s))
   full : is_over (machine_of s) ≡ false → length s.history ≡ s.pair.settings.records → EndsBy limit s old new Reason.Full
   stopped : is_over (machine_of s) ≡ false → length s.history ≡ length s.found + limit
       → (length s.history ≡ s.pair.settings.records → ⊥) → EndsBy limit s old new Reason.Stopped
-  disk_failed : Rose old.faults new.faults → EndsBy limit s old new Reason.DiskFault
+  disk_failed : Rose old.disk.faults new.disk.faults → EndsBy limit s old new Reason.DiskFault
+  turret_failed : (path : Path) → TurretRose (turret_for path old.turrets).faults (turret_for path new.turrets).faults
+      → EndsBy limit s old new (Reason.TurretFault path)
 
 -- the status of a reason
 abbrev pub reason_status : Reason → ℕ
@@ -71,11 +81,17 @@ reason_status Reason.Full = 14
 reason_status Reason.DiskFault = 6
 reason_status (Reason.TurretFault path) = 7
 
--- how many records of a session the disk holds at least: all, but where it failed; and then all but 64 at most,
--- and those that were found
-abbrev pub least_left : Reason → Session → ℕ
-least_left Reason.DiskFault s = max (length s.found) (length s.history - 64)
-least_left other s = length s.history
+-- the disk holds so many records at least: all that were found, and all but 64 at most
+pub record AreMost (s : Session) (least : ℕ) : Type 0 where
+  pub found : length s.found ≤ least
+  pub most : length s.history ≤ least + 64
+  pub within : least ≤ length s.history
+
+-- how many records of a session the disk holds at least: all, but where it or a turret failed
+abbrev pub IsLeast : Reason → Session → ℕ → Type 0
+IsLeast Reason.DiskFault s least = AreMost s least
+IsLeast (Reason.TurretFault path) s least = AreMost s least
+IsLeast other s least = least ≡ length s.history
 
 -- the report of a history of a pair
 abbrev pub report_of : Verified → List Entry → Reason → List ℕ

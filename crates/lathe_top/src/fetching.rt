@@ -4,6 +4,7 @@ ghost use Rattle.block_order.specs.Answers.{IfFault};
 ghost use Rattle.nc_outside.specs.Files.{HoldsOn};
 ghost use Rattle.lathe_top.specs.Answer.{Ends, IsJust};
 ghost use Rattle.lathe_top.specs.Named.{listed, named, tapes_of};
+ghost use Rattle.lathe_top.specs.Going.{IsUnfetched};
 ghost use Rattle.lathe_top.specs.Texts.{files_in, texts_of};
 ghost use Rattle.lathe_top.specs.Fetched.{AreTexts, FileCause, IsNotHad, IsText, fault_status, fault_text, file_of};
 
@@ -130,8 +131,18 @@ pub(crate) fn fetch_texts<'a, H: Shelf>(
     }
 }
 
+/// Writes the line of a file that is not had, and gives its status. Where memory was lacking nothing is written.
+pub(crate) fn tell<K: Sink>(alloc: Global, error: &Failing<Unfetched<'_>>, out: &mut K) -> u8
+    ensures { Ends (IsUnfetched error.now) (K.state out.old) (K.state out.new) result }
+{
+    match error {
+        Failing::Fault(unfetched) => tell_fault(alloc, unfetched, out),
+        Failing::NoMemory => Status::NoMemory as u8,
+    }
+}
+
 /// Writes the line of a file that is not had, and gives its status.
-pub(crate) fn tell<K: Sink>(alloc: Global, unfetched: &Unfetched<'_>, out: &mut K) -> u8
+fn tell_fault<K: Sink>(alloc: Global, unfetched: &Unfetched<'_>, out: &mut K) -> u8
     ensures { Ends (IsJust (fault_status unfetched.now.fault) (fault_text unfetched.now.name.now unfetched.now.fault))
         (K.state out.old) (K.state out.new) result }
 {

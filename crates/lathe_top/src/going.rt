@@ -1,99 +1,118 @@
-//! How a run goes on, and ends with its report.
+//! How a run goes on, with the turrets of both paths, and ends with its report.
 ghost use Rattle.std.specs.Prelude.{◌≡◌, ◌≤◌, false, length};
 ghost use Rattle.run_records.specs.declared.header.Header.{Header};
 ghost use Rattle.run_table.specs.Recording.{IsJournaled};
 ghost use Rattle.run_table.specs.Running.{MayRun};
 ghost use Rattle.two_path.specs.Histories.{IsLegal};
 ghost use Rattle.nc_restart.specs.Pair.{tapes_in, opening_of, machine_behind};
-ghost use Rattle.lathe_top.specs.Answer.{Ends, IsJust};
-ghost use Rattle.lathe_top.specs.Going.{HasGone, IsReport};
-ghost use Rattle.lathe_top.specs.Session.{is_over, reason_status, report_of};
-ghost use Rattle.lathe_top.specs.Texts.{end_reason};
+ghost use Rattle.lathe_top.specs.Answer.{Ends};
+ghost use Rattle.lathe_top.specs.Going.{HasGone, IsReport, IsTold};
+ghost use Rattle.lathe_top.specs.Lathe.{lathe_at};
+ghost use Rattle.lathe_top.specs.Session.{is_over};
+ghost use Rattle.lathe_top.specs.Texts.{end_reason, run_reason, text_by};
 
-use crate::ending::{Status, status_behind};
-use crate::outcome::Outcome;
+use crate::ending::Status;
+use crate::outcome::{Outcome, Turrets};
+use crate::telling::{Request, Telling, tell_end};
 use disk_model::Disk;
-use move_list::{Reason, write_report};
-use nc_outside::Sink;
+use move_list::Reason;
+use nc_outside::{Sink, Turret};
 use nc_verify::Verified;
 use run_journal::a_held_journal_is_small;
 use run_records::EntryList;
-use run_table::{RunEnd, Table, run_by_turns};
+use run_table::{RunEnd, Table};
 use std::alloc::Global;
+use std::sync::Wait;
+use std::thread::Threads;
+use turret_run::{TurretEnd, TurretRun, run_with_turrets};
 
-/// Goes on with the run of a table, for at most `limit` records more, and writes its report.
-pub(crate) fn go_on<D: Disk, K: Sink>(
+/// Goes on with the run of a table, with both turrets, and tells what is asked of it.
+pub(crate) fn go_on<R, D, T, K>(
+    rt: &R,
     alloc: Global,
     table: Table<D>,
-    limit: u32,
+    asked: Request,
+    turrets: Turrets<T>,
     out: &mut K,
-) -> Outcome<D>
+) -> Outcome<D, T>
+where
+    R: Threads + Wait + Sync,
+    D: Disk + Send,
+    T: Turret + Send,
+    K: Sink,
     requires may { MayRun table }
-    requires unended { is_over (machine_behind table.verified table.recording.history) ≡ false }
+    requires behind { table.machine ≡ machine_behind table.verified table.recording.history }
+    requires unended { is_over table.machine ≡ false }
     ensures answered { (header : Header) → IsJournaled D.state header table.recording
-        → Ends (IsReport limit
+        → Ends (IsReport asked.limit (text_by asked.telling)
         (record { header = header; pair = table.verified; found = table.recording.history })
-        (D.state table.recording.log.file.disk) (D.state result.disk))
+        (lathe_at (D.state table.recording.log.file.disk) (T.state turrets.left) (T.state turrets.right))
+        (lathe_at (D.state result.disk) (T.state result.left) (T.state result.right)))
         (K.state out.old) (K.state out.new) result.status }
-    ensures disk { (header : Header) → IsJournaled D.state header table.recording
-        → HasGone limit (record { header = header; pair = table.verified; found = table.recording.history })
-        (D.state table.recording.log.file.disk) (D.state result.disk) }
-{
-    let mut table = table;
-    match table.prepare(limit) {
-        Ok(()) => run_on(alloc, table, out),
-        Err(_) => Outcome {
-            status: Status::NoMemory as u8,
-            disk: table.into_parts().disk,
-        },
-    }
-}
-
-/// Goes on with the run of a table until its end, and writes its report.
-fn run_on<D: Disk, K: Sink>(alloc: Global, table: Table<D>, out: &mut K) -> Outcome<D>
-    requires may { MayRun table }
-    requires unended { is_over (machine_behind table.verified table.recording.history) ≡ false }
-    ensures answered { (header : Header) → IsJournaled D.state header table.recording
-        → Ends (IsReport table.budget
-        (record { header = header; pair = table.verified; found = table.recording.history })
-        (D.state table.recording.log.file.disk) (D.state result.disk))
-        (K.state out.old) (K.state out.new) result.status }
-    ensures disk { (header : Header) → IsJournaled D.state header table.recording
-        → HasGone table.budget
-        (record { header = header; pair = table.verified; found = table.recording.history })
-        (D.state table.recording.log.file.disk) (D.state result.disk) }
+    ensures leaves { (header : Header) → IsJournaled D.state header table.recording
+        → HasGone asked.limit (record { header = header; pair = table.verified; found = table.recording.history })
+        (lathe_at (D.state table.recording.log.file.disk) (T.state turrets.left) (T.state turrets.right))
+        (lathe_at (D.state result.disk) (T.state result.left) (T.state result.right)) }
 {
     a_held_journal_is_small::<D>();
-    let mut table = table;
-    let end = run_by_turns(&mut table);
+    let Turrets { left, right } = turrets;
+    let TurretRun {
+        table,
+        left,
+        right,
+        end,
+    } = run_with_turrets(rt, alloc, table, asked.limit, left, right);
     let parts = table.into_parts();
-    let status = report(alloc, &parts.verified, &parts.entries, end_reason(end), out);
+    let status = tell_run(
+        alloc,
+        asked.telling,
+        &parts.verified,
+        &parts.entries,
+        end,
+        out,
+    );
     Outcome {
         status,
         disk: parts.disk,
+        left,
+        right,
     }
 }
 
-/// Writes the report of a history, and gives the status of its reason.
-pub(crate) fn report<K: Sink>(
+/// Writes what is told of a history whose run ended so, and gives the status of that.
+fn tell_run<K: Sink>(
     alloc: Global,
+    telling: Telling,
     verified: &Verified,
     entries: &EntryList,
-    reason: Reason,
+    end: TurretEnd,
     out: &mut K,
 ) -> u8
     requires legal { IsLegal (tapes_in verified.now) (opening_of verified.now) entries.now.items }
     requires few { length entries.now.items ≤ verified.now.settings.records }
-    ensures { Ends (IsJust (reason_status reason) (report_of verified.now entries.now.items reason))
+    ensures { Ends (IsTold (text_by telling) verified.now entries.now.items (end_reason end))
         (K.state out.old) (K.state out.new) result }
 {
-    let status = reason_status(&reason);
-    status_behind(write_report(alloc, verified, entries, reason, out), status)
+    match end_reason(end) {
+        Some(reason) => tell_end(alloc, telling, verified, entries, reason, out),
+        None => Status::NoMemory as u8,
+    }
 }
 
-/// The reason in the report of a run that ended so.
-fn end_reason(end: RunEnd) -> Reason
+/// The reason for which a run ended; none, where there was no memory for it.
+fn end_reason(end: TurretEnd) -> Option<Reason>
     ensures { result ≡ end_reason end }
+{
+    match end {
+        TurretEnd::Ended(end) => Some(run_reason(end)),
+        TurretEnd::TurretFault(path) => Some(Reason::TurretFault(path)),
+        TurretEnd::NoMemory => None,
+    }
+}
+
+/// The reason for which a run ended while no turret failed.
+fn run_reason(end: RunEnd) -> Reason
+    ensures { result ≡ run_reason end }
 {
     match end {
         RunEnd::Done => Reason::Done,
@@ -102,19 +121,4 @@ fn end_reason(end: RunEnd) -> Reason
         RunEnd::Full => Reason::Full,
         RunEnd::DiskFault => Reason::DiskFault,
     }
-}
-
-/// The status of a reason.
-fn reason_status(reason: &Reason) -> u8
-    ensures { result ≡ reason_status reason.now }
-{
-    let status = match reason {
-        Reason::Done => Status::Done,
-        Reason::Alarm(_) => Status::Alarm,
-        Reason::Stopped => Status::Stopped,
-        Reason::Full => Status::Full,
-        Reason::DiskFault => Status::DiskFault,
-        Reason::TurretFault(_) => Status::TurretFault,
-    };
-    status as u8
 }

@@ -6,7 +6,7 @@ ghost use Rattle.lathe_top.specs.Ran.{IsShown, moves_text, state_of};
 ghost use Rattle.nc_restart.specs.Recovered.{IsRecovered};
 
 use crate::ending::{Status, status_behind};
-use crate::outcome::Outcome;
+use crate::outcome::Shown;
 use crate::refusing::tell_unfound;
 use crate::standing::reason_of;
 use disk_model::Disk;
@@ -16,14 +16,14 @@ use nc_restart::{Recovered, recover};
 use std::alloc::Global;
 
 /// Writes the report of the run whose journal the disk has, or why there is none.
-pub(crate) fn show_moves<D: Disk, K: Sink>(alloc: Global, disk: D, out: &mut K) -> Outcome<D>
+pub(crate) fn show_moves<D: Disk, K: Sink>(alloc: Global, disk: D, out: &mut K) -> Shown<D>
     ensures answered { Ends (IsShown moves_text (D.state disk) (D.state result.disk))
         (K.state out.old) (K.state out.new) result.status }
     ensures disk { IsLook (D.state disk) (D.state result.disk) }
 {
     match recover(alloc, disk) {
         Ok(found) => show_history(alloc, found, out),
-        Err((disk, fault)) => Outcome {
+        Err((disk, fault)) => Shown {
             status: tell_unfound(alloc, fault, out),
             disk,
         },
@@ -31,7 +31,7 @@ pub(crate) fn show_moves<D: Disk, K: Sink>(alloc: Global, disk: D, out: &mut K) 
 }
 
 /// Writes the report of a run that was found.
-fn show_history<D: Disk, K: Sink>(alloc: Global, found: Recovered<D>, out: &mut K) -> Outcome<D>
+fn show_history<D: Disk, K: Sink>(alloc: Global, found: Recovered<D>, out: &mut K) -> Shown<D>
     requires { IsRecovered D.state found.header found.verified found.machine.machine found.entries.items found.journal }
     ensures answered { Ends (IsJust 0 (moves_text found.verified found.entries.items))
         (K.state out.old) (K.state out.new) result.status }
@@ -44,21 +44,21 @@ fn show_history<D: Disk, K: Sink>(alloc: Global, found: Recovered<D>, out: &mut 
         reason_of(&found.machine),
         out,
     );
-    Outcome {
+    Shown {
         status: status_behind(put, Status::Done as u8),
         disk: found.journal.into_disk(),
     }
 }
 
 /// Writes the state of the run whose journal the disk has, or why there is none.
-pub(crate) fn show_state<D: Disk, K: Sink>(alloc: Global, disk: D, out: &mut K) -> Outcome<D>
+pub(crate) fn show_state<D: Disk, K: Sink>(alloc: Global, disk: D, out: &mut K) -> Shown<D>
     ensures answered { Ends (IsShown state_of (D.state disk) (D.state result.disk))
         (K.state out.old) (K.state out.new) result.status }
     ensures disk { IsLook (D.state disk) (D.state result.disk) }
 {
     match recover(alloc, disk) {
         Ok(found) => show_machine(found, out),
-        Err((disk, fault)) => Outcome {
+        Err((disk, fault)) => Shown {
             status: tell_unfound(alloc, fault, out),
             disk,
         },
@@ -66,14 +66,14 @@ pub(crate) fn show_state<D: Disk, K: Sink>(alloc: Global, disk: D, out: &mut K) 
 }
 
 /// Writes the state of the machine of a run that was found.
-fn show_machine<D: Disk, K: Sink>(found: Recovered<D>, out: &mut K) -> Outcome<D>
+fn show_machine<D: Disk, K: Sink>(found: Recovered<D>, out: &mut K) -> Shown<D>
     requires { IsRecovered D.state found.header found.verified found.machine.machine found.entries.items found.journal }
     ensures answered { Ends (IsJust 0 (state_of found.verified found.entries.items))
         (K.state out.old) (K.state out.new) result.status }
     ensures disk { result.disk ≡ found.journal.file.disk }
 {
     let put = write_state(&found.verified, &found.machine, out);
-    Outcome {
+    Shown {
         status: status_behind(put, Status::Done as u8),
         disk: found.journal.into_disk(),
     }

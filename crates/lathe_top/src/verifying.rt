@@ -1,5 +1,5 @@
 //! The command `verify`.
-ghost use Rattle.std.specs.Prelude.{◌≡◌, ◌<◌, ◌^◌, length};
+ghost use Rattle.std.specs.Prelude.{◌<◌, ◌^◌, length};
 ghost use Rattle.lathe_top.specs.Answer.{Ends, IsOfFiles};
 ghost use Rattle.lathe_top.specs.Judged.{IsJudged, IsAcceptance, IsRefusing};
 ghost use Rattle.lathe_top.specs.Texts.{files_in, texts_of};
@@ -19,13 +19,12 @@ pub(crate) fn verify<H: Shelf, K: Sink>(
     shelf: &mut H,
     out: &mut K,
 ) -> u8
-    ensures { Ends (IsOfFiles (files_in names.now) IsJudged (H.state shelf.old) (H.state shelf.new))
+    ensures { Ends (IsOfFiles (files_in names.now) (Unit {0}) IsJudged (H.state shelf.old) (H.state shelf.new))
         (K.state out.old) (K.state out.new) result }
 {
     match fetch_texts(alloc, shelf, names) {
         Ok(texts) => judge(alloc, &texts, out),
-        Err(Failing::Fault(unfetched)) => tell(alloc, &unfetched, out),
-        Err(Failing::NoMemory) => Status::NoMemory as u8,
+        Err(error) => tell(alloc, &error, out),
     }
 }
 

@@ -1,61 +1,73 @@
-use Rattle.std.proofs.Common.{◌≡◌, false, List, refl, sym, ap, subst, ◌∙◌}
+use Rattle.std.proofs.Common.{List, sym, subst}
 use Rattle.nc_verify.specs.declared.verified.Verified.{Verified}
 use Rattle.run_records.specs.declared.entry.Entry.{Entry}
-use Rattle.run_journal.specs.Kept.{Log}
-use Rattle.nc_restart.specs.Pair.{machine_behind}
-use Rattle.nc_restart.specs.History.{IsHistory}
-use Rattle.lathe_top.specs.Answer.{Ends, out_of_memory}
+use Rattle.turret_run.specs.Runs.{Turrets}
+use Rattle.two_path.specs.Histories.{IsLegal}
+use Rattle.nc_restart.specs.Pair.{tapes_in, opening_of}
+use Rattle.lathe_top.specs.Answer.{Ends}
 use Rattle.lathe_top.specs.Going.{HasGone, IsReport}
-use Rattle.lathe_top.specs.Session.{is_over}
-use Rattle.lathe_top.proofs.GoingReported.{standing, for_pair, journaled_on, may_on, of_prepared, stayed}
+use Rattle.lathe_top.specs.Texts.{end_reason, text_by}
+use Rattle.lathe_top.proofs.Ended.{ends_by}
+use Rattle.lathe_top.proofs.GoingOn.{not_ended}
+use Rattle.lathe_top.proofs.GoingReported.{for_pair, told_of, told_report, has_gone, pair_is}
 use Rattle.lathe_top.proofs.going.go_on.Goals as goal
 
-pub run_on-requires-clause-may : goal.run_on-requires-clause-may
-run_on-requires-clause-may g c =
-    let made = c.in-Ok.ensures in
-    may_on c.args.table c.prepare.new.self made.history made.flushed made.halt c.requires.may
+pub run_with_turrets-table-requires-clause-unended : goal.run_with_turrets-table-requires-clause-unended
+run_with_turrets-table-requires-clause-unended g c = λ κs below. not_ended c.args.table.machine c.requires.unended
 
-pub run_on-requires-clause-unended : goal.run_on-requires-clause-unended
-run_on-requires-clause-unended g c =
-    let made = c.in-Ok.ensures in
-    subst (λ (l : List Entry). is_over (machine_behind c.prepare.new.self.verified l) ≡ false) (sym made.history)
-    (subst (λ (p : Verified). is_over (machine_behind p c.args.table.recording.history) ≡ false) (sym made.verified) c.requires.unended)
+pub tell_run-status-requires-clause-legal : goal.tell_run-status-requires-clause-legal
+tell_run-status-requires-clause-legal g c =
+    let new = c.run_with_turrets-table.result.table in
+    let parts = c.into_parts-parts.ensures.parts in
+    let of_pair : IsLegal (tapes_in c.into_parts-parts.result.verified) (opening_of c.into_parts-parts.result.verified) new.recording.history =
+    subst (λ (p : Verified). IsLegal (tapes_in p) (opening_of p) new.recording.history) (sym parts.verified_is)
+    c.into_parts-parts.ensures.kept.legal in
+    subst (λ (l : List Entry). IsLegal (tapes_in c.into_parts-parts.result.verified) (opening_of c.into_parts-parts.result.verified) l)
+    (sym parts.entries_are) of_pair
 
-pub returns-in-Ok-clause-answered : goal.returns-in-Ok-clause-answered
-returns-in-Ok-clause-answered g c = λ header journaled.
+pub returns-clause-answered : goal.returns-clause-answered
+returns-clause-answered g c = λ header journaled.
     let state = g.D.Disk.state in
-    let made = c.in-Ok.ensures in
-    of_prepared
-    (λ n pair found disk. Ends (IsReport n (standing header pair found) (state disk) (state c.run_on.result.disk)) (g.K.Sink.state c.args.out.now)
-    (g.K.Sink.state c.run_on.new.out) c.run_on.result.status)
-    c.args.limit c.prepare.new.self.budget c.args.table c.prepare.new.self made.budget made.verified made.history made.log
-    (c.run_on.ensures.answered header
-    (journaled_on state header c.args.table.recording c.prepare.new.self.recording made.history made.flushed made.log journaled))
-
-pub returns-in-Ok-clause-disk : goal.returns-in-Ok-clause-disk
-returns-in-Ok-clause-disk g c = λ header journaled.
-    let state = g.D.Disk.state in
-    let made = c.in-Ok.ensures in
-    of_prepared (λ n pair found disk. HasGone n (standing header pair found) (state disk) (state c.run_on.result.disk))
-    c.args.limit c.prepare.new.self.budget c.args.table c.prepare.new.self made.budget made.verified made.history made.log
-    (c.run_on.ensures.disk header
-    (journaled_on state header c.args.table.recording c.prepare.new.self.recording made.history made.flushed made.log journaled))
-
-pub returns-in-Err-clause-answered : goal.returns-in-Err-clause-answered
-returns-in-Err-clause-answered g c = λ header journaled. out_of_memory
-
-pub returns-in-Err-clause-disk : goal.returns-in-Err-clause-disk
-returns-in-Err-clause-disk g c = λ header journaled.
-    let state = g.D.Disk.state in
+    let disks = g.met.D.Disk g.world.𝓛 g.world.𝓜 g.world.𝓡 ((λ s x. x), (λ x. x), (λ x. x), λ x. x) in
     let old = c.args.table in
-    let new = c.prepare.new.self in
-    let made = c.in-Err.ensures in
-    let there : IsHistory new.verified new.recording.history = record { legal = c.into_parts.ensures.kept.legal; few = c.into_parts.ensures.few } in
-    let of_pair : IsHistory old.verified new.recording.history =
-    subst (λ (p : Verified). IsHistory p new.recording.history) made.verified there in
-    let history : IsHistory old.verified old.recording.history = subst (λ (l : List Entry). IsHistory old.verified l) made.history of_pair in
-    let disk : c.into_parts.result.disk ≡ old.recording.log.file.disk =
-    c.into_parts.ensures.parts.disk_is ∙ ap (λ (l : Log g.row.D.Denot). l.file.disk) made.log in
-    for_pair state (λ run e. HasGone c.args.limit run (state old.recording.log.file.disk) e) header old.recording.history old.verified
-    old.verified old.recording.log.file.disk c.into_parts.result.disk refl disk
-    (stayed state g.met.D.Disk.coherent c.args.limit header old.verified old.recording history c.requires.may.all journaled)
+    let run = c.run_with_turrets-table.result in
+    let new = run.table in
+    let left = c.into_parts-parts in
+    let text_of = text_by c.args.asked.telling in
+    let before : Turrets = record { left = g.T.Turret.state c.args.turrets.left; right = g.T.Turret.state c.args.turrets.right } in
+    let after : Turrets = record { left = g.T.Turret.state run.left; right = g.T.Turret.state run.right } in
+    for_pair state
+    (λ standing disk. Ends (IsReport c.args.asked.limit text_of standing
+    (record { disk = state old.recording.log.file.disk; turrets = before }) (record { disk = disk; turrets = after }))
+    (g.K.Sink.state c.args.out.now) (g.K.Sink.state c.tell_run-status.new.out) c.tell_run-status.result)
+    header old.recording.history new.verified old.verified new.recording.log.file.disk left.result.disk
+    (pair_is state disks.coherent c.a_held_journal_is_small.ensures c.args.asked.limit old new c.requires.may c.requires.behind
+    c.requires.unended left.ensures.kept left.ensures.few left.ensures.pending header journaled before after run.end c.run_with_turrets-table.ensures.run)
+    left.ensures.parts.disk_is
+    (ends_by _
+    (λ status text is. told_report state disks.coherent c.a_held_journal_is_small.ensures c.args.asked.limit old new c.requires.may
+    c.requires.behind c.requires.unended left.ensures.kept left.ensures.few left.ensures.pending header journaled before after text_of run.end
+    c.run_with_turrets-table.ensures.run status text
+    (told_of text_of left.result.verified new.verified left.result.entries.items new.recording.history (end_reason run.end) status text
+    left.ensures.parts.verified_is left.ensures.parts.entries_are is))
+    c.tell_run-status.ensures)
+
+pub returns-clause-leaves : goal.returns-clause-leaves
+returns-clause-leaves g c = λ header journaled.
+    let state = g.D.Disk.state in
+    let disks = g.met.D.Disk g.world.𝓛 g.world.𝓜 g.world.𝓡 ((λ s x. x), (λ x. x), (λ x. x), λ x. x) in
+    let old = c.args.table in
+    let run = c.run_with_turrets-table.result in
+    let new = run.table in
+    let left = c.into_parts-parts in
+    let before : Turrets = record { left = g.T.Turret.state c.args.turrets.left; right = g.T.Turret.state c.args.turrets.right } in
+    let after : Turrets = record { left = g.T.Turret.state run.left; right = g.T.Turret.state run.right } in
+    for_pair state
+    (λ standing disk. HasGone c.args.asked.limit standing (record { disk = state old.recording.log.file.disk; turrets = before })
+    (record { disk = disk; turrets = after }))
+    header old.recording.history new.verified old.verified new.recording.log.file.disk left.result.disk
+    (pair_is state disks.coherent c.a_held_journal_is_small.ensures c.args.asked.limit old new c.requires.may c.requires.behind
+    c.requires.unended left.ensures.kept left.ensures.few left.ensures.pending header journaled before after run.end c.run_with_turrets-table.ensures.run)
+    left.ensures.parts.disk_is
+    (has_gone state disks.coherent c.a_held_journal_is_small.ensures c.args.asked.limit old new c.requires.may c.requires.behind
+    c.requires.unended left.ensures.kept left.ensures.few left.ensures.pending header journaled before after run.end c.run_with_turrets-table.ensures.run)

@@ -1,4 +1,4 @@
-use Rattle.std.proofs.Common.{refl}
+use Rattle.std.proofs.Common.{refl, sym, ◌∙◌}
 use Rattle.lathe_top.proofs.Ended.{ends_put}
 use Rattle.lathe_top.proofs.RunsFound.{state_is}
 use Rattle.lathe_top.proofs.showing.show_machine.Goals as goal
@@ -10,3 +10,10 @@ returns-clause-answered g c =
     (ends_put 0 c.write_state-put.result
     (refl, state_is found.verified found.entries.items found.machine.machine c.requires.behind.folds)
     c.write_state-put.ensures)
+
+pub write_state-put-requires : goal.write_state-put-requires
+write_state-put-requires g c = let behind = c.requires.behind in record {
+  entries = c.args.found.entries.items;
+  legal = behind.history.legal;
+  folds = sym behind.folds ∙ sym behind.bare;
+}

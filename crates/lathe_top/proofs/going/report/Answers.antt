@@ -1,7 +1,0 @@
-use Rattle.std.proofs.Common.{refl}
-use Rattle.lathe_top.proofs.Ended.{ends_put}
-use Rattle.lathe_top.proofs.going.report.Goals as goal
-
-pub returns : goal.returns
-returns g c =
-    rw c.status_behind.ensures (ends_put c.reason_status-status.result c.write_report.result (c.reason_status-status.ensures, refl) c.write_report.ensures)

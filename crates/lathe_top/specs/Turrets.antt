@@ -1,0 +1,52 @@
+-- What the turrets get from a session.
+use Rattle.std.specs.Prelude.{◌≡◌, ◌⊎◌, ℕ, ◌+◌, ◌≤◌, true, false, List, [], length}
+use Rattle.nc_number.specs.declared.path.Path.{Path}
+use Rattle.nc_number.specs.Path.{other_of}
+use Rattle.nc_outside.specs.declared.motion.Got.{Got}
+use Rattle.move_list.specs.declared.end_line.Reason.{Reason}
+use Rattle.run_table.specs.Made.{moves_made}
+use Rattle.turret_run.specs.Served.{told, GetsAll, GetsPart, GetsSome, FailsAmong}
+use Rattle.turret_run.specs.Runs.{Turrets, turret_for, place_of, GetsBeside}
+use Rattle.lathe_top.specs.Lathe.{LatheState, AreAtRest}
+use Rattle.lathe_top.specs.Session.{Session, EndsBy, IsLeast, is_over, machine_found}
+
+-- What is due to the turret of a path by a session up to this record: its place, and then the moves of its path's records behind
+-- those that were found, in order.
+abbrev pub due_to : Session → ℕ → Path → List Got
+due_to s upto path = told (place_of path (machine_found s)) (moves_made s.pair path (length s.found) upto s.history)
+
+-- What the turrets got of a session that might make records: all that is due to them; or, where the disk or one of them failed, a
+-- first part of it, by records that are on the disk.
+abbrev pub AreServed : Reason → Session → ℕ → Turrets → Turrets → Type 0
+AreServed Reason.DiskFault s least old new =
+    (path : Path) → GetsSome (due_to s least path) (turret_for path old) (turret_for path new)
+AreServed (Reason.TurretFault path) s least old new =
+    FailsAmong (due_to s least path) (turret_for path old) (turret_for path new)
+    × GetsBeside path (due_to s least (other_of path)) (turret_for (other_of path) old) (turret_for (other_of path) new)
+AreServed other s least old new =
+    (path : Path) → GetsAll (due_to s least path) (turret_for path old) (turret_for path new)
+
+-- what the turrets got of a session: nothing, where the run was over at its opening
+pub record GetTheirs (reason : Reason) (s : Session) (least : ℕ) (old new : LatheState) : Type 0 where
+  pub over : is_over (machine_found s) ≡ true → AreAtRest old new
+  pub goes_on : is_over (machine_found s) ≡ false → AreServed reason s least old.turrets new.turrets
+
+-- How a session of at most so many records ended for this reason: what its cause is, how many records the disk holds at least,
+-- and what the turrets got.
+pub record IsEnding (limit : ℕ) (reason : Reason) (s : Session) (least : ℕ) (old new : LatheState) : Type 0 where
+  pub few : length s.history ≤ length s.found + limit
+  pub cause : EndsBy limit s old new reason
+  pub enough : IsLeast reason s least
+  pub turrets : GetTheirs reason s least old new
+
+-- there was no memory for a first record, and each turret got its place at most
+pub record IsUnprepared (s : Session) (least : ℕ) (old new : LatheState) : Type 0 where
+  pub unended : is_over (machine_found s) ≡ false
+  pub none : s.history ≡ s.found
+  pub all : least ≡ length s.history
+  pub places : (path : Path) → GetsPart (told (place_of path (machine_found s)) []) (turret_for path old.turrets)
+      (turret_for path new.turrets)
+
+-- how a session ended, with or without a report
+abbrev pub IsSessionEnd : ℕ → Session → ℕ → LatheState → LatheState → Type 0
+IsSessionEnd limit s least old new = ((reason : Reason) × IsEnding limit reason s least old new) ⊎ IsUnprepared s least old new

@@ -1,0 +1,123 @@
+//! What is asked of a run, and what is told of it.
+ghost use Rattle.std.specs.Prelude.{◌≡◌, ◌≤◌, length};
+ghost use Rattle.nc_verify.specs.Printed.{IsPut};
+ghost use Rattle.two_path.specs.Histories.{IsLegal};
+ghost use Rattle.nc_restart.specs.Pair.{tapes_in, opening_of};
+ghost use Rattle.lathe_top.specs.Answer.{Ends, IsJust};
+ghost use Rattle.lathe_top.specs.Made.{is_done, made_text};
+ghost use Rattle.lathe_top.specs.Session.{reason_status};
+ghost use Rattle.lathe_top.specs.Texts.{text_by};
+
+use crate::ending::{Status, status_behind};
+use move_list::{Reason, write_report, write_summary};
+use nc_outside::{PutFault, Sink};
+use nc_verify::Verified;
+use run_records::EntryList;
+use std::alloc::Global;
+
+/// What is told of a run that has ended.
+#[derive(Clone, Copy, Debug, PartialEq, Eq)]
+pub(crate) enum Telling {
+    /// The report of its history.
+    Report,
+    /// Where both paths have ended the summary of the made pair of this number, and else the report.
+    Summary(u32),
+}
+
+/// What is asked of a run: that it makes `limit` records at most, and what is told of it then.
+#[derive(Clone, Copy, Debug)]
+pub(crate) struct Request {
+    pub limit: u32,
+    pub telling: Telling,
+}
+
+/// Writes what is told of a history, and gives the status of its reason.
+pub(crate) fn tell_end<K: Sink>(
+    alloc: Global,
+    telling: Telling,
+    verified: &Verified,
+    entries: &EntryList,
+    reason: Reason,
+    out: &mut K,
+) -> u8
+    requires legal { IsLegal (tapes_in verified.now) (opening_of verified.now) entries.now.items }
+    requires few { length entries.now.items ≤ verified.now.settings.records }
+    ensures { Ends (IsJust (reason_status reason) (text_by telling verified.now entries.now.items reason))
+        (K.state out.old) (K.state out.new) result }
+{
+    let status = reason_status(&reason);
+    status_behind(
+        put_end(alloc, telling, verified, entries, reason, out),
+        status,
+    )
+}
+
+/// Puts what is told of a history.
+fn put_end<K: Sink>(
+    alloc: Global,
+    telling: Telling,
+    verified: &Verified,
+    entries: &EntryList,
+    reason: Reason,
+    out: &mut K,
+) -> Result<(), PutFault>
+    requires legal { IsLegal (tapes_in verified.now) (opening_of verified.now) entries.now.items }
+    requires few { length entries.now.items ≤ verified.now.settings.records }
+    ensures { IsPut (K.state out.old) (K.state out.new)
+        (text_by telling verified.now entries.now.items reason) result }
+{
+    match telling {
+        Telling::Report => write_report(alloc, verified, entries, reason, out),
+        Telling::Summary(number) => put_made(alloc, number, verified, entries, reason, out),
+    }
+}
+
+/// Puts what is told of a history of the made pair of this number.
+fn put_made<K: Sink>(
+    alloc: Global,
+    number: u32,
+    verified: &Verified,
+    entries: &EntryList,
+    reason: Reason,
+    out: &mut K,
+) -> Result<(), PutFault>
+    requires legal { IsLegal (tapes_in verified.now) (opening_of verified.now) entries.now.items }
+    requires few { length entries.now.items ≤ verified.now.settings.records }
+    ensures { IsPut (K.state out.old) (K.state out.new)
+        (made_text number verified.now entries.now.items reason) result }
+{
+    if is_done(&reason) {
+        write_summary(alloc, number, verified, entries, out)
+    } else {
+        write_report(alloc, verified, entries, reason, out)
+    }
+}
+
+/// Whether both paths have ended.
+fn is_done(reason: &Reason) -> bool
+    ensures { result ≡ is_done reason.now }
+{
+    match reason {
+        Reason::Done => true,
+        Reason::Alarm(_) => false,
+        Reason::Stopped => false,
+        Reason::Full => false,
+        Reason::DiskFault => false,
+        Reason::TurretFault(_) => false,
+    }
+}
+
+/// The status of a reason.
+fn reason_status(reason: &Reason) -> u8
+    ensures { result ≡ reason_status reason.now }
+{
+    let status = match reason {
+        Reason::Done => Status::Done,
+        Reason::Alarm(_) => Status::Alarm,
+        Reason::Stopped => Status::Stopped,
+        Reason::Full => Status::Full,
+        Reason::DiskFault => Status::DiskFault,
+        Reason::TurretFault(_) => Status::TurretFault,
+    };
+    status as u8
+}
