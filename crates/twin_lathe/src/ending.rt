@@ -1,20 +1,11 @@
 //! How the program ends.
-ghost use Rattle.std.specs.Prelude.{◌≡◌, ℕ, map};
+ghost use Rattle.std.specs.Prelude.{◌≡◌};
 ghost use Rattle.std.specs.Process.{exit_status};
-ghost use Rattle.std.specs.String.{string_bytes};
-ghost use Rattle.lathe_top.specs.Answer.{IsAnswered};
-ghost use Rattle.twin_lathe.specs.Real.{real};
 
-use crate::file_disk::FileDisk;
-use crate::file_shelf::FileShelf;
-use crate::std_sink::StdSink;
-use lathe_top::top;
-use std::alloc::Global;
+use crate::log_turret::LogTurret;
+use disk_model::Disk;
+use lathe_top::Outcome;
 use std::process::{ExitCode, Termination};
-use std::rt::Files;
-
-/// The file of the journal, in the current folder.
-const JOURNAL: &str = "twin.journal";
 
 /// The status of a command that ran out of memory.
 const NO_MEMORY: u8 = 12;
@@ -26,19 +17,10 @@ pub struct Ending {
 }
 
 impl Ending {
-    /// Does what the words say with the files of the file system and the journal of the current folder, writes the
-    /// answer to standard output, and ends with the status of that.
-    pub fn of<R: Files + Print>(rt: &R, alloc: Global, words: &[String]) -> Ending
-        ensures { (shelf : ℕ) × (disk : ℕ) × (sink : ℕ) × IsAnswered (record {
-          words = map string_bytes words.now;
-          before = real 0 0 0;
-          after = real shelf disk sink;
-        }) result.status }
+    /// The end of a command that came to this: its status.
+    pub fn behind<D: Disk>(outcome: &Outcome<D, LogTurret>) -> Ending
+        ensures { result.status ≡ outcome.now.status }
     {
-        let mut shelf = FileShelf::new(rt);
-        let mut out = StdSink::new(rt);
-        let disk = FileDisk::new(rt, JOURNAL);
-        let outcome = top(alloc, words, &mut shelf, disk, &mut out);
         Ending {
             status: outcome.status,
         }

@@ -1,24 +1,47 @@
 //! Runs a command of the lathe: its words stand on the command line, tapes are files, the journal of a run is a file
-//! of the current folder, and the report goes to standard output. The exit status is that of the command.
+//! of the current folder, the turrets take every move, and the report goes to standard output. The exit status is that
+//! of the command.
 #![tactic(auto)]
 
 mod ending;
 mod file_disk;
 mod file_shelf;
 mod journal_file;
+mod log_turret;
 mod std_sink;
 
 use ending::Ending;
+use file_disk::FileDisk;
+use file_shelf::FileShelf;
+use lathe_top::top;
+use log_turret::LogTurret;
 use std::alloc::AllocError;
 use std::env;
 use std::io::ErrorKind;
 use std::rt::Env;
+use std_sink::StdSink;
+
+/// The file of the journal, in the current folder.
+const JOURNAL: &str = "twin.journal";
 
 fn main(rt: HostRuntime) -> Ending {
-    match words_given(&rt) {
-        Ok(words) => Ending::of(&rt, rt.alloc(), &words),
-        Err(_) => Ending::without_memory(),
-    }
+    let Ok(words) = words_given(&rt) else {
+        return Ending::without_memory();
+    };
+    let mut shelf = FileShelf::new(&rt);
+    let mut out = StdSink::new(&rt);
+    let disk = FileDisk::new(&rt, JOURNAL);
+    let outcome = top(
+        &rt,
+        rt.alloc(),
+        words.as_slice(),
+        &mut shelf,
+        disk,
+        LogTurret,
+        LogTurret,
+        &mut out,
+    );
+    Ending::behind(&outcome)
 }
 
 /// The words behind the program's name. Where one of them is no text they are no command, and none is given.
