@@ -5,6 +5,8 @@
 #![tactic(auto)]
 
 #[cfg(test)]
+mod journal_rows;
+#[cfg(test)]
 mod record_text;
 #[cfg(test)]
 mod run;

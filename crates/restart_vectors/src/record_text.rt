@@ -1,6 +1,6 @@
 //! Records as text, so that a table of tests has a history written out by hand.
 use nc_number::Path;
-use run_records::{Entry, EntryKind};
+use run_records::{Entry, EntryKind, EntryList};
 use std::alloc::{AllocError, Global};
 
 fn kind_word(kind: EntryKind) -> &'static str {
@@ -25,18 +25,24 @@ fn put_record(out: &mut String, entry: &Entry) -> Result<(), AllocError> {
 }
 
 /// The records of a history, one behind the other.
-pub(crate) fn history_text(alloc: Global, entries: &[Entry]) -> Result<String, AllocError> {
+pub(crate) fn history_text(alloc: Global, entries: &EntryList) -> Result<String, AllocError> {
     let mut out = String::new(alloc);
-    for entry in entries {
+    for index in 0..entries.len() {
         if !out.is_empty() {
             out.push_str(", ")?;
         }
-        put_record(&mut out, entry)?;
+        put_record(&mut out, &entries.get(index))?;
     }
     Ok(out)
 }
 
 /// How many of the records the path made.
-pub(crate) fn records_of(entries: &[Entry], path: Path) -> usize {
-    entries.iter().filter(|entry| entry.path == path).count()
+pub(crate) fn records_of(entries: &EntryList, path: Path) -> usize {
+    let mut count = 0usize;
+    for index in 0..entries.len() {
+        if entries.get(index).path == path {
+            count = count.saturating_add(1);
+        }
+    }
+    count
 }

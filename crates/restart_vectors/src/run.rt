@@ -9,7 +9,7 @@ use crate::turns::{Count, step_on};
 use disk_model::{Crash, Disk, FuseDisk, MemoryDisk};
 use nc_restart::{Recovered, RestartFault, recover};
 use nc_verify::Verified;
-use run_records::Header;
+use run_records::{EntryList, Header};
 use run_table::{Parts, Table};
 use std::alloc::{AllocError, Global};
 use std::test::Fail;
@@ -78,13 +78,13 @@ pub(crate) fn disk_left<D: Disk>(table: Table<D>) -> D {
 
 /// The history of a table.
 fn history_left<D: Disk + Drop>(alloc: Global, table: Table<D>) -> Result<String, AllocError> {
-    history_text(alloc, table.into_parts().entries.as_slice())
+    history_text(alloc, &table.into_parts().entries)
 }
 
 /// The table runs until its disk stops or both paths have ended, and then comes a crash.
 fn stopped(alloc: Global, table: Table<FuseDisk>, pick: Crash) -> Result<Left, Fail> {
     let mut table = table;
-    match run_on(&mut table, Count::of(&[])) {
+    match run_on(&mut table, Count::of(&EntryList::empty(alloc))) {
         Ok(count) => crashed(alloc, disk_left(table), pick, count.shown),
         Err(fail) => Err(fail),
     }
@@ -119,7 +119,7 @@ fn run_whole(alloc: Global, header: &Header, bytes: &[u8]) -> Result<String, Fai
     requires { IsShort header.now }
 {
     match begun_on(alloc, header, disk_of(alloc, bytes, 1_000_000)?)? {
-        Ok(table) => finished(alloc, table, Count::of(&[])),
+        Ok(table) => finished(alloc, table, Count::of(&EntryList::empty(alloc))),
         Err(_disk) => Err(Fail::new("no run begins")),
     }
 }
@@ -142,7 +142,7 @@ fn table_of<D: Disk>(run: Recovered<D>) -> Table<D>
 fn went_on<D: Disk + Drop>(alloc: Global, run: Recovered<D>) -> Result<String, Fail>
     requires { IsRecovered D.state run.header run.verified run.machine.machine run.entries.items run.journal }
 {
-    let from = Count::of(run.entries.as_slice());
+    let from = Count::of(&run.entries);
     finished(alloc, table_of(run), from)
 }
 
@@ -160,7 +160,7 @@ pub(crate) fn restarted(alloc: Global, header: &Header, bytes: &[u8]) -> Result<
 /// The history that these bytes hold, or why none.
 pub(crate) fn recovered(alloc: Global, bytes: &[u8]) -> Result<String, Fail> {
     match recover(alloc, disk_of(alloc, bytes, 1_000_000)?) {
-        Ok(run) => Ok(history_text(alloc, run.entries.as_slice())?),
+        Ok(run) => Ok(history_text(alloc, &run.entries)?),
         Err((_disk, fault)) => Ok(format!(in alloc; "{fault}")?),
     }
 }

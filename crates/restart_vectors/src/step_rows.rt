@@ -40,7 +40,12 @@ fn tape_text(alloc: Global, blocks: &str) -> Result<String, AllocError> {
 }
 
 /// The header of these settings, and of two tapes whose blocks these are.
-fn header_of_blocks(alloc: Global, settings: &str, left: &str, right: &str) -> Result<Header, Fail>
+pub(crate) fn header_of_blocks(
+    alloc: Global,
+    settings: &str,
+    left: &str,
+    right: &str,
+) -> Result<Header, Fail>
     ensures { IfOk result IsShort }
 {
     let left = tape_text(alloc, left)?;

@@ -3,7 +3,7 @@
 use crate::record_text::records_of;
 use disk_model::Disk;
 use nc_number::Path;
-use run_records::Entry;
+use run_records::EntryList;
 use run_table::{Table, TableStep};
 use two_path::Turn;
 
@@ -54,7 +54,7 @@ fn said_of_turn(turn: &Turn) -> Said {
 
 impl Count {
     /// The counts of a history, all of which is on the disk.
-    pub(crate) fn of(entries: &[Entry]) -> Count {
+    pub(crate) fn of(entries: &EntryList) -> Count {
         Count {
             one: records_of(entries, Path::One),
             two: records_of(entries, Path::Two),

@@ -1,0 +1,21 @@
+//! Tests of stops and failures of whole commands: a run of the pair as a shop has it is stopped at each call of its disk, each call
+//! of its shelf, its output, its disk and its turrets fails once, and then the run goes on to the report of one that met no fault.
+//!
+//! And a run calls both turrets at the same time: each of two that wait for each other's move gets to answer it. Each turret has its
+//! place and then the moves of its path's records, neither more nor fewer.
+//!
+//! What is expected stems from the rules of the commands, and never from what a run answered.
+#![tactic(auto)]
+
+#[cfg(test)]
+mod command;
+#[cfg(test)]
+mod failures;
+#[cfg(test)]
+mod gates;
+#[cfg(test)]
+mod pair;
+#[cfg(test)]
+mod stops;
+#[cfg(test)]
+mod turrets;
