@@ -1,0 +1,138 @@
+# Rows that call the program as a user does, on real files and a real journal, and compare what it prints and its exit status.
+# Sourced by shell_rows and hostile_rows. Whoever sources it has set `root`, the repository's folder, `suite`, what its rows are
+# called, and has sourced program.sh. `work` is a folder that goes at the end; each room, in which rows run, is a folder of it.
+
+work=$(mktemp -d) || exit 1
+trap 'rm -rf -- "$work"' EXIT
+
+passed=0
+failed=0
+
+pass() { passed=$((passed + 1)); }
+
+fail() {
+    failed=$((failed + 1))
+    printf '%s FAILED: %s: %s\n' "${suite% rows} row" "$1" "$2"
+}
+
+# Judges what stands in the files `said` and `complained` of a call that ended with the status $3: the row's name, the status and
+# the output that are due.
+judge() {
+    local name=$1 due_status=$2 status=$3 due=$4 said
+    # (the x keeps the line feeds at the end)
+    said=$(cat "$work/said"; printf x)
+    if [[ $status != "$due_status" ]]; then
+        fail "$name" "status $status, and $due_status is due; it printed: $(tail -n 1 "$work/said")"
+    elif [[ $said != "${due}x" ]]; then
+        fail "$name" "this is what it printed, and not what is due: ${said//$'\n'/ | }"
+    elif [[ -s $work/complained ]]; then
+        fail "$name" "it complained: $(head -n 1 "$work/complained")"
+    else
+        pass
+    fi
+}
+
+# Calls the program, which is given a minute: a call that hangs has a status that is never due.
+call() { timeout -s KILL 60 "$program" "$@"; }
+
+# What the row is called, the status and the output that are due, and the words of the command.
+row() {
+    local name=$1 due_status=$2 due=$3
+    shift 3
+    call "$@" >"$work/said" 2>"$work/complained"
+    judge "$name" "$due_status" $? "$due"
+}
+
+# The same, where one of two outputs is due: which path has its turn first is settled by nothing.
+either() {
+    local name=$1 due_status=$2 due=$3 other=$4 status
+    shift 4
+    "$program" "$@" >"$work/said" 2>"$work/complained"
+    status=$?
+    if [[ $(cat "$work/said"; printf x) == "${other}x" ]]; then due=$other; fi
+    judge "$name" "$due_status" "$status" "$due"
+}
+
+# The same, where only the last line of the output is due.
+last_line() {
+    local name=$1 due_status=$2 due=$3
+    shift 3
+    call "$@" >"$work/all" 2>"$work/complained"
+    local status=$?
+    tail -n 1 "$work/all" >"$work/said"
+    judge "$name" "$due_status" "$status" "$due"
+}
+
+# A line of what was printed last, or one of two.
+has_line() {
+    if grep -qxF -e "$2" -e "${3-$2}" "$work/said"; then pass; else fail "$1" "it did not print the line: $2"; fi
+}
+
+rooms=0
+mkdir "$work/tapes"
+
+# A folder of its own for the rows that follow, with all tapes in it.
+room() {
+    rooms=$((rooms + 1))
+    cp -al "$work/tapes" "$work/room$rooms"
+    cd "$work/room$rooms" || exit 1
+}
+
+# A tape or a text of these lines.
+tape() {
+    local name=$1
+    shift
+    printf '%s\n' "$@" >"$work/tapes/$name"
+}
+
+# A tape whose only program, O1, has these blocks and M30.
+blocks() {
+    local name=$1
+    shift
+    tape "$name" '%' 'O1' "$@" 'M30' '%'
+}
+
+# A file of so many bytes, in which no block is one.
+long_file() {
+    head -c "$2" /dev/zero | tr '\0' 'x' >"$work/tapes/$1"
+}
+
+# The report of a pair of which no path moves.
+still() {
+    printf 'path 1 moves 0\npath 2 moves 0\nrecords %d\nend %s\n' "$1" "$2"
+}
+
+# Finds the program: the one that is named, or the built one, which is built first where that is still to be done.
+find_program() {
+    if (($#)); then
+        program=$(readlink -f -- "$1")
+    else
+        "$root/twin_lathe" >/dev/null
+        [[ -x $program ]] || exit 70
+    fi
+    begun=$SECONDS
+}
+
+# As a user who is not root, whose rights count.
+user=()
+[[ $(id -u) != 0 ]] || user=(setpriv --reuid=65534 --regid=65534 --clear-groups)
+as_user() {
+    local name=$1 due_status=$2 due=$3
+    shift 3
+    "${user[@]}" "$work/lathe" "$@" >"$work/said" 2>"$work/complained"
+    judge "$name" "$due_status" $? "$due"
+}
+
+# Makes the program one that this user may call.
+share_program() {
+    chmod 711 "$work"
+    cp "$program" "$work/lathe"
+    chmod 755 "$work/lathe"
+}
+
+# Says how long the rows took, and how many passed. Whether all of them did.
+count_rows() {
+    printf '%s: %d seconds\n' "$suite" "$((SECONDS - begun))"
+    printf '%s: %d passed, %d failed\n' "$suite" "$passed" "$failed"
+    [[ $failed == 0 ]]
+}
