@@ -124,12 +124,10 @@ fn put_stops_of_restart<R: Threads + Wait + Sync>(
     Ok(())
 }
 
-/// What is wrong with restarts that are stopped too. The run before is stopped behind every fifth number of calls, which comes to
-/// each of the four calls of a batch.
+/// What is wrong with restarts that are stopped too, over what each stop of the run left.
 fn stops_of_restarts<R: Threads + Wait + Sync>(rt: &R, alloc: Global) -> Result<String, Fail> {
     let mut out = String::new(alloc);
-    for fifth in 0..200u64 {
-        let passes = 5 * fifth;
+    for passes in 0..1_000u64 {
         let left = stopped(rt, alloc, RUN, &[], passes, crash(passes))?;
         if left.said.as_str() == "0 whole report" {
             break;
