@@ -117,13 +117,15 @@ where
     let (one, two) = thread::join(
         rt,
         move || -> Seat<C, T>
-            requires { AreNewEnds first_ends.0 first_ends.1 × (left.room.list ≡ []) × AreFresh both.now One first first_halt }
+            requires { AreNewEnds first_ends.0 first_ends.1 × (left.room.list ≡ [])
+                × AreFresh both.now One first first_halt }
             ensures passes { AreOf both.entry.now One result.pass result.halter }
             ensures serves { Serves (moves_in result.pass.records) left.room (T.state left.turret)
                 (T.state result.tool.turret) result.tool.handed result.tool.fault }
         { run_seat(rt, both, Path::One, first_ends, (first, first_halt), left) },
         move || -> Seat<C, T>
-            requires { AreNewEnds second_ends.0 second_ends.1 × (right.room.list ≡ []) × AreFresh both.now Two second second_halt }
+            requires { AreNewEnds second_ends.0 second_ends.1 × (right.room.list ≡ [])
+                × AreFresh both.now Two second second_halt }
             ensures passes { AreOf both.entry.now Two result.pass result.halter }
             ensures serves { Serves (moves_in result.pass.records) right.room (T.state right.turret)
                 (T.state result.tool.turret) result.tool.handed result.tool.fault }

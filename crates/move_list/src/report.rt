@@ -138,7 +138,8 @@ fn put_report<K: Sink>(
     reason: &Reason,
     sink: &mut K,
 ) -> Result<(), PutFault>
-    requires legal { IsLegal (tapes_of left.now right.now) (machine_at_start left.now right.now settings.now) entries.now.items }
+    requires legal { IsLegal (tapes_of left.now right.now)
+        (machine_at_start left.now right.now settings.now) entries.now.items }
     requires few { length entries.now.items ≤ 4000000 }
     ensures { IsPut (K.state sink.old) (K.state sink.new) (report_text (tapes_of left.now right.now)
         (machine_at_start left.now right.now settings.now) entries.now.items reason.now) result }

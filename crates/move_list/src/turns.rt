@@ -104,7 +104,8 @@ pub(crate) fn history_done(
     settings: &Settings,
     entries: &EntryList,
 ) -> Result<DoneAgain, NoMemory>
-    requires legal { IsLegal (tapes_of left.now right.now) (machine_at_start left.now right.now settings.now) entries.now.items }
+    requires legal { IsLegal (tapes_of left.now right.now)
+        (machine_at_start left.now right.now settings.now) entries.now.items }
     requires few { length entries.now.items ≤ 4000000 }
     ensures one { IfOk result (λ done. done.made.one.items
         ≡ moves_of (tapes_of left.now right.now) (machine_at_start left.now right.now settings.now) One entries.now.items) }
