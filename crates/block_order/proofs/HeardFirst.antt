@@ -1,5 +1,5 @@
 -- Flags that are set of loud programs alone, and rounds that begin with them.
-use Rattle.std.proofs.Common.{◌≡◌, ℕ, zero, suc, ◌+◌, ◌-◌, ◌≤◌, ◌<◌, ◌⊎◌, inl, inr, Bool, true, false, List, [], length, map, Some, slice_set, refl, ap, sym, subst, ◌∙◌, arith}
+use Rattle.std.proofs.Common.{◌≡◌, ℕ, zero, suc, ◌+◌, ◌<◌, inl, inr, Bool, true, false, List, [], length, map, Some, slice_set, refl, ap, sym, subst, ◌∙◌, arith}
 use Rattle.block_order.specs.declared.numbers.ProgramNumbers.{ProgramNumbers}
 use Rattle.block_order.specs.declared.program.ControlProgram.{ControlProgram}
 use Rattle.block_order.specs.Order.{blocks}

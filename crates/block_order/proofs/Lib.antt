@@ -21,8 +21,9 @@ pub mod KeepsLabels
 pub mod StepsStay
 pub mod OnePath
 pub mod Faultless
-pub mod Strayed
 pub mod Counted
+pub mod Searching
+pub mod Strayed
 pub mod Called
 pub mod Deepest
 pub mod Judged

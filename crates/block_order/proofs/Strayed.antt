@@ -1,16 +1,22 @@
--- A block that may lead to another stretch is a computed GOTO or another block that does.
-use Rattle.std.proofs.Common.{◌≡◌, ◌≢◌, ℕ, ◌<◌, ◌≤◌, ◌⊎◌, inl, inr, List, length, Option, Some, None, slice_get, slice_index_or, refl, ap, sym, subst, ◌∙◌}
+-- A block that may lead to another stretch does so by one of the tape's searches, or by its one number or few returns.
+use Rattle.std.proofs.Common.{◌≡◌, ◌≢◌, ℕ, ◌<◌, ◌≤◌, ◌⊎◌, inl, inr, false, List, length, Option, Some, None, slice_get, slice_index_or, refl, ap, sym, subst, ◌∙◌, arith}
 use Rattle.block_order.specs.declared.control.Control.{Control}
 use Rattle.block_order.specs.declared.control.Control.TheVariants.{Next, Goto, While, Do, EndLoop, Wait, End, Call, Back, BackTo}
 use Rattle.block_order.specs.declared.program.ControlBlock.{ControlBlock}
 use Rattle.block_order.specs.declared.program.ControlProgram.{ControlProgram}
+use Rattle.block_order.specs.declared.search.Search.{Search}
+use Rattle.block_order.specs.declared.search.Search.TheVariants.{Computed}
 use Rattle.block_order.specs.Order.{blocks, control_of, control_at, Leads}
 use Rattle.block_order.specs.Loud.{loud, stretch}
 use Rattle.block_order.specs.Labels.{IsTarget, Counts}
 use Rattle.block_order.specs.Faults.{Stands, Strays, jump, loop, back}
-use Rattle.block_order.specs.Waiting.{IsComputedStray, IsFixedStray, IsFixedStrayAt, IsStray, IsStrayLine, HasRisingLines, IsLeast, sooner}
+use Rattle.block_order.specs.Searchers.{is_searcher, is_sought}
+use Rattle.block_order.specs.Searches.{IsLongQuiet, IsReturnSearch, AreSearches, IsSearchStrayBelow}
+use Rattle.block_order.specs.Waiting.{LeadsElsewhere, IsSearchStray, IsFixedStray, IsFixedStrayAt, IsStray, IsStrayLine, HasRisingLines, IsLeast, sooner}
+use Rattle.block_order.proofs.Counted.{on_tape}
 use Rattle.block_order.proofs.Least.{least_none, least_either}
 use Rattle.block_order.proofs.Leading.{stands_at}
+use Rattle.block_order.proofs.Searching.{computed_is, call_is, same_as_itself, has_back, back_has, get_within}
 use Rattle.block_order.proofs.Elsewhere.{control_within}
 
 -- the block of a control
@@ -33,7 +39,7 @@ fixed_strays tape program place b (Goto None) e counts h = absurd h
 fixed_strays tape program place b (Goto (Some n)) e counts (target, leads, apart) =
     jump target counts (subst (λ c. IsTarget tape program place c target) (sym e) (n, refl, leads)) apart
 fixed_strays tape program place b (EndLoop name) e counts (head, is, apart) = loop head counts is apart
-fixed_strays tape program place b (Call called repeats) e counts (quiet, (n, (inner, returns), (target, leads, apart))) =
+fixed_strays tape program place b (Call called repeats) e counts (short, (quiet, (n, (inner, returns), (target, leads, apart)))) =
     jump target counts (subst (λ c. IsTarget tape program place c target) (sym e) (quiet, inner, n, returns, leads)) apart
 fixed_strays tape program place b (BackTo n) e (inl main) (inl other) = absurd (other main)
 fixed_strays tape program place b (BackTo n) e (inr is_loud) (inl other) = back n is_loud other e
@@ -46,49 +52,100 @@ fixed_strays tape program place b (Wait code) e counts h = absurd h
 fixed_strays tape program place b End e counts h = absurd h
 fixed_strays tape program place b Back e counts h = absurd h
 
--- the rule on each block, from the two kinds
-split_jump : (tape : List ControlProgram) (program place target : ℕ) (c : Control) → control_at (blocks tape program) place ≡ Some c
-    → IsTarget tape program place c target
-    → stretch (loud tape) (blocks tape program) place ≢ stretch (loud tape) (blocks tape program) target
-    → IsFixedStrayAt tape program place ⊎ IsComputedStray (loud tape) (blocks tape program) place
-split_jump tape program place target (Goto None) at (number, may, leads) apart = inr (at, number, (target, leads, apart))
-split_jump tape program place target (Goto (Some n)) at (number, may, leads) apart =
-    inl (Goto (Some n), at, (target, subst (λ k. Leads (blocks tape program) place k target) (sym may) leads, apart))
-split_jump tape program place target (BackTo n) at (main, leads) apart = inl (BackTo n, at, inr (main, (target, leads, apart)))
-split_jump tape program place target (Call called repeats) at (quiet, inner, n, returns, leads) apart =
-    inl (Call called repeats, at, (quiet, (n, (inner, returns), (target, leads, apart))))
-split_jump tape program place target (EndLoop name) at is apart = absurd is
-split_jump tape program place target Next at is apart = absurd is
-split_jump tape program place target (While m) at is apart = absurd is
-split_jump tape program place target (Do m) at is apart = absurd is
-split_jump tape program place target (Wait code) at is apart = absurd is
-split_jump tape program place target End at is apart = absurd is
-split_jump tape program place target Back at is apart = absurd is
+few_or_many : (n : ℕ) → (n ≤ 64) ⊎ (64 < n)
+few_or_many n = grind arith
 
-split_strays : (tape : List ControlProgram) (program place : ℕ) (b : ControlBlock) → Stands tape program place b
-    → Strays tape program place b → IsFixedStrayAt tape program place ⊎ IsComputedStray (loud tape) (blocks tape program) place
-split_strays tape program place b stands (jump target counts is apart) =
-    split_jump tape program place target b.control (control_of_block (blocks tape program) place b stands) is apart
-split_strays tape program place b stands (loop head counts is apart) = inl (EndLoop is.name, is.is_close, (head, is, apart))
-split_strays tape program place b stands (back n is_loud other e) =
+-- what leads to another stretch by a search of the tape
+search_strays : (tape : List ControlProgram) (program place : ℕ) (search : Search) → Counts tape program
+    → (search ≡ Computed) ⊎ ((called : ℕ) × IsReturnSearch tape called search)
+    → IsSearchStray (loud tape) (is_searcher search) (is_sought search) (blocks tape program) place → IsStray tape program place
+search_strays tape program place search counts (inl e) ((c, at, is), n, sought, (target, leads, apart)) =
+    let same = computed_is c (ap (λ s. is_searcher s c) (sym e) ∙ is) in
+    let b = block_of_control (blocks tape program) place (Goto None) (at ∙ ap (λ x. Some x) same) in
+    (b.0, b.1, jump target counts (subst (λ x. IsTarget tape program place x target) (sym b.2) (n, tt, leads)) apart)
+search_strays tape program place search counts (inr (called, r)) ((c, at, is), n, sought, (target, leads, apart)) =
+    let call = call_is called c (sym (r.serves.calls c) ∙ is) in
+    let returns = has_back (blocks tape called) n (sym (r.serves.numbers n) ∙ sought) in
+    let b = block_of_control (blocks tape program) place (Call called call.0) (at ∙ ap (λ x. Some x) call.1) in (
+      b.0,
+      b.1,
+      jump target counts
+          (subst (λ x. IsTarget tape program place x target) (sym b.2) (r.program.quiet, returns.0, n, returns.1, leads)) apart,
+    )
+
+-- a call of a long quiet program is found by the search of its calls
+call_searched : (tape : List ControlProgram) (searches : List Search) (program place called repeats : ℕ) → AreSearches tape searches
+    → control_at (blocks tape program) place ≡ Some (Call called repeats) → 64 < length (blocks tape called) → loud tape called ≡ false
+    → (n inner : ℕ) → control_at (blocks tape called) inner ≡ Some (BackTo n)
+    → LeadsElsewhere (loud tape) (blocks tape program) place n
+    → IsSearchStrayBelow (loud tape) searches (length searches) (blocks tape program) place
+call_searched tape searches program place called repeats are at long quiet n inner returns leads =
+    let b = block_of_control (blocks tape called) inner (BackTo n) returns in
+    let on = on_tape tape called inner b.0 b.1 in
+    let has = are.calls on.place on.program on.within on.at
+    (subst (λ k. IsLongQuiet tape k) (sym on.number) (record { long = long; quiet = quiet })) in
+    let search = subst (λ k. IsReturnSearch tape k has.1) on.number has.3 in (
+      has.0,
+      has.1,
+      get_within searches has.0 has.1 has.2,
+      has.2,
+      (
+        (Call called repeats, at, search.serves.calls (Call called repeats) ∙ same_as_itself called),
+        n,
+        search.serves.numbers n ∙ back_has (blocks tape called) n inner returns,
+        leads,
+      ),
+    )
+
+-- the rule on each block, from the two kinds
+split_jump : (tape : List ControlProgram) (searches : List Search) (program place target : ℕ) (c : Control) → AreSearches tape searches
+    → control_at (blocks tape program) place ≡ Some c → IsTarget tape program place c target
+    → stretch (loud tape) (blocks tape program) place ≢ stretch (loud tape) (blocks tape program) target
+    → IsFixedStrayAt tape program place ⊎ IsSearchStrayBelow (loud tape) searches (length searches) (blocks tape program) place
+split_jump tape searches program place target (Goto None) are at (number, may, leads) apart =
+    let is = are.computed in
+    inr (is.0, Computed, get_within searches is.0 Computed is.1, is.1, ((Goto None, at, refl), number, refl, (target, leads, apart)))
+split_jump tape searches program place target (Goto (Some n)) are at (number, may, leads) apart =
+    inl (Goto (Some n), at, (target, subst (λ k. Leads (blocks tape program) place k target) (sym may) leads, apart))
+split_jump tape searches program place target (BackTo n) are at (main, leads) apart = inl (BackTo n, at, inr (main, (target, leads, apart)))
+split_jump tape searches program place target (Call called repeats) are at (quiet, inner, n, returns, leads) apart =
+    elim (few_or_many (length (blocks tape called))) [
+      | inl short ↦ inl (Call called repeats, at, (short, (quiet, (n, (inner, returns), (target, leads, apart)))))
+      | inr long ↦ inr (call_searched tape searches program place called repeats are at long quiet n inner returns (target, leads, apart))
+    ]
+split_jump tape searches program place target (EndLoop name) are at is apart = absurd is
+split_jump tape searches program place target Next are at is apart = absurd is
+split_jump tape searches program place target (While m) are at is apart = absurd is
+split_jump tape searches program place target (Do m) are at is apart = absurd is
+split_jump tape searches program place target (Wait code) are at is apart = absurd is
+split_jump tape searches program place target End are at is apart = absurd is
+split_jump tape searches program place target Back are at is apart = absurd is
+
+split_strays : (tape : List ControlProgram) (searches : List Search) (program place : ℕ) (b : ControlBlock) → AreSearches tape searches
+    → Stands tape program place b → Strays tape program place b
+    → IsFixedStrayAt tape program place ⊎ IsSearchStrayBelow (loud tape) searches (length searches) (blocks tape program) place
+split_strays tape searches program place b are stands (jump target counts is apart) =
+    split_jump tape searches program place target b.control are (control_of_block (blocks tape program) place b stands) is apart
+split_strays tape searches program place b are stands (loop head counts is apart) = inl (EndLoop is.name, is.is_close, (head, is, apart))
+split_strays tape searches program place b are stands (back n is_loud other e) =
     inl (BackTo n, control_of_block (blocks tape program) place b stands ∙ ap (λ c. Some c) e, inl other)
 
 -- the sooner of the first blocks of both kinds is the first one that may lead to another stretch
-pub least_stray : (tape : List ControlProgram) (program : ℕ) (fixed computed : Option ℕ) → Counts tape program
-    → IsLeast (IsFixedStrayAt tape program) fixed → IsLeast (IsComputedStray (loud tape) (blocks tape program)) computed
-    → IsLeast (IsStray tape program) (sooner fixed computed)
-least_stray tape program fixed computed counts p q =
-    least_either {R = IsStray tape program} fixed computed p q left right (λ k h. split_strays tape program k h.0 h.1 h.2)
+pub least_stray : (tape : List ControlProgram) (searches : List Search) (program : ℕ) (fixed searching : Option ℕ) → Counts tape program
+    → AreSearches tape searches → IsLeast (IsFixedStrayAt tape program) fixed
+    → IsLeast (IsSearchStrayBelow (loud tape) searches (length searches) (blocks tape program)) searching
+    → IsLeast (IsStray tape program) (sooner fixed searching)
+least_stray tape searches program fixed searching counts are p q =
+    least_either {R = IsStray tape program} fixed searching p q left right
+    (λ k h. split_strays tape searches program k h.0 are h.1 h.2)
   where
     left : (k : ℕ) → IsFixedStrayAt tape program k → IsStray tape program k
     left k (c, at, h) =
         let b = block_of_control (blocks tape program) k c at in
         (b.0, b.1, fixed_strays tape program k b.0 c b.2 counts h)
 
-    right : (k : ℕ) → IsComputedStray (loud tape) (blocks tape program) k → IsStray tape program k
-    right k (at, n, (target, leads, apart)) =
-        let b = block_of_control (blocks tape program) k (Goto None) at in
-        (b.0, b.1, jump target counts (subst (λ c. IsTarget tape program k c target) (sym b.2) (n, tt, leads)) apart)
+    right : (k : ℕ) → IsSearchStrayBelow (loud tape) searches (length searches) (blocks tape program) k → IsStray tape program k
+    right k (i, search, below, at, h) = search_strays tape program k search counts (are.each i search at) h
 
 pub least_line : (tape : List ControlProgram) (program place : ℕ) (bs : List ControlBlock) (b : ControlBlock) → blocks tape program ≡ bs
     → HasRisingLines bs → IsLeast (IsStray tape program) (Some place) → slice_get bs place ≡ Some b

@@ -1,21 +1,19 @@
--- What is kept of the computed GOTOs ahead of each place.
-use Rattle.std.specs.Prelude.{◌≡◌, ◌≢◌, ℕ, ◌<◌, ◌≤◌, Bool, List, length, Some, None}
-use Rattle.block_order.specs.declared.computed.ComputedGotos.{ComputedGotos}
-use Rattle.block_order.specs.declared.control.Control.TheVariants.{Goto}
+-- What is kept of the blocks that search, ahead of each place.
+use Rattle.std.specs.Prelude.{◌≢◌, ℕ, ◌<◌, ◌≤◌, Bool, List, length}
+use Rattle.block_order.specs.declared.control.Control.{Control}
+use Rattle.block_order.specs.declared.searchers.SearchersAhead.{SearchersAhead}
 use Rattle.block_order.specs.declared.program.ControlBlock.{ControlBlock}
-use Rattle.block_order.specs.Order.{control_at}
 use Rattle.block_order.specs.Loud.{stretch}
-use Rattle.block_order.specs.Computed.{AreNext, AreLater}
+use Rattle.block_order.specs.Searchers.{AreNext, AreLater, IsSearcherAt}
 
--- the lists of the computed GOTOs are those of the blocks
-pub record AreAhead (loud : ℕ → Bool) (bs : List ControlBlock) (gotos : ComputedGotos) : Type 0 where
-  pub next : AreNext bs 0 gotos.next.items
-  pub later : AreLater loud bs 0 gotos.later.items
+-- the lists are those of the blocks that search
+pub record AreAhead (loud : ℕ → Bool) (searches : Control → Bool) (bs : List ControlBlock) (ahead : SearchersAhead) : Type 0 where
+  pub next : AreNext searches bs 0 ahead.next.items
+  pub later : AreLater loud searches bs 0 ahead.later.items
 
--- the first computed GOTO from a place on that lies in another stretch than the target, or the place behind the last block
-pub record IsFirstOther (loud : ℕ → Bool) (bs : List ControlBlock) (from target found : ℕ) : Type 0 where
+-- the first block from a place on that searches and lies in another stretch than the target, or the place behind the last block
+pub record IsFirstOther (loud : ℕ → Bool) (searches : Control → Bool) (bs : List ControlBlock) (from target found : ℕ) : Type 0 where
   pub within : found ≤ length bs
-  pub is : found < length bs
-      → (from ≤ found) × (control_at bs found ≡ Some (Goto None)) × (stretch loud bs found ≢ stretch loud bs target)
-  pub first : (block : ℕ) → from ≤ block → control_at bs block ≡ Some (Goto None)
-      → stretch loud bs block ≢ stretch loud bs target → found ≤ block
+  pub is : found < length bs → (from ≤ found) × IsSearcherAt searches bs found × (stretch loud bs found ≢ stretch loud bs target)
+  pub first : (block : ℕ) → from ≤ block → IsSearcherAt searches bs block → stretch loud bs block ≢ stretch loud bs target
+      → found ≤ block

@@ -1,5 +1,5 @@
 -- What is wrong with the order of a tape's blocks, apart from any code that finds it, and which fault is answered.
-use Rattle.std.specs.Prelude.{◌≡◌, ◌≢◌, ℕ, zero, suc, ◌<◌, ◌≤◌, ◌==◌, true, ◌⊎◌, List, [], ◌∷◌, ◌++◌, map, Option, Some, None, Contains, slice_get, if◌then◌else◌}
+use Rattle.std.specs.Prelude.{◌≡◌, ◌≢◌, ℕ, zero, suc, ◌<◌, ◌≤◌, ◌==◌, true, ◌⊎◌, List, ◌∷◌, ◌++◌, map, Option, Some, None, Contains, slice_get, if◌then◌else◌}
 use Rattle.nc_number.specs.declared.cause.Cause.{Cause}
 use Rattle.nc_number.specs.declared.cause.Cause.TheVariants.{ProgramTwice, LoopMismatch, NoSequence, NoProgram, IntoLoop, BranchAtWait, WaitTooDeep}
 use Rattle.nc_number.specs.Causes.{cause_number}

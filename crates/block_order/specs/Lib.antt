@@ -13,8 +13,9 @@ pub mod Places
 pub mod Fitting
 pub mod Table
 pub mod Ways
+pub mod Searchers
 pub mod Waiting
-pub mod Computed
+pub mod Searches
 pub mod Ahead
 pub mod View
 pub mod PlaceSteps

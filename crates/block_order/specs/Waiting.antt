@@ -1,5 +1,5 @@
 -- The faults of stage Waiting, place by place.
-use Rattle.std.specs.Prelude.{◌≡◌, ◌≢◌, ◌⊎◌, ◌<◌, ◌≤◌, min, ℕ, Bool, false, List, Option, Some, None, slice_get}
+use Rattle.std.specs.Prelude.{◌≡◌, ◌≢◌, ◌⊎◌, ◌<◌, ◌≤◌, min, ℕ, Bool, true, false, List, length, Option, Some, None, slice_get}
 use Rattle.block_order.specs.declared.control.Control.{Control}
 use Rattle.block_order.specs.declared.control.Control.TheVariants.{Goto, Call, EndLoop, BackTo}
 use Rattle.block_order.specs.declared.program.ControlBlock.{ControlBlock}
@@ -8,6 +8,7 @@ use Rattle.block_order.specs.Order.{blocks, main_number, control_at, IsLoop, Lea
 use Rattle.block_order.specs.Loud.{loud, stretch}
 use Rattle.block_order.specs.declared.loops.Reach.{Reach}
 use Rattle.block_order.specs.Table.{IsWithin}
+use Rattle.block_order.specs.Searchers.{IsSearcherAt}
 use Rattle.block_order.specs.Faults.{Stands, Strays}
 
 -- the search for the number n from the block leads to another stretch
@@ -23,9 +24,10 @@ ClosesElsewhere loud bs close = (head : ℕ) × IsLoop bs head close × (stretch
 abbrev pub HasBack : List ControlBlock → ℕ → Type 0
 HasBack bs n = (inner : ℕ) × (control_at bs inner ≡ Some (BackTo n))
 
--- a computed GOTO that may lead to another stretch
-abbrev pub IsComputedStray : (ℕ → Bool) → List ControlBlock → ℕ → Type 0
-IsComputedStray loud bs place = (control_at bs place ≡ Some (Goto None)) × (n : ℕ) × LeadsElsewhere loud bs place n
+-- a block that searches, for one of the numbers that it may search for, and so may lead to another stretch
+abbrev pub IsSearchStray : (ℕ → Bool) → (Control → Bool) → (ℕ → Bool) → List ControlBlock → ℕ → Type 0
+IsSearchStray loud searches sought bs place =
+    IsSearcherAt searches bs place × (n : ℕ) × (sought n ≡ true) × LeadsElsewhere loud bs place n
 
 -- an M99 with a number among these blocks leads from the block to another stretch
 abbrev pub ReturnsElsewhere : (ℕ → Bool) → List ControlBlock → ℕ → List ControlBlock → Type 0
@@ -36,13 +38,17 @@ abbrev pub CallsElsewhere : List ControlProgram → ℕ → ℕ → ℕ → Type
 CallsElsewhere tape program place called =
     (loud tape called ≡ false) × ReturnsElsewhere (loud tape) (blocks tape program) place (blocks tape called)
 
--- any other block of this control that may lead to another stretch
+-- So few blocks that each call of their program looks at all of them.
+abbrev pub IsShort : List ControlBlock → Type 0
+IsShort bs = length bs ≤ 64
+
+-- a block of this control, which searches for one number or is a call of few blocks, may lead to another stretch
 abbrev pub IsFixedStray : List ControlProgram → ℕ → ℕ → Control → Type 0
 IsFixedStray tape program place (Goto None) = ⊥
 IsFixedStray tape program place (Goto (Some n)) = LeadsElsewhere (loud tape) (blocks tape program) place n
 IsFixedStray tape program place (EndLoop name) = ClosesElsewhere (loud tape) (blocks tape program) place
 IsFixedStray tape program place (Call called repeats) =
-    CallsElsewhere tape program place called
+    IsShort (blocks tape called) × CallsElsewhere tape program place called
 IsFixedStray tape program place (BackTo n) =
     (program ≢ main_number tape) ⊎ ((program ≡ main_number tape) × LeadsElsewhere (loud tape) (blocks tape program) place n)
 IsFixedStray tape program place other = ⊥
@@ -66,24 +72,25 @@ sooner None other = other
 sooner (Some n) None = Some n
 sooner (Some n) (Some m) = Some (min n m)
 
--- a computed GOTO between two places, within reach of the target and in another stretch
-abbrev pub IsOtherIn : (ℕ → Bool) → List ControlBlock → ℕ → ℕ → Reach → ℕ → ℕ → Type 0
-IsOtherIn loud bs low high reach target block =
-    (low ≤ block) × (block < high) × IsWithin reach block × (control_at bs block ≡ Some (Goto None))
+-- a block between two places that searches, within reach of the target and in another stretch
+abbrev pub IsOtherIn : (ℕ → Bool) → (Control → Bool) → List ControlBlock → ℕ → ℕ → Reach → ℕ → ℕ → Type 0
+IsOtherIn loud searches bs low high reach target block =
+    (low ≤ block) × (block < high) × IsWithin reach block × IsSearcherAt searches bs block
     × (stretch loud bs block ≢ stretch loud bs target)
 
--- a computed GOTO that may lead by this number to the target, in another stretch
-abbrev pub ComputedTo : (ℕ → Bool) → List ControlBlock → ℕ → ℕ → ℕ → Type 0
-ComputedTo loud bs n target block =
-    (control_at bs block ≡ Some (Goto None)) × Leads bs block n target × (stretch loud bs block ≢ stretch loud bs target)
+-- a block that searches and is led by this number to the target, in another stretch
+abbrev pub IsLedTo : (ℕ → Bool) → (Control → Bool) → List ControlBlock → ℕ → ℕ → ℕ → Type 0
+IsLedTo loud searches bs n target block =
+    IsSearcherAt searches bs block × Leads bs block n target × (stretch loud bs block ≢ stretch loud bs target)
 
--- a computed GOTO that may lead to the target, in another stretch
-abbrev pub IsComputedTo : (ℕ → Bool) → List ControlBlock → ℕ → ℕ → Type 0
-IsComputedTo loud bs target block = (n : ℕ) × ComputedTo loud bs n target block
+-- a block that searches and may lead to the target, in another stretch
+abbrev pub MayLeadTo : (ℕ → Bool) → (Control → Bool) → (ℕ → Bool) → List ControlBlock → ℕ → ℕ → Type 0
+MayLeadTo loud searches sought bs target block = (n : ℕ) × (sought n ≡ true) × IsLedTo loud searches bs n target block
 
--- a computed GOTO that may lead to one of the first targets, in another stretch
-abbrev pub IsComputedBelow : (ℕ → Bool) → List ControlBlock → ℕ → ℕ → Type 0
-IsComputedBelow loud bs targets block = (target : ℕ) × (target < targets) × IsComputedTo loud bs target block
+-- the same to one of the first targets
+abbrev pub MayLeadBelow : (ℕ → Bool) → (Control → Bool) → (ℕ → Bool) → List ControlBlock → ℕ → ℕ → Type 0
+MayLeadBelow loud searches sought bs targets block =
+    (target : ℕ) × (target < targets) × MayLeadTo loud searches sought bs target block
 
 -- such a block at a place
 abbrev pub IsFixedStrayAt : List ControlProgram → ℕ → ℕ → Type 0

@@ -6,10 +6,10 @@ ghost use Rattle.block_order.specs.TapeFaults.{IsKnown, AreProgramsOf};
 ghost use Rattle.block_order.specs.Waiting.{HasRisingLines, IsLeast};
 ghost use Rattle.block_order.specs.declared.program.ControlProgram.{ControlProgram};
 
-use crate::computed_strays::sooner;
 use crate::control::Control;
 use crate::loud::LoudPrograms;
 use crate::program::{ControlBlock, ControlProgram};
+use crate::search_strays::sooner;
 
 fn is_loud_call(loud: &LoudPrograms, control: &Control) -> bool
     ensures { (tape : List ControlProgram) → IsKnown tape loud.now

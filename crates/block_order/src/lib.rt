@@ -7,8 +7,6 @@
 #![tactic(auto)]
 
 mod callers;
-mod computed;
-mod computed_strays;
 mod control;
 mod deep;
 mod depth;
@@ -26,6 +24,10 @@ mod numbers;
 mod order;
 mod place;
 mod program;
+mod search;
+mod search_strays;
+mod searchers;
+mod searches;
 mod sequence;
 mod stretch;
 mod tables;

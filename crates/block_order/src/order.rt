@@ -64,10 +64,10 @@ impl BlockOrder {
         if let Some(fault) = finding_fault(&programs, &tables) {
             return Err(Failing::Fault(fault));
         }
-        if let Some(fault) = waiting_fault(alloc, &programs)? {
+        let loud = LoudPrograms::of(alloc, &programs)?;
+        if let Some(fault) = waiting_fault(alloc, &programs, &tables, &loud)? {
             return Err(Failing::Fault(fault));
         }
-        let loud = LoudPrograms::of(alloc, &programs)?;
         Ok(BlockOrder {
             programs,
             tables,

@@ -5,12 +5,16 @@ ghost use Rattle.block_order.specs.Numbers.{KnowsPlaces};
 ghost use Rattle.block_order.specs.Waiting.{ReturnsElsewhere};
 ghost use Rattle.block_order.specs.Ways.{AreWays};
 
-use crate::computed::ComputedGotos;
-use crate::computed_strays::{first_computed_stray, sooner};
 use crate::control::Control;
 use crate::loud::LoudPrograms;
 use crate::program::{ControlBlock, ControlProgram};
+use crate::search::Search;
+use crate::search_strays::{first_search_stray, sooner};
+use crate::searchers::SearchersAhead;
+use crate::searches::is_short;
 use crate::ways::ProgramWays;
+use nc_number::NoMemory;
+use std::alloc::Global;
 
 /// A program, among the programs of its tape.
 #[derive(Clone, Copy)]
@@ -55,28 +59,30 @@ fn returns_elsewhere(ways: &ProgramWays, place: u32, called: &[ControlBlock]) ->
 }
 
 impl ProgramView<'_> {
-    ghost use Rattle.std.specs.Prelude.{◌≤◌};
-    ghost use Rattle.block_order.specs.Ahead.{AreAhead};
+    ghost use Rattle.std.specs.Prelude.{◌≤◌, IfOk};
     ghost use Rattle.block_order.specs.Labels.{Counts};
     ghost use Rattle.block_order.specs.Loud.{loud};
-    ghost use Rattle.block_order.specs.Waiting.{CallsElsewhere, IsFixedStray, IsFixedStrayAt, IsStray, IsStrayLine, IsLeast, HasRisingLines};
+    ghost use Rattle.block_order.specs.Searchers.{is_searcher, is_sought};
+    ghost use Rattle.block_order.specs.Searches.{AreSearches, IsSearchStrayBelow};
+    ghost use Rattle.block_order.specs.Waiting.{CallsElsewhere, IsShort, IsSearchStray, IsFixedStray, IsFixedStrayAt, IsStray, IsStrayLine, IsLeast, HasRisingLines};
     ghost use Rattle.block_order.specs.View.{IsView};
 
-    // Whether a return from this program, if it is quiet, leads from the call to another stretch.
+    // Whether a return from this program, if it is quiet and short, leads from the call to another
+    // stretch.
     fn calls_elsewhere(&self, place: u32, called: u16) -> bool
         requires view { IsView self.now }
         requires within { place < length self.now.ways.blocks.now }
-        ensures { IsTrue result ↔ CallsElsewhere self.now.programs.now self.now.number place called }
+        ensures { IsTrue result ↔ (IsShort (blocks self.now.programs.now called)
+            × CallsElsewhere self.now.programs.now self.now.number place called) }
     {
+        let blocks = blocks_of(self.programs, self.loud, called);
         !self.loud.is_loud(called)
-            && returns_elsewhere(
-                &self.ways,
-                place,
-                blocks_of(self.programs, self.loud, called),
-            )
+            && is_short(blocks)
+            && returns_elsewhere(&self.ways, place, blocks)
     }
 
-    // Whether the block of this control, and no computed GOTO, may lead to another stretch.
+    // Whether the block of this control, and no search for several numbers, may lead to another
+    // stretch.
     fn is_fixed_stray(&self, place: u32, control: &Control) -> bool
         requires view { IsView self.now }
         requires within { place < length self.now.ways.blocks.now }
@@ -96,7 +102,7 @@ impl ProgramView<'_> {
         }
     }
 
-    // The first block, and no computed GOTO, that may lead to another stretch.
+    // The first block, and no search for several numbers, that may lead to another stretch.
     fn first_fixed_stray(&self) -> Option<u32>
         requires view { IsView self.now }
         requires few { length self.now.ways.blocks.now ≤ 20000 }
@@ -112,34 +118,84 @@ impl ProgramView<'_> {
         None
     }
 
-    // The first block that may lead to another stretch.
-    fn first_stray(&self, gotos: &ComputedGotos) -> Option<u32>
+    // The first block of this search that may lead to another stretch.
+    fn first_of_search(&self, alloc: Global, search: &Search) -> Result<Option<u32>, NoMemory>
         requires view { IsView self.now }
         requires few { length self.now.ways.blocks.now ≤ 20000 }
-        requires ahead { AreAhead (loud self.now.programs.now) self.now.ways.blocks.now gotos.now }
-        requires counts { Counts self.now.programs.now self.now.number }
-        ensures { IsLeast (IsStray self.now.programs.now self.now.number) result }
+        ensures { IfOk result (IsLeast (IsSearchStray (loud self.now.programs.now)
+            (is_searcher search.now) (is_sought search.now) self.now.ways.blocks.now)) }
     {
-        let fixed = self.first_fixed_stray();
-        let computed = first_computed_stray(&self.ways, gotos);
-        sooner(fixed, computed)
+        if self.ways.is_one_stretch() {
+            return Ok(None);
+        }
+        if !search.is_among(self.ways.blocks) {
+            return Ok(None);
+        }
+        let ahead = SearchersAhead::of(alloc, self.loud, self.ways.blocks, search)?;
+        let first = first_search_stray(&self.ways, &ahead, search);
+        Ok(first)
     }
 
-    /// The line of the first block that may lead to another stretch.
-    pub(crate) fn stray_line(&self, gotos: &ComputedGotos) -> Option<u32>
+    // The first block of one of these searches that may lead to another stretch.
+    fn first_of_searches(&self, alloc: Global, searches: &[Search]) -> Result<Option<u32>, NoMemory>
         requires view { IsView self.now }
         requires few { length self.now.ways.blocks.now ≤ 20000 }
-        requires ahead { AreAhead (loud self.now.programs.now) self.now.ways.blocks.now gotos.now }
+        ensures { IfOk result (IsLeast (IsSearchStrayBelow (loud self.now.programs.now) searches.now
+            (length searches.now) self.now.ways.blocks.now)) }
+    {
+        let mut first = None;
+        for search in searches {
+            let place = self.first_of_search(alloc, search)?;
+            first = sooner(first, place);
+        }
+        Ok(first)
+    }
+
+    // The first block that may lead to another stretch.
+    fn first_stray(&self, alloc: Global, searches: &[Search]) -> Result<Option<u32>, NoMemory>
+        requires view { IsView self.now }
+        requires few { length self.now.ways.blocks.now ≤ 20000 }
+        requires searches { AreSearches self.now.programs.now searches.now }
         requires counts { Counts self.now.programs.now self.now.number }
+        ensures { IfOk result (IsLeast (IsStray self.now.programs.now self.now.number)) }
+    {
+        let fixed = self.first_fixed_stray();
+        let searching = self.first_of_searches(alloc, searches)?;
+        let first = sooner(fixed, searching);
+        Ok(first)
+    }
+
+    // The line of this block, if it is one.
+    fn line_of(&self, place: Option<u32>) -> Option<u32>
+        requires view { IsView self.now }
         requires rising { HasRisingLines self.now.ways.blocks.now }
+        requires first { IsLeast (IsStray self.now.programs.now self.now.number) place }
         ensures { IsLeast (IsStrayLine self.now.programs.now self.now.number) result }
     {
-        match self.first_stray(gotos) {
+        match place {
             Some(place) => match self.ways.blocks.get(place as usize) {
                 Some(block) => Some(block.line),
                 None => None,
             },
             None => None,
         }
+    }
+
+    /// The line of the first block that may lead to another stretch.
+    pub(crate) fn stray_line(
+        &self,
+        alloc: Global,
+        searches: &[Search],
+    ) -> Result<Option<u32>, NoMemory>
+        requires view { IsView self.now }
+        requires few { length self.now.ways.blocks.now ≤ 20000 }
+        requires searches { AreSearches self.now.programs.now searches.now }
+        requires counts { Counts self.now.programs.now self.now.number }
+        requires rising { HasRisingLines self.now.ways.blocks.now }
+        ensures { IfOk result (IsLeast (IsStrayLine self.now.programs.now self.now.number)) }
+    {
+        let first = self.first_stray(alloc, searches)?;
+        let line = self.line_of(first);
+        Ok(line)
     }
 }

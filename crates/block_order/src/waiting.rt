@@ -8,20 +8,22 @@ ghost use Rattle.block_order.specs.Deep.{IsDeepLine};
 ghost use Rattle.block_order.specs.Faults.{Fitting, Waiting, IsClear};
 ghost use Rattle.block_order.specs.First.{IsFirstOf};
 ghost use Rattle.block_order.specs.Shape.{IsListed};
+ghost use Rattle.block_order.specs.Searches.{AreSearches};
+ghost use Rattle.block_order.specs.TapeTable.{IsProgramTables, IsTapeTables};
 ghost use Rattle.block_order.specs.Waiting.{IsLeast, IsStrayLine};
 ghost use Rattle.block_order.specs.declared.program.ControlProgram.{ControlProgram};
 ghost use Rattle.nc_number.specs.declared.cause.Cause.{Cause};
 
-use crate::computed::ComputedGotos;
-use crate::computed_strays::sooner;
 use crate::deep::deep_line;
 use crate::depth::reached_by_eight;
 use crate::fault::OrderFault;
-use crate::loops::LoopTable;
 use crate::loud::LoudPrograms;
 use crate::program::ControlProgram;
-use crate::sequence::SequenceIndex;
+use crate::search::Search;
+use crate::search_strays::sooner;
+use crate::searches::searches;
 use crate::stretch::stretches;
+use crate::tables::{ProgramTables, TapeTables};
 use crate::view::ProgramView;
 use crate::ways::ProgramWays;
 use nc_number::{Cause, NoMemory};
@@ -42,23 +44,24 @@ fn program_line<'a>(
     alloc: Global,
     programs: &'a [ControlProgram],
     loud: &'a LoudPrograms,
+    searches: &[Search],
+    own: &'a ProgramTables,
     program: &'a ControlProgram,
 ) -> Result<Option<u32>, NoMemory>
     requires known { IsKnown programs.now loud.now }
+    requires searches { AreSearches programs.now searches.now }
+    requires tables { IsProgramTables program.now.blocks own.now }
     requires own { IsProgramOf programs.now program.now }
     requires counts { Counts programs.now program.now.number }
     ensures { IfOk result (IsLeast (IsStrayLine programs.now program.now.number)) }
 {
     let blocks = program.blocks.as_slice();
     let found = stretches(alloc, loud, blocks)?;
-    let sequences = SequenceIndex::of(alloc, blocks)?;
-    let loops = LoopTable::of(alloc, blocks)?;
-    let gotos = ComputedGotos::of(alloc, loud, blocks)?;
     let ways = ProgramWays {
         blocks,
         stretches: &found,
-        sequences: &sequences,
-        loops: &loops,
+        sequences: &own.index,
+        loops: &own.loops,
     };
     let view = ProgramView {
         programs,
@@ -67,7 +70,7 @@ fn program_line<'a>(
         number: program.number,
         ways,
     };
-    let line = view.stray_line(&gotos);
+    let line = view.stray_line(alloc, searches)?;
     Ok(line)
 }
 
@@ -76,14 +79,18 @@ fn counted_line<'a>(
     alloc: Global,
     programs: &'a [ControlProgram],
     loud: &'a LoudPrograms,
+    searches: &[Search],
+    own: &'a ProgramTables,
     program: &'a ControlProgram,
 ) -> Result<Option<u32>, NoMemory>
     requires known { IsKnown programs.now loud.now }
+    requires searches { AreSearches programs.now searches.now }
+    requires tables { IsProgramTables program.now.blocks own.now }
     requires own { IsProgramOf programs.now program.now }
     ensures { IfOk result (IsLeast (IsStrayLine programs.now program.now.number)) }
 {
     if program.number == main_of(programs) || loud.is_loud(program.number) {
-        program_line(alloc, programs, loud, program)
+        program_line(alloc, programs, loud, searches, own, program)
     } else {
         Ok(None)
     }
@@ -93,15 +100,19 @@ fn counted_line<'a>(
 fn stray_line(
     alloc: Global,
     programs: &[ControlProgram],
+    tables: &TapeTables,
     loud: &LoudPrograms,
 ) -> Result<Option<u32>, NoMemory>
     requires known { IsKnown programs.now loud.now }
+    requires tables { IsTapeTables programs.now tables.now }
     requires own { AreProgramsOf programs.now }
     ensures { IfOk result (IsLeast (IsTapeStrayLine programs.now)) }
 {
+    let searches = searches(alloc, programs, loud)?;
     let mut first = None;
-    for program in programs {
-        let line = counted_line(alloc, programs, loud, program)?;
+    for (at, program) in programs.iter().enumerate() {
+        let own = &tables.programs[at];
+        let line = counted_line(alloc, programs, loud, &searches, own, program)?;
         first = sooner(first, line);
     }
     Ok(first)
@@ -152,14 +163,17 @@ fn first_fault(stray: Option<u32>, deep: Option<u32>) -> Option<OrderFault>
 pub(crate) fn waiting_fault(
     alloc: Global,
     programs: &[ControlProgram],
+    tables: &TapeTables,
+    loud: &LoudPrograms,
 ) -> Result<Option<OrderFault>, NoMemory>
     requires listed { IsListed programs.now }
     requires fits { IsClear programs.now Fitting }
+    requires tables { IsTapeTables programs.now tables.now }
+    requires known { IsKnown programs.now loud.now }
     ensures { IfOk result (IsFirstOf programs.now Waiting) }
 {
-    let loud = LoudPrograms::of(alloc, programs)?;
-    let stray = stray_line(alloc, programs, &loud)?;
-    let reached = reached_by_eight(alloc, programs, &loud)?;
-    let deep = deep_line(programs, &loud, &reached);
+    let stray = stray_line(alloc, programs, tables, loud)?;
+    let reached = reached_by_eight(alloc, programs, loud)?;
+    let deep = deep_line(programs, loud, &reached);
     Ok(first_fault(stray, deep))
 }

@@ -1,4 +1,4 @@
-use Rattle.std.proofs.Common.{◌≡◌, true, ap, sym, ◌∙◌, rules, arith}
+use Rattle.std.proofs.Common.{◌≡◌, true, ap, sym, ◌∙◌}
 use Rattle.block_order.specs.Loud.{has_loud_block}
 use Rattle.block_order.specs.Order.{blocks}
 use Rattle.block_order.specs.Heard.{flag_known}

@@ -1,5 +1,4 @@
-use Rattle.std.proofs.Common.{◌≡◌, ◌∙◌}
-use Rattle.block_order.proofs.Called.{lent_whole}
+use Rattle.std.proofs.Common.{◌∙◌}
 use Rattle.block_order.proofs.HeardFirst.{none_heard}
 use Rattle.block_order.proofs.loud.heard_first.Goals as goal
 

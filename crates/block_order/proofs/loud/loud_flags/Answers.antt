@@ -1,4 +1,4 @@
-use Rattle.std.proofs.Common.{◌≡◌, ℕ, List, Bool, length, map, ap, sym, subst, ◌∙◌, arith}
+use Rattle.std.proofs.Common.{◌≡◌, length, map, sym, subst, ◌∙◌, arith}
 use Rattle.block_order.specs.Loud.{has_loud_block}
 use Rattle.block_order.specs.Heard.{flag_known}
 use Rattle.block_order.proofs.HeardFirst.{begins, looked_again, looked_enough, looked_long}

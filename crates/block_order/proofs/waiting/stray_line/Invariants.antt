@@ -2,5 +2,5 @@ use Rattle.block_order.specs.TapeFaults.{IsStrayLineBelow}
 use Rattle.block_order.specs.Waiting.{IsLeast}
 use Rattle.block_order.proofs.waiting.stray_line.Given as goal
 
-abbrev pub invariant-loop-program : goal.invariant-loop-program
-invariant-loop-program l = IsLeast (IsStrayLineBelow l.programs l.program-index) l.first
+abbrev pub invariant-loop-at : goal.invariant-loop-at
+invariant-loop-at l = IsLeast (IsStrayLineBelow l.programs l.at) l.first

@@ -20,7 +20,7 @@ pub returns-in-Some-2-clause-first : goal.returns-in-Some-2-clause-first
 returns-in-Some-2-clause-first c =
     let fits = subst (λ tape. IsFirstOf tape Fitting c.in_ok-fault.field-0) c.deref.ensures.value c.in_ok-fault.ensures in
     let finds = subst (λ tape. IsFirstOf tape Finding c.finding_fault.result) c.deref-3.ensures.value c.finding_fault.ensures in
-    let waits = subst (λ tape. IsFirstOf tape Waiting c.in_ok-fault-2.field-0) c.deref-4.ensures.value c.in_ok-fault-2.ensures in
+    let waits = subst (λ tape. IsFirstOf tape Waiting c.in_ok-fault-2.field-0) c.deref-5.ensures.value c.in_ok-fault-2.ensures in
     first_of c.args.programs.items Waiting c.in_ok-fault-2.field-0 c.in-Some-2.fault (
       subst (IsFirstOf c.args.programs.items Fitting) c.in_default.is fits,
       subst (IsFirstOf c.args.programs.items Finding) c.in_default-finding_fault.is finds,

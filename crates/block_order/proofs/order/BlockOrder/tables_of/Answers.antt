@@ -1,6 +1,6 @@
 use Rattle.std.proofs.Common.{rules, ◌≡◌, [], length, Some, sym, subst, ◌∙◌, arith}
 use Rattle.std.specs.Vec.{vec_len}
-use Rattle.std.proofs.lemmas.Option.{slice_get_read, get_or_from_slice_get}
+use Rattle.std.proofs.lemmas.Option.{get_or_from_slice_get}
 use Rattle.block_order.specs.declared.tables.ProgramTables.{ProgramTables}
 use Rattle.block_order.specs.Order.{blocks}
 use Rattle.block_order.specs.ProgramPlaces.{place_of}
