@@ -8,15 +8,3 @@ pub mod Growing
 pub mod Judged
 pub mod ShapeOfLine
 pub mod Shaping
-pub mod Mapped
-pub mod UpperCase
-pub mod Ignored
-pub mod Blanks
-pub mod LineByLine
-pub mod WholeLines
-pub mod OneLine
-pub mod Packed
-pub mod Removed
-pub mod Returns
-pub mod Placeless
-pub mod Blanked

@@ -1,12 +1,12 @@
 -- What a line says has the shape of a block or of an O number, and its texts are no longer than the line.
-use Rattle.std.proofs.Common.{◌≡◌, ℕ, ◌+◌, ◌-◌, ◌<◌, ◌≤◌, ◌==◌, Bool, true, false, cond, not, ◌&&◌, ◌||◌, ltb, leb, List, [], ◌∷◌, ◌++◌, length, take, drop, map, filter, get_or, slice_index, Option, Some, None, is_some, Result, Ok, Err, refl, ap, sym, subst, ◌∙◌, arith, ℤ, pos, negsuc}
+use Rattle.std.proofs.Common.{◌≡◌, ℕ, ◌+◌, ◌-◌, ◌≤◌, ◌==◌, Bool, true, false, cond, not, ◌&&◌, ltb, leb, List, [], ◌∷◌, length, take, drop, map, filter, get_or, slice_index, Option, Some, None, is_some, Result, Ok, Err, refl, sym, subst, ◌∙◌, arith, ℤ, pos, negsuc}
 use Rattle.std.specs.Prelude.{All, IfSome}
 use Rattle.std.specs.Char.{is_ascii_uppercase}
 use Rattle.std.specs.List.{list_any, list_all, prefix_len, suffix_len, position_or_len}
 use Rattle.std.proofs.lemmas.Bool.{true≢false, eqb-true, eq-eqb, leb-true, or_parts, not-false}
 use Rattle.std.proofs.lemmas.List.Sums.{prefix_len_passes}
-use Rattle.std.proofs.lemmas.List.{length-append, length-map, length-drop, length-take}
-use Rattle.std.proofs.lemmas.List.Elements.{All-nil, All-cons, All-head, All-tail, All-map, All-filter}
+use Rattle.std.proofs.lemmas.List.{length-map, length-drop, length-take}
+use Rattle.std.proofs.lemmas.List.Elements.{All-nil, All-cons, All-head, All-tail, All-map}
 use Rattle.nc_number.specs.declared.literal.Literal.{Literal}
 use Rattle.nc_number.specs.declared.fault.NumberFault.{NumberFault}
 use Rattle.nc_number.specs.Arithmetic.{whole_of}
@@ -14,17 +14,16 @@ use Rattle.nc_number.specs.Literals.{is_literal, word_literal}
 use Rattle.nc_text.specs.declared.sign.Sign.{Sign}
 use Rattle.nc_text.specs.declared.piece.Piece.{Piece}
 use Rattle.nc_text.specs.declared.tape.Word.{Word}
-use Rattle.nc_text.specs.declared.tape.Body.TheVariants.{Words, Statement}
+use Rattle.nc_text.specs.declared.tape.Body.TheVariants.{Words}
 use Rattle.nc_text.specs.declared.said.Said.{Said}
 use Rattle.nc_text.specs.declared.said.Said.TheVariants as said
-use Rattle.nc_text.specs.declared.said.SaidBlock.{SaidBlock}
 use Rattle.nc_text.specs.declared.said.Reading.{Reading}
 use Rattle.nc_text.specs.Signs.{Scan, is_blank, add_sign, inside_behind, scan_of, without_last, without_return, without_blanks, content_of, signs_of, are_allowed}
 use Rattle.nc_text.specs.Pieces.{Group, Cut, is_comment, depth_behind, begins_word, add_to_cut, cut_at, bytes_of, value_part, piece_of, pieces_of, value_len}
 use Rattle.nc_text.specs.Front.{behind_comments, switch_of, behind_digit, behind_switch, sentence_of, is_statement, number_part, behind_number, is_numbered, is_number_sign, is_switch}
 use Rattle.nc_text.specs.Values.{is_value, number_in, range_of, in_range}
-use Rattle.nc_text.specs.Said.{is_sequence, is_sound, has_program_letter, stands_alone, sequence_from, word_of, words_of, is_program, program_number, said_by, read_pieces, read_words, read_numbered, read_statement, read_block, read_head, judged, judged_signs, is_skipped, line_says, numbered_text, numbered_sentence, is_in_range}
-use Rattle.nc_text.specs.Shape.{IsWordShape, IsAlone, IsBodyShape, IsSaidShape}
+use Rattle.nc_text.specs.Said.{is_sequence, is_sound, has_program_letter, stands_alone, sequence_from, word_of, words_of, is_program, program_number, read_pieces, read_words, read_numbered, read_statement, read_block, read_head, judged, is_skipped, line_says, numbered_text, numbered_sentence, is_in_range}
+use Rattle.nc_text.specs.Shape.{IsWordShape, IsAlone}
 use Rattle.nc_text.specs.ReadShape.{IsSaid}
 use Rattle.nc_text.proofs.Judged.{judged_ok}
 

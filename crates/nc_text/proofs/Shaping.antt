@@ -1,24 +1,16 @@
 -- What is read keeps its shape: an invariant of each step.
-use Rattle.std.proofs.Common.{◌≡◌, ℕ, ◌+◌, ◌<◌, ◌≤◌, Bool, true, false, cond, not, ◌&&◌, ltb, leb, List, [], ◌∷◌, ◌++◌, length, get_or, map, Option, Some, None, refl, ap, sym, subst, ◌∙◌, arith, append_assoc}
+use Rattle.std.proofs.Common.{◌≡◌, ℕ, ◌+◌, ◌<◌, ◌≤◌, List, [], ◌∷◌, ◌++◌, length, Option, Some, None, refl, ap, sym, subst, ◌∙◌, arith, append_assoc}
 use Rattle.std.specs.Prelude.{All}
-use Rattle.std.specs.List.{flat_map}
-use Rattle.std.specs.Option.{option_to_list, is_none}
+use Rattle.std.specs.Option.{option_to_list}
 use Rattle.std.proofs.lemmas.List.{append-nil, length-append, map-append}
 use Rattle.std.proofs.lemmas.List.Elements.{All-nil, All-cons, All-head, All-tail, All-append}
 use Rattle.std.proofs.lemmas.Grind.{flat_map-append}
-use Rattle.nc_text.specs.declared.refusal.Refusal.{Refusal}
-use Rattle.nc_text.specs.declared.refusal.Refusal.TheVariants.{NoProgramNumber, LineTooLong, TooManyBlocks, TapeTooLong, WordRange}
 use Rattle.nc_text.specs.declared.tape.Block.{Block}
-use Rattle.nc_text.specs.declared.tape.Body.{Body}
-use Rattle.nc_text.specs.declared.tape.Body.TheVariants.{Words, Statement}
 use Rattle.nc_text.specs.declared.tape.Program.{Program}
-use Rattle.nc_text.specs.declared.tape.Word.{Word}
-use Rattle.nc_text.specs.declared.said.Said.{Said}
-use Rattle.nc_text.specs.declared.said.Said.TheVariants as said
 use Rattle.nc_text.specs.declared.said.SaidBlock.{SaidBlock}
-use Rattle.nc_text.specs.Tape.{Before, program_at, block_at, with_block, said_refusal, is_past_end, is_block, is_said_in_range}
-use Rattle.nc_text.specs.Shape.{RiseFrom, lines_of_program, lines_in, blocks_in, IsWordShape, IsBodyShape, IsSaidShape, IsProgramShape, IsBlockShape, IsTapeShape}
-use Rattle.nc_text.specs.ReadShape.{RiseTo, IsReadShape, IsSaid}
+use Rattle.nc_text.specs.Tape.{program_at, block_at, with_block}
+use Rattle.nc_text.specs.Shape.{RiseFrom, lines_of_program, lines_in, blocks_in, IsSaidShape, IsProgramShape, IsBlockShape, IsTapeShape}
+use Rattle.nc_text.specs.ReadShape.{RiseTo, IsReadShape}
 
 -- Rising numbers.
 

@@ -3,7 +3,7 @@ use Rattle.std.proofs.Common.{◌≡◌, ◌==◌, ℕ, ◌+◌, Bool, true, fal
 use Rattle.std.proofs.Math.Seq.{take-append_seam}
 use Rattle.std.proofs.lemmas.List.{length-append, append-nil, nil_from_length}
 use Rattle.std.proofs.lemmas.List.Elements.{All-append, All-nil}
-use Rattle.std.specs.Prelude.{Some, Result, Ok, Err, OnOk}
+use Rattle.std.specs.Prelude.{Some, Result, Ok, Err, OnOk, IfOk}
 use Rattle.nc_number.specs.Answers.{Gives}
 use Rattle.nc_number.specs.declared.fault.Failing.{Failing}
 use Rattle.nc_text.specs.declared.fault.TextFault.{TextFault}
@@ -67,14 +67,24 @@ pub piece_taken : {E : Type 0} (r : Result (Unit {0}) E) (s : ℕ) (stage new-st
 piece_taken (Ok x) s stage new-stage kept new-kept len new-len before piece one stage-is kept-is len-is = line_goes_on s stage new-stage kept new-kept len new-len before piece one stage-is kept-is len-is
 piece_taken (Err e) s stage new-stage kept new-kept len new-len before piece one stage-is kept-is len-is = tt
 
--- what is kept and counted of the present line is enough
+-- what is kept and counted of a line is enough
+line_stands : (s : ℕ) (stage : Stage) (kept : List ℕ) (len : ℕ) (before : Before) (line : List ℕ) (ended : Bool) → kept ≡ kept_of stage line → len ≡ counted (length line)
+    → (lines : List Line) → continued s stage (record { bytes = line; ended = ended } ∷ lines) before ≡ line_continued s stage kept len ended lines before
+line_stands s stage kept len before line ended kept-is len-is lines = line_kept s stage line ended lines before ∙ (λ i. line_continued s stage (sym kept-is i) (sym len-is i) ended lines before)
+
 line_ended : (s : ℕ) (stage new-stage : Stage) (kept slice : List ℕ) (len : ℕ) (before new-before : Before) (line : List ℕ) (ended : Bool) → IsOpenLine stage kept len line → slice ≡ kept
     → ((lines : List Line) → line_continued s stage slice len ended lines before ≡ continued s new-stage lines new-before)
     → (lines : List Line) → continued s stage (record { bytes = line; ended = ended } ∷ lines) before ≡ continued s new-stage lines new-before
-line_ended s stage new-stage kept slice len before new-before line ended is slice-is step lines =
-    let kept-as : kept_of stage line ≡ slice = sym (slice-is ∙ is.kept_is) in
-    let len-as : counted (length line) ≡ len = sym is.len_is in
-    line_kept s stage line ended lines before ∙ (λ i. line_continued s stage (kept-as i) (len-as i) ended lines before) ∙ step lines
+line_ended s stage new-stage kept slice len before new-before line ended is slice-is step lines = line_stands s stage slice len before line ended (slice-is ∙ is.kept_is) is.len_is lines ∙ step lines
+
+-- a line that lies whole in a text
+pub whole_line : {E : Type 0} (r : Result Stage E) (s : ℕ) (stage : Stage) (kept : List ℕ) (len : ℕ) (before new-before : Before) (line : List ℕ) → kept ≡ kept_of stage line → len ≡ counted (0 + length line)
+    → IfOk r (λ next. (lines : List Line) → line_continued s stage kept len true lines before ≡ continued s next lines new-before)
+    → IfOk r (λ next. (lines : List Line) → continued s stage (record { bytes = line; ended = true } ∷ lines) before ≡ continued s next lines new-before)
+whole_line (Ok next) s stage kept len before new-before line kept-is len-is step = λ lines.
+    let all : 0 + length line ≡ length line = omega arith in
+    line_stands s stage kept len before line true kept-is (len-is ∙ ap counted all) lines ∙ step lines
+whole_line (Err e) s stage kept len before new-before line kept-is len-is step = tt
 
 -- a line that ends in a text
 pub line_read : (s : ℕ) (stage new-stage : Stage) (before new-before : Before) (text line behind rest : List ℕ) → text ≡ line ++ 10 ∷ behind → IsOneLine line

@@ -14,6 +14,3 @@ pub mod Mark
 pub mod Reading
 pub mod Decided
 pub mod FeedView
-pub mod Changed
-pub mod Alike
-pub mod Edited

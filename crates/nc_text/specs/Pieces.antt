@@ -1,9 +1,8 @@
 -- The words that signs are cut into: each letter outside square brackets begins one.
-use Rattle.std.specs.Prelude.{◌≡◌, ℕ, ◌+◌, ◌-◌, Bool, true, false, ◌&&◌, ◌==◌, List, [], ◌∷◌, length, map, drop, if◌then◌else◌}
+use Rattle.std.specs.Prelude.{ℕ, ◌+◌, ◌-◌, Bool, true, false, ◌&&◌, ◌==◌, List, [], ◌∷◌, length, map, drop, if◌then◌else◌}
 use Rattle.std.specs.Char.{is_ascii_uppercase}
 use Rattle.std.specs.List.{list_all, before_first}
 use Rattle.nc_text.specs.declared.sign.Sign.{Sign}
-use Rattle.nc_text.specs.Signs.{Scan}
 use Rattle.nc_text.specs.declared.piece.Piece.{Piece}
 
 abbrev pub is_comment : Sign → Bool
@@ -65,8 +64,3 @@ pieces_of signs = map piece_of (cut_at signs 0).groups
 abbrev pub value_len : List Sign → ℕ → ℕ
 value_len [] depth = 0
 value_len (sign ∷ signs) depth = if begins_word depth sign.byte then 0 else 1 + value_len signs (depth_behind depth sign.byte)
-
--- the same bytes count, and both lines end inside a comment or neither does
-pub record IsSameText (a b : Scan) : Type 0 where
-  pub bytes : bytes_of a.list ≡ bytes_of b.list
-  pub unclosed : a.unclosed ≡ b.unclosed

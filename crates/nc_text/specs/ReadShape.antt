@@ -1,6 +1,6 @@
 -- The shape of what was read so far.
-use Rattle.std.specs.Prelude.{◌≡◌, ℕ, ◌+◌, ◌<◌, ◌≤◌, List, [], ◌∷◌, ◌++◌, length, All, Option, Some, None}
-use Rattle.std.specs.Coded.{×_prop, Unit-prop, le_prop}
+use Rattle.std.specs.Prelude.{ℕ, ◌<◌, ◌≤◌, List, [], ◌∷◌, ◌++◌, length, All, Option, Some, None}
+use Rattle.std.specs.Coded.{×_prop, le_prop}
 use Rattle.std.proofs.Props.{props}
 use Rattle.nc_text.specs.declared.tape.Body.{Body}
 use Rattle.nc_text.specs.declared.tape.Body.TheVariants.{Words, Statement}

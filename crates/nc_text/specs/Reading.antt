@@ -3,7 +3,6 @@ use Rattle.std.specs.Prelude.{◌≡◌, ℕ, Bool, true, false, not, ◌&&◌, 
 use Rattle.nc_number.specs.declared.fault.Failing.{Failing}
 use Rattle.nc_number.specs.declared.fault.Failing.TheVariants.{Fault, NoMemory}
 use Rattle.nc_text.specs.declared.fault.TextFault.{TextFault}
-use Rattle.nc_text.specs.declared.tape.Program.{Program}
 use Rattle.nc_text.specs.declared.stage.Stage.{Stage}
 use Rattle.nc_text.specs.declared.stage.Stage.TheVariants as stages
 use Rattle.nc_text.specs.Lines.{Line, IsOneLine, lines_of, is_percent}

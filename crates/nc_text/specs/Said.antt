@@ -155,7 +155,3 @@ statement_reading number in_range text long = record {
   broken = false;
   said = said.Block (record { sequence = number; in_range = in_range; body = Statement text });
 }
-
--- the switch of the block on a line, if it has the skip sign
-abbrev pub line_switch : List ℕ → Bool → Option ℕ
-line_switch line ended = switch_of (behind_comments (signs_of line ended).list)

@@ -9,7 +9,6 @@ mod fault;
 mod feed;
 mod front;
 mod going_back;
-mod laws;
 mod line;
 mod line_buffer;
 mod line_feed;
@@ -29,12 +28,6 @@ mod values;
 mod words;
 
 pub use fault::TextFault;
-pub use laws::{
-    a_blank_changes_only_places, a_carriage_return_changes_nothing, a_line_of_comments_is_no_block,
-    a_line_that_says_nothing_reads_as_no_line, a_skipped_block_reads_as_no_line,
-    an_empty_line_only_moves_lines, lines_that_say_the_same_read_the_same,
-    lower_case_reads_as_upper_case,
-};
 pub use piece::Piece;
 pub use reader::Reader;
 pub use refusal::Refusal;

@@ -13,11 +13,11 @@ signs_on ended [] inside place = record { list = []; unclosed = inside }
 signs_on ended (b ∷ bytes) inside place = add_sign (not inside && not (is_ignored ended b bytes)) place b (signs_on ended bytes (inside_behind inside b) (place + 1))
 
 -- a line is empty or has a last byte
-by_last : (P : List ℕ → Type 0) → ((xs : List ℕ) (x : ℕ) → P xs → P (xs ++ x ∷ [])) → (ys xs : List ℕ) → P xs → P (xs ++ ys)
+pub by_last : (P : List ℕ → Type 0) → ((xs : List ℕ) (x : ℕ) → P xs → P (xs ++ x ∷ [])) → (ys xs : List ℕ) → P xs → P (xs ++ ys)
 by_last P push [] xs p = subst P (sym (append-nil xs)) p
 by_last P push (y ∷ ys) xs p = subst P (append_assoc xs (y ∷ []) ys) (by_last P push ys (xs ++ y ∷ []) (push xs y p))
 
-last_pushed : (k : ℕ) (xs : List ℕ) (x : ℕ) → without_last k (xs ++ x ∷ []) ≡ cond (x == k) xs (xs ++ x ∷ [])
+pub last_pushed : (k : ℕ) (xs : List ℕ) (x : ℕ) → without_last k (xs ++ x ∷ []) ≡ cond (x == k) xs (xs ++ x ∷ [])
 last_pushed k xs x =
     let before : length (xs ++ x ∷ []) - 1 ≡ length xs = omega (arith, length_push xs x) in
     ap (λ (n : ℕ). cond (get_or (xs ++ x ∷ []) n 0 == k) (take n (xs ++ x ∷ [])) (xs ++ x ∷ [])) before
@@ -27,13 +27,13 @@ last_pushed k xs x =
 suffix_pushed : (xs : List ℕ) (x : ℕ) → suffix_len is_blank (xs ++ x ∷ []) ≡ cond (is_blank x) (1 + suffix_len is_blank xs) 0
 suffix_pushed xs x = ap (prefix_len is_blank) (reverse-append xs (x ∷ []))
 
-trimmed_blank : (xs : List ℕ) (x : ℕ) → is_blank x ≡ true → without_blanks (xs ++ x ∷ []) ≡ without_blanks xs
+pub trimmed_blank : (xs : List ℕ) (x : ℕ) → is_blank x ≡ true → without_blanks (xs ++ x ∷ []) ≡ without_blanks xs
 trimmed_blank xs x blank =
     let count : suffix_len is_blank (xs ++ x ∷ []) ≡ 1 + suffix_len is_blank xs = suffix_pushed xs x ∙ ap (λ (t : Bool). cond t (1 + suffix_len is_blank xs) 0) blank in
     let long : length (xs ++ x ∷ []) - suffix_len is_blank (xs ++ x ∷ []) ≡ length xs - suffix_len is_blank xs = omega (arith, length_push xs x) in
     ap (λ (n : ℕ). take n (xs ++ x ∷ [])) long ∙ take-append-le (length xs - suffix_len is_blank xs) xs (x ∷ []) (omega arith)
 
-trimmed_other : (xs : List ℕ) (x : ℕ) → is_blank x ≡ false → without_blanks (xs ++ x ∷ []) ≡ xs ++ x ∷ []
+pub trimmed_other : (xs : List ℕ) (x : ℕ) → is_blank x ≡ false → without_blanks (xs ++ x ∷ []) ≡ xs ++ x ∷ []
 trimmed_other xs x other =
     let count : suffix_len is_blank (xs ++ x ∷ []) ≡ 0 = suffix_pushed xs x ∙ ap (λ (t : Bool). cond t (1 + suffix_len is_blank xs) 0) other in
     let long : length (xs ++ x ∷ []) - suffix_len is_blank (xs ++ x ∷ []) ≡ length (xs ++ x ∷ []) = omega arith in

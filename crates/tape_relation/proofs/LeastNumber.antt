@@ -6,6 +6,7 @@ use Rattle.nc_text.specs.declared.refusal.Refusal.TheVariants.{TooManyDigits, Ba
 use Rattle.nc_text.specs.Refusals.{refusal_number}
 use Rattle.nc_text.specs.Lines.{Line}
 use Rattle.tape_relation.specs.Conditions.{Holds, IsLeast}
+use Rattle.tape_relation.proofs.LiteralParts.{both}
 
 abbrev pub order : List Refusal
 order = TooManyDigits ∷ BadCharacter ∷ NoNumber ∷ OpenComment ∷ NoProgramNumber ∷ NoEnd ∷ LineTooLong ∷ TooManyBlocks ∷ TapeTooLong ∷ WordRange ∷ []
@@ -26,11 +27,6 @@ all_from n (r ∷ rs) = leb n (refusal_number r) && all_from n rs
 abbrev rise : List Refusal → Bool
 rise [] = true
 rise (r ∷ rs) = all_from (refusal_number r) rs && rise rs
-
-both : (a b : Bool) → (a && b) ≡ true → (a ≡ true) × (b ≡ true)
-both true true e = (refl, refl)
-both true false e = absurd cc
-both false b e = absurd cc
 
 from_here : (n : ℕ) (rs : List Refusal) (s : Refusal) → all_from n rs ≡ true → In s rs → n ≤ refusal_number s
 from_here n [] s all is = absurd is

@@ -23,3 +23,15 @@ pub mod FirstFault
 pub mod Ends
 pub mod OneAnswer
 pub mod Agrees
+pub mod Mapped
+pub mod UpperCase
+pub mod Blanks
+pub mod Packed
+pub mod SkippedLines
+pub mod LineByLine
+pub mod WholeLines
+pub mod OneLine
+pub mod Removed
+pub mod Returns
+pub mod Placeless
+pub mod Blanked

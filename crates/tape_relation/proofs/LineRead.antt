@@ -9,7 +9,8 @@ use Rattle.nc_text.specs.declared.tape.Program.{Program}
 use Rattle.nc_text.specs.Lines.{Line}
 use Rattle.nc_text.specs.Signs.{Scan, signs_of}
 use Rattle.nc_text.specs.Front.{behind_comments}
-use Rattle.nc_text.specs.Said.{line_switch, is_skipped, read_head}
+use Rattle.nc_text.specs.Said.{is_skipped, read_head}
+use Rattle.tape_relation.specs.Edited.{line_switch}
 use Rattle.nc_text.specs.Tape.{is_block, is_said_in_range}
 
 abbrev pub scan : Line → Scan

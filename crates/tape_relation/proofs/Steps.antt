@@ -13,6 +13,7 @@ use Rattle.nc_text.specs.Signs.{are_allowed}
 use Rattle.nc_text.specs.Said.{judged, line_says}
 use Rattle.nc_text.specs.Tape.{Before, is_past_end, is_block, is_said_in_range, next, with_said, unless_refused, after_said, after_line}
 use Rattle.tape_relation.specs.Parts.{size, begins_percent, has_percent, behind_percent, is_closed}
+use Rattle.tape_relation.proofs.LiteralParts.{both}
 use Rattle.tape_relation.proofs.LineRead.{scan, reading, is_off, says, says_block, says_something}
 use Rattle.tape_relation.proofs.Remarks.{bad_read, bad_found, open_read, open_found}
 use Rattle.tape_relation.proofs.LongNumbers.{long_read, long_found}
@@ -150,11 +151,6 @@ body_test skips before line WordRange = not (is_said_in_range (says skips line))
 both_true : (a b : Bool) → a ≡ true → b ≡ true → (a && b) ≡ true
 both_true a b p q = rw (p, q) refl
 
-true_both : (a b : Bool) → (a && b) ≡ true → (a ≡ true) × (b ≡ true)
-true_both true true e = (refl, refl)
-true_both true false e = absurd cc
-true_both false b e = absurd cc
-
 not_is : (a : Bool) → a ≡ false → not a ≡ true
 not_is a e = rw e refl
 
@@ -188,15 +184,15 @@ body_tells skips front line before stands inside is = record { told = told; hold
     told WordRange h = not_is (is_said_in_range (says skips line)) (range_read skips line h.1)
 
     holds : (r : Refusal) → body_test skips before line r ≡ true → Holds skips front line r
-    holds TooManyDigits e = let p = true_both (reading line).long (not (is_off skips line)) e in (here, long_found skips line p.0 (is_not (is_off skips line) p.1))
+    holds TooManyDigits e = let p = both (reading line).long (not (is_off skips line)) e in (here, long_found skips line p.0 (is_not (is_off skips line) p.1))
     holds BadCharacter e = (here, bad_found line (is_not (are_allowed (scan line).list) e))
     holds NoNumber e = (here, broken_found line e)
     holds OpenComment e = (here, open_found line e)
-    holds NoProgramNumber e = let p = true_both (says_block skips line) (is_none before.current) e in (here, block_found skips line p.0, silent_found skips (behind_percent front) (is_not (list_any (says_something skips) (behind_percent front)) (sym inside.none_is ∙ p.1)))
+    holds NoProgramNumber e = let p = both (says_block skips line) (is_none before.current) e in (here, block_found skips line p.0, silent_found skips (behind_percent front) (is_not (list_any (says_something skips) (behind_percent front)) (sym inside.none_is ∙ p.1)))
     holds NoEnd e = absurd cc
     holds LineTooLong e = (here.0, ltb-true 512 (length line.bytes) e)
     holds TooManyBlocks e =
-        let p = true_both (says_block skips line) (leb 20000 before.blocks) e in
+        let p = both (says_block skips line) (leb 20000 before.blocks) e in
         let same = inside.blocks_are in
         let full : 20000 ≤ before.blocks = leb-true 20000 before.blocks p.1 in (here, block_found skips line p.0, (length (filter (says_block skips) (behind_percent front)), blocks_found skips (behind_percent front), omega arith))
     holds TapeTooLong e = past_holds skips front line before stands e

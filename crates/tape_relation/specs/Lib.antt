@@ -9,3 +9,6 @@ pub mod Programs
 pub mod Conditions
 pub mod Relation
 pub mod Cut
+pub mod Alike
+pub mod Changed
+pub mod Edited

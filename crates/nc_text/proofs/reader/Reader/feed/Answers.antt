@@ -1,4 +1,4 @@
-use Rattle.std.proofs.Common.{◌≡◌, ◌++◌, None, sym, subst, ◌∙◌}
+use Rattle.std.proofs.Common.{◌≡◌, ◌++◌, None, sym, subst}
 use Rattle.nc_text.specs.View.{before_of}
 use Rattle.nc_text.specs.FeedView.{state_of}
 use Rattle.nc_text.specs.Reading.{State, HasRead, refusal_of}

@@ -9,12 +9,12 @@ use Rattle.nc_text.specs.declared.tape.Body.TheVariants.{Words, Statement}
 use Rattle.nc_text.specs.declared.tape.Block.{Block}
 use Rattle.nc_text.specs.declared.tape.Program.{Program}
 use Rattle.nc_text.specs.Lines.{IsOneLine, Line, lines_of}
-use Rattle.nc_text.specs.Changed.{changed, changed_body, changed_block, changed_program, lower, lowered}
-use Rattle.nc_text.specs.Alike.{IsAlike, Fits}
-use Rattle.nc_text.specs.Edited.{are_whole}
+use Rattle.tape_relation.specs.Changed.{changed, changed_body, changed_block, changed_program, lower, lowered}
+use Rattle.tape_relation.specs.Alike.{IsAlike, Fits}
+use Rattle.tape_relation.specs.Edited.{are_whole}
 use Rattle.nc_text.specs.Tape.{Answer, in_leader, nothing_read, tape_of}
-use Rattle.nc_text.proofs.LineByLine.{Row, Both, Alone, firsts, seconds, size_all, Rows, SayAlike, SaysNothing, changed_says, same_answer}
-use Rattle.nc_text.proofs.WholeLines.{size_of_lines, lines_split, lines_around, lines_before_last}
+use Rattle.tape_relation.proofs.LineByLine.{Row, Both, Alone, firsts, seconds, size_all, Rows, SayAlike, SaysNothing, changed_says, same_answer}
+use Rattle.tape_relation.proofs.WholeLines.{size_of_lines, lines_split, lines_around, lines_before_last}
 
 abbrev same_line : ℕ → ℕ
 same_line line = line

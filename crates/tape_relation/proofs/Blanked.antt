@@ -5,18 +5,18 @@ use Rattle.std.proofs.lemmas.Bool.{le-ltb}
 use Rattle.std.proofs.lemmas.Bool.Decides.{nat_tests}
 use Rattle.std.proofs.lemmas.List.Elements.{filter-append, All-cons, All-head, All-tail}
 use Rattle.nc_text.specs.Signs.{Scan, is_blank, without_last, without_return, signs_of}
-use Rattle.nc_text.specs.Pieces.{IsSameText}
 use Rattle.nc_text.specs.Lines.{is_percent}
 use Rattle.nc_text.specs.Said.{line_says}
-use Rattle.nc_text.specs.Changed.{without_place, forget_places}
-use Rattle.nc_text.specs.Alike.{Fits}
-use Rattle.nc_text.specs.Edited.{with_line, IsLine, IsLastLine, MayHaveBlank}
+use Rattle.tape_relation.specs.Changed.{without_place, forget_places}
+use Rattle.tape_relation.specs.Alike.{Fits}
+use Rattle.tape_relation.specs.Edited.{with_line, IsLine, IsLastLine, MayHaveBlank}
 use Rattle.nc_text.specs.Tape.{tape_of}
-use Rattle.nc_text.proofs.Blanks.{same_chain}
-use Rattle.nc_text.proofs.Packed.{packed, last_pushed, either_packed, signs_packed}
-use Rattle.nc_text.proofs.Placeless.{same_text_says}
-use Rattle.nc_text.proofs.LineByLine.{SayAlike, changed_says}
-use Rattle.nc_text.proofs.OneLine.{line_in_place, last_in_place}
+use Rattle.tape_relation.proofs.Blanks.{same_chain, IsSameText}
+use Rattle.tape_relation.proofs.Ignored.{last_pushed}
+use Rattle.tape_relation.proofs.Packed.{packed, either_packed, signs_packed}
+use Rattle.tape_relation.proofs.Placeless.{same_text_says}
+use Rattle.tape_relation.proofs.LineByLine.{SayAlike, changed_says}
+use Rattle.tape_relation.proofs.OneLine.{line_in_place, last_in_place}
 
 packed_blank : (b : ℕ) (left right : List ℕ) → is_blank b ≡ true → packed (left ++ b ∷ right) ≡ packed (left ++ right)
 packed_blank b left right blank =

@@ -1,5 +1,5 @@
 -- A line that says nothing may be emptied or taken out.
-use Rattle.std.proofs.Common.{◌≡◌, ◌==◌, ℕ, suc, ◌-◌, ◌<◌, ◌≤◌, Bool, true, false, cond, not, ◌&&◌, List, [], ◌∷◌, ◌++◌, length, take, get_or, Result, Ok, Err, refl, sym, ap, ◌∙◌, length-append, arith}
+use Rattle.std.proofs.Common.{◌≡◌, ◌==◌, ℕ, suc, ◌-◌, ◌<◌, ◌≤◌, Bool, true, false, cond, List, [], ◌∷◌, ◌++◌, length, take, get_or, Result, Ok, refl, sym, ap, ◌∙◌, length-append, arith}
 use Rattle.std.specs.List.{list_all}
 use Rattle.std.proofs.lemmas.Bool.{eqb-true, le-ltb}
 use Rattle.std.proofs.lemmas.List.Elements.{All-nil}
@@ -9,20 +9,20 @@ use Rattle.nc_text.specs.declared.refusal.Refusal.{Refusal}
 use Rattle.nc_text.specs.declared.said.Said.{Said}
 use Rattle.nc_text.specs.declared.said.Said.TheVariants as said
 use Rattle.nc_text.specs.Signs.{is_allowed, are_allowed, scan_of, signs_of, without_last, without_return}
-use Rattle.nc_text.specs.Pieces.{bytes_of, IsSameText}
+use Rattle.nc_text.specs.Pieces.{bytes_of}
 use Rattle.nc_text.specs.Front.{switch_of, behind_comments}
 use Rattle.nc_text.specs.Lines.{IsOneLine, lines_of, is_percent}
-use Rattle.nc_text.specs.Said.{judged, is_skipped, read_head, line_says}
-use Rattle.nc_text.specs.Changed.{lowered}
-use Rattle.nc_text.specs.Alike.{Fits}
-use Rattle.nc_text.specs.Edited.{are_whole, with_line, IsLine, IsLastLine, IsSkipped, HasOnlyComments}
+use Rattle.nc_text.specs.Said.{is_skipped, read_head, line_says}
+use Rattle.tape_relation.specs.Changed.{lowered}
+use Rattle.tape_relation.specs.Alike.{Fits}
+use Rattle.tape_relation.specs.Edited.{are_whole, with_line, IsLine, IsLastLine, IsSkipped, HasOnlyComments}
 use Rattle.nc_text.specs.Tape.{tape_of}
-use Rattle.nc_text.proofs.Blanks.{only_comments}
-use Rattle.nc_text.proofs.Ignored.{skipped}
+use Rattle.tape_relation.proofs.Blanks.{only_comments, IsSameText}
+use Rattle.tape_relation.proofs.SkippedLines.{skipped}
 use Rattle.nc_text.proofs.Judged.{judged_ok}
-use Rattle.nc_text.proofs.Packed.{packed, signs_packed}
-use Rattle.nc_text.proofs.LineByLine.{SaysNothing}
-use Rattle.nc_text.proofs.OneLine.{alike_in_place, line_taken_out, last_taken_out}
+use Rattle.tape_relation.proofs.Packed.{packed, signs_packed}
+use Rattle.tape_relation.proofs.LineByLine.{SaysNothing}
+use Rattle.tape_relation.proofs.OneLine.{alike_in_place, line_taken_out, last_taken_out}
 
 abbrev Begins : List ℕ → Type 0
 Begins line = (rest : List ℕ) × (line ≡ 37 ∷ rest)

@@ -9,11 +9,11 @@ use Rattle.nc_text.specs.Signs.{without_last}
 use Rattle.nc_text.specs.Lines.{Line, lines_of, onto_line, is_percent}
 use Rattle.nc_text.specs.Said.{judged_signs, line_says}
 use Rattle.nc_text.specs.Signs.{scan_of, signs_of, without_blanks}
-use Rattle.nc_text.specs.Alike.{IsAlike, Fits}
-use Rattle.nc_text.specs.Edited.{with_line, IsLine, EndsWithoutReturn, HasNoReturn, HaveRoom, with_returns}
+use Rattle.tape_relation.specs.Alike.{IsAlike, Fits}
+use Rattle.tape_relation.specs.Edited.{with_line, IsLine, EndsWithoutReturn, HasNoReturn, HaveRoom, with_returns}
 use Rattle.nc_text.specs.Tape.{tape_of}
-use Rattle.nc_text.proofs.Ignored.{return_ignored}
-use Rattle.nc_text.proofs.OneLine.{lines_alike, alike_in_place}
+use Rattle.tape_relation.proofs.SkippedLines.{return_ignored}
+use Rattle.tape_relation.proofs.OneLine.{lines_alike, alike_in_place}
 
 abbrev returned : Line → Line
 returned line = record { bytes = cond line.ended (line.bytes ++ 13 ∷ []) line.bytes; ended = line.ended }

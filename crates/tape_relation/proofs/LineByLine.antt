@@ -14,8 +14,8 @@ use Rattle.nc_text.specs.declared.said.SaidBlock.{SaidBlock}
 use Rattle.nc_text.specs.Refusals.{refusal_number}
 use Rattle.nc_text.specs.Lines.{Line, is_percent, size_of}
 use Rattle.nc_text.specs.Said.{line_says}
-use Rattle.nc_text.specs.Changed.{changed, changed_body, changed_block, changed_program}
-use Rattle.nc_text.specs.Tape.{Before, Answer, next, programs_of, fault_behind, is_past_end, is_block, is_said_in_range, said_refusal, block_at, program_at, with_block, with_said, unless_refused, after_said, finished, unfinished, goes_on, in_rest, in_body, in_leader, begun, nothing_read}
+use Rattle.tape_relation.specs.Changed.{changed, changed_body, changed_block, changed_program}
+use Rattle.nc_text.specs.Tape.{Before, Answer, next, programs_of, is_past_end, is_block, is_said_in_range, said_refusal, block_at, program_at, with_block, with_said, unless_refused, after_said, finished, unfinished, goes_on, in_rest, in_body, in_leader, begun, nothing_read}
 
 -- a line of both texts, or one of the second alone
 pub data Row : Type 0 where

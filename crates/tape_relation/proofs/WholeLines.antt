@@ -2,8 +2,8 @@
 use Rattle.std.proofs.Common.{◌≡◌, ◌==◌, ℕ, suc, ◌<◌, Bool, true, false, cond, List, [], ◌∷◌, ◌++◌, length, refl, ap, ◌∙◌, arith}
 use Rattle.std.specs.List.{list_all}
 use Rattle.nc_text.specs.Lines.{IsOneLine, Line, lines_of, onto_line, size_of}
-use Rattle.nc_text.specs.Edited.{are_whole}
-use Rattle.nc_text.proofs.LineByLine.{size_all}
+use Rattle.tape_relation.specs.Edited.{are_whole}
+use Rattle.tape_relation.proofs.LineByLine.{size_all}
 use Rattle.nc_text.proofs.LineEnds.{line_ends, text_ends}
 
 abbrev empty_line : Line

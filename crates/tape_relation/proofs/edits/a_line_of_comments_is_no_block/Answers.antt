@@ -1,6 +1,6 @@
 use Rattle.std.proofs.Common.{true, false}
-use Rattle.nc_text.proofs.Removed.{emptied, taken_out, last_out, comments_say}
-use Rattle.nc_text.proofs.laws.a_line_of_comments_is_no_block.Goals as goal
+use Rattle.tape_relation.proofs.Removed.{emptied, taken_out, last_out, comments_say}
+use Rattle.tape_relation.proofs.edits.a_line_of_comments_is_no_block.Goals as goal
 
 pub returns : goal.returns
 returns c = record {

@@ -1,4 +1,4 @@
-//! Laws of reading, in the words of a part programmer.
+//! Laws of edits: what changes of a text leave of its tape, in the words of a part programmer.
 
 ghost use Rattle.std.specs.Prelude.{◌≡◌, ◌∷◌, [], ◌++◌, true, false, map, List, ℕ, ◌<◌, Ok, length};
 ghost use Rattle.std.specs.Char.{to_ascii_uppercase};
@@ -7,9 +7,9 @@ ghost use Rattle.nc_text.specs.Said.{line_says};
 ghost use Rattle.nc_text.specs.Signs.{is_blank};
 ghost use Rattle.nc_text.specs.Tape.{tape_of};
 ghost use Rattle.nc_text.specs.Lines.{lines_of};
-ghost use Rattle.nc_text.specs.Alike.{IsAlike, Fits};
-ghost use Rattle.nc_text.specs.Edited.{are_whole, with_line, with_returns, IsLine, IsLastLine, IsSkipped, HasOnlyComments, EndsWithoutReturn, HasNoReturn, HaveRoom, MayHaveBlank};
-ghost use Rattle.nc_text.specs.Changed.{lowered, forget_places};
+ghost use Rattle.tape_relation.specs.Alike.{IsAlike, Fits};
+ghost use Rattle.tape_relation.specs.Edited.{are_whole, with_line, with_returns, IsLine, IsLastLine, IsSkipped, HasOnlyComments, EndsWithoutReturn, HasNoReturn, HaveRoom, MayHaveBlank};
+ghost use Rattle.tape_relation.specs.Changed.{lowered, forget_places};
 ghost use Rattle.std.specs.List.{AllZip};
 
 /// Lower case reads as upper case.

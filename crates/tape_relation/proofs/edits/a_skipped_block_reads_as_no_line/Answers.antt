@@ -1,6 +1,6 @@
 use Rattle.std.proofs.Common.{true, false}
-use Rattle.nc_text.proofs.Removed.{emptied, taken_out, last_out, skipped_says}
-use Rattle.nc_text.proofs.laws.a_skipped_block_reads_as_no_line.Goals as goal
+use Rattle.tape_relation.proofs.Removed.{emptied, taken_out, last_out, skipped_says}
+use Rattle.tape_relation.proofs.edits.a_skipped_block_reads_as_no_line.Goals as goal
 
 pub returns : goal.returns
 returns c = record {

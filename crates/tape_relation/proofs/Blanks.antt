@@ -7,9 +7,14 @@ use Rattle.std.proofs.lemmas.Bool.Decides.{nat_tests}
 use Rattle.nc_text.specs.declared.sign.Sign.{Sign}
 use Rattle.nc_text.specs.declared.said.Said.TheVariants as said
 use Rattle.nc_text.specs.Signs.{Scan, is_blank, is_allowed, are_allowed, add_sign, inside_behind, scan_of, signs_of}
-use Rattle.nc_text.specs.Pieces.{is_comment, IsSameText}
+use Rattle.nc_text.specs.Pieces.{is_comment, bytes_of}
 use Rattle.nc_text.specs.Front.{behind_comments, switch_of}
-use Rattle.nc_text.specs.Said.{judged, is_skipped, read_head, no_block, line_says}
+use Rattle.nc_text.specs.Said.{judged, is_skipped, read_head, line_says}
+
+-- the same bytes count, and both lines end inside a comment or neither does
+pub record IsSameText (a b : Scan) : Type 0 where
+  pub bytes : bytes_of a.list ≡ bytes_of b.list
+  pub unclosed : a.unclosed ≡ b.unclosed
 
 -- one sign more in both
 pub added : (test : Bool) (p q b : ℕ) (x y : Scan) → IsSameText x y → IsSameText (add_sign test p b x) (add_sign test q b y)

@@ -1,12 +1,13 @@
 -- One line of a text, and what may be put into a text.
-use Rattle.std.specs.Prelude.{◌≡◌, ℕ, ◌<◌, ◌≤◌, Bool, true, false, ◌==◌, List, [], ◌∷◌, ◌++◌, length, All, Ok, if◌then◌else◌}
+use Rattle.std.specs.Prelude.{◌≡◌, ℕ, ◌<◌, ◌≤◌, Bool, true, false, ◌==◌, List, [], ◌∷◌, ◌++◌, length, All, Option, Ok, if◌then◌else◌}
 use Rattle.std.specs.List.{list_all}
 use Rattle.nc_text.specs.declared.said.Said.{Said}
 use Rattle.nc_text.specs.Signs.{signs_of, without_last}
 use Rattle.nc_text.specs.Pieces.{is_comment}
 use Rattle.nc_text.specs.Lines.{IsOneLine, lines_of, is_percent}
-use Rattle.nc_text.specs.Said.{line_says, line_switch, is_skipped}
-use Rattle.nc_text.specs.Alike.{Fits}
+use Rattle.nc_text.specs.Front.{behind_comments, switch_of}
+use Rattle.nc_text.specs.Said.{line_says, is_skipped}
+use Rattle.tape_relation.specs.Alike.{Fits}
 
 -- the last line too has its line feed
 abbrev pub are_whole : List ℕ → Bool
@@ -30,6 +31,10 @@ pub record IsLastLine (front line : List ℕ) : Type 0 where
   pub one_line : IsOneLine line
   pub short : length line ≤ 512
   pub fits : Fits (front ++ line)
+
+-- the switch of the block on a line, if it has the skip sign
+abbrev pub line_switch : List ℕ → Bool → Option ℕ
+line_switch line ended = switch_of (behind_comments (signs_of line ended).list)
 
 -- the block on the line is skipped and readable
 pub record IsSkipped (skips : ℕ) (line : List ℕ) (ended : Bool) : Type 0 where

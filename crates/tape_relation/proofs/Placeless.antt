@@ -1,5 +1,5 @@
 -- What a line says depends on the bytes of its signs; only the places of its words depend on theirs.
-use Rattle.std.proofs.Common.{◌≡◌, ◌==◌, ℕ, ◌+◌, Bool, true, false, cond, not, ◌&&◌, ◌||◌, List, [], ◌∷◌, length, map, take, drop, Option, None, Result, Ok, Err, refl, sym, ap, ◌∙◌}
+use Rattle.std.proofs.Common.{◌≡◌, ◌==◌, ℕ, ◌+◌, Bool, true, false, cond, not, ◌&&◌, List, [], ◌∷◌, length, map, take, drop, Option, None, refl, sym, ap, ◌∙◌}
 use Rattle.std.specs.Prelude.{filter}
 use Rattle.std.specs.Option.{is_some}
 use Rattle.std.specs.List.{list_all, list_any, prefix_len, position_or_len}
@@ -15,14 +15,15 @@ use Rattle.nc_text.specs.declared.said.Said.TheVariants as said
 use Rattle.nc_text.specs.declared.said.SaidBlock.{SaidBlock}
 use Rattle.nc_text.specs.declared.said.Reading.{Reading}
 use Rattle.nc_text.specs.Signs.{Scan, is_allowed, are_allowed}
-use Rattle.nc_text.specs.Pieces.{Group, Cut, is_comment, depth_behind, begins_word, add_to_cut, cut_at, bytes_of, value_part, piece_of, pieces_of, value_len, IsSameText}
+use Rattle.nc_text.specs.Pieces.{Group, Cut, is_comment, depth_behind, begins_word, add_to_cut, cut_at, bytes_of, value_part, piece_of, pieces_of, value_len}
 use Rattle.nc_text.specs.Front.{behind_comments, is_switch, switch_of, behind_digit, behind_switch, sentence_of, is_statement, is_number_sign, number_part, behind_number, is_numbered}
 use Rattle.nc_text.specs.Values.{number_in}
 use Rattle.nc_text.specs.Said.{is_sequence, is_sound, is_long, has_program_letter, sequence_from, is_in_range, word_of, words_of, is_program, program_number, said_by, read_pieces, unreadable, read_words, numbered_text, numbered_sentence, read_numbered, read_statement, read_block, is_skipped, judged, read_head, judged_signs}
-use Rattle.nc_text.specs.Changed.{without_place}
-use Rattle.nc_text.proofs.LineByLine.{changed_said, changed_says}
+use Rattle.tape_relation.specs.Changed.{without_place}
+use Rattle.tape_relation.proofs.Blanks.{IsSameText}
+use Rattle.tape_relation.proofs.LineByLine.{changed_said, changed_says}
 use Rattle.nc_text.proofs.Judged.{least}
-use Rattle.nc_text.proofs.Mapped.{either_map, prefix_same, any_same, filter_same}
+use Rattle.tape_relation.proofs.Mapped.{either_map, prefix_same, any_same, filter_same}
 
 -- a sign, a word and a reading without places
 abbrev unplaced : Sign → Sign

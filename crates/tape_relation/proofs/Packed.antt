@@ -1,12 +1,10 @@
 -- A line without its blanks has the same signs, but for their places.
-use Rattle.std.proofs.Common.{◌≡◌, ◌==◌, ℕ, ◌+◌, ◌-◌, Bool, true, false, cond, not, ◌&&◌, List, [], ◌∷◌, ◌++◌, length, take, get_or, refl, sym, ap, subst, ◌∙◌, append-nil, append_assoc, arith}
+use Rattle.std.proofs.Common.{◌≡◌, ◌==◌, ℕ, ◌+◌, Bool, true, false, cond, not, ◌&&◌, List, [], ◌∷◌, ◌++◌, refl, sym, ap, subst, ◌∙◌, append-nil}
 use Rattle.std.specs.Prelude.{filter}
-use Rattle.std.specs.List.{prefix_len, suffix_len}
-use Rattle.std.proofs.lemmas.List.{length_push, get_or_push, take_all, take_at, reverse-append, take-append-le}
 use Rattle.std.proofs.lemmas.List.Elements.{filter-append}
 use Rattle.nc_text.specs.Signs.{is_blank, inside_behind, scan_of, without_last, without_return, without_blanks, content_of, signs_of}
-use Rattle.nc_text.specs.Pieces.{IsSameText}
-use Rattle.nc_text.proofs.Blanks.{added, same_chain, blank_here}
+use Rattle.tape_relation.proofs.Ignored.{by_last, last_pushed, trimmed_blank, trimmed_other}
+use Rattle.tape_relation.proofs.Blanks.{added, same_chain, blank_here, IsSameText}
 
 -- the bytes that are no blanks
 abbrev pub packed : List ℕ → List ℕ
@@ -20,33 +18,6 @@ packed_here false b bs inside place blank later = added (not inside && not (is_b
 scan_packed : (line : List ℕ) (inside : Bool) (place : ℕ) → IsSameText (scan_of line inside place) (scan_of (packed line) inside place)
 scan_packed [] inside place = record { bytes = refl; unclosed = refl }
 scan_packed (b ∷ bs) inside place = packed_here (is_blank b) b bs inside place refl (scan_packed bs)
-
--- a line is empty or has a last byte
-by_last : (P : List ℕ → Type 0) → ((xs : List ℕ) (x : ℕ) → P xs → P (xs ++ x ∷ [])) → (ys xs : List ℕ) → P xs → P (xs ++ ys)
-by_last P push [] xs p = subst P (sym (append-nil xs)) p
-by_last P push (y ∷ ys) xs p = subst P (append_assoc xs (y ∷ []) ys) (by_last P push ys (xs ++ y ∷ []) (push xs y p))
-
-pub last_pushed : (k : ℕ) (xs : List ℕ) (x : ℕ) → without_last k (xs ++ x ∷ []) ≡ cond (x == k) xs (xs ++ x ∷ [])
-last_pushed k xs x =
-    let before : length (xs ++ x ∷ []) - 1 ≡ length xs = omega (arith, length_push xs x) in
-    ap (λ (n : ℕ). cond (get_or (xs ++ x ∷ []) n 0 == k) (take n (xs ++ x ∷ [])) (xs ++ x ∷ [])) before
-    ∙ ap (λ (b : ℕ). cond (b == k) (take (length xs) (xs ++ x ∷ [])) (xs ++ x ∷ [])) (get_or_push xs x 0 (length xs) refl)
-    ∙ ap (λ (l : List ℕ). cond (x == k) l (xs ++ x ∷ [])) (take_at xs (x ∷ []) (length xs) refl)
-
-suffix_pushed : (xs : List ℕ) (x : ℕ) → suffix_len is_blank (xs ++ x ∷ []) ≡ cond (is_blank x) (1 + suffix_len is_blank xs) 0
-suffix_pushed xs x = ap (prefix_len is_blank) (reverse-append xs (x ∷ []))
-
-trimmed_blank : (xs : List ℕ) (x : ℕ) → is_blank x ≡ true → without_blanks (xs ++ x ∷ []) ≡ without_blanks xs
-trimmed_blank xs x blank =
-    let count : suffix_len is_blank (xs ++ x ∷ []) ≡ 1 + suffix_len is_blank xs = suffix_pushed xs x ∙ ap (λ (t : Bool). cond t (1 + suffix_len is_blank xs) 0) blank in
-    let long : length (xs ++ x ∷ []) - suffix_len is_blank (xs ++ x ∷ []) ≡ length xs - suffix_len is_blank xs = omega (arith, length_push xs x) in
-    ap (λ (n : ℕ). take n (xs ++ x ∷ [])) long ∙ take-append-le (length xs - suffix_len is_blank xs) xs (x ∷ []) (omega arith)
-
-trimmed_other : (xs : List ℕ) (x : ℕ) → is_blank x ≡ false → without_blanks (xs ++ x ∷ []) ≡ xs ++ x ∷ []
-trimmed_other xs x other =
-    let count : suffix_len is_blank (xs ++ x ∷ []) ≡ 0 = suffix_pushed xs x ∙ ap (λ (t : Bool). cond t (1 + suffix_len is_blank xs) 0) other in
-    let long : length (xs ++ x ∷ []) - suffix_len is_blank (xs ++ x ∷ []) ≡ length (xs ++ x ∷ []) = omega arith in
-    ap (λ (n : ℕ). take n (xs ++ x ∷ [])) long ∙ take_all (length (xs ++ x ∷ [])) (xs ++ x ∷ []) (omega arith)
 
 packed_pushed : (test : Bool) (xs : List ℕ) (x : ℕ) → is_blank x ≡ test → packed (xs ++ x ∷ []) ≡ packed xs ++ cond (not test) (x ∷ []) []
 packed_pushed test xs x e = filter-append (λ b. not (is_blank b)) xs (x ∷ []) ∙ ap (λ (t : Bool). packed xs ++ cond (not t) (x ∷ []) []) e

@@ -1,5 +1,0 @@
-use Rattle.nc_text.proofs.Returns.{return_put, returns_ignored}
-use Rattle.nc_text.proofs.laws.a_carriage_return_changes_nothing.Goals as goal
-
-pub returns : goal.returns
-returns c = record { one_line = return_put; each_line = returns_ignored }

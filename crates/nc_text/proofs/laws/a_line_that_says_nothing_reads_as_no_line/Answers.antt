@@ -1,5 +1,0 @@
-use Rattle.nc_text.proofs.Removed.{emptied, taken_out, last_out}
-use Rattle.nc_text.proofs.laws.a_line_that_says_nothing_reads_as_no_line.Goals as goal
-
-pub returns : goal.returns
-returns c = record { emptied = emptied; taken_out = taken_out; last = last_out }

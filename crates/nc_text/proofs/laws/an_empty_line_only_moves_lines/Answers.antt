@@ -1,5 +1,0 @@
-use Rattle.nc_text.proofs.Removed.{empty_taken_out}
-use Rattle.nc_text.proofs.laws.an_empty_line_only_moves_lines.Goals as goal
-
-pub returns : goal.returns
-returns c = empty_taken_out

@@ -1,5 +1,0 @@
-use Rattle.nc_text.proofs.OneLine.{lines_alike}
-use Rattle.nc_text.proofs.laws.lines_that_say_the_same_read_the_same.Goals as goal
-
-pub returns : goal.returns
-returns c = lines_alike

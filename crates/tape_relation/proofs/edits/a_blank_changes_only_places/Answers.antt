@@ -1,0 +1,5 @@
+use Rattle.tape_relation.proofs.Blanked.{blank_put, blank_put_last}
+use Rattle.tape_relation.proofs.edits.a_blank_changes_only_places.Goals as goal
+
+pub returns : goal.returns
+returns c = record { ended = blank_put; last = blank_put_last }

@@ -1,0 +1,5 @@
+use Rattle.tape_relation.proofs.OneLine.{lines_alike}
+use Rattle.tape_relation.proofs.edits.lines_that_say_the_same_read_the_same.Goals as goal
+
+pub returns : goal.returns
+returns c = lines_alike

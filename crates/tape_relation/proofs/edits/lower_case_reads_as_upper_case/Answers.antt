@@ -1,0 +1,5 @@
+use Rattle.tape_relation.proofs.UpperCase.{tape_up}
+use Rattle.tape_relation.proofs.edits.lower_case_reads_as_upper_case.Goals as goal
+
+pub returns : goal.returns
+returns c = tape_up
