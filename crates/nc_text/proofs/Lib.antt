@@ -8,3 +8,4 @@ pub mod Growing
 pub mod Judged
 pub mod ShapeOfLine
 pub mod Shaping
+pub mod Scanning

@@ -17,6 +17,11 @@ abbrev pub add_sign : Bool → ℕ → ℕ → Scan → Scan
 add_sign true place b scan = record scan { list = record { place = place; byte = to_ascii_uppercase b } ∷ scan.list }
 add_sign false place b scan = scan
 
+-- a byte as a sign, if it counts
+abbrev pub counted_sign : Bool → ℕ → ℕ → List Sign
+counted_sign true place b = record { place = place; byte = to_ascii_uppercase b } ∷ []
+counted_sign false place b = []
+
 -- whether the byte behind b stands in a comment, where b does or doesn't
 abbrev pub inside_behind : Bool → ℕ → Bool
 inside_behind true b = not (b == 41)

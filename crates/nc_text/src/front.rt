@@ -1,4 +1,5 @@
-ghost use Rattle.std.specs.Prelude.{◌≡◌, ◌≤◌, nat_eq, length, IfOk, IfSome};
+ghost use Rattle.std.specs.Char.{is_ascii_digit};
+ghost use Rattle.std.specs.Prelude.{◌≡◌, ◌≤◌, ◌||◌, ◌==◌, nat_eq, length, IfOk, IfSome};
 ghost use Rattle.std.specs.List.{prefix_len, starts_with};
 ghost use Rattle.nc_text.specs.Pieces.{is_comment};
 ghost use Rattle.nc_text.specs.Front.{behind_comments, is_switch, switch_behind, behind_digit, switch_of, behind_switch, sentence_of, is_statement, is_number_sign};
@@ -111,7 +112,7 @@ pub(crate) fn begins_statement(signs: &[Sign]) -> bool
 
 /// What a literal is made of.
 fn is_number_sign(byte: u8) -> bool
-    ensures { result ≡ is_number_sign (record { place = 0; byte = byte }) }
+    ensures { result ≡ (is_ascii_digit byte || byte == 46 || byte == 43 || byte == 45) }
 {
     byte.is_ascii_digit() || byte == b'.' || byte == b'+' || byte == b'-'
 }

@@ -1,5 +1,5 @@
-ghost use Rattle.std.specs.Prelude.{◌≡◌, ◌+◌, ◌-◌, ◌^◌, ◌<◌, ◌≤◌, false, length, IfOk, OnOk};
-ghost use Rattle.nc_text.specs.Signs.{is_blank, is_allowed, scan_of, without_return, without_blanks, without_last, signs_of, are_allowed};
+ghost use Rattle.std.specs.Prelude.{◌≡◌, ◌+◌, ◌-◌, ◌^◌, ◌<◌, ◌≤◌, ◌++◌, ◌&&◌, false, not, length, IfOk, OnOk};
+ghost use Rattle.nc_text.specs.Signs.{is_blank, is_allowed, inside_behind, counted_sign, scan_of, without_return, without_blanks, without_last, signs_of, are_allowed};
 ghost use Rattle.nc_text.specs.Places.{ArePlaced};
 ghost use Rattle.std.specs.List.{suffix_len};
 
@@ -79,6 +79,25 @@ fn without_semicolon(line: &[u8]) -> &[u8]
     }
 }
 
+/// Whether the byte behind this one stands in a comment.
+fn inside_behind(inside: bool, byte: u8) -> bool
+    ensures { result ≡ inside_behind inside byte }
+{
+    if inside { byte != b')' } else { byte == b'(' }
+}
+
+/// Puts a byte into the list if it counts.
+fn push_sign(list: &mut Vec<Sign>, inside: bool, place: u32, byte: u8) -> Result<(), AllocError>
+    ensures { OnOk result (list.new.items
+        ≡ list.old.items ++ counted_sign (not inside && not (is_blank byte)) place byte) }
+{
+    if !inside && !is_blank(byte) {
+        let byte = byte.to_ascii_uppercase();
+        list.push(Sign { place, byte })?;
+    }
+    Ok(())
+}
+
 /// Puts the bytes of a line that count into the list, and answers whether its last comment is open.
 fn scan(list: &mut Vec<Sign>, line: &[u8]) -> Result<bool, AllocError>
     requires { length line.now < 2 ^ 32 - 1 }
@@ -92,13 +111,8 @@ fn scan(list: &mut Vec<Sign>, line: &[u8]) -> Result<bool, AllocError>
     let mut inside = false;
     let mut place = 0u32;
     for byte in line {
-        if !inside && !is_blank(*byte) {
-            list.push(Sign {
-                place,
-                byte: byte.to_ascii_uppercase(),
-            })?;
-        }
-        inside = if inside { *byte != b')' } else { *byte == b'(' };
+        push_sign(list, inside, place, *byte)?;
+        inside = inside_behind(inside, *byte);
         place += 1;
     }
     Ok(inside)

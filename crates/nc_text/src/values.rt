@@ -1,7 +1,7 @@
 ghost use Rattle.std.specs.Prelude.{◌≡◌, ◌+◌, ◌^◌, ◌<◌, ◌≤◌, length, IfSome, IsTrue};
 ghost use Rattle.std.specs.Char.{is_ascii_digit};
 ghost use Rattle.std.specs.List.{list_all};
-ghost use Rattle.nc_number.specs.Literals.{IsLiteral, behind_sign, has_too_many_digits};
+ghost use Rattle.nc_number.specs.Literals.{IsLiteral, is_sign, behind_sign, has_too_many_digits};
 ghost use Rattle.nc_text.specs.Pieces.{depth_behind};
 ghost use Rattle.nc_text.specs.Values.{closes, is_variable, is_reference, is_value, in_range, number_in, digits_len, fraction_len, sign_len, unsigned_len, number_front, has_long_front};
 
@@ -65,13 +65,19 @@ fn is_reference(text: &[u8]) -> bool
     }
 }
 
+fn is_sign(byte: u8) -> bool
+    ensures { result ≡ is_sign byte }
+{
+    byte == b'+' || byte == b'-'
+}
+
 fn behind_sign(text: &[u8]) -> &[u8]
     ensures value { result.now ≡ behind_sign text.now }
     ensures short { length result.now ≤ length text.now }
 {
     match text {
-        [b'+' | b'-', rest @ ..] => rest,
-        _ => text,
+        [] => text,
+        [first, rest @ ..] => { if is_sign(*first) { rest } else { text } }
     }
 }
 
@@ -132,13 +138,7 @@ fn sign_len(text: &[u8]) -> usize
 {
     match text {
         [] => 0,
-        [first, ..] => {
-            if *first == b'+' || *first == b'-' {
-                1
-            } else {
-                0
-            }
-        }
+        [first, ..] => { if is_sign(*first) { 1 } else { 0 } }
     }
 }
 
