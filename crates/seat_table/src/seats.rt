@@ -6,7 +6,7 @@ ghost use Rattle.seat_table.specs.Passes.{fresh};
 ghost use Rattle.seat_table.specs.Turning.{Answers};
 
 use crate::knowing::{CutFirstHalt, CutSecond, CutSecondHalt, Knows, Law, Noted};
-use crate::shelf::{put_in, take_out};
+use crate::shelf::{lift, put_in, take_out};
 use crate::taking::{Notice, Place, close_all, note, step_until, tell_until};
 use crate::turning::Turns;
 use atomic_table::{Refused, Table};
@@ -18,7 +18,8 @@ use std::sync::Wait;
 
 /// A table at which two paths and the drives of their turrets have a seat each.
 pub struct SeatTable<C: Turns> {
-    table: Table<Option<C>, Knows, (), Law, Global>,
+    // A turn moves the table twice, and it may be large: so it lies on the heap.
+    table: Table<Option<Box<C>>, Knows, (), Law, Global>,
 }
 
 impl<C: Turns> Model for SeatTable<C> {
@@ -35,7 +36,7 @@ impl<C: Turns> Model for SeatTable<C> {
 /// The right to step a path. It lists the records of the path that its steps made.
 #[derive(Drop)]
 pub struct SeatPass<C> {
-    place: Place<C>,
+    place: Place<Box<C>>,
     path: Path,
 }
 
@@ -58,7 +59,7 @@ impl<C> Model for SeatPass<C> {
 /// The right to halt the run for the turret of a path.
 #[derive(Drop)]
 pub struct HaltPass<C> {
-    place: Place<C>,
+    place: Place<Box<C>>,
     path: Path,
 }
 
@@ -96,6 +97,20 @@ impl<C: Turns> SeatTable<C> {
     /// Where memory is wanting the table comes back.
     pub fn new(alloc: Global, table: C) -> Result<Seated<C>, C>
         requires { (p : Path) → C.records table p ≡ [] }
+        ensures passes { IfOk result (λ s. (s.first ≡ fresh s.table One) × (s.second ≡ fresh s.table Two)) }
+        ensures halters { IfOk result (λ s. (s.first_halt ≡ record { table = s.table; path = One })
+            × (s.second_halt ≡ record { table = s.table; path = Two })) }
+        ensures err { IfErr result (λ t. t ≡ table) }
+    {
+        match SeatTable::over(alloc, lift(alloc, table)?) {
+            Ok(seated) => Ok(seated),
+            Err(lifted) => Err(Box::into_inner(lifted)),
+        }
+    }
+
+    // The same of a table on the heap.
+    fn over(alloc: Global, table: Box<C>) -> Result<Seated<C>, Box<C>>
+        requires { (p : Path) → C.records table.value p ≡ [] }
         ensures passes { IfOk result (λ s. (s.first ≡ fresh s.table One) × (s.second ≡ fresh s.table Two)) }
         ensures halters { IfOk result (λ s. (s.first_halt ≡ record { table = s.table; path = One })
             × (s.second_halt ≡ record { table = s.table; path = Two })) }
@@ -176,7 +191,7 @@ impl<C: Turns> SeatTable<C> {
         requires { (pass.old.table ≡ self.now) × (N.calls ≡ call ∷ []) }
         ensures { pass.new ≡ record pass.old { calls = pass.old.calls ++ call ∷ [] } }
     {
-        note::<C, N>(&self.table.shared, &mut pass.place, call);
+        note::<Box<C>, N>(&self.table.shared, &mut pass.place, call);
     }
 
     /// The table, whose records of each path are just those that the pass of the path lists. It takes no turn,
@@ -200,6 +215,6 @@ impl<C: Turns> SeatTable<C> {
         let SeatPass { place: two, .. } = second;
         let HaltPass { place: third, .. } = first_halt;
         let HaltPass { place: fourth, .. } = second_halt;
-        close_all(table, one, two, third, fourth)
+        Box::into_inner(close_all(table, one, two, third, fourth))
     }
 }

@@ -1,7 +1,18 @@
-//! The one slot of a table.
+//! The one slot of a table, and the table on the heap.
 ghost use Rattle.std.specs.Prelude.{◌≡◌, [], ◌∷◌, IfOk, IfErr, Some};
 
 use std::alloc::{AllocFailed, Global};
+
+/// The table on the heap.
+pub(crate) fn lift<C>(alloc: Global, table: C) -> Result<Box<C>, C>
+    ensures ok { IfOk result (λ b. b.value ≡ table) }
+    ensures err { IfErr result (λ t. t ≡ table) }
+{
+    match Box::new(alloc, table) {
+        Ok(lifted) => Ok(lifted),
+        Err(AllocFailed { value }) => Err(value),
+    }
+}
 
 /// One slot, with the table.
 pub(crate) fn put_in<C>(alloc: Global, table: C) -> Result<Vec<Option<C>>, C>

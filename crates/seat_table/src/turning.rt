@@ -31,3 +31,19 @@ pub trait Turns {
         requires { IsOfTurret why }
         ensures { (p : Path) → records self.new p ≡ records self.old p };
 }
+
+impl<C: Turns> Turns for Box<C> {
+    ghost records = { λ b. C.records b.value };
+
+    fn turn_step(&mut self, path: Path) -> Option<Next> {
+        self.as_mut().turn_step(path)
+    }
+
+    fn drained(&mut self, path: Path) {
+        self.as_mut().drained(path);
+    }
+
+    fn halt(&mut self, why: Halt) {
+        self.as_mut().halt(why);
+    }
+}
