@@ -18,6 +18,3 @@ mod settings;
 pub use preset::{Preset, PresetKind, PresetList};
 pub use reading::{SettingFault, read_settings};
 pub use settings::Settings;
-
-#[cfg(test)]
-mod tests;

@@ -157,6 +157,3 @@ fn one(what: Move) -> MoveList
     list.push(what);
     list
 }
-
-#[cfg(test)]
-mod tests;

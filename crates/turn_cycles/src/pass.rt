@@ -46,6 +46,3 @@ pub fn cycle_pass(
         kept: Some(end),
     })
 }
-
-#[cfg(test)]
-mod tests;

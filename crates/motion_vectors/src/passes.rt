@@ -1,13 +1,14 @@
 ghost use Rattle.std.specs.Prelude.{◌≡◌, true, None};
 ghost use Rattle.nc_number.specs.Axes.{IsAxisWithin};
 
-use super::*;
-use crate::rectangle::CycleKind::G90;
 use code_tables::CodeKind;
+use motion_track::{BlockMotion, LONGEST};
 use nc_number::Axis::{By, Keep, To};
-use nc_number::{Axis, Value};
+use nc_number::{Axis, Point, Value};
 use nc_outside::Move;
 use std::test::Fail;
+use turn_cycles::CycleKind::G90;
+use turn_cycles::{CycleKind, cycle_end, cycle_pass};
 
 const NO_SHIFT: Point = Point { x: 0, z: 0 };
 

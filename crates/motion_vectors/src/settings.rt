@@ -1,6 +1,6 @@
 ghost use Rattle.std.specs.Prelude.{◌<◌, ◌^◌, length};
 
-use crate::{PresetKind, read_settings};
+use cell_settings::{PresetKind, read_settings};
 use nc_number::{Failing, Point};
 use std::alloc::Global;
 

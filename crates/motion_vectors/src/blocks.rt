@@ -2,9 +2,13 @@ ghost use Rattle.std.specs.Prelude.{◌≡◌, true, pos, None};
 ghost use Rattle.nc_number.specs.declared.axis.Axis.TheVariants.{Keep};
 ghost use Rattle.motion_track.specs.Block.{IsBlockWithin};
 
-use super::*;
-use nc_outside::Centre;
+use code_tables::CodeKind;
+use motion_track::{BlockMotion, LONGEST, return_home, track};
+use nc_number::{Axis, Point, Value};
+use nc_outside::{Centre, Move};
 use std::test::Fail;
+
+const ORIGIN: Point = Point { x: 0, z: 0 };
 
 const HOME: Point = Point {
     x: 300_000,
