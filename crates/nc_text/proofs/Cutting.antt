@@ -1,12 +1,11 @@
 -- The first word of signs, and the words behind it.
-use Rattle.std.proofs.Common.{◌≡◌, ◌==◌, ℕ, suc, ◌+◌, ◌<◌, Bool, true, false, cond, List, [], ◌∷◌, ◌++◌, length, map, take, drop, get_or, refl, sym, ap, subst, ◌∙◌, append_assoc, arith}
-use Rattle.std.proofs.Math.Seq.{drop-cons}
+use Rattle.std.proofs.Common.{◌≡◌, ◌==◌, ℕ, suc, ◌+◌, Bool, true, false, cond, List, [], ◌∷◌, ◌++◌, map, take, drop, refl, sym, ap, subst, ◌∙◌, append_assoc, arith}
 use Rattle.std.specs.Char.{is_ascii_uppercase}
 use Rattle.std.proofs.lemmas.Bool.{and_parts, eqb-true}
 use Rattle.std.proofs.lemmas.Bool.Decides.{nat_tests}
 use Rattle.nc_text.specs.declared.sign.Sign.{Sign}
 use Rattle.nc_text.specs.declared.piece.Piece.{Piece}
-use Rattle.nc_text.specs.Pieces.{Cut, begins_word, depth_behind, add_to_cut, cut_at, value_len, bytes_of, piece_of, pieces_of}
+use Rattle.nc_text.specs.Pieces.{Cut, begins_word, depth_behind, add_to_cut, cut_at, value_len, piece_of, pieces_of}
 
 -- a cut that goes on behind the first n signs
 abbrev Behind : ℕ → List Sign → Cut → Type 0
@@ -75,10 +74,3 @@ push_next before piece letter others value behind rest all n rest-is lead n-is v
       cut = append_assoc before (piece ∷ []) (pieces_of behind) ∙ ap (λ (ps : List Piece). before ++ ps) (sym words) ∙ so_far;
       lead = subst (λ (signs : List Sign). value_len signs 0 ≡ 0) (sym behind-again) first.next;
     }
-
--- one byte more of the signs
-pub bytes_on : (signs : List Sign) (i : ℕ) (none : Sign) (done now all : List ℕ) → i < length signs → now ≡ done ++ (get_or signs i none).byte ∷ [] → done ++ bytes_of (drop i signs) ≡ all → now ++ bytes_of (drop (i + 1) signs) ≡ all
-bytes_on signs i none done now all within pushed so_far =
-    let e : i + 1 ≡ suc i = omega arith in
-    (λ k. pushed k ++ bytes_of (drop (e k) signs)) ∙ append_assoc done ((get_or signs i none).byte ∷ []) (bytes_of (drop (suc i) signs))
-    ∙ ap (λ (left : List Sign). done ++ bytes_of left) (sym (drop-cons signs i none within)) ∙ so_far

@@ -1,7 +1,7 @@
 ghost use Rattle.std.specs.Prelude.{◌≤◌};
 
 /// What was read up to some moment, as far as it is needed to go back there.
-#[derive(Debug, Drop)]
+#[derive(Drop)]
 pub(crate) struct Mark {
     pub lines: u32,
     pub bytes: u32,

@@ -4,7 +4,7 @@ ghost use Rattle.nc_text.specs.Reading.{is_body, refusal_of};
 use crate::fault::TextFault;
 
 /// Where in a tape a reader stands.
-#[derive(Clone, Copy, Debug, PartialEq, Eq)]
+#[derive(Clone, Copy, Debug)]
 pub(crate) enum Stage {
     /// Before the first line that begins with `%`.
     Leader,
