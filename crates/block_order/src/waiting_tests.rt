@@ -5,7 +5,9 @@ ghost use Rattle.block_order.specs.declared.program.ControlProgram.{ControlProgr
 
 use crate::control::Control;
 use crate::fitting::fitting_fault;
+use crate::loud::LoudPrograms;
 use crate::program::{ControlBlock, ControlBlockList, ControlProgram};
+use crate::tables::TapeTables;
 use crate::waiting::waiting_fault;
 use nc_number::NoMemory;
 use std::alloc::Global;
@@ -96,7 +98,9 @@ fn first(alloc: Global, tape: &[ControlProgram]) -> Result<(u32, u16), NoMemory>
     if let Some(_) = fitting_fault(alloc, tape)? {
         return Ok((1, 0));
     }
-    match waiting_fault(alloc, tape)? {
+    let tables = TapeTables::of(alloc, tape)?;
+    let loud = LoudPrograms::of(alloc, tape)?;
+    match waiting_fault(alloc, tape, &tables, &loud)? {
         Some(fault) => Ok((fault.line, u16::from(fault.cause.number()))),
         None => Ok((0, 0)),
     }
@@ -241,6 +245,40 @@ fn a_return_over_a_wait_is_refused(rt: HostRuntime) {
         )
         .ok(),
         Some((103, 65))
+    );
+}
+
+#[test]
+fn a_return_of_many_over_a_wait_is_refused(rt: HostRuntime) {
+    let call = Control::Call {
+        program: 2,
+        repeats: 1,
+    };
+    let mut returns = [(0, Control::BackTo(20)); 70];
+    returns[69] = (0, Control::BackTo(10));
+    let alloc = rt.alloc();
+    assert_eq!(rt;
+        two(
+            alloc,
+            &[
+                (20, Control::Next),
+                (20, WAIT),
+                (10, call),
+                (20, Control::End)
+            ],
+            &returns
+        )
+        .ok(),
+        Some((0, 0))
+    );
+    assert_eq!(rt;
+        two(
+            alloc,
+            &[(10, WAIT), (20, call), (0, call), (0, Control::End)],
+            &returns
+        )
+        .ok(),
+        Some((3, 65))
     );
 }
 
