@@ -1,4 +1,3 @@
 pub mod Meaning
 pub mod Postfix
 pub mod Relations
-pub mod Sample

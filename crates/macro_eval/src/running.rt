@@ -69,6 +69,3 @@ pub fn each_variable_takes_one_read_at_most()
     ensures needs { (table : ℕ → Result Look VarFault) (tree : Tree) (reads : List Var) (n : ℕ)
         → (meaning table tree reads).0 ≡ Eval.Need n → length reads < variables tree }
 {}
-
-#[cfg(test)]
-mod tests;

@@ -140,6 +140,3 @@ pub fn no_text_has_two_trees()
     ensures expressions { (text : List ℕ) (a b : Tree) → IsExpression text a → IsExpression text b → a ≡ b }
     ensures statements { (text : List ℕ) (a b : Sentence) → IsStatement text a → IsStatement text b → a ≡ b }
 {}
-
-#[cfg(test)]
-mod tests;

@@ -17,8 +17,6 @@ mod path;
 mod point;
 mod printing;
 mod rounding;
-#[cfg(test)]
-mod tests;
 mod value;
 
 pub use arithmetic::{abs, add, div, modulo, mul, neg, sqrt, sub};

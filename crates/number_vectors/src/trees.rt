@@ -1,5 +1,6 @@
-use super::{parse_expr, parse_statement};
-use crate::tree::{Cond, Expr, ExprFault, Fun, Op, Rel, Statement, Target, VarRef};
+use macro_expr::{
+    Cond, Expr, ExprFault, Fun, Op, Rel, Statement, Target, VarRef, parse_expr, parse_statement,
+};
 use nc_number::Failing;
 use std::alloc::{AllocError, Global};
 use std::test::Fail;

@@ -1,5 +1,5 @@
 use Rattle.std.proofs.Common.{◌≡◌, ◌≤◌, ◌+◌, All}
-use Rattle.common_vars.proofs.shared.tests.early_moments_of_many_writes_are_found_at_once.Given as goal
+use Rattle.number_vectors.proofs.writes.early_moments_of_many_writes_are_found_at_once.Given as goal
 
 abbrev pub invariant-loop-stamp : goal.invariant-loop-stamp
 invariant-loop-stamp g l = record {

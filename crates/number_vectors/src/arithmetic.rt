@@ -1,7 +1,11 @@
 //! Rows worked by hand from the definitions: each call, both signs, both ends of the range, halves.
 
-use super::*;
-use NumberFault::{NegativeRoot, NotWhole, Overflow, TooManyDigits, ZeroDivide};
+use nc_number::NumberFault::{NegativeRoot, NotWhole, Overflow, TooManyDigits, ZeroDivide};
+use nc_number::{
+    Axis, ByteList, Cause, Literal, NumberFault, Path, Value, Var, abs, add, bit_and, bit_or,
+    bit_xor, div, fix, fup, is_literal, length_text, modulo, mul, neg, parse_word, round, sqrt,
+    sub, text, to_increment,
+};
 use std::process::Abort;
 use std::test::Fail;
 

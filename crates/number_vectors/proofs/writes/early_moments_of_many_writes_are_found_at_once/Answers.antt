@@ -1,7 +1,7 @@
 use Rattle.std.proofs.Common.{◌≡◌, ◌≤◌, ◌+◌, ℕ, List, [], ◌∷◌, ◌++◌, All, sym, subst, arith}
 use Rattle.std.proofs.lemmas.List.Elements.{All-append, All-cons, All-nil}
 use Rattle.common_vars.specs.declared.links.Write.{Write}
-use Rattle.common_vars.proofs.shared.tests.early_moments_of_many_writes_are_found_at_once.Goals as goal
+use Rattle.number_vectors.proofs.writes.early_moments_of_many_writes_are_found_at_once.Goals as goal
 
 -- one more write, none later than before the next stamp
 one_more_is_early : (writes longer : List Write) (w : Write) (stamp : ℕ) → All (λ w. w.stamp ≤ stamp) writes → w.stamp ≤ stamp

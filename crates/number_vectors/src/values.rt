@@ -1,10 +1,8 @@
-ghost use Rattle.macro_eval.specs.Sample.{sample_table};
+ghost use Rattle.number_vectors.specs.Sample.{sample_table};
 
-use super::{count_reads, eval, evaluate};
-use crate::code::compile;
-use crate::code_list::compile_statement;
-use crate::compare::holds;
-use crate::scope::{Eval, Look, Scope, VarFault};
+use macro_eval::{
+    Eval, Look, Scope, VarFault, compile, compile_statement, count_reads, eval, evaluate, holds,
+};
 use macro_expr::{Rel, parse_expr, parse_statement};
 use nc_number::{Value, Var};
 use std::alloc::{AllocError, Global};
