@@ -11,8 +11,6 @@ mod fuse;
 mod laws;
 mod memory;
 mod stretch;
-#[cfg(test)]
-mod tests;
 
 pub use device::{Disk, Failed};
 pub use fuse::FuseDisk;

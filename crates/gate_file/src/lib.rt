@@ -12,8 +12,6 @@ mod fault;
 mod gate;
 mod laws;
 mod open;
-#[cfg(test)]
-mod tests;
 
 pub use body_list::BodyList;
 pub use fault::{DiskFault, GateFault};

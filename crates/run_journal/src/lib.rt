@@ -13,8 +13,6 @@ mod laws;
 mod offsets;
 mod opening;
 mod reading;
-#[cfg(test)]
-mod tests;
 
 pub use fault::{JournalFault, JournalFull};
 pub use journal::{Journal, MOST_RECORDS};

@@ -12,8 +12,6 @@ mod header;
 mod laws;
 mod lists;
 mod reading;
-#[cfg(test)]
-mod tests;
 
 pub use bad_record::BadRecord;
 pub use entry::{Entry, EntryKind, put_entry};

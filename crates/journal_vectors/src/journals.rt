@@ -1,10 +1,10 @@
 ghost use Rattle.std.specs.Prelude.{◌≡◌, true};
 ghost use Rattle.run_records.specs.Headers.{IsShort};
 
-use crate::{Journal, JournalFault, open_journal};
 use disk_model::{Crash, Disk, FuseDisk, MemoryDisk};
 use gate_file::GateFault;
 use nc_number::Path;
+use run_journal::{Journal, JournalFault, open_journal};
 use run_records::{BadRecord, ByteList, Entry, EntryKind, Header, StampList, put_header};
 use std::alloc::Global;
 use std::test::Fail;

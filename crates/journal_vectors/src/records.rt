@@ -1,8 +1,8 @@
-use crate::{
+use nc_number::Path;
+use run_records::{
     BadRecord, ByteList, Entry, EntryKind, EntryList, Header, HeaderFault, StampList, put_entry,
     put_header, take_entry, take_header,
 };
-use nc_number::Path;
 use std::alloc::Global;
 use std::test::Fail;
 
@@ -158,13 +158,17 @@ fn a_list_of_records_grows_within_its_room(rt: HostRuntime) -> Result<(), Fail> 
 
 // A record with these stamps.
 fn stamped(stamps: &[u32]) -> Result<Entry, Fail> {
-    if 32 < stamps.len() {
-        return Err(Fail::new("a record has 32 stamps at most"));
+    let mut list = StampList::empty();
+    for stamp in stamps {
+        if list.as_slice().len() == 32 {
+            return Err(Fail::new("a record has 32 stamps at most"));
+        }
+        list.push(*stamp);
     }
     Ok(Entry {
         path: Path::Two,
         kind: EntryKind::Did,
-        stamps: StampList::of(stamps),
+        stamps: list,
     })
 }
 

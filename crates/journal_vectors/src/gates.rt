@@ -1,5 +1,5 @@
-use crate::{GateFault, GateFile};
 use disk_model::{Crash, Disk, FuseDisk, MemoryDisk};
+use gate_file::{GateFault, GateFile};
 use std::alloc::Global;
 use std::test::Fail;
 

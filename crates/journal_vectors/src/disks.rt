@@ -1,4 +1,4 @@
-use crate::{Crash, Disk, Failed, FuseDisk, MemoryDisk};
+use disk_model::{Crash, Disk, Failed, FuseDisk, MemoryDisk};
 use std::alloc::Global;
 use std::test::Fail;
 

@@ -1,0 +1,14 @@
+//! Tables of tests of disks, gates, records and journals: what each writes, byte by byte, what a stop at each of its calls leaves, and
+//! why a file is refused.
+//!
+//! The bytes and the answers that are expected are worked by hand from the rules of the journal, and never from what a call answered.
+#![tactic(auto)]
+
+#[cfg(test)]
+mod disks;
+#[cfg(test)]
+mod gates;
+#[cfg(test)]
+mod journals;
+#[cfg(test)]
+mod records;
