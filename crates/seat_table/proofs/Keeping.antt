@@ -211,7 +211,7 @@ module _ {C : Type 0} (records : C → Path → Records) where
         away = λ z. let a = k.away z in (a.0, set_else (set s.views id both) other k.holder spent (not_holder other w a.0 at_w wrests a.1 a.2) ∙ (set_else s.views id k.holder both (not_holder id v a.0 at rests a.1 a.2) ∙ a.1), a.2);
       }
 
-  pub starts : (c : C) → ((p : Path) → records c p ≡ []) → Rule (opening (0 ∷ 0 ∷ []) (Some c ∷ []) opened)
+  pub starts : (c : C) → ((p : Path) → records c p ≡ []) → Rule (opening (0 ∷ 0 ∷ 0 ∷ []) (Some c ∷ []) opened)
   starts c none = record {
     now = no_lists;
     owner = λ _. 0;
@@ -234,15 +234,15 @@ module _ {C : Type 0} (records : C → Path → Records) where
       first_alone zero u e = subst (Fits no_lists (λ _. 0) 0 0 0) (some-injective opened u e) fits
       first_alone (suc j) u e = absurd (some-ne-none u (sym e))
 
-  -- a change of the second word
-  pub touches : (slots id : ℕ) (m : Sat) (f : ℕ → ℕ) → Allows Rule slots id m 1 f (λ _ w. w ≡ m)
-  touches slots id m f s k long at small = (
+  -- a change of a word behind the first
+  pub touches : (slots id word : ℕ) (m : Sat) (f : ℕ → ℕ) → 0 < word → Allows Rule slots id m word f (λ _ w. w ≡ m)
+  touches slots id word m f positive s k long at small = (
     m.0,
     keeps,
     tt,
-    subst (λ (vs : List Knows). Rule record { words = set s.words 1 (f (get_or s.words 1 0)); homes = s.homes; views = vs }) (sym (set_again s.views id m.0 at))
-        (rule_of record { words = set s.words 1 (f (get_or s.words 1 0)); homes = s.homes; views = s.views } (get_or s.words 0 0) (get_or-set_other s.words 1 0 (f (get_or s.words 1 0)) 0 (λ e. omega (arith, e)))
-        k.now k.owner k.holder (subst (λ (n : ℕ). 0 < n) (sym (length-set s.words 1 (f (get_or s.words 1 0)))) k.wide) k.deep k.each k.home k.away),
+    subst (λ (vs : List Knows). Rule record { words = set s.words word (f (get_or s.words word 0)); homes = s.homes; views = vs }) (sym (set_again s.views id m.0 at))
+        (rule_of record { words = set s.words word (f (get_or s.words word 0)); homes = s.homes; views = s.views } (get_or s.words 0 0) (get_or-set_other s.words word 0 (f (get_or s.words word 0)) 0 (λ e. omega (arith, e, positive)))
+        k.now k.owner k.holder (subst (λ (n : ℕ). 0 < n) (sym (length-set s.words word (f (get_or s.words word 0)))) k.wide) k.deep k.each k.home k.away),
     refl,
   )
 

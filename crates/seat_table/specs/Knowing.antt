@@ -144,9 +144,9 @@ module _ {C : Type 0} (records : C → Path → Records) where
   abbrev pub gave : Step (Option C) → Sat → ℕ → Sat → Type 0
   gave st m n m' = (m'.0 ≡ idle m.0.rights (lists_at m.1) m.0.calls) × (m'.1 ≡ [])
 
--- the seat is one of this table, which has two words and a slot
+-- the seat is one of this table, which has three words and a slot
 abbrev pub IsAt : TableId → TableId → Type 0
-IsAt seat table = (seat ≡ table) × (table.words ≡ 2) × (table.slots ≡ 1)
+IsAt seat table = (seat ≡ table) × (table.words ≡ 3) × (table.slots ≡ 1)
 
 -- the seat has not the turn
 abbrev pub Idle : {C : Type 0} → Me (Option C) Knows → Type 0

@@ -30,7 +30,7 @@ impl<C: Turns> Model for SeatTable<C> {
 
     ghost view = { λ t. t.table.shared.table_id };
 
-    ghost invariant = { λ t. (t.table.shared.table_id.words ≡ 2) × (t.table.shared.table_id.slots ≡ 1) };
+    ghost invariant = { λ t. (t.table.shared.table_id.words ≡ 3) × (t.table.shared.table_id.slots ≡ 1) };
 }
 
 /// The right to step a path. It lists the records of the path that its steps made.
@@ -117,7 +117,7 @@ impl<C: Turns> SeatTable<C> {
         ensures err { IfErr result (λ t. t ≡ table) }
     {
         let slots = put_in(alloc, table)?;
-        match Table::new(alloc, &[0, 0], slots, &()) {
+        match Table::new(alloc, &[0, 0, 0], slots, &()) {
             Ok((table, mut place)) => {
                 let second = table.shared.split_seat::<CutSecond>(&mut place);
                 let first_halt = table.shared.split_seat::<CutFirstHalt>(&mut place);

@@ -94,14 +94,34 @@ fn stand_by<C: Turns, R: Wait>(
     }
 }
 
-// Counts a change of the table, and wakes those that wait for one.
+// Counts a change of the table, and wakes those that sleep until one comes. Most often nobody does, and a wake is a call of
+// the system.
 fn count_change<C: Turns>(shared: &Shared<Option<C>, Knows, (), Law>, place: &mut Place<C>)
     requires { IsAt place.old.table_id shared.now.table_id }
     ensures { (place.new.table_id ≡ place.old.table_id) × (place.new.id ≡ place.old.id)
         × (place.new.me ≡ place.old.me) }
 {
     shared.fetch_add::<Count>(place, 1, 1);
-    shared.wake_all(1);
+    if shared.peek(2) != 0 {
+        shared.wake_all(1);
+    }
+}
+
+// Sleeps until the table has changed, unless the count of its changes is another already. Who counts a change looks behind
+// that for sleepers, and a sleeper is counted before it looks at the count: so one of the two sees the other.
+fn await_change<C: Turns, R: Wait>(
+    rt: &R,
+    shared: &Shared<Option<C>, Knows, (), Law>,
+    place: &mut Place<C>,
+    seen: u64,
+)
+    requires { IsAt place.old.table_id shared.now.table_id }
+    ensures { (place.new.table_id ≡ place.old.table_id) × (place.new.id ≡ place.old.id)
+        × (place.new.me ≡ place.old.me) }
+{
+    shared.fetch_add::<Count>(place, 2, 1);
+    shared.park(rt, 1, (seen % (1 << 32)) as u32);
+    shared.fetch_sub::<Count>(place, 2, 1);
 }
 
 // Counts the change that a step made. A drain that is asked for changes nothing.
@@ -217,7 +237,7 @@ pub(crate) fn step_until<C: Turns, R: Wait>(
         match turn(shared, place, path) {
             Tried::Stepped(next) => return next,
             Tried::Busy => stand_by(rt, shared, place, looks),
-            Tried::Waits => shared.park(rt, 1, (seen % (1 << 32)) as u32),
+            Tried::Waits => await_change(rt, shared, place, seen),
         }
         looks = looks.saturating_add(1);
     }
@@ -258,7 +278,7 @@ pub(crate) fn close_all<C: Turns>(
     first_halt: Place<C>,
     second_halt: Place<C>,
 ) -> C
-    requires sized { (table.shared.table_id.words ≡ 2) × (table.shared.table_id.slots ≡ 1) }
+    requires sized { (table.shared.table_id.words ≡ 3) × (table.shared.table_id.slots ≡ 1) }
     requires seats { (first.table_id ≡ table.shared.table_id)
         × (second.table_id ≡ table.shared.table_id) }
     requires halters { (first_halt.table_id ≡ table.shared.table_id)
