@@ -38,6 +38,3 @@ pub use statement::FlowStatement;
 pub use waits::WaitCodes;
 pub use word::{FlowWord, FlowWordList, WordValue};
 pub use words::FlowWords;
-
-#[cfg(test)]
-mod tests;

@@ -47,8 +47,3 @@ pub use laws::{
 pub use order::BlockOrder;
 pub use place::{MOST_CALLS, Place};
 pub use program::{ControlBlock, ControlBlockList, ControlProgram};
-
-#[cfg(test)]
-mod tests;
-#[cfg(test)]
-mod waiting_tests;

@@ -34,6 +34,3 @@ pub use refusal::Refusal;
 pub use said::{Reading, Said, SaidBlock};
 pub use sign::Sign;
 pub use tape::{Block, BlockList, Body, Program, Tape, Word, WordList};
-
-#[cfg(test)]
-mod tests;

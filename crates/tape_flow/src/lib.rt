@@ -17,6 +17,3 @@ pub use fault::FlowFault;
 pub use flow::{Flow, compile};
 pub use laws::an_accepted_tape_is_not_refused;
 pub use program::{FlowBlockList, FlowProgram, FlowProgramList};
-
-#[cfg(test)]
-mod tests;

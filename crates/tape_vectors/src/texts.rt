@@ -1,5 +1,5 @@
-use crate::{Body, Reader, Tape, TextFault};
 use nc_number::Failing;
+use nc_text::{Body, Reader, Tape, TextFault};
 use std::alloc::Global;
 use std::test::Fail;
 

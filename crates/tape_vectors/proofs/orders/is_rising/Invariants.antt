@@ -1,6 +1,6 @@
 use Rattle.std.proofs.Common.{drop}
 use Rattle.block_order.specs.Shape.{RiseFrom}
-use Rattle.block_order.proofs.waiting_tests.is_rising.Given as goal
+use Rattle.tape_vectors.proofs.orders.is_rising.Given as goal
 
 abbrev pub invariant-loop-line : goal.invariant-loop-line
 invariant-loop-line l = RiseFrom l.low (drop l.line-index l.lines) → RiseFrom 0 l.lines

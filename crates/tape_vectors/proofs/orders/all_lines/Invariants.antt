@@ -1,6 +1,6 @@
 use Rattle.std.proofs.Common.{◌≡◌, ◌++◌, drop}
 use Rattle.block_order.specs.Shape.{lines_in}
-use Rattle.block_order.proofs.waiting_tests.all_lines.Given as goal
+use Rattle.tape_vectors.proofs.orders.all_lines.Given as goal
 
 abbrev pub invariant-loop-program : goal.invariant-loop-program
 invariant-loop-program l = l.lines.items ++ lines_in (drop l.program-index l.tape) ≡ lines_in l.tape

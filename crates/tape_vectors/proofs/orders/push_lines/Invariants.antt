@@ -1,5 +1,5 @@
 use Rattle.std.proofs.Common.{◌≡◌, ◌++◌, ◌∷◌, take, map}
-use Rattle.block_order.proofs.waiting_tests.push_lines.Given as goal
+use Rattle.tape_vectors.proofs.orders.push_lines.Given as goal
 
 abbrev pub invariant-loop-block : goal.invariant-loop-block
 invariant-loop-block l =

@@ -1,4 +1,3 @@
-use crate::{Flow, FlowFault, compile};
 use block_order::{Label, Mark};
 use cell_settings::{Settings, read_settings};
 use nc_number::Failing;
@@ -6,6 +5,7 @@ use nc_text::{Reader, Tape, TextFault};
 use std::alloc::{AllocError, Global};
 use std::process::Abort;
 use std::test::Fail;
+use tape_flow::{Flow, FlowFault, compile};
 
 /// A tape, where `~` is a line end, and the number and the line of its refusal, or `none`.
 const ROWS: &str = "%~O1~M101 G00~M30~%~ -> 57 3

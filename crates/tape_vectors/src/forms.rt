@@ -1,7 +1,4 @@
-use crate::block::FlowBlock;
-use crate::called::{CallKind, Called};
-use crate::reading::read_block;
-use crate::waits::WaitCodes;
+use block_forms::{CallKind, Called, FlowBlock, WaitCodes, read_block};
 use block_order::Control;
 use nc_number::{Failing, NoMemory};
 use nc_text::Reader;
