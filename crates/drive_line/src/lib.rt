@@ -11,8 +11,6 @@ mod item;
 mod line;
 mod line_in;
 mod line_out;
-#[cfg(test)]
-mod tests;
 mod wire;
 
 pub use item::Item;

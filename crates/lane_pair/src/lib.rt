@@ -7,8 +7,6 @@
 #![tactic(auto)]
 
 mod pair;
-#[cfg(test)]
-mod tests;
 mod tooling;
 mod turns;
 

@@ -12,8 +12,6 @@ mod drive;
 mod handed;
 mod lane;
 mod leave;
-#[cfg(test)]
-mod tests;
 mod worker;
 
 pub use drive::{DriveEnd, run_drive};

@@ -17,6 +17,3 @@ mod turning;
 pub use seats::{HaltPass, SeatPass, SeatTable, Seated};
 pub use stepper::{HaltStepper, SeatStepper};
 pub use turning::Turns;
-
-#[cfg(test)]
-mod tests;

@@ -3,9 +3,9 @@ ghost use Rattle.nc_outside.specs.Calls.{moves_answered};
 ghost use Rattle.seat_table.specs.Turning.{moves_in};
 
 use super::memory::{MemoryTable, yield_often};
-use crate::{HaltPass, SeatPass, SeatTable, Seated};
 use nc_number::{NoMemory, Path};
 use nc_outside::{Drained, Drains, Halt, Move, Moves, Next, Stepper};
+use seat_table::{HaltPass, SeatPass, SeatTable, Seated};
 use std::alloc::Global;
 use std::sync::Wait;
 use std::sync::atomic::Ordering::SeqCst;

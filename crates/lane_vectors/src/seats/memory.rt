@@ -3,9 +3,9 @@ ghost use Rattle.std.specs.Prelude.{◌≡◌, map, [], ◌∷◌};
 ghost use Rattle.nc_outside.specs.declared.motion.Move.TheVariants.{Aux};
 ghost use Rattle.seat_table.specs.Turning.{Answers};
 
-use crate::Turns;
 use nc_number::Path;
 use nc_outside::{Halt, Move, MoveList, Moves, Next};
+use seat_table::Turns;
 use std::alloc::Global;
 use std::sync::atomic::AtomicU64;
 use std::sync::atomic::Ordering::SeqCst;

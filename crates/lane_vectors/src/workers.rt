@@ -1,12 +1,12 @@
 ghost use Rattle.std.specs.Prelude.{◌<◌, ◌≤◌, length};
 
-use super::*;
 use drive_line::Line;
 use nc_number::{NoMemory, Path, Point};
 use nc_outside::{
     Call, Drained, Failed, Halt, ListStepper, MemoryTurret, Move, MoveList, Moves, Next, Stepper,
     Turret,
 };
+use path_worker::{Handed, Lane, LaneEnd, Why, run_lane};
 use std::alloc::Global;
 use std::sync::Wait;
 use std::sync::atomic::AtomicU64;

@@ -1,5 +1,5 @@
 use Rattle.std.proofs.Common.{ap, ◌∙◌}
-use Rattle.seat_table.proofs.tests.paths.work.Goals as goal
+use Rattle.lane_vectors.proofs.seats.paths.work.Goals as goal
 
 pub returns : goal.returns
 returns g c = (

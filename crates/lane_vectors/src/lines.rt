@@ -1,7 +1,7 @@
 ghost use Rattle.std.specs.Prelude.{◌≡◌, ◌<◌, false};
 ghost use Rattle.drive_line.specs.Line.{has_end};
 
-use super::*;
+use drive_line::{Line, LineIn, LineOut, close_line};
 use nc_number::NoMemory;
 use nc_outside::Move;
 use std::alloc::Global;

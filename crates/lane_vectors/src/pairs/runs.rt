@@ -2,7 +2,7 @@ ghost use Rattle.std.specs.Prelude.{◌≡◌, []};
 
 use super::codes::CodeTable;
 use super::gate::GateTurret;
-use crate::{Ran, Tooled, Tooling, give_turn, run_pair};
+use lane_pair::{Ran, Tooled, Tooling, give_turn, run_pair};
 use nc_number::{NoMemory, Path};
 use nc_outside::{MemoryTurret, Turret};
 use path_worker::Handed;

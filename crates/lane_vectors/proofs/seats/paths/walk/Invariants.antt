@@ -1,5 +1,5 @@
 use Rattle.std.proofs.Common.{◌≡◌}
-use Rattle.seat_table.proofs.tests.paths.walk.Given as goal
+use Rattle.lane_vectors.proofs.seats.paths.walk.Given as goal
 
 abbrev pub invariant-loop : goal.invariant-loop
 invariant-loop g l =

@@ -1,0 +1,4 @@
+//! Both paths of a table in memory, with a turret each.
+mod codes;
+mod gate;
+mod runs;
