@@ -60,30 +60,3 @@ pub fn modal_states_hang_on_their_rows()
     ensures { (modal : ModalView) (words : List FlowWord) (values : Values) → modal_after modal words values
         ≡ modal_behind modal (rows words) (settings_said values.feed values.speed values.tool) }
 {}
-
-#[cfg(test)]
-mod tests {
-    use super::*;
-    use code_tables::system_a;
-    use nc_number::Value;
-    use std::test::Fail;
-
-    #[test]
-    fn beside_g50_a_speed_is_the_highest_and_a_tool_without_an_offset_is_refused(
-        rt: HostRuntime,
-    ) -> Result<(), Fail> {
-        let speed = Var::Is(Value::of_units(2_000).ok_or("a speed")?);
-        let row = system_a().find(50).ok_or("G50")?;
-        let modal = Modal::new();
-        let after = modal_after(&modal, &[row], Var::Vacant, speed, Some(101))
-            .ok()
-            .ok_or("taken")?;
-        assert_eq!(rt;
-            (after.speed(), after.limit(), after.offset()),
-            (Var::Vacant, speed, 1)
-        );
-        let refused = modal_after(&modal, &[], Var::Vacant, Var::Vacant, Some(165));
-        assert_eq!(rt; refused, Err(40));
-        Ok(())
-    }
-}

@@ -129,33 +129,3 @@ pub fn moves_hang_on_their_words()
         → all_moves limits modal values motion code
         ≡ all_moves limits modal (settings_said Vacant values.speed values.tool) motion code }
 {}
-
-#[cfg(test)]
-mod tests {
-    use super::*;
-    use std::test::Fail;
-
-    #[test]
-    fn a_block_gets_its_speed_its_tool_its_motion_and_its_code(
-        rt: HostRuntime,
-    ) -> Result<(), Fail> {
-        let speed = Var::Is(Value::of_units(1_200).ok_or("a speed")?);
-        let mut motion = MoveList::empty();
-        motion.push(Move::Dwell { ms: 500 });
-        let modal = Modal::new();
-        let moves = all_moves(false, &modal, speed, Some(101), &motion, Some(3));
-        let want = [
-            Move::Speed {
-                surface: false,
-                s: 1_200,
-            },
-            Move::Tool { t: 101 },
-            Move::Dwell { ms: 500 },
-            Move::Aux { m: 3 },
-        ];
-        assert_eq!(rt; moves.as_slice(), want.as_slice());
-        let moves = all_moves(true, &modal, speed, None, &MoveList::empty(), Some(30));
-        assert_eq!(rt; moves.as_slice(), [Move::Limit { s: 1_200 }].as_slice());
-        Ok(())
-    }
-}

@@ -212,6 +212,7 @@ G65 P2 L2 A7.~M30~O2~#1=8~#2=9|M99||left 0~#1 7~#2 vacant~to 6
 M98 P2~M30~O2|M99 X50.||rapid X50.000 Z50.000~at X50.000 Z50.000~depth 0~in O1~to 4
 M98 P2 L3~X1.~N7 X2.~M30~O2|M99 P7|X9.|depth 0~in O1~left 0~to 5
 G65 P2 A7.~N7 M30~O2|M99 P7|X9.|depth 0~in O1~#1 vacant~to 4
+G65 P2 L9 A7.~X1.~N7 M30~O2|M99 P7|X9.|depth 0~in O1~left 0~#1 vacant~to 5
 M98 P2~M30~O2|M99 P7|X9.|alarm 50
 M98 P2~DO1~N7 X1.~END1~M30~O2|M99 P7|X9.|alarm 53
 X1.|M99||to 3

@@ -4,6 +4,8 @@
 #![tactic(auto)]
 
 #[cfg(test)]
+mod block_parts;
+#[cfg(test)]
 mod block_rows;
 #[cfg(test)]
 mod lone_path;

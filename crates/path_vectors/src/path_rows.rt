@@ -26,6 +26,8 @@ const ROWS: &str = "\
 %~O1~G00 X0 Z0~G03 X0 Z-20. R10. F0.1~M30~%~|3 rapid X0.000 Z0.000~4 ccw X0.000 Z-20.000 R10.000 F0.1 rev~end~at X0.000 Z-20.000~G03~F 0.1~line 5 after 3 turns
 %~O1~G00 X0 Z0~G03 X0 Z-20. R9.999 F0.1~M30~%~|3 rapid X0.000 Z0.000~alarm 42~line 4 after 2 turns
 %~O1~G65 P1000 A1.~M30~O1000~IF [#1 GE 8] GOTO 9~G65 P1000 A[#1+1]~#101=#1~N9 M99~%~|end~#101 1~line 4 after 32 turns
+%~O1~#1=7~G65 P9010 L2 A5.~M30~O9010~#102=#102*10+#1~#1=3~M99~%~|end~#1 7~#102 55~line 5 after 9 turns
+%~O1~M98 P2~M30~O2~M98 P2~M99~%~|alarm 32~depth 8~in O2~line 6 after 9 turns
 %~O1~G65 P1000 A1.~M30~O1000~IF [#1 GE 9] GOTO 9~G65 P1000 A[#1+1]~#101=#1~N9 M99~%~|alarm 32~depth 8~in O1000~#1 8~line 7 after 17 turns
 %~O1~T0101~G00 X10.~#1=#5001~#2=#5021~M30~%~|3 tool T0101~4 rapid X9.000 Z0.000~end~at X9.000 Z0.000~T0101~offset 1~#1 10~#2 9~line 7 after 5 turns
 %~O1~M98 P30203~M30~O203~M101~M99~%~|wait 101~wait 101~wait 101~end~line 4 after 8 turns
