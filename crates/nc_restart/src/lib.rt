@@ -13,8 +13,6 @@ mod pair;
 mod rebuilding;
 mod recovery;
 mod replay;
-#[cfg(test)]
-mod tests;
 
 pub use fault::RestartFault;
 pub use laws::{

@@ -9,6 +9,8 @@ mod journal_rows;
 #[cfg(test)]
 mod record_text;
 #[cfg(test)]
+mod recovery_rows;
+#[cfg(test)]
 mod run;
 #[cfg(test)]
 mod step_rows;

@@ -1,10 +1,11 @@
+//! What a journal is recovered as, or why not.
 ghost use Rattle.std.specs.Prelude.{◌≡◌, true};
 ghost use Rattle.run_records.specs.Headers.{IsShort};
 
-use crate::{RestartFault, recover};
 use disk_model::{Crash, Disk, FuseDisk, MemoryDisk};
 use gate_file::GateFault;
 use nc_number::Path;
+use nc_restart::{RestartFault, recover};
 use run_journal::Journal;
 use run_records::{BadRecord, ByteList, Entry, EntryKind, Header, StampList, put_header};
 use std::alloc::Global;
