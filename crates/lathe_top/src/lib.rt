@@ -30,6 +30,3 @@ pub use fetching::{FileFault, Unfetched};
 pub use files::CommandFile;
 pub use laws::{a_session_hands_eight_moves_a_record_at_most, a_stop_leaves_one_history};
 pub use outcome::Outcome;
-
-#[cfg(test)]
-mod tests;

@@ -16,8 +16,6 @@ mod report;
 mod standing;
 mod state;
 mod summary;
-#[cfg(test)]
-mod tests;
 mod turns;
 
 pub use end_line::Reason;

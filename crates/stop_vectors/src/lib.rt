@@ -8,14 +8,20 @@
 #![tactic(auto)]
 
 #[cfg(test)]
+mod answers;
+#[cfg(test)]
 mod command;
 #[cfg(test)]
 mod failures;
 #[cfg(test)]
 mod gates;
 #[cfg(test)]
+mod opened_pairs;
+#[cfg(test)]
 mod pair;
 #[cfg(test)]
 mod stops;
+#[cfg(test)]
+mod turret_rows;
 #[cfg(test)]
 mod turrets;

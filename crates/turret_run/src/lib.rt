@@ -10,8 +10,6 @@ mod ending;
 mod placing;
 mod rest;
 mod run;
-#[cfg(test)]
-mod tests;
 
 pub use ending::{TurretEnd, TurretRun};
 pub use run::run_with_turrets;

@@ -21,6 +21,8 @@ mod realistic;
 #[cfg(test)]
 mod refusals;
 #[cfg(test)]
+mod reports;
+#[cfg(test)]
 mod settings;
 #[cfg(test)]
 mod verdicts;

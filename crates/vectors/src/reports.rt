@@ -1,5 +1,5 @@
 //! The texts of a pair that has not begun.
-use crate::{Reason, write_report, write_summary};
+use move_list::{Reason, write_report, write_summary};
 use nc_outside::VecSink;
 use nc_verify::{Verified, verdict};
 use run_records::EntryList;

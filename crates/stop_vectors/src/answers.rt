@@ -1,7 +1,9 @@
-use super::*;
+//! Commands over objects in memory, and all that each of them answers.
+use crate::command::words_of;
 use disk_model::MemoryDisk;
+use lathe_top::{Outcome, top};
 use nc_outside::{Got, MemoryShelf, MemoryTurret, Move, VecSink};
-use std::alloc::{AllocError, Global};
+use std::alloc::Global;
 use std::process::Abort;
 use std::sync::Wait;
 use std::test::Fail;
@@ -19,15 +21,6 @@ fn shelf(alloc: Global, failing: &[u64]) -> Result<MemoryShelf, Fail> {
         files.push((name, Vec::from_slice(alloc, text.as_bytes())?))?;
     }
     Ok(MemoryShelf::new(alloc, files, failing)?)
-}
-
-/// The words of a line.
-fn words(alloc: Global, line: &str) -> Result<Vec<String>, AllocError> {
-    let mut list = Vec::new(alloc);
-    for word in line.split_whitespace() {
-        list.push(String::from_str(alloc, word)?)?;
-    }
-    Ok(list)
 }
 
 /// What a turret got, a word for each thing.
@@ -71,7 +64,7 @@ fn answered<R: Threads + Wait + Sync>(
     } = top(
         rt,
         alloc,
-        words(alloc, line)?.as_slice(),
+        words_of(alloc, line)?.as_slice(),
         shelf,
         disk,
         left,

@@ -1,4 +1,4 @@
-// Pairs of short tapes, and the tables at which their runs begin.
+//! Pairs of short tapes, and the tables at which their runs begin.
 ghost use Rattle.std.specs.Prelude.{◌≡◌, None, IfOk};
 ghost use Rattle.run_records.specs.Headers.{IsShort};
 ghost use Rattle.run_table.specs.Kept.{IsVerdictOf};

@@ -1,8 +1,8 @@
+//! How the run of a table ends, and how much each turret gets.
 ghost use Rattle.std.specs.Prelude.{◌≡◌, None};
 ghost use Rattle.run_table.specs.Running.{MayRun, end_of};
 
-use super::pairs::{header_of, table_of};
-use crate::{TurretEnd, TurretRun, run_with_turrets};
+use crate::opened_pairs::{header_of, table_of};
 use disk_model::MemoryDisk;
 use nc_outside::MemoryTurret;
 use run_table::{RunEnd, Table};
@@ -10,6 +10,7 @@ use std::alloc::{AllocError, Global};
 use std::sync::Wait;
 use std::test::Fail;
 use std::thread::Threads;
+use turret_run::{TurretEnd, TurretRun, run_with_turrets};
 
 // The blocks of both tapes before their M30, the limit, the number of the call that fails for each turret, or 0; how the run
 // ends, and how much each turret got.

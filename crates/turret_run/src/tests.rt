@@ -1,2 +1,0 @@
-mod pairs;
-mod runs;
