@@ -1,5 +1,5 @@
 //! A bounded channel from one end to one other: first in, first out.
-ghost use Rattle.std.specs.Prelude.{◌≡◌, ◌<◌, List, true, [], ◌∷◌, ◌++◌, IfOk};
+ghost use Rattle.std.specs.Prelude.{◌≡◌, ◌<◌, List, true, [], ◌∷◌, ◌++◌, IfOk, MatchOption};
 ghost use Rattle.crossbeam_channel.specs.Claims.{view, IsSeatAt};
 ghost use Rattle.crossbeam_channel.specs.Ends.{sends_on, receives_on};
 ghost use Rattle.drive_line.specs.Wire.{log};
@@ -104,8 +104,33 @@ fn send_on<T: Drop, R: Wait>(rt: &R, sender: &Sender<T>, pass: &mut Pass<T, Log<
     unreachable!()
 }
 
+// How often a taker looks for an item before it sleeps until one is sent. The moves of a run whose disk does not make it wait
+// follow one another faster than a sleeper wakes.
+const LOOKS: u32 = 64;
+
+// An item, if one is seen in so many looks. Between two of them other threads may run.
+fn look_on<T: Drop, R: Wait>(
+    rt: &R,
+    receiver: &Receiver<T>,
+    pass: &mut Pass<T, Log<T>>,
+) -> Option<T>
+    requires { IsSeatAt (receives_on receiver.now) pass.old × ((view pass.old).takes ≡ true) }
+    ensures channel { IsSeatAt (receives_on receiver.now) pass.new }
+    ensures taken { MatchOption result (view pass.new ≡ view pass.old)
+        (λ item. view pass.new ≡ log (view pass.old).sends (view pass.old).takes
+        (view pass.old).sent ((view pass.old).taken ++ item ∷ [])) }
+{
+    for _ in 0..LOOKS {
+        if let Ok(item) = receiver.try_recv_as::<Taken, R>(rt, pass) {
+            return Some(item);
+        }
+        thread::yield_now();
+    }
+    None
+}
+
 // Takes an item. At an empty channel it sleeps; a channel whose other end is gone is tried again.
-fn take_on<T: Drop, R: Wait>(rt: &R, receiver: &Receiver<T>, pass: &mut Pass<T, Log<T>>) -> T
+fn await_on<T: Drop, R: Wait>(rt: &R, receiver: &Receiver<T>, pass: &mut Pass<T, Log<T>>) -> T
     requires { IsSeatAt (receives_on receiver.now) pass.old × ((view pass.old).takes ≡ true) }
     ensures channel { IsSeatAt (receives_on receiver.now) pass.new }
     ensures taken { view pass.new ≡ log (view pass.old).sends (view pass.old).takes
@@ -118,6 +143,19 @@ fn take_on<T: Drop, R: Wait>(rt: &R, receiver: &Receiver<T>, pass: &mut Pass<T, 
         thread::yield_now();
     }
     unreachable!()
+}
+
+// Takes an item: looks a while at an empty channel, and then sleeps until there is one.
+fn take_on<T: Drop, R: Wait>(rt: &R, receiver: &Receiver<T>, pass: &mut Pass<T, Log<T>>) -> T
+    requires { IsSeatAt (receives_on receiver.now) pass.old × ((view pass.old).takes ≡ true) }
+    ensures channel { IsSeatAt (receives_on receiver.now) pass.new }
+    ensures taken { view pass.new ≡ log (view pass.old).sends (view pass.old).takes
+        (view pass.old).sent ((view pass.old).taken ++ result ∷ []) }
+{
+    match look_on(rt, receiver, pass) {
+        Some(item) => item,
+        None => await_on(rt, receiver, pass),
+    }
 }
 
 /// The end that sends. It means its wire and what it has sent.

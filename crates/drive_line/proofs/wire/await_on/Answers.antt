@@ -1,6 +1,6 @@
 use Rattle.std.proofs.Common.{ap, ◌∙◌}
 use Rattle.drive_line.proofs.Orders.{takes}
-use Rattle.drive_line.proofs.wire.take_on.Goals as goal
+use Rattle.drive_line.proofs.wire.await_on.Goals as goal
 
 pub recv_as-requires-clause-rule : goal.recv_as-requires-clause-rule
 recv_as-requires-clause-rule g c = (takes _ _ (ap (λ v. v.takes) c.loop.invariant.3 ∙ c.requires.1), λ items views h at. tt)
