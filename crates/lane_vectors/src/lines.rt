@@ -1,3 +1,4 @@
+//! Rests that cross a line, a drain among them, and the end behind them.
 ghost use Rattle.std.specs.Prelude.{◌≡◌, ◌<◌, false};
 ghost use Rattle.drive_line.specs.Line.{has_end};
 
@@ -10,118 +11,82 @@ use std::test::Fail;
 use std::thread;
 use std::thread::Threads;
 
-fn dwell(ms: u64) -> Option<Move> {
-    Some(Move::Dwell { ms })
-}
-
-fn send_three<R: Wait>(line: LineIn<'_, R>) -> (u64, LineIn<'_, R>)
+/// Sends the rests from `first` to `last` milliseconds, with a drain behind one of them, and the end. It answers what the drain
+/// told.
+fn send_rests<R: Wait>(
+    line: LineIn<'_, R>,
+    first: u64,
+    drained: u64,
+    last: u64,
+) -> (u64, LineIn<'_, R>)
     requires { has_end line.items ≡ false }
     ensures { result.1.line ≡ line.entry.line }
 {
     let mut line = line;
-    line.send(Move::Dwell { ms: 1 });
-    line.send(Move::Dwell { ms: 2 });
-    let drained = line.drain();
-    line.send(Move::Dwell { ms: 3 });
-    line.end_line();
-    (drained.count(), line)
-}
-
-type Five = (
-    Option<Move>,
-    Option<Move>,
-    Option<Move>,
-    Option<Move>,
-    Option<Move>,
-);
-
-fn take_five<R: Wait>(line: LineOut<'_, R>) -> (Five, LineOut<'_, R>)
-    ensures { result.1.line ≡ line.entry.line }
-{
-    let mut line = line;
-    let (a, b) = (line.take(), line.take());
-    let (c, d) = (line.take(), line.take());
-    ((a, b, c, d, line.take()), line)
-}
-
-// What a drain told, what was taken, and whether the end was taken.
-fn cross_three<R: Threads + Wait + Sync>(
-    rt: &R,
-    alloc: Global,
-) -> Result<(u64, Five, bool), NoMemory> {
-    let (line_in, line_out) = Line::new(rt, alloc, 2)?;
-    let ((drained, line_in), (taken, line_out)) = thread::join(
-        rt,
-        move || send_three(line_in),
-        move || take_five(line_out),
-    );
-    Ok((drained, taken, close_line(line_in, line_out)))
-}
-
-#[test]
-fn three_moves_and_the_end_cross_a_line_of_two(rt: HostRuntime) -> Result<(), Fail> {
-    for _ in 0..200 {
-        let (drained, taken, whole) = cross_three(&rt, rt.alloc())?;
-        assert_eq!(rt; drained, 2);
-        assert_eq!(rt; taken, (dwell(1), dwell(2), dwell(3), None, None));
-        assert!(rt; whole);
-    }
-    Ok(())
-}
-
-fn send_many<R: Wait>(line: LineIn<'_, R>, count: u64) -> (u64, LineIn<'_, R>)
-    requires { has_end line.items ≡ false }
-    ensures { result.1.line ≡ line.entry.line }
-{
-    let mut line = line;
-    for ms in 0..count {
+    let mut told = 0u64;
+    for ms in first..=last {
         line.send(Move::Dwell { ms });
+        if ms == drained {
+            told = line.drain().count();
+        }
     }
-    let drained = line.drain();
     line.end_line();
-    (drained.count(), line)
+    (told, line)
 }
 
-// Counts the moves from the first on, and stops at what is not the next one.
-fn take_many<'r, R: Wait>(rt: &R, line: LineOut<'r, R>) -> (u64, LineOut<'r, R>)
-    ensures { result.1.line ≡ line.entry.line }
+/// Takes the rests from `first` milliseconds on, up to what is not the next one. It answers the next one, and whether there
+/// came nothing in its place, nor behind that.
+fn take_rests<'r, R: Wait>(rt: &R, line: LineOut<'r, R>, first: u64) -> (u64, bool, LineOut<'r, R>)
+    ensures { result.2.line ≡ line.entry.line }
 {
     let mut line = line;
-    let mut count = 0u64;
+    let mut next = first;
+    let mut taken = line.take();
     for _ in rt.forever() {
-        if line.take() != dwell(count) {
+        if taken != Some(Move::Dwell { ms: next }) {
             break;
         }
-        count = count.wrapping_add(1);
+        next = next.wrapping_add(1);
+        taken = line.take();
     }
-    (count, line)
+    let is_end = taken.is_none() && line.take().is_none();
+    (next, is_end, line)
 }
 
-// What a drain told, how many moves were taken, and whether the end was taken.
-fn cross_many<R: Threads + Wait + Sync>(
+/// What the drain told, the rest behind the last that was taken, whether nothing came behind it, and whether the end was taken.
+type Crossed = (u64, u64, bool, bool);
+
+/// Rests cross a line of that bound: the first, the one with a drain behind it, and the last.
+fn cross<R: Threads + Wait + Sync>(
     rt: &R,
     alloc: Global,
     bound: usize,
-    count: u64,
-) -> Result<(u64, u64, bool), NoMemory>
+    rests: [u64; 3],
+) -> Result<Crossed, NoMemory>
     requires { 0 < bound }
 {
+    let [first, drained, last] = rests;
     let (line_in, line_out) = Line::new(rt, alloc, bound)?;
-    let ((drained, line_in), (taken, line_out)) = thread::join(
+    let ((told, line_in), (next, is_end, line_out)) = thread::join(
         rt,
-        move || send_many(line_in, count),
-        move || take_many(rt, line_out),
+        move || send_rests(line_in, first, drained, last),
+        move || take_rests(rt, line_out, first),
     );
-    Ok((drained, taken, close_line(line_in, line_out)))
+    Ok((told, next, is_end, close_line(line_in, line_out)))
 }
 
 #[test]
-fn a_thousand_moves_cross_in_order(rt: HostRuntime) -> Result<(), Fail> {
-    for bound in [1, 2, 64] {
-        let (drained, taken, whole) = cross_many(&rt, rt.alloc(), bound, 1000)?;
-        assert_eq!(rt; drained, 1000);
-        assert_eq!(rt; taken, 1000);
-        assert!(rt; whole);
+fn rests_and_the_end_cross_a_line_in_order(rt: HostRuntime) -> Result<(), Fail> {
+    for (times, bound, rests, due) in [
+        (200, 2, [1, 2, 3], (2, 4, true, true)),
+        (1, 1, [0, 999, 999], (1000, 1000, true, true)),
+        (1, 2, [0, 999, 999], (1000, 1000, true, true)),
+        (1, 64, [0, 999, 999], (1000, 1000, true, true)),
+    ] {
+        for _ in 0..times {
+            let crossed = cross(&rt, rt.alloc(), bound, rests)?;
+            assert_eq!(rt; crossed, due);
+        }
     }
     Ok(())
 }

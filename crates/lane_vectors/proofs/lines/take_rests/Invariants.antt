@@ -1,5 +1,5 @@
 use Rattle.std.proofs.Common.{◌≡◌}
-use Rattle.lane_vectors.proofs.lines.take_many.Given as goal
+use Rattle.lane_vectors.proofs.lines.take_rests.Given as goal
 
 abbrev pub invariant-loop : goal.invariant-loop
 invariant-loop g l =
