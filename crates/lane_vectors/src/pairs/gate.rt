@@ -3,7 +3,9 @@ use nc_number::Point;
 use nc_outside::{Failed, Move, Turret};
 use std::sync::atomic::AtomicU64;
 use std::sync::atomic::Ordering::SeqCst;
+use std::thread;
 
+// So often it looks, and lets other threads run in between.
 const LOOKS: u32 = 10_000_000;
 
 #[derive(Drop)]
@@ -34,6 +36,7 @@ impl<'a> Turret for GateTurret<'a> {
             if self.other.load(SeqCst) >= self.least {
                 return Ok(());
             }
+            thread::yield_now();
         }
         self.faults = self.faults.saturating_add(1);
         Err(Failed)
