@@ -1,8 +1,9 @@
-use block_forms::{CallKind, Called, FlowBlock, WaitCodes, read_block};
-use block_order::Control;
-use nc_number::{Failing, NoMemory};
-use nc_text::Reader;
-use std::alloc::Global;
+//! What a block says: its refusal, what it does to the order of blocks, and the call that it is.
+use crate::tape::read;
+use block_forms::{FlowBlock, WaitCodes, read_block};
+use nc_number::Failing;
+use nc_text::{Block, Tape};
+use std::alloc::{AllocError, Global};
 use std::test::Fail;
 
 const BITS: WaitCodes = WaitCodes {
@@ -12,7 +13,7 @@ const BITS: WaitCodes = WaitCodes {
 };
 
 /// A block and the number of its refusal, 0 where it is accepted.
-const ROWS: &str = "\
+const REFUSALS: &str = "\
 M101 G00|57
 M101 P1|58
 G20|56
@@ -91,100 +92,91 @@ G41 M#1 X1.1234567|5
 G41 M#1|54
 G41 M03 M08|56";
 
-/// The first block of a program of this text and M30, or the number of its refusal.
-fn read(alloc: Global, text: &str) -> Result<Result<FlowBlock, u8>, Fail> {
-    let mut reader = Reader::new(alloc, 0)?;
-    reader.feed(b"%\nO1\n")?;
-    reader.feed(text.as_bytes())?;
-    reader.feed(b"\nM30\n%\n")?;
-    let tape = reader.finish()?;
-    let program = tape.as_slice().first().ok_or("no program")?;
-    let block = program.blocks.as_slice().first().ok_or("no block")?;
+/// A block and what it does to the order of blocks.
+const CONTROLS: &str = "\
+M99|Back
+M99 P20|BackTo(20)
+M30|End
+M101|Wait(101)
+IF [#1 EQ 0] GOTO 90|Goto(Some(90))
+GOTO #1|Goto(None)
+WHILE [1 EQ 1] DO2|While(2)
+DO1|Do(1)
+END2|EndLoop(2)
+#1=2|Next";
+
+/// A block and the call that it is: the program, how often it runs, and by which kind of call.
+const CALLS: &str = "\
+M98 P30203|203 3 Subprogram
+M98 P203 L4|203 4 Subprogram
+M98 P10000|0 1 Subprogram
+G65 P1000 A1.|1000 1 Macro
+G65 P1 P2|2 1 Macro
+X1.|none";
+
+/// The first block of a tape.
+fn first_block(tape: &Tape) -> Option<&Block> {
+    match tape.as_slice() {
+        [program, ..] => program.blocks.as_slice().first(),
+        [] => None,
+    }
+}
+
+/// The call that a block is.
+fn call_of(alloc: Global, block: &FlowBlock) -> Result<String, AllocError> {
+    match block.calls() {
+        Some(called) => {
+            let (program, repeats, kind) = (called.program, called.repeats, called.kind);
+            format!(in alloc; "{program} {repeats} {kind:?}")
+        }
+        None => String::from_str(alloc, "none"),
+    }
+}
+
+/// What is asked of a block that is accepted.
+fn said(alloc: Global, block: &FlowBlock, asked: &str) -> Result<String, AllocError> {
+    match asked {
+        "control" => {
+            let control = block.control;
+            format!(in alloc; "{control:?}")
+        }
+        "call" => call_of(alloc, block),
+        _ => String::from_str(alloc, "0"),
+    }
+}
+
+/// What is asked of a block, or the number of its refusal.
+fn answer(alloc: Global, block: &Block, asked: &str) -> Result<String, AllocError> {
     match read_block(alloc, block, &BITS) {
-        Ok(block) => Ok(Ok(block)),
-        Err(Failing::Fault(fault)) => Ok(Err(fault.number)),
-        Err(Failing::NoMemory) => Err(NoMemory)?,
+        Ok(block) => said(alloc, &block, asked),
+        Err(Failing::Fault(fault)) => {
+            let number = fault.number;
+            format!(in alloc; "{number}")
+        }
+        Err(Failing::NoMemory) => String::from_str(alloc, "no memory"),
     }
 }
 
-fn refusal_of(alloc: Global, text: &str) -> Result<u8, Fail> {
-    match read(alloc, text)? {
-        Ok(_) => Ok(0),
-        Err(number) => Ok(number),
-    }
+/// Whether the block of a row, the first of its program, says what the row wants.
+fn holds(alloc: Global, asked: &str, row: &str) -> Result<bool, Fail> {
+    let (text, wanted) = row.split_once('|').ok_or("a block and what it says")?;
+    let text = format!(in alloc; "%~O1~{text}~M30~%~")?;
+    let tape = read(alloc, text.as_str())?;
+    let block = first_block(&tape).ok_or("a block")?;
+    let got = answer(alloc, block, asked)?;
+    Ok(got.as_str() == wanted)
 }
 
 #[test]
-fn each_refusal_has_its_blocks(rt: HostRuntime) -> Result<(), Fail> {
-    for row in ROWS.lines() {
-        let (text, number) = row.split_once('|').ok_or("no row")?;
-        let found = refusal_of(rt.alloc(), text)?;
-        assert_eq!(rt; found, number.parse::<u8>()?, "{text}");
+fn what_a_block_says(rt: HostRuntime) -> Result<(), Fail> {
+    for (asked, rows) in [
+        ("refusal", REFUSALS),
+        ("control", CONTROLS),
+        ("call", CALLS),
+    ] {
+        for row in rows.lines() {
+            assert!(&rt; holds(rt.alloc(), asked, row)?, "{asked} {row}");
+        }
     }
-    Ok(())
-}
-
-fn control_of(alloc: Global, text: &str) -> Result<Control, Fail> {
-    match read(alloc, text)? {
-        Ok(block) => Ok(block.control),
-        Err(_) => Err("refused")?,
-    }
-}
-
-fn call_of(alloc: Global, text: &str) -> Result<Option<Called>, Fail> {
-    match read(alloc, text)? {
-        Ok(block) => Ok(block.calls()),
-        Err(_) => Err("refused")?,
-    }
-}
-
-fn called(program: u16, repeats: u16, kind: CallKind) -> Option<Called> {
-    Some(Called {
-        program,
-        repeats,
-        kind,
-    })
-}
-
-#[test]
-fn a_block_controls_the_order(rt: HostRuntime) -> Result<(), Fail> {
-    let alloc = rt.alloc();
-    assert_eq!(rt; control_of(alloc, "M99")?, Control::Back);
-    assert_eq!(rt; control_of(alloc, "M99 P20")?, Control::BackTo(20));
-    assert_eq!(rt; control_of(alloc, "M30")?, Control::End);
-    assert_eq!(rt; control_of(alloc, "M101")?, Control::Wait(101));
-    assert_eq!(rt;
-        control_of(alloc, "IF [#1 EQ 0] GOTO 90")?,
-        Control::Goto(Some(90))
-    );
-    assert_eq!(rt; control_of(alloc, "GOTO #1")?, Control::Goto(None));
-    assert_eq!(rt; control_of(alloc, "WHILE [1 EQ 1] DO2")?, Control::While(2));
-    assert_eq!(rt; control_of(alloc, "DO1")?, Control::Do(1));
-    assert_eq!(rt; control_of(alloc, "END2")?, Control::EndLoop(2));
-    assert_eq!(rt; control_of(alloc, "#1=2")?, Control::Next);
-    Ok(())
-}
-
-#[test]
-fn a_block_calls_a_program(rt: HostRuntime) -> Result<(), Fail> {
-    let alloc = rt.alloc();
-    assert_eq!(rt;
-        call_of(alloc, "M98 P30203")?,
-        called(203, 3, CallKind::Subprogram)
-    );
-    assert_eq!(rt;
-        call_of(alloc, "M98 P203 L4")?,
-        called(203, 4, CallKind::Subprogram)
-    );
-    assert_eq!(rt;
-        call_of(alloc, "M98 P10000")?,
-        called(0, 1, CallKind::Subprogram)
-    );
-    assert_eq!(rt;
-        call_of(alloc, "G65 P1000 A1.")?,
-        called(1000, 1, CallKind::Macro)
-    );
-    assert_eq!(rt; call_of(alloc, "G65 P1 P2")?, called(2, 1, CallKind::Macro));
-    assert_eq!(rt; call_of(alloc, "X1.")?, None);
     Ok(())
 }

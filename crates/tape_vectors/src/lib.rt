@@ -4,6 +4,8 @@
 #![tactic(auto)]
 
 #[cfg(test)]
+mod call;
+#[cfg(test)]
 mod flows;
 #[cfg(test)]
 mod forms;
@@ -11,5 +13,7 @@ mod forms;
 mod orders;
 #[cfg(test)]
 mod places;
+#[cfg(test)]
+mod tape;
 #[cfg(test)]
 mod texts;

@@ -3,13 +3,63 @@ ghost use Rattle.std.specs.Prelude.{◌≡◌, ◌++◌, true, IfOk, OnOk};
 ghost use Rattle.block_order.specs.Shape.{RiseFrom, IsListed, lines_of_program, lines_in};
 ghost use Rattle.block_order.specs.declared.program.ControlProgram.{ControlProgram};
 
+use crate::call::{Call, call_of, number};
+use crate::tape::refusal;
 use block_order::{BlockOrder, Control, ControlBlock, ControlBlockList, ControlProgram};
 use nc_number::{Failing, NoMemory};
 use std::alloc::Global;
 use std::test::Fail;
 
-/// The blocks of a program, each with its sequence number, or 0 for none.
-type Blocks<'a> = &'a [(u32, Control)];
+/// The programs of a tape, parted by `;`, each with the line of its O number and its blocks, of which each stands a line further on
+/// than the one before; and the refusal of the tape, or `none`. Or, behind a `|`, where a jump from a block of the first program
+/// leads: a search for its sequence number, or the target that is permitted.
+const ROWS: &str = "\
+O1 1: GOTO 10, M100, N10 M30; O2 101: M99 = refused 65 line 2
+O1 1: GOTO 10, N10 X1., M100, M30; O2 101: M99 = none
+O1 1: GOTO #1, M100, N10 M30; O2 101: M99 = refused 65 line 2
+O1 1: N10 X1., M100, GOTO #1, M30; O2 101: M99 = refused 65 line 4
+O1 1: GOTO #1, N10 X1., M100, N10 M30; O2 101: M99 = none
+O1 1: DO 1, M100, END 1, M30; O2 101: M99 = refused 65 line 4
+O1 1: DO 1, END 1, M100, M30; O2 101: M99 = none
+O1 1: M98 P2, M100, N10 M30; O2 101: M99 P10 = refused 65 line 2
+O1 1: M98 P2, N10 M100, M30; O2 101: M99 P10 = none
+O1 1: M98 P2, N10 M30; O2 101: M100, M99 P10 = refused 65 line 103
+O1 1: N20 X1., N20 M100, N10 M98 P2, N20 M30; O2 101: \
+M99 P20, M99 P20, M99 P20, M99 P20, M99 P20, M99 P20, M99 P20, M99 P20, M99 P20, M99 P20, \
+M99 P20, M99 P20, M99 P20, M99 P20, M99 P20, M99 P20, M99 P20, M99 P20, M99 P20, M99 P20, \
+M99 P20, M99 P20, M99 P20, M99 P20, M99 P20, M99 P20, M99 P20, M99 P20, M99 P20, M99 P20, \
+M99 P20, M99 P20, M99 P20, M99 P20, M99 P20, M99 P20, M99 P20, M99 P20, M99 P20, M99 P20, \
+M99 P20, M99 P20, M99 P20, M99 P20, M99 P20, M99 P20, M99 P20, M99 P20, M99 P20, M99 P20, \
+M99 P20, M99 P20, M99 P20, M99 P20, M99 P20, M99 P20, M99 P20, M99 P20, M99 P20, M99 P20, \
+M99 P20, M99 P20, M99 P20, M99 P20, M99 P20, M99 P20, M99 P20, M99 P20, M99 P20, M99 P10 = none
+O1 1: N10 M100, N20 M98 P2, M98 P2, M30; O2 101: \
+M99 P20, M99 P20, M99 P20, M99 P20, M99 P20, M99 P20, M99 P20, M99 P20, M99 P20, M99 P20, \
+M99 P20, M99 P20, M99 P20, M99 P20, M99 P20, M99 P20, M99 P20, M99 P20, M99 P20, M99 P20, \
+M99 P20, M99 P20, M99 P20, M99 P20, M99 P20, M99 P20, M99 P20, M99 P20, M99 P20, M99 P20, \
+M99 P20, M99 P20, M99 P20, M99 P20, M99 P20, M99 P20, M99 P20, M99 P20, M99 P20, M99 P20, \
+M99 P20, M99 P20, M99 P20, M99 P20, M99 P20, M99 P20, M99 P20, M99 P20, M99 P20, M99 P20, \
+M99 P20, M99 P20, M99 P20, M99 P20, M99 P20, M99 P20, M99 P20, M99 P20, M99 P20, M99 P20, \
+M99 P20, M99 P20, M99 P20, M99 P20, M99 P20, M99 P20, M99 P20, M99 P20, M99 P20, M99 P10 = refused 65 line 3
+O1 1: M98 P2, M99; O2 11: M98 P3, M99; O3 21: M98 P4, M99; O4 31: M98 P5, M99; O5 41: M98 P6, M99; \
+O6 51: M98 P7, M99; O7 61: M98 P8, M99; O8 71: M98 P9, M99; O9 81: M100, M99 = none
+O1 1: M98 P2, M99; O2 11: M98 P3, M99; O3 21: M98 P4, M99; O4 31: M98 P5, M99; O5 41: M98 P6, M99; \
+O6 51: M98 P7, M99; O7 61: M98 P8, M99; O8 71: M98 P9, M99; O9 81: M98 P10, M99; O10 91: M100, M99 = refused 66 line 82
+O1 1: DO 1, DO 1, END 1, END 1 = refused 52 line 3
+O1 1: DO 1, DO 1, END 1 = refused 52 line 2
+O1 1: DO 1, WHILE 2, END 1, END 2 = refused 52 line 4
+O1 1: END 1 = refused 52 line 2
+O1 1: WHILE 1, DO 2, END 2, END 1, DO 1, END 1 = none
+O1 2: DO 1, END 1; O1 5: DO 1, DO 2, END 1 = refused 60 line 5
+O1 1: N10 X1., N20 X1., N10 X1., GOTO 10 | seek 0 10 = Some(2)
+O1 1: N10 X1., N20 X1., N10 X1., GOTO 10 | seek 1 10 = Some(2)
+O1 1: N10 X1., N20 X1., N10 X1., GOTO 10 | seek 2 10 = Some(0)
+O1 1: N10 X1., N20 X1., N10 X1., GOTO 10 | seek 3 10 = Some(0)
+O1 1: N10 X1., N20 X1., N10 X1., GOTO 10 | seek 2 20 = Some(1)
+O1 1: N10 X1., N20 X1., N10 X1., GOTO 10 | seek 2 30 = None
+O1 1: X1., DO 1, N10 X1., X1., END 1, X1. | target 1 10 = None
+O1 1: X1., DO 1, N10 X1., X1., END 1, X1. | target 2 10 = Some(2)
+O1 1: X1., DO 1, N10 X1., X1., END 1, X1. | target 4 10 = Some(2)
+O1 1: X1., DO 1, N10 X1., X1., END 1, X1. | target 5 10 = None";
 
 fn push_lines(lines: &mut Vec<u32>, program: &ControlProgram) -> Result<(), NoMemory>
     ensures { OnOk result (lines.new.items ≡ lines.old.items ++ lines_of_program program.now) }
@@ -55,313 +105,106 @@ fn is_listed(alloc: Global, tape: &[ControlProgram]) -> Result<bool, NoMemory>
     Ok(rising)
 }
 
-fn program_of(
-    alloc: Global,
-    number: u16,
-    line: u32,
-    rows: Blocks,
-) -> Result<ControlProgram, NoMemory> {
+/// What a block does to the order of blocks.
+fn control_of(call: Call) -> Control {
+    let name = u8::try_from(call.first).unwrap_or(0);
+    match call.name {
+        "GOTO" if call.first == 0 => Control::Goto(None),
+        "GOTO" => Control::Goto(Some(u32::from(call.first))),
+        "WHILE" => Control::While(name),
+        "DO" => Control::Do(name),
+        "END" => Control::EndLoop(name),
+        "M100" => Control::Wait(100),
+        "M30" => Control::End,
+        "M98" => Control::Call {
+            program: call.first,
+            repeats: 1,
+        },
+        "M99" if call.first == 0 => Control::Back,
+        "M99" => Control::BackTo(u32::from(call.first)),
+        _ => Control::Next,
+    }
+}
+
+/// The block at a line, with its sequence number where it has one.
+fn block_of(line: u32, text: &str) -> ControlBlock {
+    let (sequence, said) = match text.strip_prefix('N') {
+        Some(numbered) => numbered.split_once(' ').unwrap_or((numbered, "")),
+        None => ("", text),
+    };
+    ControlBlock {
+        line,
+        sequence: sequence.parse().ok(),
+        control: control_of(call_of(said)),
+    }
+}
+
+fn blocks_of(alloc: Global, line: u32, text: &str) -> Result<ControlBlockList, NoMemory> {
     let mut blocks = Vec::new(alloc);
     let mut next = line;
-    for (sequence, control) in rows {
+    for block in text.split(", ") {
         next = next.saturating_add(1);
-        let sequence = if *sequence == 0 {
-            None
-        } else {
-            Some(*sequence)
-        };
-        let control = *control;
-        blocks.push(ControlBlock {
-            line: next,
-            sequence,
-            control,
-        })?;
+        blocks.push(block_of(next, block))?;
     }
-    let blocks = ControlBlockList::of(blocks);
+    Ok(ControlBlockList::of(blocks))
+}
+
+fn program_of(alloc: Global, text: &str) -> Result<ControlProgram, NoMemory> {
+    let (head, blocks) = text.split_once(": ").unwrap_or((text, ""));
+    let head = call_of(head);
+    let line = u32::from(head.first);
     Ok(ControlProgram {
-        number,
+        number: number(head.name.strip_prefix('O')),
         line,
-        blocks,
+        blocks: blocks_of(alloc, line, blocks)?,
     })
 }
 
-/// The line and the number of the first fault; 0 and 0 where there is none, and 1 and 0 where the lines of the tape don't rise.
-fn first(alloc: Global, tape: Vec<ControlProgram>) -> Result<(u32, u16), NoMemory> {
-    if !is_listed(alloc, &tape)? {
-        return Ok((1, 0));
+fn tape_of(alloc: Global, text: &str) -> Result<Vec<ControlProgram>, NoMemory> {
+    let mut tape = Vec::new(alloc);
+    for program in text.split("; ") {
+        tape.push(program_of(alloc, program)?)?;
     }
+    Ok(tape)
+}
+
+/// Where a jump of the first program leads, or `none` where nothing is asked.
+fn told(alloc: Global, order: &BlockOrder, call: Call) -> Result<String, NoMemory> {
+    let (block, number) = (u32::from(call.first), u32::from(call.second));
+    let led = match call.name {
+        "seek" => order.seek(1, block, number),
+        "target" => order.target(1, block, number).ok(),
+        _ => return Ok(String::from_str(alloc, "none")?),
+    };
+    Ok(format!(in alloc; "{led:?}")?)
+}
+
+/// The refusal of a tape, or what is asked of its order.
+fn answer(alloc: Global, tape: Vec<ControlProgram>, call: Call) -> Result<String, NoMemory>
+    requires { IsListed tape.items }
+{
     match BlockOrder::check(alloc, tape) {
-        Ok(_) => Ok((0, 0)),
-        Err(Failing::Fault(fault)) => Ok((fault.line, u16::from(fault.cause.number()))),
+        Ok(order) => told(alloc, &order, call),
+        Err(Failing::Fault(fault)) => Ok(refusal(alloc, fault.cause.number(), fault.line)?),
         Err(Failing::NoMemory) => Err(NoMemory),
     }
 }
 
-/// The same for the main program alone, with its blocks from line 2 on.
-fn one(alloc: Global, main: Blocks) -> Result<(u32, u16), NoMemory> {
-    let mut tape = Vec::new(alloc);
-    tape.push(program_of(alloc, 1, 1, main)?)?;
-    first(alloc, tape)
-}
-
-/// The main program with O number 1 at line 1, and one called with O number 2 at line 101.
-fn two(alloc: Global, main: Blocks, called: Blocks) -> Result<(u32, u16), NoMemory> {
-    let mut tape = Vec::new(alloc);
-    tape.push(program_of(alloc, 1, 1, main)?)?;
-    tape.push(program_of(alloc, 2, 101, called)?)?;
-    first(alloc, tape)
-}
-
-/// Programs with O numbers 1, 2, 3 and so on, each of which calls the next; the last has a wait.
-fn chain(alloc: Global, calls: u16) -> Result<(u32, u16), NoMemory> {
-    let mut tape = Vec::new(alloc);
-    for number in 0..calls {
-        let call = Control::Call {
-            program: number.saturating_add(2),
-            repeats: 1,
-        };
-        let line = u32::from(number) * 10 + 1;
-        tape.push(program_of(
-            alloc,
-            number.saturating_add(1),
-            line,
-            &[(0, call), (0, Control::Back)],
-        )?)?;
-    }
-    let line = u32::from(calls) * 10 + 1;
-    tape.push(program_of(
-        alloc,
-        calls.saturating_add(1),
-        line,
-        &[(0, Control::Wait(100)), (0, Control::Back)],
-    )?)?;
-    first(alloc, tape)
-}
-
-const WAIT: Control = Control::Wait(100);
-
-const QUIET: Blocks<'static> = &[(0, Control::Back)];
-
-#[test]
-fn a_jump_over_a_wait_is_refused(rt: HostRuntime) {
-    let goto = Control::Goto(Some(10));
-    let computed = Control::Goto(None);
-    let end = Control::End;
-    let alloc = rt.alloc();
-    assert_eq!(rt;
-        two(alloc, &[(0, goto), (0, WAIT), (10, end)], QUIET).ok(),
-        Some((2, 65))
-    );
-    assert_eq!(rt;
-        two(
-            alloc,
-            &[(0, goto), (10, Control::Next), (0, WAIT), (0, end)],
-            QUIET
-        )
-        .ok(),
-        Some((0, 0))
-    );
-    assert_eq!(rt;
-        two(alloc, &[(0, computed), (0, WAIT), (10, end)], QUIET).ok(),
-        Some((2, 65))
-    );
-    assert_eq!(rt;
-        two(
-            alloc,
-            &[(10, Control::Next), (0, WAIT), (0, computed), (0, end)],
-            QUIET
-        )
-        .ok(),
-        Some((4, 65))
-    );
-    assert_eq!(rt;
-        two(
-            alloc,
-            &[(0, computed), (10, Control::Next), (0, WAIT), (10, end)],
-            QUIET
-        )
-        .ok(),
-        Some((0, 0))
-    );
-}
-
-#[test]
-fn a_loop_over_a_wait_is_refused(rt: HostRuntime) {
-    let (head, close) = (Control::Do(1), Control::EndLoop(1));
-    let alloc = rt.alloc();
-    assert_eq!(rt;
-        two(
-            alloc,
-            &[(0, head), (0, WAIT), (0, close), (0, Control::End)],
-            QUIET
-        )
-        .ok(),
-        Some((4, 65))
-    );
-    assert_eq!(rt;
-        two(
-            alloc,
-            &[(0, head), (0, close), (0, WAIT), (0, Control::End)],
-            QUIET
-        )
-        .ok(),
-        Some((0, 0))
-    );
-}
-
-#[test]
-fn a_return_over_a_wait_is_refused(rt: HostRuntime) {
-    let call = Control::Call {
-        program: 2,
-        repeats: 1,
-    };
-    let back = Control::BackTo(10);
-    let alloc = rt.alloc();
-    assert_eq!(rt;
-        two(
-            alloc,
-            &[(0, call), (0, WAIT), (10, Control::End)],
-            &[(0, back)]
-        )
-        .ok(),
-        Some((2, 65))
-    );
-    assert_eq!(rt;
-        two(
-            alloc,
-            &[(0, call), (10, WAIT), (0, Control::End)],
-            &[(0, back)]
-        )
-        .ok(),
-        Some((0, 0))
-    );
-    assert_eq!(rt;
-        two(
-            alloc,
-            &[(0, call), (10, Control::End)],
-            &[(0, WAIT), (0, back)]
-        )
-        .ok(),
-        Some((103, 65))
-    );
-}
-
-#[test]
-fn a_return_of_many_over_a_wait_is_refused(rt: HostRuntime) {
-    let call = Control::Call {
-        program: 2,
-        repeats: 1,
-    };
-    let mut returns = [(0, Control::BackTo(20)); 70];
-    returns[69] = (0, Control::BackTo(10));
-    let alloc = rt.alloc();
-    assert_eq!(rt;
-        two(
-            alloc,
-            &[
-                (20, Control::Next),
-                (20, WAIT),
-                (10, call),
-                (20, Control::End)
-            ],
-            &returns
-        )
-        .ok(),
-        Some((0, 0))
-    );
-    assert_eq!(rt;
-        two(
-            alloc,
-            &[(10, WAIT), (20, call), (0, call), (0, Control::End)],
-            &returns
-        )
-        .ok(),
-        Some((3, 65))
-    );
-}
-
-#[test]
-fn the_ninth_call_before_a_wait_is_refused(rt: HostRuntime) {
-    assert_eq!(rt; chain(rt.alloc(), 8).ok(), Some((0, 0)));
-    assert_eq!(rt; chain(rt.alloc(), 9).ok(), Some((82, 66)));
-}
-
-#[test]
-fn heads_and_ends_that_dont_fit_are_found(rt: HostRuntime) -> Result<(), Fail> {
-    let alloc = rt.alloc();
-    let (outer, inner) = ((0, Control::Do(1)), (0, Control::Do(2)));
-    let (close, inner_close) = ((0, Control::EndLoop(1)), (0, Control::EndLoop(2)));
-    assert_eq!(rt; one(alloc, &[outer, outer, close, close])?, (3, 52));
-    assert_eq!(rt; one(alloc, &[outer, outer, close])?, (2, 52));
-    let overlapping = [outer, (0, Control::While(2)), close, inner_close];
-    assert_eq!(rt; one(alloc, &overlapping)?, (4, 52));
-    assert_eq!(rt; one(alloc, &[close])?, (2, 52));
-    let fitting = [
-        (0, Control::While(1)),
-        inner,
-        inner_close,
-        close,
-        outer,
-        close,
-    ];
-    assert_eq!(rt; one(alloc, &fitting)?, (0, 0));
-    Ok(())
-}
-
-#[test]
-fn the_first_line_that_does_not_fit_is_named(rt: HostRuntime) -> Result<(), Fail> {
-    let alloc = rt.alloc();
-    let (head, close) = ((0, Control::Do(1)), (0, Control::EndLoop(1)));
-    let mut tape = Vec::new(alloc);
-    tape.push(program_of(alloc, 1, 2, &[head, close])?)?;
-    tape.push(program_of(alloc, 1, 5, &[head, (0, Control::Do(2)), close])?)?;
-    assert_eq!(rt; first(alloc, tape)?, (5, 60));
-    Ok(())
-}
-
-/// The order of the main program alone.
-fn order_of(alloc: Global, main: Blocks) -> Result<BlockOrder, Fail> {
-    let mut tape = Vec::new(alloc);
-    tape.push(program_of(alloc, 1, 1, main)?)?;
+fn holds(alloc: Global, row: &str) -> Result<bool, Fail> {
+    let (asked, wanted) = row.split_once(" = ").ok_or("a tape and what is told")?;
+    let (text, call) = asked.split_once(" | ").unwrap_or((asked, ""));
+    let tape = tape_of(alloc, text)?;
     if !is_listed(alloc, &tape)? {
-        return Err(Fail::new("lines that don't rise"));
+        return Ok(false);
     }
-    match BlockOrder::check(alloc, tape) {
-        Ok(order) => Ok(order),
-        Err(_) => Err(Fail::new("a tape that is refused")),
-    }
+    let got = answer(alloc, tape, call_of(call))?;
+    Ok(got.as_str() == wanted)
 }
 
 #[test]
-fn a_jump_finds_the_next_block_of_its_number(rt: HostRuntime) -> Result<(), Fail> {
-    let next = Control::Next;
-    let jump = Control::Goto(Some(10));
-    let order = order_of(rt.alloc(), &[(10, next), (20, next), (10, next), (0, jump)])?;
-    for (block, number, found) in [
-        (0, 10, Some(2)),
-        (1, 10, Some(2)),
-        (2, 10, Some(0)),
-        (3, 10, Some(0)),
-        (2, 20, Some(1)),
-        (2, 30, None),
-    ] {
-        assert_eq!(rt;
-            order.seek(1, block, number),
-            found,
-            "{number} from {block}"
-        );
-    }
-    Ok(())
-}
-
-#[test]
-fn a_jump_into_a_loop_comes_from_its_blocks(rt: HostRuntime) -> Result<(), Fail> {
-    let next = (0, Control::Next);
-    let (head, close) = ((0, Control::Do(1)), (0, Control::EndLoop(1)));
-    let blocks = [next, head, (10, Control::Next), next, close, next];
-    let order = order_of(rt.alloc(), &blocks)?;
-    for (block, led) in [(1, None), (2, Some(2)), (4, Some(2)), (5, None)] {
-        assert_eq!(rt; order.target(1, block, 10).ok(), led, "from {block}");
+fn a_tape_and_the_first_fault_of_its_order(rt: HostRuntime) -> Result<(), Fail> {
+    for row in ROWS.lines() {
+        assert!(&rt; holds(rt.alloc(), row)?, "{row}");
     }
     Ok(())
 }

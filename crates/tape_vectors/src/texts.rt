@@ -1,118 +1,103 @@
+//! Texts, and the programs, blocks and words that are read in them.
+use crate::tape::{read_in, refusal};
 use nc_number::Failing;
-use nc_text::{Body, Reader, Tape, TextFault};
-use std::alloc::Global;
+use nc_text::{Block, Body, Program, Word};
+use std::alloc::{AllocError, Global};
 use std::test::Fail;
 
-/// The answer for a text that comes in pieces of this length.
-fn read_in(
-    alloc: Global,
-    skips: u16,
-    text: &[u8],
-    step: usize,
-) -> Result<Tape, Failing<TextFault>> {
-    let mut reader = Reader::new(alloc, skips)?;
-    for piece in text.chunks(step.max(1)) {
-        reader.feed(piece)?;
+/// The skip switches that are set, 2 for the first one, 4 for the second and on; a text, or several that read the same, parted by
+/// `|`; and what is read: each program and each block with its line, and each word with the places before and behind its value, or
+/// the refusal. `~` stands for the end of a line.
+const ROWS: &str = "\
+4: HEAD~%~o1 (a)~n10 g0 x1.5;~/2 g1 z-.5 f.1~%~ = O1 line 3, line 4 N10 G0 5-6 X1.5 8-11
+0: HEAD~%~o1 (a)~n10 g0 x1.5;~/2 g1 z-.5 f.1~%~ = O1 line 3, line 4 N10 G0 5-6 X1.5 8-11, line 5 G1 4-5 Z-.5 7-10 F.1 12-14
+2: %~O1~/N123456789 X1~%~ = O1 line 2
+2: %~O1~/N100000~%~ = O1 line 2
+2: %~/X1~O1~%~ = O1 line 3
+2: %~/X1~%~ = refused 13 line 1
+2: %~O1~/1X$~%~ = refused 10 line 3
+2: %~O1~/X~%~ = refused 11 line 3
+2: %~O1~/N123456789 X~%~ = refused 11 line 3
+2: %~O1~/O2~%~ = refused 11 line 3
+2: %~O1~/(A~%~ = refused 12 line 3
+2: %~O1~/2N100000~%~ = refused 64 line 3
+2: a~%b~O1~X1~%c~|d~%~O1~X1~%~ = O1 line 3, line 4 X1 1-2
+2: %~o1~n5 x-1.~%~|%~O1~N5 X-1.~%~ = O1 line 2, line 3 N5 X-1. 4-7
+2: %\r~O1\r~\r~X1\r~%\r~|%~O1~~X1~%~ = O1 line 2, line 4 X1 1-2
+2: %\t~O1 ~X1\t ;\t~%~|%~O1~X1~%~ = O1 line 2, line 3 X1 1-2
+2: %~O1~ (A)\t(B)~X1~%~|%~O1~~X1~%~ = O1 line 2, line 4 X1 1-2
+2: %~O1~/N9 X9.~X1~%~|%~O1~~X1~%~ = O1 line 2, line 4 X1 1-2";
+
+/// Each word with its value, and the places before and behind it.
+fn put_words(out: &mut String, words: &[Word]) -> Result<(), AllocError> {
+    for word in words {
+        let (letter, start, end) = (char::from(word.letter), word.start, word.end);
+        let value = str::from_utf8(word.text.as_slice()).unwrap_or("?");
+        write!(out, " {letter}{value} {start}-{end}")?;
     }
-    reader.finish()
+    Ok(())
 }
 
-/// The number and the line of the refusal, or zeros where there is none.
-fn refusal(alloc: Global, skips: u16, text: &[u8]) -> (u8, u32) {
-    match read_in(alloc, skips, text, 1_000_000) {
-        Ok(_) => (0, 0),
-        Err(Failing::Fault(fault)) => (fault.number, fault.line),
-        Err(Failing::NoMemory) => (255, 0),
+/// A block with its line and its sequence number.
+fn put_block(out: &mut String, block: &Block) -> Result<(), AllocError> {
+    let line = block.line;
+    write!(out, ", line {line}")?;
+    if let Some(number) = block.sequence {
+        write!(out, " N{number}")?;
     }
-}
-
-const HEAD: &[u8] = b"HEAD\n%\no1 (a)\nn10 g0 x1.5;\n/2 g1 z-.5 f.1\n%\n";
-
-#[test]
-fn a_skipped_block_counts_as_absent(rt: HostRuntime) {
-    let tape = read_in(rt.alloc(), 4, HEAD, 7).expect(&rt, "a tape");
-    let programs = tape.as_slice();
-    assert_eq!(&rt; programs.len(), 1);
-    assert_eq!(&rt; (programs[0].number, programs[0].line), (1, 3));
-    let blocks = programs[0].blocks.as_slice();
-    assert_eq!(&rt; blocks.len(), 1);
-    assert_eq!(&rt; (blocks[0].line, blocks[0].sequence), (4, Some(10)));
-    if let Body::Words(words) = &blocks[0].body {
-        let words = words.as_slice();
-        assert_eq!(&rt; words.len(), 2);
-        assert_eq!(&rt;
-            (words[0].letter, words[0].start, words[0].end),
-            (b'G', 5, 6)
-        );
-        assert_eq!(&rt; words[0].text.as_slice(), b"0".as_slice());
-        assert_eq!(&rt;
-            (words[1].letter, words[1].start, words[1].end),
-            (b'X', 8, 11)
-        );
-        assert_eq!(&rt; words[1].text.as_slice(), b"1.5".as_slice());
-    } else {
-        assert!(&rt; false, "words");
+    match &block.body {
+        Body::Words(words) => put_words(out, words.as_slice()),
+        Body::Statement(_) => out.push_str(" a statement"),
     }
 }
 
-#[test]
-fn a_block_is_read_where_its_switch_is_not_set(rt: HostRuntime) {
-    let tape = read_in(rt.alloc(), 0, HEAD, 1).expect(&rt, "a tape");
-    let programs = tape.as_slice();
-    assert_eq!(&rt; programs.len(), 1);
-    let blocks = programs[0].blocks.as_slice();
-    assert_eq!(&rt; blocks.len(), 2);
-    assert_eq!(&rt; (blocks[1].line, blocks[1].sequence), (5, None));
-    if let Body::Words(words) = &blocks[1].body {
-        let words = words.as_slice();
-        assert_eq!(&rt; words.len(), 3);
-        assert_eq!(&rt;
-            (words[0].letter, words[1].letter, words[2].letter),
-            (b'G', b'Z', b'F')
-        );
-        assert_eq!(&rt; words[1].text.as_slice(), b"-.5".as_slice());
-        assert_eq!(&rt; words[2].text.as_slice(), b".1".as_slice());
-    } else {
-        assert!(&rt; false, "words");
+/// A program with its line, and its blocks.
+fn put_program(out: &mut String, program: &Program) -> Result<(), AllocError> {
+    let (number, line) = (program.number, program.line);
+    write!(out, "O{number} line {line}")?;
+    for block in program.blocks.as_slice() {
+        put_block(out, block)?;
+    }
+    Ok(())
+}
+
+fn listing(alloc: Global, programs: &[Program]) -> Result<String, AllocError> {
+    let mut out = String::new(alloc);
+    for program in programs {
+        put_program(&mut out, program)?;
+    }
+    Ok(out)
+}
+
+/// What is read of a text that comes in pieces of that length.
+fn answer(alloc: Global, skips: u16, text: &str, step: usize) -> Result<String, AllocError> {
+    match read_in(alloc, skips, text, step) {
+        Ok(tape) => listing(alloc, tape.as_slice()),
+        Err(Failing::Fault(fault)) => refusal(alloc, fault.number, fault.line),
+        Err(Failing::NoMemory) => String::from_str(alloc, "no memory"),
     }
 }
 
-#[test]
-fn a_skipped_block_must_be_readable(rt: HostRuntime) {
-    let table: [(&[u8], (u8, u32)); 10] = [
-        (b"%\nO1\n/N123456789 X1\n%\n", (0, 0)),
-        (b"%\nO1\n/N100000\n%\n", (0, 0)),
-        (b"%\n/X1\nO1\n%\n", (0, 0)),
-        (b"%\n/X1\n%\n", (13, 1)),
-        (b"%\nO1\n/1X$\n%\n", (10, 3)),
-        (b"%\nO1\n/X\n%\n", (11, 3)),
-        (b"%\nO1\n/N123456789 X\n%\n", (11, 3)),
-        (b"%\nO1\n/O2\n%\n", (11, 3)),
-        (b"%\nO1\n/(A\n%\n", (12, 3)),
-        (b"%\nO1\n/2N100000\n%\n", (64, 3)),
-    ];
-    for (text, wanted) in table {
-        assert_eq!(&rt; refusal(rt.alloc(), 2, text), wanted, "{text:?}");
+/// Whether each text of a row is read so, in pieces of any length.
+fn holds(alloc: Global, row: &str) -> Result<bool, Fail> {
+    let (skips, rest) = row.split_once(": ").ok_or("switches")?;
+    let (texts, wanted) = rest.split_once(" = ").ok_or("texts and what is read")?;
+    let skips = skips.parse::<u16>()?;
+    for text in texts.split('|') {
+        for step in [1_000_000, 7, 1] {
+            let got = answer(alloc, skips, text, step)?;
+            if got.as_str() != wanted {
+                return Ok(false);
+            }
+        }
     }
+    Ok(true)
 }
 
 #[test]
-fn texts_that_read_the_same(rt: HostRuntime) -> Result<(), Fail> {
-    let alloc = rt.alloc();
-    let table: [(&[u8], &[u8]); 6] = [
-        (b"a\n%b\nO1\nX1\n%c\n", b"d\n%\nO1\nX1\n%\n"),
-        (b"%\no1\nn5 x-1.\n%\n", b"%\nO1\nN5 X-1.\n%\n"),
-        (b"%\r\nO1\r\n\r\nX1\r\n%\r\n", b"%\nO1\n\nX1\n%\n"),
-        (b"%\t\nO1 \nX1\t ;\t\n%\n", b"%\nO1\nX1\n%\n"),
-        (b"%\nO1\n (A)\t(B)\nX1\n%\n", b"%\nO1\n\nX1\n%\n"),
-        (b"%\nO1\n/N9 X9.\nX1\n%\n", b"%\nO1\n\nX1\n%\n"),
-    ];
-    for (text, plain) in table {
-        let tape = read_in(alloc, 2, text, 1_000_000).expect(&rt, "a tape");
-        let wanted = read_in(alloc, 2, plain, 1_000_000).expect(&rt, "a tape");
-        let tape = format!(in alloc; "{tape:?}")?;
-        let wanted = format!(in alloc; "{wanted:?}")?;
-        assert_eq!(&rt; tape.as_str(), wanted.as_str(), "{text:?}");
+fn what_is_read_in_a_text(rt: HostRuntime) -> Result<(), Fail> {
+    for row in ROWS.lines() {
+        assert!(&rt; holds(rt.alloc(), row)?, "{row}");
     }
     Ok(())
 }

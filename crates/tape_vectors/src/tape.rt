@@ -1,0 +1,46 @@
+//! The tapes that rows write.
+use nc_number::Failing;
+use nc_text::{Reader, Tape, TextFault};
+use std::alloc::{AllocError, Global};
+
+/// A text with each `~` as the end of a line.
+fn lines_of(alloc: Global, text: &str) -> Result<Vec<u8>, AllocError> {
+    text.bytes()
+        .map(|byte| if byte == b'~' { b'\n' } else { byte })
+        .collect(alloc)
+}
+
+/// The tape of these bytes, which come in pieces of that length.
+fn tape_of(
+    alloc: Global,
+    skips: u16,
+    bytes: &[u8],
+    step: usize,
+) -> Result<Tape, Failing<TextFault>> {
+    let mut reader = Reader::new(alloc, skips)?;
+    for piece in bytes.chunks(step.max(1)) {
+        reader.feed(piece)?;
+    }
+    reader.finish()
+}
+
+/// The tape of a text in which `~` stands for the end of a line, in pieces of that length.
+pub(crate) fn read_in(
+    alloc: Global,
+    skips: u16,
+    text: &str,
+    step: usize,
+) -> Result<Tape, Failing<TextFault>> {
+    let bytes = lines_of(alloc, text)?;
+    tape_of(alloc, skips, bytes.as_slice(), step)
+}
+
+/// The tape of a text in which `~` stands for the end of a line, with no switch set.
+pub(crate) fn read(alloc: Global, text: &str) -> Result<Tape, Failing<TextFault>> {
+    read_in(alloc, 0, text, 1_000_000)
+}
+
+/// The number and the line of a refusal.
+pub(crate) fn refusal(alloc: Global, number: u8, line: u32) -> Result<String, AllocError> {
+    format!(in alloc; "refused {number} line {line}")
+}
