@@ -46,6 +46,7 @@ fn shown(alloc: Global, answer: Result<Flow, Failing<FlowFault>>) -> Result<Stri
     }
 }
 
+/// Whether each tape has its refusal with these settings.
 fn refusals(rt: &impl Abort, alloc: Global, settings: &Settings, rows: &str) -> Result<(), Fail> {
     for row in rows.lines() {
         let (text, wanted) = row.split_once(" -> ").ok_or("a tape and its refusal")?;

@@ -4,6 +4,7 @@ use block_forms::{FlowBlock, WaitCodes, read_block};
 use nc_number::Failing;
 use nc_text::{Block, Tape};
 use std::alloc::{AllocError, Global};
+use std::process::Abort;
 use std::test::Fail;
 
 const BITS: WaitCodes = WaitCodes {
@@ -105,14 +106,14 @@ DO1|Do(1)
 END2|EndLoop(2)
 #1=2|Next";
 
-/// A block and the call that it is: the program, how often it runs, and by which kind of call.
+/// A block and the call that it is.
 const CALLS: &str = "\
-M98 P30203|203 3 Subprogram
-M98 P203 L4|203 4 Subprogram
-M98 P10000|0 1 Subprogram
-G65 P1000 A1.|1000 1 Macro
-G65 P1 P2|2 1 Macro
-X1.|none";
+M98 P30203|Some(Called { program: 203, repeats: 3, kind: Subprogram })
+M98 P203 L4|Some(Called { program: 203, repeats: 4, kind: Subprogram })
+M98 P10000|Some(Called { program: 0, repeats: 1, kind: Subprogram })
+G65 P1000 A1.|Some(Called { program: 1000, repeats: 1, kind: Macro })
+G65 P1 P2|Some(Called { program: 2, repeats: 1, kind: Macro })
+X1.|None";
 
 /// The first block of a tape.
 fn first_block(tape: &Tape) -> Option<&Block> {
@@ -122,25 +123,11 @@ fn first_block(tape: &Tape) -> Option<&Block> {
     }
 }
 
-/// The call that a block is.
-fn call_of(alloc: Global, block: &FlowBlock) -> Result<String, AllocError> {
-    match block.calls() {
-        Some(called) => {
-            let (program, repeats, kind) = (called.program, called.repeats, called.kind);
-            format!(in alloc; "{program} {repeats} {kind:?}")
-        }
-        None => String::from_str(alloc, "none"),
-    }
-}
-
 /// What is asked of a block that is accepted.
 fn said(alloc: Global, block: &FlowBlock, asked: &str) -> Result<String, AllocError> {
     match asked {
-        "control" => {
-            let control = block.control;
-            format!(in alloc; "{control:?}")
-        }
-        "call" => call_of(alloc, block),
+        "control" => format!(in alloc; "{:?}", block.control),
+        "call" => format!(in alloc; "{:?}", block.calls()),
         _ => String::from_str(alloc, "0"),
     }
 }
@@ -149,34 +136,41 @@ fn said(alloc: Global, block: &FlowBlock, asked: &str) -> Result<String, AllocEr
 fn answer(alloc: Global, block: &Block, asked: &str) -> Result<String, AllocError> {
     match read_block(alloc, block, &BITS) {
         Ok(block) => said(alloc, &block, asked),
-        Err(Failing::Fault(fault)) => {
-            let number = fault.number;
-            format!(in alloc; "{number}")
-        }
+        Err(Failing::Fault(fault)) => format!(in alloc; "{}", fault.number),
         Err(Failing::NoMemory) => String::from_str(alloc, "no memory"),
     }
 }
 
-/// Whether the block of a row, the first of its program, says what the row wants.
-fn holds(alloc: Global, asked: &str, row: &str) -> Result<bool, Fail> {
-    let (text, wanted) = row.split_once('|').ok_or("a block and what it says")?;
-    let text = format!(in alloc; "%~O1~{text}~M30~%~")?;
-    let tape = read(alloc, text.as_str())?;
-    let block = first_block(&tape).ok_or("a block")?;
-    let got = answer(alloc, block, asked)?;
+/// What is asked of the first block of a tape.
+fn answer_in(alloc: Global, text: &str, asked: &str) -> Result<String, AllocError> {
+    match read(alloc, text) {
+        Ok(tape) => match first_block(&tape) {
+            Some(block) => answer(alloc, block, asked),
+            None => String::from_str(alloc, "no block"),
+        },
+        Err(_) => String::from_str(alloc, "no tape"),
+    }
+}
+
+/// Whether the block of a row says what the row wants.
+fn holds(alloc: Global, asked: &str, row: &str) -> Result<bool, AllocError> {
+    let (block, wanted) = row.split_once('|').unwrap_or((row, ""));
+    let text = format!(in alloc; "%~O1~{block}~M30~%~")?;
+    let got = answer_in(alloc, text.as_str(), asked)?;
     Ok(got.as_str() == wanted)
+}
+
+/// Whether all rows of a table hold.
+fn all_hold(rt: &impl Abort, alloc: Global, asked: &str, rows: &str) -> Result<(), Fail> {
+    for row in rows.lines() {
+        assert!(rt; holds(alloc, asked, row)?, "{row}");
+    }
+    Ok(())
 }
 
 #[test]
 fn what_a_block_says(rt: HostRuntime) -> Result<(), Fail> {
-    for (asked, rows) in [
-        ("refusal", REFUSALS),
-        ("control", CONTROLS),
-        ("call", CALLS),
-    ] {
-        for row in rows.lines() {
-            assert!(&rt; holds(rt.alloc(), asked, row)?, "{asked} {row}");
-        }
-    }
-    Ok(())
+    all_hold(&rt, rt.alloc(), "refusal", REFUSALS)?;
+    all_hold(&rt, rt.alloc(), "control", CONTROLS)?;
+    all_hold(&rt, rt.alloc(), "call", CALLS)
 }

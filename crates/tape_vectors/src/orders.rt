@@ -7,7 +7,7 @@ use crate::call::{Call, call_of, number};
 use crate::tape::refusal;
 use block_order::{BlockOrder, Control, ControlBlock, ControlBlockList, ControlProgram};
 use nc_number::{Failing, NoMemory};
-use std::alloc::Global;
+use std::alloc::{AllocError, Global};
 use std::test::Fail;
 
 /// The programs of a tape, parted by `;`, each with the line of its O number and its blocks, of which each stands a line further on
@@ -105,24 +105,47 @@ fn is_listed(alloc: Global, tape: &[ControlProgram]) -> Result<bool, NoMemory>
     Ok(rising)
 }
 
-/// What a block does to the order of blocks.
-fn control_of(call: Call) -> Control {
+/// A head or an end of a loop, and nothing for any other name.
+fn loop_part_of(call: Call) -> Control {
     let name = u8::try_from(call.first).unwrap_or(0);
     match call.name {
-        "GOTO" if call.first == 0 => Control::Goto(None),
-        "GOTO" => Control::Goto(Some(u32::from(call.first))),
         "WHILE" => Control::While(name),
         "DO" => Control::Do(name),
         "END" => Control::EndLoop(name),
+        _ => Control::Next,
+    }
+}
+
+/// A jump to a sequence number, which is computed where it does not read.
+fn jump_to(number: u16) -> Control {
+    if number == 0 {
+        Control::Goto(None)
+    } else {
+        Control::Goto(Some(u32::from(number)))
+    }
+}
+
+/// M99, with the sequence number behind its P where it has one.
+fn return_to(number: u16) -> Control {
+    if number == 0 {
+        Control::Back
+    } else {
+        Control::BackTo(u32::from(number))
+    }
+}
+
+/// What a block does to the order of blocks.
+fn control_of(call: Call) -> Control {
+    match call.name {
+        "GOTO" => jump_to(call.first),
         "M100" => Control::Wait(100),
         "M30" => Control::End,
         "M98" => Control::Call {
             program: call.first,
             repeats: 1,
         },
-        "M99" if call.first == 0 => Control::Back,
-        "M99" => Control::BackTo(u32::from(call.first)),
-        _ => Control::Next,
+        "M99" => return_to(call.first),
+        _ => loop_part_of(call),
     }
 }
 
@@ -139,6 +162,7 @@ fn block_of(line: u32, text: &str) -> ControlBlock {
     }
 }
 
+/// The blocks of a program, parted by commas, from the line behind this one on.
 fn blocks_of(alloc: Global, line: u32, text: &str) -> Result<ControlBlockList, NoMemory> {
     let mut blocks = Vec::new(alloc);
     let mut next = line;
@@ -149,6 +173,7 @@ fn blocks_of(alloc: Global, line: u32, text: &str) -> Result<ControlBlockList, N
     Ok(ControlBlockList::of(blocks))
 }
 
+/// A program from `O1 1: GOTO 10, M30`, in which the O number stands in line 1.
 fn program_of(alloc: Global, text: &str) -> Result<ControlProgram, NoMemory> {
     let (head, blocks) = text.split_once(": ").unwrap_or((text, ""));
     let head = call_of(head);
@@ -160,6 +185,7 @@ fn program_of(alloc: Global, text: &str) -> Result<ControlProgram, NoMemory> {
     })
 }
 
+/// The programs of a row.
 fn tape_of(alloc: Global, text: &str) -> Result<Vec<ControlProgram>, NoMemory> {
     let mut tape = Vec::new(alloc);
     for program in text.split("; ") {
@@ -168,28 +194,33 @@ fn tape_of(alloc: Global, text: &str) -> Result<Vec<ControlProgram>, NoMemory> {
     Ok(tape)
 }
 
+/// Where a jump leads.
+fn shown(alloc: Global, led: Option<u32>) -> Result<String, AllocError> {
+    format!(in alloc; "{led:?}")
+}
+
 /// Where a jump of the first program leads, or `none` where nothing is asked.
-fn told(alloc: Global, order: &BlockOrder, call: Call) -> Result<String, NoMemory> {
+fn told(alloc: Global, order: &BlockOrder, call: Call) -> Result<String, AllocError> {
     let (block, number) = (u32::from(call.first), u32::from(call.second));
-    let led = match call.name {
-        "seek" => order.seek(1, block, number),
-        "target" => order.target(1, block, number).ok(),
-        _ => return Ok(String::from_str(alloc, "none")?),
-    };
-    Ok(format!(in alloc; "{led:?}")?)
+    match call.name {
+        "seek" => shown(alloc, order.seek(1, block, number)),
+        "target" => shown(alloc, order.target(1, block, number).ok()),
+        _ => String::from_str(alloc, "none"),
+    }
 }
 
 /// The refusal of a tape, or what is asked of its order.
-fn answer(alloc: Global, tape: Vec<ControlProgram>, call: Call) -> Result<String, NoMemory>
+fn answer(alloc: Global, tape: Vec<ControlProgram>, call: Call) -> Result<String, AllocError>
     requires { IsListed tape.items }
 {
     match BlockOrder::check(alloc, tape) {
         Ok(order) => told(alloc, &order, call),
-        Err(Failing::Fault(fault)) => Ok(refusal(alloc, fault.cause.number(), fault.line)?),
-        Err(Failing::NoMemory) => Err(NoMemory),
+        Err(Failing::Fault(fault)) => refusal(alloc, fault.cause.number(), fault.line),
+        Err(Failing::NoMemory) => String::from_str(alloc, "no memory"),
     }
 }
 
+/// Whether a row holds; one whose lines do not rise does not.
 fn holds(alloc: Global, row: &str) -> Result<bool, Fail> {
     let (asked, wanted) = row.split_once(" = ").ok_or("a tape and what is told")?;
     let (text, call) = asked.split_once(" | ").unwrap_or((asked, ""));

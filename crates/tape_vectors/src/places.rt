@@ -4,9 +4,11 @@ use crate::tape::read;
 use block_order::Place;
 use cell_settings::read_settings;
 use std::alloc::{AllocError, Global};
+use std::process::Abort;
 use std::test::Fail;
 use tape_flow::{Flow, compile};
 
+/// The tape whose flow is asked.
 const TAPE: &str = "%~O1~M101~M98 P2~G00~M99~O2~M102~M99~O3~M99~%~";
 
 /// A step of the place and where it stands then: the open calls, and the program, the block and the repeats left of the running
@@ -138,10 +140,20 @@ fn answer(alloc: Global, flow: &Flow, place: &mut Place, call: Call) -> Result<S
     }
 }
 
+/// Whether a row holds where the place stands.
 fn holds(alloc: Global, flow: &Flow, place: &mut Place, row: &str) -> Result<bool, AllocError> {
     let (call, wanted) = row.split_once(" = ").unwrap_or((row, ""));
     let got = answer(alloc, flow, place, call_of(call))?;
     Ok(got.as_str() == wanted)
+}
+
+/// Makes each row's step, or asks its question.
+fn walk(rt: &impl Abort, alloc: Global, flow: &Flow) -> Result<(), Fail> {
+    let mut place = flow.start();
+    for row in ROWS.lines() {
+        assert!(rt; holds(alloc, flow, &mut place, row)?, "{row}");
+    }
+    Ok(())
 }
 
 #[test]
@@ -149,9 +161,5 @@ fn where_a_step_leads_and_what_is_there(rt: HostRuntime) -> Result<(), Fail> {
     let settings = read_settings(rt.alloc(), b"").expect(&rt, "settings");
     let tape = read(rt.alloc(), TAPE).expect(&rt, "a tape");
     let flow = compile(rt.alloc(), &tape, &settings).expect(&rt, "a flow");
-    let mut place = flow.start();
-    for row in ROWS.lines() {
-        assert!(&rt; holds(rt.alloc(), &flow, &mut place, row)?, "{row}");
-    }
-    Ok(())
+    walk(&rt, rt.alloc(), &flow)
 }
