@@ -1,94 +1,81 @@
-use disk_model::{Crash, Disk, Failed, FuseDisk, MemoryDisk};
-use std::alloc::Global;
+//! Disks in memory: what each call answers and a crash leaves.
+use crate::bytes::{bytes_of, number, put_digits};
+use crate::rows::holds;
+use disk_model::{Disk, Failed, FuseDisk, MemoryDisk};
+use std::alloc::{AllocError, Global};
 use std::test::Fail;
 
-// A disk that holds `abcdef`, all of it on the disk, and on which then 3 bytes were written at 4.
-fn written(alloc: Global) -> Result<MemoryDisk, Fail> {
-    let mut disk = MemoryDisk::of_bytes(alloc, b"abcdef".to_vec(alloc)?, 10, &[])?;
-    disk.write_at(4, b"XYZ")?;
-    Ok(disk)
+/// `HELD|DISK|CALLS|ANSWERS|bytes CRASH BYTES, ..`: a disk (see `disk_of`), the calls and what each answers, and the bytes that each
+/// crash leaves. `616263646566` is `abcdef` and `58595a` is `XYZ`; `read 5 4` reads 4 bytes at 5, and `write greatest`
+/// writes at the greatest number that there is.
+const ROWS: &str = "\
+616263646566|calls 10|write 4 58595a|done|bytes kept 6162636458595a, lost 616263646566, dots 616263642e2e2e
+616263646566|calls 10|write 4 58595a, sync|done done|bytes kept 6162636458595a, lost 6162636458595a, sevens 6162636458595a
+616263646566|calls 10|write 4 58595a, len, read 5 4, read 9 4|done 7 2:595a0000 0:00000000|bytes still 6162636458595a
+|room 4 calls 10 fails 2 and 4|sync, sync, sync, sync, sync, faults|done failed done failed done 2|faults still 2
+|room 4 calls 3|sync, sync, sync, sync, sync|done done done failed failed|bytes still
+|room 4 calls 10|write 0 31323334, write 1 32333435, write greatest 31, faults|done failed failed 2|bytes still 31323334
+|room 4 calls 10 passes 2|sync, sync, sync, sync, sync, faults, write 0 31|done done failed failed failed 3 failed|faults still 0
+|room 4 calls 10 passes 2|sync, sync, sync, sync, sync, faults, write 0 31|done done failed failed failed 3 failed|bytes still";
+
+/// Whether a call of a disk was done.
+fn word_of(done: Result<(), Failed>) -> &'static str {
+    if done.is_ok() { "done" } else { "failed" }
 }
 
-#[test]
-fn a_crash_keeps_loses_or_fills(rt: HostRuntime) -> Result<(), Fail> {
-    let alloc = rt.alloc();
-    assert_eq!(rt;
-        written(alloc)?.crash(Crash::Kept).bytes(),
-        b"abcdXYZ".as_slice()
-    );
-    assert_eq!(rt;
-        written(alloc)?.crash(Crash::Lost).bytes(),
-        b"abcdef".as_slice()
-    );
-    assert_eq!(rt;
-        written(alloc)?.crash(Crash::Fill(b'.')).bytes(),
-        b"abcd...".as_slice()
-    );
-    Ok(())
+/// Reads so many bytes, eight at most: how many there are, and the room that they were read into.
+fn put_read(out: &mut String, disk: &mut FuseDisk, at: u64, count: u64) -> Result<(), AllocError> {
+    let mut room = [0; 8];
+    let into = &mut room[..count.min(8) as usize];
+    if let Ok(read) = disk.read_at(at, into) {
+        write!(out, "{read}:")?;
+    }
+    put_digits(out, into)
 }
 
-#[test]
-fn after_a_sync_each_crash_leaves_what_is_read(rt: HostRuntime) -> Result<(), Fail> {
-    let alloc = rt.alloc();
-    let picks = [Crash::Kept, Crash::Lost, Crash::Fill(7)];
-    for pick in &picks {
-        let mut disk = written(alloc)?;
-        disk.sync()?;
-        assert_eq!(rt; disk.crash(*pick).bytes(), b"abcdXYZ".as_slice());
+/// Makes one call, and puts its answer behind the others.
+fn put_answer(
+    alloc: Global,
+    out: &mut String,
+    disk: &mut FuseDisk,
+    call: &str,
+) -> Result<(), AllocError> {
+    let (name, rest) = call.split_once(' ').unwrap_or((call, ""));
+    let (at, what) = rest.split_once(' ').unwrap_or((rest, ""));
+    match name {
+        "sync" => out.push_str(word_of(disk.sync())),
+        "write" => {
+            let bytes = bytes_of(alloc, what)?;
+            out.push_str(word_of(disk.write_at(number(at), bytes.as_slice())))
+        }
+        "len" => write!(out, "{}", disk.len().unwrap_or(0)),
+        "read" => put_read(out, disk, number(at), number(what)),
+        "faults" => write!(out, "{}", disk.faults()),
+        _none => Ok(()),
+    }
+}
+
+/// Makes the calls, and puts their answers.
+pub(crate) fn put_answers(
+    alloc: Global,
+    out: &mut String,
+    disk: &mut FuseDisk,
+    calls: &str,
+) -> Result<(), AllocError> {
+    for call in calls.split(", ") {
+        if !out.is_empty() {
+            out.push(' ')?;
+        }
+        put_answer(alloc, out, disk, call)?;
     }
     Ok(())
 }
 
 #[test]
-fn a_read_gives_as_many_bytes_as_there_are(rt: HostRuntime) -> Result<(), Fail> {
-    let alloc = rt.alloc();
-    let mut disk = written(alloc)?;
-    let mut into = [0; 4];
-    assert_eq!(rt; disk.len()?, 7);
-    assert_eq!(rt; disk.read_at(5, &mut into)?, 2);
-    assert_eq!(rt; into, [b'Y', b'Z', 0, 0]);
-    assert_eq!(rt; disk.read_at(9, &mut into)?, 0);
-    Ok(())
-}
-
-// Whether five syncs of this disk succeed, one after another.
-fn syncs<D: Disk>(disk: &mut D) -> [bool; 5] {
-    let mut done = [false; 5];
-    for one in done.iter_mut() {
-        *one = disk.sync().is_ok();
+fn disks_answer_their_calls_and_keep_what_a_crash_leaves(rt: HostRuntime) -> Result<(), Fail> {
+    for row in ROWS.lines() {
+        assert!(&rt; holds(rt.alloc(), row)?, "{row}");
     }
-    done
-}
-
-#[test]
-fn a_call_fails_by_its_number_past_the_record_and_past_the_room(
-    rt: HostRuntime,
-) -> Result<(), Fail> {
-    let alloc = rt.alloc();
-    let mut listed = MemoryDisk::new(alloc, 4, 10, &[2, 4])?;
-    assert_eq!(rt; syncs(&mut listed), [true, false, true, false, true]);
-    assert_eq!(rt; listed.faults(), 2);
-    let mut short = MemoryDisk::new(alloc, 4, 3, &[])?;
-    assert_eq!(rt; syncs(&mut short), [true, true, true, false, false]);
-    let mut small = MemoryDisk::new(alloc, 4, 10, &[])?;
-    assert_eq!(rt; small.write_at(0, b"1234"), Ok(()));
-    assert_eq!(rt; small.write_at(1, b"2345"), Err(Failed));
-    assert_eq!(rt; small.write_at(u64::MAX, b"1"), Err(Failed));
-    assert_eq!(rt; small.bytes(), b"1234".as_slice());
-    assert_eq!(rt; small.faults(), 2);
-    assert!(rt; MemoryDisk::new(alloc, 1 << 62, 1, &[]).is_err());
-    Ok(())
-}
-
-#[test]
-fn a_fuse_passes_so_many_calls_and_then_none(rt: HostRuntime) -> Result<(), Fail> {
-    let alloc = rt.alloc();
-    let mut fuse = FuseDisk::new(MemoryDisk::new(alloc, 4, 10, &[])?, 2);
-    assert_eq!(rt; syncs(&mut fuse), [true, true, false, false, false]);
-    assert_eq!(rt; fuse.faults(), 3);
-    assert_eq!(rt; fuse.write_at(0, b"1"), Err(Failed));
-    let disk = fuse.into_inner();
-    assert_eq!(rt; disk.bytes(), b"".as_slice());
-    assert_eq!(rt; disk.faults(), 0);
+    assert!(&rt; MemoryDisk::new(rt.alloc(), 1 << 62, 1, &[]).is_err());
     Ok(())
 }

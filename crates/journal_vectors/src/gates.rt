@@ -1,265 +1,196 @@
-use disk_model::{Crash, Disk, FuseDisk, MemoryDisk};
-use gate_file::{GateFault, GateFile};
-use std::alloc::Global;
+//! Files of gates: what is written, what an opening finds, and what a stop leaves.
+use crate::bytes::{bytes_of, put_digits};
+use crate::rows::holds;
+use disk_model::{Disk, FuseDisk, MemoryDisk};
+use gate_file::{BodyList, GateFile, LONGEST_BODY};
+use std::alloc::{AllocError, Global};
 use std::test::Fail;
 
-// A file of the body `41` and three more.
-const FILE: [u8; 38] = [
-    1, 0, 0, 0, 1, 0x41, 1, 0, 0, 0, 4, 1, 1, 1, 0, 1, 0, 0, 0, 4, 1, 2, 1, 0, 1, 0, 0, 0, 8, 1, 1,
-    1, 1, 0, 0, 0, 1, 0,
-];
+/// `HELD|DISK|CALLS|ANSWERS|LOOK CRASH FOUND, ..`. `create BODY, BODY` begins a file of the first body and appends the others, and
+/// `append BODY` opens the file and appends one. An opening makes 4 calls of the disk, and an append a write, a sync, the write of the
+/// gate, and a sync. Of a `list` each body has its length, and its bytes where they are few. The sizes of the long bodies end just
+/// before, at and behind the end of a window of 65,536 bytes, and one is longer than two.
+const ROWS: &str = "\
+|room 38|create 41, 01010100, 01020100, 0101010100000001|done done done done|bytes still FOUR 00
+THREE 00 00000008 0101010100000001 00||||bodies still 3
+THREE 01 00000008 0101010100000001 00||||bodies still 4
+THREE 07 00000008 0101010100000001 00||||bodies still 4
+THREE ff 00000008 0101010100000001 00||||bodies still 4
+THREE 01 00000008 01||||bodies still cut short at 24
+THREE 01 00000008 0101010100000001||||bodies still cut short at 24
+THREE 01 0000||||bodies still cut short at 24
+THREE||||bodies still cut short at 15
+||||bodies still no run
+01||||bodies still no run
+00ffff||||bodies still no run
+01 ffffffff||||bodies still cut short at 0
+FOUR 00||||list still 4 bodies 1:41 4:01010100 4:01020100 8:0101010100000001 faults 0
+FOUR 00|passes 4|append 01010100|failed|bodies kept 4, lost 4, sevens 4
+FOUR 00|passes 5|append 01010100|failed|bodies kept 4, lost 4, sevens 4
+FOUR 00|passes 6|append 01010100|failed|bodies kept 4, lost 4, sevens 4
+FOUR 00|passes 7|append 01010100|failed|bodies kept 5, lost 4, sevens 5
+FOUR 00|passes 8|append 01010100|done|bodies kept 5, lost 5, sevens 5
+FOUR 00|fails 5|append 01010100|failed|bodies kept 4, lost 4, sevens 4
+FOUR 00|fails 6|append 01010100|failed|bodies kept 4, lost 4, sevens 4
+FOUR 00|fails 7|append 01010100|failed|bodies kept 4, lost 4, sevens 5
+FOUR 00|fails 8|append 01010100|failed|bodies kept 5, lost 4, sevens 5
+FOUR 00|fails 5|append 01010100|failed|bytes sevens FOUR 00 9x07
+FOUR 00|fails 6|append 01010100|failed|bytes sevens FOUR 00 9x07
+FOUR 00|fails 7|append 01010100|failed|bytes sevens FOUR 07 00000004 01010100 00
+FOUR 00|fails 8|append 01010100|failed|bytes sevens FOUR 07 00000004 01010100 00
+|fails 2|create 41|disk fault|bodies kept no run, lost no run, sevens no run
+|fails 3|create 41|disk fault|bodies kept no run, lost no run, sevens no run
+|fails 4|create 41|disk fault|bodies kept no run, lost no run, sevens no run
+|fails 5|create 41|disk fault|bodies kept no run, lost no run, sevens no run
+|fails 6|create 41|disk fault|bodies kept no run, lost no run, sevens no run
+|fails 7|create 41|disk fault|bodies kept no run, lost no run, sevens 1
+|fails 8|create 41|disk fault|bodies kept 1, lost no run, sevens 1
+00ffff|fails 3|create 41|disk fault|bodies kept no run, lost no run, sevens no run
+00ffff|fails 4|create 41|disk fault|bodies kept no run, lost no run, sevens no run
+00ffff|fails 5|create 41|disk fault|bodies kept no run, lost no run, sevens no run
+00ffff|fails 6|create 41|disk fault|bodies kept no run, lost no run, sevens 1
+00ffff|fails 7|create 41|disk fault|bodies kept 1, lost no run, sevens 1
+FOUR 00|fails 1|create 41|disk fault|bodies kept 4, lost 4, sevens 4
+FOUR 00|fails 3|create 41|disk fault|bodies kept 4, lost 4, sevens 4
+||create 41|done|bodies still 1
+09||create 41|done|bodies still 1
+00ffff||create 41|done|bodies still 1
+FOUR 00||create 41|run there|bodies still 4
+0700||create 41|run there|bytes still 0700
+|room 300000|create 65526x41, 0102, 0304|done done done|list still 3 bodies 65526: 2:0102 2:0304 faults 0
+|room 300000|create 65530x41, 0102, 0304|done done done|list still 3 bodies 65530: 2:0102 2:0304 faults 0
+|room 300000|create 65531x41, 0102, 0304|done done done|list still 3 bodies 65531: 2:0102 2:0304 faults 0
+|room 300000|create 65532x41, 0102, 0304|done done done|list still 3 bodies 65532: 2:0102 2:0304 faults 0
+|room 300000|create 140000x41, 0102, 0304|done done done|list still 3 bodies 140000: 2:0102 2:0304 faults 0
+|room 300000|create 0x41, 0102, 0304|done done done|list still 3 bodies 0: 2:0102 2:0304 faults 0
+|room 300000|create 1x41, 0102, 0304|done done done|list still 3 bodies 1:41 2:0102 2:0304 faults 0";
 
-// What opening a file answers: how many bodies, or why not.
-fn opened(alloc: Global, bytes: &[u8]) -> Result<Result<usize, GateFault>, Fail> {
-    let disk = MemoryDisk::of_bytes(alloc, bytes.to_vec(alloc)?, 100, &[])?;
-    match GateFile::open_file(alloc, disk) {
-        Ok((_file, bodies)) => Ok(Ok(bodies.len())),
-        Err((_disk, fault)) => Ok(Err(fault)),
+/// Appends a body as far as the file is live, and tells whether that was done. A file stays live exactly where it was.
+fn append(file: &mut GateFile<FuseDisk>, body: &[u8]) -> &'static str {
+    if !file.is_live() || body.len() > LONGEST_BODY {
+        return "refused";
     }
+    let done = file.append(body).is_ok();
+    if done != file.is_live() {
+        return "neither";
+    }
+    if done { "done" } else { "failed" }
 }
 
-#[test]
-fn three_appends_leave_four_bodies(rt: HostRuntime) -> Result<(), Fail> {
-    let alloc = rt.alloc();
-    let disk = MemoryDisk::new(alloc, 38, 100, &[])?;
-    let Ok(file) = GateFile::create(alloc, disk, &[0x41]) else {
-        panic!(&rt; "a new disk takes a file");
-    };
-    let mut file = file;
-    let bodies: [&[u8]; 3] = [&[1, 1, 1, 0], &[1, 2, 1, 0], &[1, 1, 1, 1, 0, 0, 0, 1]];
-    for body in &bodies {
-        assert!(rt; file.is_live());
-        assert!(rt; body.len() < 9);
-        assert!(rt; file.append(body).is_ok());
-    }
-    assert_eq!(rt; file.into_disk().bytes(), FILE.as_slice());
-    Ok(())
-}
-
-#[test]
-fn a_file_is_opened_as_far_as_its_gates_are_open(rt: HostRuntime) -> Result<(), Fail> {
-    let alloc = rt.alloc();
-    let gates = [(0, 3), (1, 4), (7, 4), (255, 4)];
-    for (gate, bodies) in &gates {
-        let mut bytes = FILE;
-        bytes[24] = *gate;
-        assert_eq!(rt; opened(alloc, &bytes)?, Ok(*bodies));
-    }
-    assert_eq!(rt; opened(alloc, &FILE[..30])?, Err(GateFault::Cut(24)));
-    assert_eq!(rt; opened(alloc, &FILE[..37])?, Err(GateFault::Cut(24)));
-    assert_eq!(rt; opened(alloc, &FILE[..27])?, Err(GateFault::Cut(24)));
-    assert_eq!(rt; opened(alloc, &FILE[..24])?, Err(GateFault::Cut(15)));
-    assert_eq!(rt; opened(alloc, &[])?, Err(GateFault::NoRun));
-    assert_eq!(rt; opened(alloc, &[1])?, Err(GateFault::NoRun));
-    assert_eq!(rt; opened(alloc, &[0, 0xFF, 0xFF])?, Err(GateFault::NoRun));
-    assert_eq!(rt;
-        opened(alloc, &[1, 0xFF, 0xFF, 0xFF, 0xFF])?,
-        Err(GateFault::Cut(0))
-    );
-    Ok(())
-}
-
-#[test]
-fn the_bodies_are_those_of_the_file(rt: HostRuntime) -> Result<(), Fail> {
-    let alloc = rt.alloc();
-    let disk = MemoryDisk::of_bytes(alloc, FILE.to_vec(alloc)?, 100, &[])?;
-    let Ok((file, bodies)) = GateFile::open_file(alloc, disk) else {
-        panic!(&rt; "the file is whole");
-    };
-    let wanted: [&[u8]; 4] = [
-        &[0x41],
-        &[1, 1, 1, 0],
-        &[1, 2, 1, 0],
-        &[1, 1, 1, 1, 0, 0, 0, 1],
-    ];
-    assert_eq!(rt; bodies.len(), 4);
-    for (index, want) in wanted.iter().enumerate() {
-        assert_eq!(rt; bodies.get(index), Some(*want));
-    }
-    assert_eq!(rt; bodies.get(4), None);
-    assert_eq!(rt; file.into_disk().faults(), 0);
-    Ok(())
-}
-
-// Opens the file on this disk, and appends `01010100` as far as the disk lets it.
-fn append_on<D: Disk + Drop>(alloc: Global, disk: D) -> Result<D, Fail> {
+/// Opens the file on the disk, and appends the body.
+pub(crate) fn appended(
+    alloc: Global,
+    said: &mut String,
+    disk: FuseDisk,
+    body: &str,
+) -> Result<FuseDisk, Fail> {
+    let body = bytes_of(alloc, body)?;
     match GateFile::open_file(alloc, disk) {
         Ok((file, _bodies)) => {
             let mut file = file;
-            let body = [1, 1, 1, 0];
-            if file.is_live() {
-                let done = file.append(&body).is_ok();
-                if done != file.is_live() {
-                    return Err(Fail::from(GateFault::NoRun));
-                }
+            said.push_str(append(&mut file, body.as_slice()))?;
+            Ok(file.into_disk())
+        }
+        Err((disk, fault)) => {
+            write!(said, "{fault}")?;
+            Ok(disk)
+        }
+    }
+}
+
+/// Appends the bodies, one behind the other.
+fn append_all(
+    alloc: Global,
+    said: &mut String,
+    file: &mut GateFile<FuseDisk>,
+    bodies: &str,
+) -> Result<(), AllocError> {
+    for text in bodies.split(", ") {
+        let body = bytes_of(alloc, text)?;
+        said.push(' ')?;
+        said.push_str(append(file, body.as_slice()))?;
+    }
+    Ok(())
+}
+
+/// Begins a file of the first body, and appends the others.
+pub(crate) fn created(
+    alloc: Global,
+    said: &mut String,
+    disk: FuseDisk,
+    bodies: &str,
+) -> Result<FuseDisk, Fail> {
+    let (first, others) = bodies.split_once(", ").unwrap_or((bodies, ""));
+    let body = bytes_of(alloc, first)?;
+    if body.len() > 200_000 {
+        return Ok(disk);
+    }
+    match GateFile::create(alloc, disk, body.as_slice()) {
+        Ok(file) => {
+            let mut file = file;
+            said.push_str("done")?;
+            if !others.is_empty() {
+                append_all(alloc, said, &mut file, others)?;
             }
             Ok(file.into_disk())
         }
-        Err((disk, _fault)) => Ok(disk),
+        Err((disk, fault)) => {
+            write!(said, "{fault}")?;
+            Ok(disk)
+        }
     }
 }
 
-// The three crashes, in this order.
-const PICKS: [Crash; 3] = [Crash::Kept, Crash::Lost, Crash::Fill(7)];
-
-#[test]
-fn a_stop_between_two_calls_leaves_the_bodies_with_the_new_one_or_without(
-    rt: HostRuntime,
-) -> Result<(), Fail> {
-    let alloc = rt.alloc();
-    // The opening makes 4 calls, and then come the write, the sync, the write of the gate, and the sync.
-    let rows = [
-        (4, [4, 4, 4]),
-        (5, [4, 4, 4]),
-        (6, [4, 4, 4]),
-        (7, [5, 4, 5]),
-        (8, [5, 5, 5]),
-    ];
-    for (passes, wanted) in &rows {
-        for (pick, want) in PICKS.iter().zip(wanted) {
-            let disk = MemoryDisk::of_bytes(alloc, FILE.to_vec(alloc)?, 100, &[])?;
-            let fuse = append_on(alloc, FuseDisk::new(disk, *passes))?;
-            let left = fuse.into_inner().crash(*pick);
-            assert_eq!(rt;
-                opened(alloc, left.bytes())?,
-                Ok(*want),
-                "{passes} {pick:?}"
-            );
+/// The bodies, each with its length, and with its bytes where they are few.
+fn put_list(out: &mut String, bodies: &BodyList) -> Result<(), AllocError> {
+    out.push_str(" bodies")?;
+    for index in 0..bodies.len() {
+        let body = bodies.body(index);
+        write!(out, " {}:", body.len())?;
+        if body.len() <= 16 {
+            put_digits(out, body)?;
         }
+    }
+    if bodies.get(bodies.len()).is_some() {
+        out.push_str(" and more")?;
     }
     Ok(())
 }
 
-#[test]
-fn a_stop_inside_a_call_leaves_the_bodies_with_the_new_one_or_without(
-    rt: HostRuntime,
-) -> Result<(), Fail> {
-    let alloc = rt.alloc();
-    // The calls are a write at 38, a sync, a write of one byte at 37, and a sync.
-    let body = [0, 7, 7, 7, 7, 7, 7, 7, 7, 7];
-    let gate = [7, 0, 0, 0, 4, 1, 1, 1, 0, 0];
-    let rows = [
-        (5, [4, 4, 4], body),
-        (6, [4, 4, 4], body),
-        (7, [4, 4, 5], gate),
-        (8, [5, 4, 5], gate),
-    ];
-    for (call, wanted, filled) in &rows {
-        let failing = [*call];
-        for (pick, want) in PICKS.iter().zip(wanted) {
-            let disk = MemoryDisk::of_bytes(alloc, FILE.to_vec(alloc)?, 100, &failing)?;
-            let left = append_on(alloc, disk)?.crash(*pick);
-            assert_eq!(rt; opened(alloc, left.bytes())?, Ok(*want), "{call} {pick:?}");
-        }
-        let disk = MemoryDisk::of_bytes(alloc, FILE.to_vec(alloc)?, 100, &failing)?;
-        let left = append_on(alloc, disk)?.crash(Crash::Fill(7));
-        let bytes = left.bytes();
-        assert!(rt; bytes.len() == 47);
-        assert_eq!(rt; &bytes[37..], filled.as_slice(), "{call}");
+/// How many bodies an opened file has, or a list of them, and how often its disk failed.
+fn put_opened(
+    out: &mut String,
+    bodies: &BodyList,
+    look: &str,
+    faults: u64,
+) -> Result<(), AllocError> {
+    write!(out, "{}", bodies.len())?;
+    if look == "list" {
+        put_list(out, bodies)?;
+        write!(out, " faults {faults}")?;
     }
     Ok(())
 }
 
-// What a crash leaves of a beginning on these bytes whose call of this number fails.
-fn left_of_a_beginning(
+/// What an opening finds, or why there are no bodies.
+pub(crate) fn put_bodies(
     alloc: Global,
-    bytes: &[u8],
-    call: u64,
-    pick: Crash,
-) -> Result<Result<usize, GateFault>, Fail> {
-    let disk = MemoryDisk::of_bytes(alloc, bytes.to_vec(alloc)?, 100, &[call])?;
-    let disk = match GateFile::create(alloc, disk, &[0x41]) {
-        Ok(file) => file.into_disk(),
-        Err((disk, _fault)) => disk,
-    };
-    opened(alloc, disk.crash(pick).bytes())
-}
-
-#[test]
-fn a_stop_inside_a_beginning_leaves_no_run_or_the_one_body(rt: HostRuntime) -> Result<(), Fail> {
-    let alloc = rt.alloc();
-    let none: [usize; 3] = [0, 0, 0];
-    let shut: &[u8] = &[0, 0xFF, 0xFF];
-    // How many bodies stand there, and 0 for no run.
-    let rows: [(&[u8], u64, [usize; 3]); 14] = [
-        (&[], 2, none),
-        (&[], 3, none),
-        (&[], 4, none),
-        (&[], 5, none),
-        (&[], 6, none),
-        (&[], 7, [0, 0, 1]),
-        (&[], 8, [1, 0, 1]),
-        (shut, 3, none),
-        (shut, 4, none),
-        (shut, 5, none),
-        (shut, 6, [0, 0, 1]),
-        (shut, 7, [1, 0, 1]),
-        (&FILE, 1, [4, 4, 4]),
-        (&FILE, 3, [4, 4, 4]),
-    ];
-    for (bytes, call, wanted) in &rows {
-        for (pick, want) in PICKS.iter().zip(wanted) {
-            let due = if *want == 0 {
-                Err(GateFault::NoRun)
-            } else {
-                Ok(*want)
-            };
-            let left = left_of_a_beginning(alloc, bytes, *call, *pick)?;
-            assert_eq!(rt; left, due, "{call} {pick:?}");
-        }
-    }
-    Ok(())
-}
-
-// What beginning a file on these bytes answers, and how many bodies stand there then.
-fn begun(alloc: Global, bytes: &[u8]) -> Result<Option<GateFault>, Fail> {
-    let disk = MemoryDisk::of_bytes(alloc, bytes.to_vec(alloc)?, 100, &[])?;
-    match GateFile::create(alloc, disk, &[0x41]) {
-        Ok(file) => match opened(alloc, file.into_disk().bytes())? {
-            Ok(1) => Ok(None),
-            _ => Err(Fail::from(GateFault::NoRun)),
-        },
-        Err((_disk, fault)) => Ok(Some(fault)),
+    out: &mut String,
+    disk: MemoryDisk,
+    look: &str,
+) -> Result<(), AllocError> {
+    match GateFile::open_file(alloc, disk) {
+        Ok((file, bodies)) => put_opened(out, &bodies, look, file.into_disk().faults()),
+        Err((_disk, fault)) => write!(out, "{fault}"),
     }
 }
 
 #[test]
-fn a_file_is_begun_where_no_run_is_and_over_none(rt: HostRuntime) -> Result<(), Fail> {
-    let alloc = rt.alloc();
-    assert_eq!(rt; begun(alloc, &[])?, None);
-    assert_eq!(rt; begun(alloc, &[9])?, None);
-    assert_eq!(rt; begun(alloc, &[0, 0xFF, 0xFF])?, None);
-    assert_eq!(rt; begun(alloc, &FILE)?, Some(GateFault::RunThere));
-    assert_eq!(rt; begun(alloc, &[7, 0])?, Some(GateFault::RunThere));
-    Ok(())
-}
-
-#[test]
-fn bodies_of_every_length_are_read_through_the_window(rt: HostRuntime) -> Result<(), Fail> {
-    let alloc = rt.alloc();
-    // Bodies that end just before, at and behind the end of a window of 65,536 bytes, and one longer than two.
-    let sizes = [65_526, 65_530, 65_531, 65_532, 140_000, 0, 1];
-    for size in sizes {
-        let disk = MemoryDisk::new(alloc, 300_000, 100, &[])?;
-        let long = vec![in alloc; 0x41u8; size]?;
-        assert!(rt; long.len() < 200_000);
-        let Ok(file) = GateFile::create(alloc, disk, &long) else {
-            panic!(&rt; "a new disk takes a file");
-        };
-        let mut file = file;
-        for body in [&[1u8, 2], &[3u8, 4]] {
-            if file.is_live() {
-                assert!(rt; file.append(body).is_ok());
-            }
-        }
-        let disk = file.into_disk();
-        let Ok((_file, bodies)) = GateFile::open_file(alloc, disk) else {
-            panic!(&rt; "the file is whole");
-        };
-        assert!(rt; bodies.len() == 3);
-        assert_eq!(rt; bodies.body(0).len(), size);
-        assert_eq!(rt; bodies.body(1), [1, 2].as_slice());
-        assert_eq!(rt; bodies.body(2), [3, 4].as_slice());
+fn a_stop_leaves_the_bodies_of_a_file_with_the_new_one_or_without(
+    rt: HostRuntime,
+) -> Result<(), Fail> {
+    for row in ROWS.lines() {
+        assert!(&rt; holds(rt.alloc(), row)?, "{row}");
     }
     Ok(())
 }

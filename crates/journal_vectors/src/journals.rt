@@ -1,256 +1,170 @@
-ghost use Rattle.std.specs.Prelude.{◌≡◌, true};
+//! Journals: where each record stands, why a journal is refused, and what a stop leaves.
 ghost use Rattle.run_records.specs.Headers.{IsShort};
 
-use disk_model::{Crash, Disk, FuseDisk, MemoryDisk};
-use gate_file::GateFault;
+use crate::bytes::{bytes_of, number};
+use crate::rows::holds;
+use disk_model::{FuseDisk, MemoryDisk};
 use nc_number::Path;
-use run_journal::{Journal, JournalFault, open_journal};
-use run_records::{BadRecord, ByteList, Entry, EntryKind, Header, StampList, put_header};
-use std::alloc::Global;
+use run_journal::{Journal, Opened, open_journal};
+use run_records::{Entry, EntryKind, Header, StampList, take_header};
+use std::alloc::{AllocError, Global};
 use std::test::Fail;
 
-// Tapes of 23 bytes each, and no settings.
-fn header(alloc: Global) -> Result<Header, Fail> {
-    let tape = b"%\nO1\n#500=#500+1\nM30\n%\n";
-    Ok(Header {
-        settings: ByteList::of(Vec::new(alloc)),
-        left: ByteList::of(tape.to_vec(alloc)?),
-        right: ByteList::of(tape.to_vec(alloc)?),
-    })
-}
+/// `HELD|DISK|CALLS|ANSWERS|LOOK CRASH FOUND, ..`. A header has 64 bytes, so that the body behind it stands at 74. `journal 1 2`
+/// begins a journal and writes a batch of one record and then one of two; its answers are for each batch how many records were to be
+/// written, whether they were, and how many were then still to be written, and how many records the journal counts. The beginning
+/// makes 8 calls of the disk, and each batch 4: a write, a sync, a write of the gate, and a sync.
+const ROWS: &str = "\
+HEADER 01 00000000 00||||records still bad record at 74: wrong count
+HEADER 01 00000001 00 00||||records still bad record at 74: wrong count
+HEADER 01 000000c4 41 65x010100 00||||records still bad record at 74: wrong count
+HEADER 01 00000004 01030100 00||||records still bad record at 75: no path
+HEADER 01 00000004 01010600 00||||records still bad record at 75: no kind
+HEADER 01 00000088 01010121 132x00 00||||records still bad record at 75: too many stamps
+HEADER 01 00000003 010101 00||||records still bad record at 75: wrong length
+HEADER 01 00000001 01 00||||records still bad record at 75: wrong length
+HEADER 01 00000005 0101010000 00||||records still bad record at 74: wrong length
+HEADER 01 00000004 02010100 00||||records still bad record at 78: wrong length
+HEADER 01 00000005 0201010003 00||||records still bad record at 78: no path
+HEADER 01 00000004 01010100 01 00000004 01030100 01 00000001 00 00||||records still bad record at 84: no path
+01 00000040 5457494e0009 TEXTS 01 00000004 01030100 00||||records still bad record at 5: no header
+HEADER 01 00000004 010301||||records still cut short at 69
+||||records still no run
+01||||records still no run
+00ffff||||records still no run
+HEADER 01 00000004 01010100 01 0000000e 03 010100 02010100000001 020100 01 00000004 01020400 00||||offsets still 5 at 75 84 87 94 103 left 23 count 5 pending 0 live true
+|room 1000|journal 64 0|64 done 0 0 done 0 count 64|bytes still HEADER 01 000000c1 40 64x010100 00
+HEADER 01 000000c1 40 64x010100 00||journal 64 0|run there|records still 64
+|room 1000 passes 0|journal 1 2|disk fault|records kept no run, lost no run, sevens no run
+|room 1000 passes 6|journal 1 2|disk fault|records kept no run, lost no run, sevens no run
+|room 1000 passes 7|journal 1 2|disk fault|records kept 0, lost no run, sevens 0
+|room 1000 passes 8|journal 1 2|1 failed 1 1 failed 1 count 1|records kept 0, lost 0, sevens 0
+|room 1000 passes 10|journal 1 2|1 failed 1 1 failed 1 count 1|records kept 0, lost 0, sevens 0
+|room 1000 passes 11|journal 1 2|1 failed 1 1 failed 1 count 1|records kept 1, lost 0, sevens 1
+|room 1000 passes 12|journal 1 2|1 done 0 2 failed 2 count 3|records kept 1, lost 1, sevens 1
+|room 1000 passes 13|journal 1 2|1 done 0 2 failed 2 count 3|records kept 1, lost 1, sevens 1
+|room 1000 passes 14|journal 1 2|1 done 0 2 failed 2 count 3|records kept 1, lost 1, sevens 1
+|room 1000 passes 15|journal 1 2|1 done 0 2 failed 2 count 3|records kept 3, lost 1, sevens 3
+|room 1000 passes 16|journal 1 2|1 done 0 2 done 0 count 3|records kept 3, lost 3, sevens 3";
 
-// Whether a header is so short that it can be written.
-fn is_short(header: &Header) -> bool
-    ensures { result ≡ true → IsShort header.now }
-{
-    header.settings.as_slice().len() < 1000
-        && header.left.as_slice().len() < 1000
-        && header.right.as_slice().len() < 1000
-}
-
-// A record of path 1 without a stamp.
-fn did() -> Entry {
-    Entry {
-        path: Path::One,
-        kind: EntryKind::Did,
-        stamps: StampList::empty(),
-    }
-}
-
-// Puts a short body behind an open gate and its length.
-fn put_body(into: &mut Vec<u8>, body: &[u8]) -> Result<(), Fail> {
-    if body.len() >= 1000 {
-        return Err(Fail::from(GateFault::NoRun));
-    }
-    into.push(1)?;
-    into.extend_from_slice(&(body.len() as u32).to_be_bytes())?;
-    into.extend_from_slice(body)?;
-    Ok(())
-}
-
-// A file of the header and these bodies. The first of them stands at 74.
-fn file(alloc: Global, bodies: &[&[u8]]) -> Result<Vec<u8>, Fail> {
-    let header = header(alloc)?;
-    if !is_short(&header) {
-        return Err(Fail::from(GateFault::NoRun));
-    }
-    let mut bytes = Vec::new(alloc);
-    put_body(&mut bytes, &put_header(alloc, &header)?)?;
-    for body in bodies {
-        put_body(&mut bytes, body)?;
-    }
-    bytes.push(0)?;
-    Ok(bytes)
-}
-
-// How many records an opening finds, or why none.
-fn opened(alloc: Global, bytes: Vec<u8>) -> Result<Result<usize, JournalFault>, Fail> {
-    let disk = MemoryDisk::of_bytes(alloc, bytes, 100, &[])?;
-    match open_journal(alloc, disk) {
-        Ok(opened) => Ok(Ok(opened.entries.len())),
-        Err((_disk, fault)) => Ok(Err(fault)),
-    }
-}
-
-#[test]
-fn a_bad_batch_is_refused_with_its_cause_and_offset(rt: HostRuntime) -> Result<(), Fail> {
-    let alloc = rt.alloc();
-    let mut many = [0; 196];
-    many[0] = 65;
-    for index in 0..65usize {
-        many[1 + 3 * index] = 1;
-        many[2 + 3 * index] = 1;
-    }
-    let mut stamps = [0; 136];
-    stamps[..4].copy_from_slice(&[1, 1, 1, 33]);
-    let rows: [(&[u8], BadRecord, u64); 11] = [
-        (&[], BadRecord::WrongCount, 74),
-        (&[0], BadRecord::WrongCount, 74),
-        (&many, BadRecord::WrongCount, 74),
-        (&[1, 3, 1, 0], BadRecord::NoPath, 75),
-        (&[1, 1, 6, 0], BadRecord::NoKind, 75),
-        (&stamps, BadRecord::TooManyStamps, 75),
-        (&[1, 1, 1], BadRecord::WrongLength, 75),
-        (&[1], BadRecord::WrongLength, 75),
-        (&[1, 1, 1, 0, 0], BadRecord::WrongLength, 74),
-        (&[2, 1, 1, 0], BadRecord::WrongLength, 78),
-        (&[2, 1, 1, 0, 3], BadRecord::NoPath, 78),
-    ];
-    for (body, cause, offset) in &rows {
-        let fault = JournalFault::BadRecord {
-            offset: *offset,
-            cause: *cause,
-        };
-        assert_eq!(rt; opened(alloc, file(alloc, &[*body])?)?, Err(fault));
-    }
-    Ok(())
-}
-
-#[test]
-fn the_first_bad_body_decides_and_the_header_goes_before(rt: HostRuntime) -> Result<(), Fail> {
-    let alloc = rt.alloc();
-    let good: &[u8] = &[1, 1, 1, 0];
-    let bad: &[u8] = &[1, 3, 1, 0];
-    let fault = JournalFault::BadRecord {
-        offset: 84,
-        cause: BadRecord::NoPath,
-    };
-    assert_eq!(rt;
-        opened(alloc, file(alloc, &[good, bad, &[0]])?)?,
-        Err(fault)
-    );
-    let mut bytes = file(alloc, &[bad])?;
-    assert!(rt; bytes.len() > 10);
-    bytes[10] = 9;
-    let fault = JournalFault::BadRecord {
-        offset: 5,
-        cause: BadRecord::NoHeader,
-    };
-    assert_eq!(rt; opened(alloc, bytes)?, Err(fault));
-    let mut bytes = file(alloc, &[bad])?;
-    bytes.truncate(77);
-    assert_eq!(rt; opened(alloc, bytes)?, Err(JournalFault::Cut(69)));
-    assert_eq!(rt; opened(alloc, Vec::new(alloc))?, Err(JournalFault::NoRun));
-    assert_eq!(rt;
-        opened(alloc, [1].to_vec(alloc)?)?,
-        Err(JournalFault::NoRun)
-    );
-    assert_eq!(rt;
-        opened(alloc, [0, 255, 255].to_vec(alloc)?)?,
-        Err(JournalFault::NoRun)
-    );
-    Ok(())
-}
-
-#[test]
-fn each_record_stands_at_its_offset(rt: HostRuntime) -> Result<(), Fail> {
-    let alloc = rt.alloc();
-    let batches: [&[u8]; 3] = [
-        &[1, 1, 1, 0],
-        &[3, 1, 1, 0, 2, 1, 1, 0, 0, 0, 1, 2, 1, 0],
-        &[1, 2, 4, 0],
-    ];
-    let disk = MemoryDisk::of_bytes(alloc, file(alloc, &batches)?, 100, &[])?;
-    let Ok(opened) = open_journal(alloc, disk) else {
-        panic!(&rt; "the journal is whole");
-    };
-    assert_eq!(rt; opened.offsets.as_slice(), [75, 84, 87, 94, 103].as_slice());
-    assert_eq!(rt; opened.entries.len(), 5);
-    assert_eq!(rt; opened.header.left.as_slice().len(), 23);
-    assert_eq!(rt; opened.journal.count(), 5);
-    assert_eq!(rt; opened.journal.pending(), 0);
-    assert!(rt; opened.journal.is_live());
-    Ok(())
-}
-
-// One record more is to be written.
-fn add_one<D: Disk>(journal: &mut Journal<D>) {
+/// One record more is to be written, of path 1 and without a stamp.
+fn add_one(journal: &mut Journal<FuseDisk>) {
     if journal.is_live() && journal.pending() < 64 {
-        let _full = journal.add(&did());
+        let entry = Entry {
+            path: Path::One,
+            kind: EntryKind::Did,
+            stamps: StampList::empty(),
+        };
+        let _full = journal.add(&entry);
     }
 }
 
-// Writes what is to be written, and tells whether it could.
-fn flush_all<D: Disk>(journal: &mut Journal<D>) -> bool {
-    journal.is_live() && journal.flush().is_ok()
+/// Writes what is to be written, and tells whether it could.
+fn flush_all(journal: &mut Journal<FuseDisk>) -> &'static str {
+    if journal.is_live() && journal.flush().is_ok() {
+        "done"
+    } else {
+        "failed"
+    }
 }
 
-#[test]
-fn a_batch_of_64_records_has_a_body_of_193_bytes(rt: HostRuntime) -> Result<(), Fail> {
-    let alloc = rt.alloc();
-    let header = header(alloc)?;
-    assert!(rt; is_short(&header));
-    let disk = MemoryDisk::new(alloc, 1000, 100, &[])?;
-    let Ok(begun) = Journal::begin(alloc, disk, &header) else {
-        panic!(&rt; "a new disk takes a journal");
-    };
-    let mut journal = begun;
-    for _ in 0..64u8 {
-        add_one(&mut journal);
+/// Writes batches of so many records each, and puts what became of them.
+fn put_batches(
+    said: &mut String,
+    journal: &mut Journal<FuseDisk>,
+    batches: &str,
+) -> Result<(), AllocError> {
+    for batch in batches.split(' ') {
+        for _ in 0..number(batch).min(64) {
+            add_one(journal);
+        }
+        let before = journal.pending();
+        let done = flush_all(journal);
+        let after = journal.pending();
+        write!(said, "{before} {done} {after} ")?;
     }
-    assert_eq!(rt; journal.pending(), 64);
-    assert!(rt; flush_all(&mut journal));
-    assert_eq!(rt; journal.pending(), 0);
-    assert_eq!(rt; journal.count(), 64);
-    assert!(rt; flush_all(&mut journal));
-    let disk = journal.into_disk();
-    let bytes = disk.bytes();
-    assert!(rt; bytes.len() == 268);
-    assert_eq!(rt; &bytes[69..78], [1, 0, 0, 0, 193, 64, 1, 1, 0].as_slice());
-    assert_eq!(rt; bytes[267], 0);
-    let Err((_disk, fault)) = Journal::begin(alloc, disk, &header) else {
-        panic!(&rt; "a run is there");
-    };
-    assert_eq!(rt; fault, GateFault::RunThere);
-    Ok(())
+    write!(said, "count {}", journal.count())
 }
 
-// Begins a journal on this disk, writes one record, and then two in one batch, as far as the disk lets it.
-fn record_on<D: Disk + Drop>(alloc: Global, disk: D) -> Result<D, Fail> {
-    let header = header(alloc)?;
-    if !is_short(&header) {
-        return Ok(disk);
-    }
-    match Journal::begin(alloc, disk, &header) {
-        Err((disk, _fault)) => Ok(disk),
+/// Begins a journal of this header on the disk, and writes the batches as far as the disk lets it.
+fn begun(
+    alloc: Global,
+    said: &mut String,
+    disk: FuseDisk,
+    header: &Header,
+    batches: &str,
+) -> Result<FuseDisk, Fail>
+    requires { IsShort header.now }
+{
+    match Journal::begin(alloc, disk, header) {
+        Err((disk, fault)) => {
+            write!(said, "{fault}")?;
+            Ok(disk)
+        }
         Ok(begun) => {
             let mut journal = begun;
-            add_one(&mut journal);
-            let _first = flush_all(&mut journal);
-            add_one(&mut journal);
-            add_one(&mut journal);
-            let _second = flush_all(&mut journal);
+            put_batches(said, &mut journal, batches)?;
             Ok(journal.into_disk())
         }
     }
 }
 
+/// Begins a journal on the disk, and writes the batches.
+pub(crate) fn recorded(
+    alloc: Global,
+    said: &mut String,
+    disk: FuseDisk,
+    batches: &str,
+) -> Result<FuseDisk, Fail> {
+    let bytes = bytes_of(alloc, "5457494e0001 TEXTS")?;
+    let header = take_header(alloc, bytes.as_slice())?;
+    begun(alloc, said, disk, &header, batches)
+}
+
+/// Where each record of an opened journal stands, and what else it knows.
+fn put_offsets(out: &mut String, opened: &Opened<MemoryDisk>) -> Result<(), AllocError> {
+    out.push_str(" at")?;
+    for offset in opened.offsets.as_slice() {
+        write!(out, " {offset}")?;
+    }
+    let left = opened.header.left.as_slice().len();
+    let count = opened.journal.count();
+    let pending = opened.journal.pending();
+    let live = opened.journal.is_live();
+    write!(
+        out,
+        " left {left} count {count} pending {pending} live {live}"
+    )
+}
+
+/// How many records an opened journal has, and where they stand if that is looked for.
+fn put_opened(out: &mut String, opened: &Opened<MemoryDisk>, look: &str) -> Result<(), AllocError> {
+    write!(out, "{}", opened.entries.len())?;
+    if look == "offsets" {
+        put_offsets(out, opened)?;
+    }
+    Ok(())
+}
+
+/// What an opening finds, or why there is no journal.
+pub(crate) fn put_records(
+    alloc: Global,
+    out: &mut String,
+    disk: MemoryDisk,
+    look: &str,
+) -> Result<(), AllocError> {
+    match open_journal(alloc, disk) {
+        Ok(opened) => put_opened(out, &opened, look),
+        Err((_disk, fault)) => write!(out, "{fault}"),
+    }
+}
+
 #[test]
-fn a_stop_leaves_a_batch_in_whole_or_not(rt: HostRuntime) -> Result<(), Fail> {
-    let alloc = rt.alloc();
-    let none = Err(JournalFault::NoRun);
-    // The beginning makes 8 calls, and each flush 4: a write, a sync, a write of the gate, and a sync.
-    let rows = [
-        (0, [none, none, none]),
-        (6, [none, none, none]),
-        (7, [Ok(0), none, Ok(0)]),
-        (8, [Ok(0), Ok(0), Ok(0)]),
-        (10, [Ok(0), Ok(0), Ok(0)]),
-        (11, [Ok(1), Ok(0), Ok(1)]),
-        (12, [Ok(1), Ok(1), Ok(1)]),
-        (13, [Ok(1), Ok(1), Ok(1)]),
-        (14, [Ok(1), Ok(1), Ok(1)]),
-        (15, [Ok(3), Ok(1), Ok(3)]),
-        (16, [Ok(3), Ok(3), Ok(3)]),
-    ];
-    let picks = [Crash::Kept, Crash::Lost, Crash::Fill(7)];
-    for (passes, wanted) in &rows {
-        for (pick, want) in picks.iter().zip(wanted) {
-            let disk = MemoryDisk::new(alloc, 1000, 100, &[])?;
-            let fuse = record_on(alloc, FuseDisk::new(disk, *passes))?;
-            let left = fuse.into_inner().crash(*pick);
-            assert_eq!(rt; opened(alloc, left.bytes().to_vec(alloc)?)?, *want);
-        }
+fn a_stop_leaves_a_batch_in_whole_or_not_and_a_bad_one_is_refused(
+    rt: HostRuntime,
+) -> Result<(), Fail> {
+    for row in ROWS.lines() {
+        assert!(&rt; holds(rt.alloc(), row)?, "{row}");
     }
     Ok(())
 }

@@ -5,6 +5,10 @@
 #![tactic(auto)]
 
 #[cfg(test)]
+mod bytes;
+#[cfg(test)]
+mod devices;
+#[cfg(test)]
 mod disks;
 #[cfg(test)]
 mod gates;
@@ -12,3 +16,5 @@ mod gates;
 mod journals;
 #[cfg(test)]
 mod records;
+#[cfg(test)]
+mod rows;

@@ -1,192 +1,165 @@
-use nc_number::Path;
+//! Records and headers: each is put as its bytes, taken from them, and refused with its least cause.
+ghost use Rattle.run_records.specs.Headers.{IsShort};
+
+use crate::bytes::{bytes_of, put_digits};
+use crate::rows::columns;
 use run_records::{
-    BadRecord, ByteList, Entry, EntryKind, EntryList, Header, HeaderFault, StampList, put_entry,
-    put_header, take_entry, take_header,
+    Entry, EntryKind, EntryList, Header, put_entry, put_header, take_entry, take_header,
 };
-use std::alloc::Global;
+use std::alloc::{AllocError, Global};
 use std::test::Fail;
 
-#[test]
-fn a_record_is_put_and_taken_whatever_follows(rt: HostRuntime) -> Result<(), Fail> {
-    let mut stamps = StampList::empty();
-    stamps.push(1);
-    let entry = Entry {
-        path: Path::Two,
-        kind: EntryKind::Did,
-        stamps,
-    };
-    let mut room = [0xAA; 140];
-    assert_eq!(rt; put_entry(&entry, &mut room), 7);
-    assert_eq!(rt; &room[..9], [2, 1, 1, 0, 0, 0, 1, 0xAA, 0xAA].as_slice());
-    let Ok((taken, size)) = take_entry(&room) else {
-        panic!(&rt; "the record is whole");
-    };
-    assert_eq!(rt; size, 7);
-    assert_eq!(rt; taken.path, Path::Two);
-    assert_eq!(rt; taken.kind, EntryKind::Did);
-    assert_eq!(rt; taken.stamps.as_slice(), [1].as_slice());
-    Ok(())
+/// `BYTES, BYTES, ..|TAKEN|ROOM`: how many bytes the record has that stands in front of each, or why there is none, and then the records of
+/// a list of them: the path, what it did, and its stamps. A number at the end is how many records the list has room for before.
+const RECORDS: &str = "\
+02 01 01 00000001 133xaa|7: 2 did 1
+03 01 00|no path:
+01 06 00|no kind:
+01 00 00|no kind:
+01 01 21 00000000|too many stamps:
+01 01 21 132x00|too many stamps:
+01 01|wrong length:
+|wrong length:
+03|no path:
+00 09|no path:
+02 05 01 000000|wrong length:
+01 06|no kind:
+01 01 00 0909|3: 1 did
+01 02 00 0909|3: 1 arrived
+01 03 00 0909|3: 1 met
+01 04 00 0909|3: 1 ended
+01 05 00 0909|3: 1 alarmed
+02 01 20 31x00000000 00000007|131: 2 did 0 0 0 0 0 0 0 0 0 0 0 0 0 0 0 0 0 0 0 0 0 0 0 0 0 0 0 0 0 0 0 7
+01 04 00, 02 04 00|3 3: 1 ended, 2 ended|2
+02 01 00, 02 01 01 00000007, 02 01 02 00000064 00000065, 02 01 20 00000004 30x00000005 00000006, 02 01 00, 02 01 01 00000009\
+|3 7 11 131 3 7: 2 did, 2 did 7, 2 did 100 101, 2 did 4 5 5 5 5 5 5 5 5 5 5 5 5 5 5 5 5 5 5 5 5 5 5 5 5 5 5 5 5 5 5 6, 2 did, 2 did 9";
+
+/// `BYTES|TAKEN`: the settings and both tapes, or that there are none.
+const HEADERS: &str = "\
+5457494e0001 TEXTS|<><250a4f310a233530303d233530302b310a4d33300a250a><250a4f310a233530303d233530302b310a4d33300a250a>
+5457494e0001 TEXTS 00|bad header
+5457494e0009 TEXTS|bad header
+5457494e0001 00000000 00000017 TAPE 00000017 250a4f310a233530303d233530302b310a4d33300a25|bad header
+|bad header";
+
+/// Whether the bytes begin with those that the record is put as, and nothing is put behind them.
+fn is_put(entry: &Entry, bytes: &[u8]) -> bool {
+    let clear = [0xAA; 140];
+    let mut room = clear;
+    let size = put_entry(entry, &mut room);
+    let (put, rest) = room.split_at(size);
+    let (_, untouched) = clear.split_at(size);
+    bytes.starts_with(put) && rest == untouched
 }
 
-#[test]
-fn a_record_that_is_none_has_its_least_cause(rt: HostRuntime) -> Result<(), Fail> {
-    // A record of 33 whole stamps.
-    let mut whole = [0; 135];
-    whole[..3].copy_from_slice(&[1, 1, 33]);
-    let rows: [(&[u8], BadRecord); 11] = [
-        (&[3, 1, 0], BadRecord::NoPath),
-        (&[1, 6, 0], BadRecord::NoKind),
-        (&[1, 0, 0], BadRecord::NoKind),
-        (&[1, 1, 33, 0, 0, 0, 0], BadRecord::TooManyStamps),
-        (&whole, BadRecord::TooManyStamps),
-        (&[1, 1], BadRecord::WrongLength),
-        (&[], BadRecord::WrongLength),
-        (&[3], BadRecord::NoPath),
-        (&[0, 9], BadRecord::NoPath),
-        (&[2, 5, 1, 0, 0, 0], BadRecord::WrongLength),
-        (&[1, 6], BadRecord::NoKind),
-    ];
-    for (bytes, cause) in &rows {
-        assert_eq!(rt; take_entry(bytes).err(), Some(*cause));
+/// Takes the record that stands in front, into the list, and puts its size; or why there is none.
+fn take_one(out: &mut String, list: &mut EntryList, bytes: &[u8]) -> Result<(), Fail> {
+    list.reserve(1)?;
+    match take_entry(bytes) {
+        Ok((entry, size)) => {
+            let known = is_put(&entry, bytes);
+            list.push(entry);
+            write!(out, "{size}")?;
+            if !known {
+                out.push_str(" but put otherwise")?;
+            }
+        }
+        Err(cause) => write!(out, "{cause}")?,
     }
     Ok(())
 }
 
-#[test]
-fn records_of_every_kind_are_taken(rt: HostRuntime) -> Result<(), Fail> {
-    let kinds = [
-        (1, EntryKind::Did),
-        (2, EntryKind::Arrived),
-        (3, EntryKind::Met),
-        (4, EntryKind::Ended),
-        (5, EntryKind::Alarmed),
-    ];
-    for (byte, kind) in &kinds {
-        let Ok((entry, size)) = take_entry(&[1, *byte, 0, 9, 9]) else {
-            panic!(&rt; "kind {byte}");
-        };
-        assert_eq!(rt; entry.kind, *kind);
-        assert_eq!(rt; size, 3);
+fn kind_word(kind: EntryKind) -> &'static str {
+    match kind {
+        EntryKind::Did => "did",
+        EntryKind::Arrived => "arrived",
+        EntryKind::Met => "met",
+        EntryKind::Ended => "ended",
+        EntryKind::Alarmed => "alarmed",
     }
-    let mut bytes = [0; 131];
-    bytes[0] = 2;
-    bytes[1] = 1;
-    bytes[2] = 32;
-    bytes[130] = 7;
-    let Ok((entry, size)) = take_entry(&bytes) else {
-        panic!(&rt; "32 stamps are allowed");
-    };
-    assert_eq!(rt; size, 131);
-    assert_eq!(rt; entry.stamps.as_slice().last().copied(), Some(7));
+}
+
+/// The number of the path, what it did, and its stamps.
+fn put_record(out: &mut String, entry: &Entry) -> Result<(), AllocError> {
+    let kind = kind_word(entry.kind);
+    write!(out, " {} {kind}", entry.path.number())?;
+    for stamp in entry.stamps.as_slice() {
+        write!(out, " {stamp}")?;
+    }
     Ok(())
 }
 
-// Tapes of 23 bytes each, and no settings.
-fn header(alloc: Global) -> Result<Header, Fail> {
-    let tape = b"%\nO1\n#500=#500+1\nM30\n%\n";
-    Ok(Header {
-        settings: ByteList::of(Vec::new(alloc)),
-        left: ByteList::of(tape.to_vec(alloc)?),
-        right: ByteList::of(tape.to_vec(alloc)?),
-    })
+/// The records of the list, one behind the other.
+fn put_list(out: &mut String, list: &EntryList) -> Result<(), AllocError> {
+    for index in 0..list.len() {
+        if index > 0 {
+            out.push(',')?;
+        }
+        put_record(out, &list.get(index))?;
+    }
+    Ok(())
 }
 
-// The first bytes, so many at most.
-fn front(bytes: &[u8], most: usize) -> &[u8] {
-    if most < bytes.len() {
-        &bytes[..most]
-    } else {
-        bytes
+/// Whether that is what is taken.
+fn records_hold(alloc: Global, row: &str) -> Result<bool, Fail> {
+    let [texts, wanted, room, ..] = columns(row);
+    let mut out = String::new(alloc);
+    let mut list = EntryList::empty(alloc);
+    if room == "2" {
+        list.reserve(2)?;
     }
+    for text in texts.split(", ") {
+        if !out.is_empty() {
+            out.push(' ')?;
+        }
+        let bytes = bytes_of(alloc, text)?;
+        take_one(&mut out, &mut list, bytes.as_slice())?;
+    }
+    out.push(':')?;
+    put_list(&mut out, &list)?;
+    Ok(out.as_str() == wanted)
+}
+
+/// The texts of a header, and whether it is put as these bytes.
+fn put_texts(alloc: Global, out: &mut String, header: &Header, bytes: &[u8]) -> Result<(), Fail>
+    requires { IsShort header.now }
+{
+    let put = put_header(alloc, header)?;
+    if put.as_slice() != bytes {
+        out.push_str("put otherwise: ")?;
+    }
+    for text in [&header.settings, &header.left, &header.right] {
+        out.push('<')?;
+        put_digits(out, text.as_slice())?;
+        out.push('>')?;
+    }
+    Ok(())
+}
+
+/// Whether that is what is taken.
+fn header_holds(alloc: Global, row: &str) -> Result<bool, Fail> {
+    let [text, wanted, ..] = columns(row);
+    let bytes = bytes_of(alloc, text)?;
+    let mut out = String::new(alloc);
+    match take_header(alloc, bytes.as_slice()) {
+        Ok(header) => put_texts(alloc, &mut out, &header, bytes.as_slice())?,
+        Err(fault) => write!(&mut out, "{fault}")?,
+    }
+    Ok(out.as_str() == wanted)
+}
+
+#[test]
+fn a_record_is_taken_as_it_is_put_or_has_its_least_cause(rt: HostRuntime) -> Result<(), Fail> {
+    for row in RECORDS.lines() {
+        assert!(&rt; records_hold(rt.alloc(), row)?, "{row}");
+    }
+    Ok(())
 }
 
 #[test]
 fn a_header_is_put_and_taken_as_a_whole(rt: HostRuntime) -> Result<(), Fail> {
-    let alloc = rt.alloc();
-    let header = header(alloc)?;
-    assert!(rt; header.settings.as_slice().len() < 100);
-    assert!(rt; header.left.as_slice().len() < 100);
-    assert!(rt; header.right.as_slice().len() < 100);
-    let bytes = put_header(alloc, &header)?;
-    assert_eq!(rt; bytes.len(), 64);
-    assert_eq!(rt;
-        &bytes[..15],
-        [
-            0x54, 0x57, 0x49, 0x4E, 0, 1, 0, 0, 0, 0, 0, 0, 0, 0x17, b'%'
-        ]
-        .as_slice()
-    );
-    let taken = take_header(alloc, &bytes)?;
-    assert_eq!(rt; taken.settings.as_slice().len(), 0);
-    assert_eq!(rt; taken.left.as_slice(), header.left.as_slice());
-    assert_eq!(rt;
-        taken.right.into_bytes().as_slice(),
-        header.right.as_slice()
-    );
-    assert_eq!(rt;
-        take_header(alloc, front(&bytes, 63)).err(),
-        Some(HeaderFault::Bad)
-    );
-    let mut longer = bytes;
-    longer.push(0)?;
-    assert_eq!(rt; take_header(alloc, &longer).err(), Some(HeaderFault::Bad));
-    longer[5] = 9;
-    assert_eq!(rt;
-        take_header(alloc, front(&longer, 64)).err(),
-        Some(HeaderFault::Bad)
-    );
-    assert_eq!(rt; take_header(alloc, &[]).err(), Some(HeaderFault::Bad));
-    Ok(())
-}
-
-#[test]
-fn a_list_of_records_grows_within_its_room(rt: HostRuntime) -> Result<(), Fail> {
-    let alloc = rt.alloc();
-    let mut list = EntryList::empty(alloc);
-    list.reserve(2)?;
-    for path in [Path::One, Path::Two] {
-        list.reserve(1)?;
-        list.push(Entry {
-            path,
-            kind: EntryKind::Ended,
-            stamps: StampList::empty(),
-        });
-    }
-    assert_eq!(rt; list.len(), 2);
-    Ok(())
-}
-
-// A record with these stamps.
-fn stamped(stamps: &[u32]) -> Result<Entry, Fail> {
-    let mut list = StampList::empty();
-    for stamp in stamps {
-        if list.as_slice().len() == 32 {
-            return Err(Fail::new("a record has 32 stamps at most"));
-        }
-        list.push(*stamp);
-    }
-    Ok(Entry {
-        path: Path::Two,
-        kind: EntryKind::Did,
-        stamps: list,
-    })
-}
-
-#[test]
-fn a_record_has_its_own_stamps_again(rt: HostRuntime) -> Result<(), Fail> {
-    let mut most = [5; 32];
-    most[0] = 4;
-    most[31] = 6;
-    let rows: [&[u32]; 6] = [&[], &[7], &[100, 101], &most, &[], &[9]];
-    let mut list = EntryList::empty(rt.alloc());
-    for stamps in &rows {
-        list.reserve(1)?;
-        list.push(stamped(stamps)?);
-    }
-    assert_eq!(rt; list.len(), 6);
-    for index in 0..list.len() {
-        let entry = list.get(index);
-        assert_eq!(rt; Some(entry.stamps.as_slice()), rows.get(index).copied());
+    for row in HEADERS.lines() {
+        assert!(&rt; header_holds(rt.alloc(), row)?, "{row}");
     }
     Ok(())
 }
