@@ -1,40 +1,27 @@
 //! Tables of tests of moves and of what they come from: the modal state and the offsets of a path, the settings of the cell, the moves
 //! of a block and of a cycle, and the forms in memory of what is outside the control.
 //!
-//! The answers that are expected are worked by hand from the rules of the control, and never from what a call answered.
+//! The answers that are expected are worked by hand from the rules of the control, and never from what a call answered. Most stand in
+//! texts with a row a line, in the words of a tape.
 #![tactic(auto)]
 
 #[cfg(test)]
 mod answers;
 #[cfg(test)]
-mod blocks;
+mod block_rows;
 #[cfg(test)]
-mod centres;
+mod cycles;
 #[cfg(test)]
-mod circles;
+mod device_rows;
 #[cfg(test)]
-mod cuts;
+mod modal_rows;
 #[cfg(test)]
-mod modal;
+mod move_text;
 #[cfg(test)]
 mod moves;
 #[cfg(test)]
-mod offsets;
+mod offset_rows;
 #[cfg(test)]
-mod passes;
+mod setting_rows;
 #[cfg(test)]
-mod rectangles;
-#[cfg(test)]
-mod reference;
-#[cfg(test)]
-mod settings;
-#[cfg(test)]
-mod shelf;
-#[cfg(test)]
-mod sink;
-#[cfg(test)]
-mod slots;
-#[cfg(test)]
-mod targets;
-#[cfg(test)]
-mod turret;
+mod words;
