@@ -7,7 +7,8 @@ ghost use Rattle.motion_track.specs.Centre.{IsGivenWithin, IsLengthWithin};
 use motion_track::LONGEST;
 use nc_number::{Axis, Literal, Point, Value, is_literal, parse_word};
 use nc_outside::Centre;
-use std::alloc::{AllocError, Global};
+use std::alloc::Global;
+use std::test::Fail;
 
 /// What stands behind the letter.
 pub(crate) fn behind<'a>(words: &'a str, letter: char) -> Option<&'a str> {
@@ -112,8 +113,10 @@ pub(crate) fn small(digits: &str) -> u16 {
 }
 
 /// A text with each `~` as the end of a line.
-pub(crate) fn lines_of(alloc: Global, text: &str) -> Result<Vec<u8>, AllocError> {
-    text.bytes()
-        .map(|byte| if byte == b'~' { b'\n' } else { byte })
-        .collect(alloc)
+pub(crate) fn lines_of(alloc: Global, text: &str) -> Result<Vec<u8>, Fail> {
+    let mut lines = Vec::new(alloc);
+    for byte in text.bytes() {
+        lines.push(if byte == b'~' { b'\n' } else { byte })?;
+    }
+    Ok(lines)
 }
