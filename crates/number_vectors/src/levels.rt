@@ -1,44 +1,33 @@
+use crate::values::holding;
 use local_levels::{LOCALS, Levels};
-use nc_number::{Value, Var};
-use std::test::Fail;
-
-fn number(micro: i64) -> Var {
-    match Value::of(micro) {
-        Some(value) => Var::Is(value),
-        None => Var::Vacant,
-    }
-}
-
-fn micro(variable: Var) -> i64 {
-    match variable {
-        Var::Is(value) => value.micro(),
-        Var::Vacant => 0,
-    }
-}
+use nc_number::Var;
 
 /// The depth, and what the first two locals hold, 0 standing for vacant.
 fn shown(levels: &Levels) -> [i64; 3] {
     [
         i64::from(levels.depth()),
-        micro(levels.get(1)),
-        micro(levels.get(2)),
+        levels.get(1).or_zero().micro(),
+        levels.get(2).or_zero().micro(),
     ]
 }
 
 #[test]
-fn a_return_brings_back_the_locals_of_the_caller(rt: HostRuntime) -> Result<(), Fail> {
+fn a_return_brings_back_the_locals_of_the_caller(rt: HostRuntime) {
     let mut levels = Levels::new();
-    levels.set(1, number(7));
+    levels.set(1, holding(7));
     let mut arguments = [Var::Vacant; LOCALS];
-    arguments[1] = number(5);
+    arguments[1] = holding(5);
     levels.open_level(&arguments);
-    assert_eq!(rt; shown(&levels), [1, 0, 5]);
-    levels.set(1, number(3));
-    levels.set(2, number(4));
-    assert_eq!(rt; shown(&levels), [1, 3, 4]);
+    let opened = shown(&levels);
+    levels.set(1, holding(3));
+    levels.set(2, holding(4));
+    let set = shown(&levels);
     levels.repeat_level();
-    assert_eq!(rt; shown(&levels), [1, 0, 5]);
+    let repeated = shown(&levels);
     levels.close_level();
-    assert_eq!(rt; shown(&levels), [0, 7, 0]);
-    Ok(())
+    let closed = shown(&levels);
+    assert!(rt; opened == [1, 0, 5]);
+    assert!(rt; set == [1, 3, 4]);
+    assert!(rt; repeated == [1, 0, 5]);
+    assert!(rt; closed == [0, 7, 0]);
 }

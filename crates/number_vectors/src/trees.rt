@@ -1,48 +1,229 @@
+//! The tree of each text, written with its operators first.
+
 use macro_expr::{
     Cond, Expr, ExprFault, Fun, Op, Rel, Statement, Target, VarRef, parse_expr, parse_statement,
 };
 use nc_number::Failing;
-use std::alloc::{AllocError, Global};
-use std::test::Fail;
+use std::alloc::Global;
 
-/// The tree in brackets, its operator first; `u` counts millionths.
+/// `TEXT -> TREE`, or the number of its refusal.
+const EXPRESSIONS: &str = "\
+2+3*4 -> (+ 2 (* 3 4))
+5 XOR 3 AND 1 -> (XOR 5 (AND 3 1))
+-7 MOD 3 -> (MOD (neg 7) 3)
+SQRT[2] -> (SQRT 2)
+ROUND[-2.5] -> (ROUND (neg 2500000u))
+99999999.999999+0.000001 -> (+ 99999999999999u 1u)
+#500+#500 -> (+ #500 #500)
+[#1] -> #1
++#1 -> (pos #1)
+[[[[[1]]]]] -> 1
+1-2-3 -> (- (- 1 2) 3)
+8/4/2 -> (/ (/ 8 4) 2)
+1+7 MOD 4 -> (+ 1 (MOD 7 4))
+1+2 MOD 3 -> (+ 1 (MOD 2 3))
+1 OR 2 XOR 3 -> (XOR (OR 1 2) 3)
+2*3 AND 4/5 -> (/ (AND (* 2 3) 4) 5)
+-2*3 -> (* (neg 2) 3)
+-2+3 -> (+ (neg 2) 3)
+[-1] -> (neg 1)
+1*[-2] -> (* 1 (neg 2))
+-[1+2] -> (neg (+ 1 2))
+1-[2-3] -> (- 1 (- 2 3))
+#[1+2] -> #[(+ 1 2)]
+#[#[1]] -> #[#[1]]
+#007 -> #7
+#99999999 -> #99999999
+1. -> 1
+.5 -> 500000u
+00000000001 -> 1
+12345678.123456 -> 12345678123456u
+0.000001 -> 1u
+ABS[-1] -> (ABS (neg 1))
+FIX[1.5] -> (FIX 1500000u)
+FUP[FIX[2]] -> (FUP (FIX 2))
+5ANDSQRT[4] -> (AND 5 (SQRT 4))
+1 2 -> 12
+1 . 5 -> 1500000u
+sqrt[4] -> (SQRT 4)
+1(COMMENT)0 -> 10
+#[[[[[1]]]]] -> #[1]
+SQRT[[[[[1]]]]] -> (SQRT 1)
+[1]+[[2]] -> (+ 1 2)
+1\t+ 2 -> (+ 1 2)
+1+ -> 20
+ -> 20
+1+-2 -> 20
+--1 -> 20
+*1 -> 20
+# -> 20
+#A -> 20
+#1.5 -> 20
+#-1 -> 20
+##1 -> 20
+. -> 20
+1.2.3 -> 20
+ABS 1 -> 20
+SQRT -> 20
+1 AND -> 20
+#1EQ#2 -> 20
+1] -> 20
+[1 -> 20
+[] -> 20
+[1+] -> 20
+(ALL) -> 20
+1; -> 20
+1% -> 20
+#1=2 -> 20
+SIN[1] -> 23
+SQRTX[1] -> 23
+SQ[1] -> 23
+X1 -> 23
+AND 1 -> 23
+1 AND AND 2 -> 23
+1+SIN[ -> 23
+[[[[[[1]]]]]] -> 21
+[[[[[[1 -> 21
+1+)[[[[[[ -> 21
+#[[[[[[1]]]]]] -> 21
+SIN[[[[[[1]]]]]] -> 21
+123456789 -> 5
+1.1234567 -> 5
+#123456789 -> 5
+#[SIN[123456789]] -> 5
+1++123456789 -> 5
+[1DO123456789] -> 5
+1( -> 20
+1(123456789 -> 20
+SIN[1]( -> 23
+1 AND 2(C -> 20";
+
+/// `TEXT -> STATEMENT WITH ITS TREES`, or the number of its refusal.
+const STATEMENTS: &str = "\
+#1=2 -> #1 = 2
+#1=1(C)0 -> #1 = 10
+#[1+2]=#3 -> #[(+ 1 2)] = #3
+#1=#1+1 -> #1 = (+ #1 1)
+#1 -> 20
+#1= -> 20
+1=2 -> 20
+#1=2=3 -> 20
+#1=SIN[1] -> 23
+GOTO 5 -> GOTO 5
+goto00005 -> GOTO 5
+GOTO 99999 -> GOTO 99999
+GOTO 100000 -> 64
+GOTO 100000X -> 64
+GOTO 123456789 -> 5
+GOTO #1 -> GOTO [#1]
+GOTO [1+2] -> GOTO [(+ 1 2)]
+GOTO -> 20
+GOTO 5X -> 20
+GOTO -5 -> 20
+GOTO 5.5 -> 20
+IF [#1 EQ 0] GOTO 5 -> IF #1 EQ 0 GOTO 5
+IF[#1NE0]GOTO20 -> IF #1 NE 0 GOTO 20
+I F [1 GT 1] G O T O 5 -> IF 1 GT 1 GOTO 5
+IF [1 LT 2] THEN #3=4 -> IF 1 LT 2 THEN #3 = 4
+IF [#1EQABS[#2]] GOTO 1 -> IF #1 EQ (ABS #2) GOTO 1
+IF [[[[[1]]]] EQ 2] GOTO 5 -> IF 1 EQ 2 GOTO 5
+IF [[[[[[1]]]]] EQ 2] GOTO 5 -> 21
+IF [SIN[1] EQ 0] GOTO 5 -> 22
+IF GOTO 5 -> 22
+IF [1] GOTO 5 -> 22
+IF [1 EQ 2 GOTO 5 -> 22
+IF [1 EQ 2 AND 3 EQ 4] GOTO 5 -> 22
+IF [1=2] GOTO 5 -> 22
+IF [1 EQ 2] -> 20
+IF [1 EQ 2] GOTO -> 20
+IF [1 EQ 2] THEN -> 20
+IF [1 EQ 2] DO 1 -> 20
+WHILE [1 GE 2] DO 3 -> WHILE 1 GE 2 DO 3
+WHILE [1 LE 2] -> 20
+WHILE DO 1 -> 22
+WHILE [1 LE 2] DO 4 -> 24
+DO 1 -> DO 1
+DO 4 -> 24
+DO -> 24
+DO12 -> 24
+DO01 -> 24
+DO123456789 -> 24
+DO123456789.1 -> 24
+DO1X -> 20
+END123456789 -> 24
+WHILE[1EQ1]DO123456789 -> 24
+IF[1EQ1]DO123456789 -> 5
+#1=DO123456789 -> 5
+GOTODO123456789 -> 5
+GOTO 1234567*9 -> 64
+IF[1EQ1]GOTO100000 -> 64
+IF[1EQ1]GOTO5( -> 20
+IF[1EQ1(]GOTO5 -> 22
+DO( -> 24
+END3 -> END 3
+END -> 24
+X1 -> 20";
+
+/// Adds to the text. Where memory ends the text stays short, and its row does not hold.
+fn put(out: &mut String, part: &str) {
+    let _ = out.push_str(part);
+}
+
+fn put_number(out: &mut String, number: i64) {
+    let _ = write!(out, "{number}");
+}
+
+/// Adds the tree in brackets, its operator first; `u` counts millionths.
 #[cycle(show)]
-fn show(alloc: Global, tree: &Expr) -> Result<String, AllocError> {
+fn show(out: &mut String, tree: &Expr) {
     match tree {
-        Expr::Lit(value) => {
-            let micro = value.micro();
-            if micro % 1_000_000 == 0 {
-                format!(in alloc; "{}", micro / 1_000_000)
-            } else {
-                format!(in alloc; "{micro}u")
-            }
-        }
-        Expr::Look(variable) => show_variable(alloc, variable),
+        Expr::Lit(value) => show_value(out, value.micro()),
+        Expr::Look(variable) => show_variable(out, variable),
         Expr::Sign(minus, e) => {
-            let sign = if *minus { "neg" } else { "pos" };
-            let e = show(alloc, e)?;
-            format!(in alloc; "({sign} {e})")
+            put(out, if *minus { "(neg " } else { "(pos " });
+            show(out, e);
+            put(out, ")");
         }
         Expr::Call(function, e) => {
-            let e = show(alloc, e)?;
-            format!(in alloc; "({} {e})", function_name(*function))
+            put(out, "(");
+            put(out, function_name(*function));
+            put(out, " ");
+            show(out, e);
+            put(out, ")");
         }
         Expr::Two(op, left, right) => {
-            let left = show(alloc, left)?;
-            let right = show(alloc, right)?;
-            format!(in alloc; "({} {left} {right})", operator_name(*op))
+            put(out, "(");
+            put(out, operator_name(*op));
+            put(out, " ");
+            show(out, left);
+            put(out, " ");
+            show(out, right);
+            put(out, ")");
         }
     }
 }
 
 #[cycle(show)]
-fn show_variable(alloc: Global, variable: &VarRef) -> Result<String, AllocError> {
+fn show_variable(out: &mut String, variable: &VarRef) {
     match variable {
-        VarRef::Fixed(n) => format!(in alloc; "#{n}"),
-        VarRef::Computed(e) => {
-            let e = show(alloc, e)?;
-            format!(in alloc; "#[{e}]")
+        VarRef::Fixed(n) => {
+            put(out, "#");
+            put_number(out, i64::from(*n));
         }
+        VarRef::Computed(e) => {
+            put(out, "#[");
+            show(out, e);
+            put(out, "]");
+        }
+    }
+}
+
+fn show_value(out: &mut String, micro: i64) {
+    if micro % 1_000_000 == 0 {
+        put_number(out, micro / 1_000_000);
+    } else {
+        put_number(out, micro);
+        put(out, "u");
     }
 }
 
@@ -80,282 +261,109 @@ fn relation_name(rel: Rel) -> &'static str {
     }
 }
 
-fn show_condition(alloc: Global, condition: &Cond) -> Result<String, AllocError> {
-    let left = show(alloc, &condition.left)?;
-    let right = show(alloc, &condition.right)?;
-    format!(in alloc; "{left} {} {right}", relation_name(condition.rel))
+fn show_condition(out: &mut String, condition: &Cond) {
+    show(out, &condition.left);
+    put(out, " ");
+    put(out, relation_name(condition.rel));
+    put(out, " ");
+    show(out, &condition.right);
 }
 
-fn show_target(alloc: Global, target: &Target) -> Result<String, AllocError> {
+fn show_target(out: &mut String, target: &Target) {
+    put(out, "GOTO ");
     match target {
-        Target::Fixed(n) => format!(in alloc; "{n}"),
+        Target::Fixed(n) => put_number(out, i64::from(*n)),
         Target::Computed(e) => {
-            let e = show(alloc, e)?;
-            format!(in alloc; "[{e}]")
+            put(out, "[");
+            show(out, e);
+            put(out, "]");
         }
     }
 }
 
-fn show_assignment(alloc: Global, variable: &VarRef, e: &Expr) -> Result<String, AllocError> {
-    let variable = show_variable(alloc, variable)?;
-    let e = show(alloc, e)?;
-    format!(in alloc; "{variable} = {e}")
+fn show_assignment(out: &mut String, variable: &VarRef, e: &Expr) {
+    show_variable(out, variable);
+    put(out, " = ");
+    show(out, e);
 }
 
-fn show_statement(alloc: Global, statement: &Statement) -> Result<String, AllocError> {
+fn show_loop(out: &mut String, word: &str, number: u8) {
+    put(out, word);
+    put_number(out, i64::from(number));
+}
+
+fn show_statement(out: &mut String, statement: &Statement) {
     match statement {
-        Statement::Assign(variable, e) => show_assignment(alloc, variable, e),
-        Statement::Goto(target) => {
-            let target = show_target(alloc, target)?;
-            format!(in alloc; "GOTO {target}")
-        }
+        Statement::Assign(variable, e) => show_assignment(out, variable, e),
+        Statement::Goto(target) => show_target(out, target),
         Statement::IfGoto(condition, target) => {
-            let condition = show_condition(alloc, condition)?;
-            let target = show_target(alloc, target)?;
-            format!(in alloc; "IF {condition} GOTO {target}")
+            put(out, "IF ");
+            show_condition(out, condition);
+            put(out, " ");
+            show_target(out, target);
         }
         Statement::IfThen(condition, variable, e) => {
-            let condition = show_condition(alloc, condition)?;
-            let then = show_assignment(alloc, variable, e)?;
-            format!(in alloc; "IF {condition} THEN {then}")
+            put(out, "IF ");
+            show_condition(out, condition);
+            put(out, " THEN ");
+            show_assignment(out, variable, e);
         }
         Statement::WhileDo(condition, m) => {
-            let condition = show_condition(alloc, condition)?;
-            format!(in alloc; "WHILE {condition} DO {m}")
+            put(out, "WHILE ");
+            show_condition(out, condition);
+            show_loop(out, " DO ", *m);
         }
-        Statement::DoOnly(m) => format!(in alloc; "DO {m}"),
-        Statement::EndLoop(m) => format!(in alloc; "END {m}"),
+        Statement::DoOnly(m) => show_loop(out, "DO ", *m),
+        Statement::EndLoop(m) => show_loop(out, "END ", *m),
     }
 }
 
-fn refusal(alloc: Global, why: &Failing<ExprFault>) -> Result<String, AllocError> {
+fn show_refusal(out: &mut String, why: &Failing<ExprFault>) {
     match why {
-        Failing::Fault(fault) => format!(in alloc; "{}", fault.number),
-        Failing::NoMemory => format!(in alloc; "no memory"),
+        Failing::Fault(fault) => put_number(out, i64::from(fault.number)),
+        Failing::NoMemory => put(out, "no memory"),
     }
 }
 
-fn expression(alloc: Global, text: &str) -> Result<String, AllocError> {
+/// The tree of the expression, or the number of its refusal.
+pub(crate) fn expression(alloc: Global, text: &str) -> String {
+    let mut out = String::new(alloc);
     match parse_expr(alloc, text.as_bytes()) {
-        Ok(tree) => show(alloc, &tree),
-        Err(why) => refusal(alloc, &why),
+        Ok(tree) => show(&mut out, &tree),
+        Err(why) => show_refusal(&mut out, &why),
     }
+    out
 }
 
-fn statement(alloc: Global, text: &str) -> Result<String, AllocError> {
+fn statement(alloc: Global, text: &str) -> String {
+    let mut out = String::new(alloc);
     match parse_statement(alloc, text.as_bytes()) {
-        Ok(tree) => show_statement(alloc, &tree),
-        Err(why) => refusal(alloc, &why),
+        Ok(tree) => show_statement(&mut out, &tree),
+        Err(why) => show_refusal(&mut out, &why),
     }
+    out
 }
 
-static TREES: [(&str, &str); 43] = [
-    ("2+3*4", "(+ 2 (* 3 4))"),
-    ("5 XOR 3 AND 1", "(XOR 5 (AND 3 1))"),
-    ("-7 MOD 3", "(MOD (neg 7) 3)"),
-    ("SQRT[2]", "(SQRT 2)"),
-    ("ROUND[-2.5]", "(ROUND (neg 2500000u))"),
-    ("99999999.999999+0.000001", "(+ 99999999999999u 1u)"),
-    ("#500+#500", "(+ #500 #500)"),
-    ("[#1]", "#1"),
-    ("+#1", "(pos #1)"),
-    ("[[[[[1]]]]]", "1"),
-    ("1-2-3", "(- (- 1 2) 3)"),
-    ("8/4/2", "(/ (/ 8 4) 2)"),
-    ("1+7 MOD 4", "(+ 1 (MOD 7 4))"),
-    ("1+2 MOD 3", "(+ 1 (MOD 2 3))"),
-    ("1 OR 2 XOR 3", "(XOR (OR 1 2) 3)"),
-    ("2*3 AND 4/5", "(/ (AND (* 2 3) 4) 5)"),
-    ("-2*3", "(* (neg 2) 3)"),
-    ("-2+3", "(+ (neg 2) 3)"),
-    ("[-1]", "(neg 1)"),
-    ("1*[-2]", "(* 1 (neg 2))"),
-    ("-[1+2]", "(neg (+ 1 2))"),
-    ("1-[2-3]", "(- 1 (- 2 3))"),
-    ("#[1+2]", "#[(+ 1 2)]"),
-    ("#[#[1]]", "#[#[1]]"),
-    ("#007", "#7"),
-    ("#99999999", "#99999999"),
-    ("1.", "1"),
-    (".5", "500000u"),
-    ("00000000001", "1"),
-    ("12345678.123456", "12345678123456u"),
-    ("0.000001", "1u"),
-    ("ABS[-1]", "(ABS (neg 1))"),
-    ("FIX[1.5]", "(FIX 1500000u)"),
-    ("FUP[FIX[2]]", "(FUP (FIX 2))"),
-    ("5ANDSQRT[4]", "(AND 5 (SQRT 4))"),
-    ("1 2", "12"),
-    ("1 . 5", "1500000u"),
-    ("sqrt[4]", "(SQRT 4)"),
-    ("1(COMMENT)0", "10"),
-    ("#[[[[[1]]]]]", "#[1]"),
-    ("SQRT[[[[[1]]]]]", "(SQRT 1)"),
-    ("[1]+[[2]]", "(+ 1 2)"),
-    ("1\t+ 2", "(+ 1 2)"),
-];
-
-static REFUSED: [(&str, &str); 46] = [
-    ("", "20"),
-    ("1+", "20"),
-    ("1+-2", "20"),
-    ("--1", "20"),
-    ("*1", "20"),
-    ("#", "20"),
-    ("#A", "20"),
-    ("#1.5", "20"),
-    ("#-1", "20"),
-    ("##1", "20"),
-    (".", "20"),
-    ("1.2.3", "20"),
-    ("ABS 1", "20"),
-    ("SQRT", "20"),
-    ("1 AND", "20"),
-    ("#1EQ#2", "20"),
-    ("1]", "20"),
-    ("[1", "20"),
-    ("[]", "20"),
-    ("[1+]", "20"),
-    ("(ALL)", "20"),
-    ("1;", "20"),
-    ("1%", "20"),
-    ("#1=2", "20"),
-    ("SIN[1]", "23"),
-    ("SQRTX[1]", "23"),
-    ("SQ[1]", "23"),
-    ("X1", "23"),
-    ("AND 1", "23"),
-    ("1 AND AND 2", "23"),
-    ("1+SIN[", "23"),
-    ("[[[[[[1]]]]]]", "21"),
-    ("[[[[[[1", "21"),
-    ("1+)[[[[[[", "21"),
-    ("#[[[[[[1]]]]]]", "21"),
-    ("SIN[[[[[[1]]]]]]", "21"),
-    ("123456789", "5"),
-    ("1.1234567", "5"),
-    ("#123456789", "5"),
-    ("#[SIN[123456789]]", "5"),
-    ("1++123456789", "5"),
-    ("[1DO123456789]", "5"),
-    ("1(", "20"),
-    ("1(123456789", "20"),
-    ("SIN[1](", "23"),
-    ("1 AND 2(C", "20"),
-];
-
-static STATEMENTS: [(&str, &str); 63] = [
-    ("#1=2", "#1 = 2"),
-    ("#1=1(C)0", "#1 = 10"),
-    ("#[1+2]=#3", "#[(+ 1 2)] = #3"),
-    ("#1=#1+1", "#1 = (+ #1 1)"),
-    ("#1", "20"),
-    ("#1=", "20"),
-    ("1=2", "20"),
-    ("#1=2=3", "20"),
-    ("#1=SIN[1]", "23"),
-    ("GOTO 5", "GOTO 5"),
-    ("goto00005", "GOTO 5"),
-    ("GOTO 99999", "GOTO 99999"),
-    ("GOTO 100000", "64"),
-    ("GOTO 100000X", "64"),
-    ("GOTO 123456789", "5"),
-    ("GOTO #1", "GOTO [#1]"),
-    ("GOTO [1+2]", "GOTO [(+ 1 2)]"),
-    ("GOTO", "20"),
-    ("GOTO 5X", "20"),
-    ("GOTO -5", "20"),
-    ("GOTO 5.5", "20"),
-    ("IF [#1 EQ 0] GOTO 5", "IF #1 EQ 0 GOTO 5"),
-    ("IF[#1NE0]GOTO20", "IF #1 NE 0 GOTO 20"),
-    ("I F [1 GT 1] G O T O 5", "IF 1 GT 1 GOTO 5"),
-    ("IF [1 LT 2] THEN #3=4", "IF 1 LT 2 THEN #3 = 4"),
-    ("IF [#1EQABS[#2]] GOTO 1", "IF #1 EQ (ABS #2) GOTO 1"),
-    ("IF [[[[[1]]]] EQ 2] GOTO 5", "IF 1 EQ 2 GOTO 5"),
-    ("IF [[[[[[1]]]]] EQ 2] GOTO 5", "21"),
-    ("IF [SIN[1] EQ 0] GOTO 5", "22"),
-    ("IF GOTO 5", "22"),
-    ("IF [1] GOTO 5", "22"),
-    ("IF [1 EQ 2 GOTO 5", "22"),
-    ("IF [1 EQ 2 AND 3 EQ 4] GOTO 5", "22"),
-    ("IF [1=2] GOTO 5", "22"),
-    ("IF [1 EQ 2]", "20"),
-    ("IF [1 EQ 2] GOTO", "20"),
-    ("IF [1 EQ 2] THEN", "20"),
-    ("IF [1 EQ 2] DO 1", "20"),
-    ("WHILE [1 GE 2] DO 3", "WHILE 1 GE 2 DO 3"),
-    ("WHILE [1 LE 2]", "20"),
-    ("WHILE DO 1", "22"),
-    ("WHILE [1 LE 2] DO 4", "24"),
-    ("DO 1", "DO 1"),
-    ("DO 4", "24"),
-    ("DO", "24"),
-    ("DO12", "24"),
-    ("DO01", "24"),
-    ("DO123456789", "24"),
-    ("DO123456789.1", "24"),
-    ("DO1X", "20"),
-    ("END123456789", "24"),
-    ("WHILE[1EQ1]DO123456789", "24"),
-    ("IF[1EQ1]DO123456789", "5"),
-    ("#1=DO123456789", "5"),
-    ("GOTODO123456789", "5"),
-    ("GOTO 1234567*9", "64"),
-    ("IF[1EQ1]GOTO100000", "64"),
-    ("IF[1EQ1]GOTO5(", "20"),
-    ("IF[1EQ1(]GOTO5", "22"),
-    ("DO(", "24"),
-    ("END3", "END 3"),
-    ("END", "24"),
-    ("X1", "20"),
-];
-
-#[test]
-fn each_expression_has_its_tree(rt: HostRuntime) -> Result<(), Fail> {
-    for (text, tree) in &TREES {
-        assert_eq!(rt; expression(rt.alloc(), text)?.as_str(), *tree);
-    }
-    Ok(())
+fn has_tree(alloc: Global, row: &str) -> Option<bool> {
+    let (text, tree) = row.split_once(" -> ")?;
+    Some(expression(alloc, text).as_str() == tree)
 }
 
 #[test]
-fn each_text_without_a_tree_has_its_refusal(rt: HostRuntime) -> Result<(), Fail> {
-    for (text, number) in &REFUSED {
-        assert_eq!(rt; expression(rt.alloc(), text)?.as_str(), *number);
+fn each_expression_has_its_tree_or_its_refusal(rt: HostRuntime) {
+    for row in EXPRESSIONS.lines() {
+        assert!(rt; has_tree(rt.alloc(), row) == Some(true), "{row}");
     }
-    Ok(())
+}
+
+fn has_statement(alloc: Global, row: &str) -> Option<bool> {
+    let (text, tree) = row.split_once(" -> ")?;
+    Some(statement(alloc, text).as_str() == tree)
 }
 
 #[test]
-fn each_statement_has_its_tree_or_its_refusal(rt: HostRuntime) -> Result<(), Fail> {
-    for (text, answer) in &STATEMENTS {
-        assert_eq!(rt; statement(rt.alloc(), text)?.as_str(), *answer);
+fn each_statement_has_its_tree_or_its_refusal(rt: HostRuntime) {
+    for row in STATEMENTS.lines() {
+        assert!(rt; has_statement(rt.alloc(), row) == Some(true), "{row}");
     }
-    Ok(())
-}
-
-/// So many variables added up, and what follows them.
-fn variables(alloc: Global, count: usize, last: &str) -> Result<String, AllocError> {
-    let mut text = String::new(alloc);
-    for _ in 0..count {
-        text.push_str("#1+")?;
-    }
-    text.push_str(last)?;
-    Ok(text)
-}
-
-#[test]
-fn the_thirty_third_variable_is_too_many(rt: HostRuntime) -> Result<(), Fail> {
-    let table = [
-        (31, "#1", "("),
-        (32, "#1", "25"),
-        (33, "", "25"),
-        (33, "X", "23"),
-    ];
-    for (count, last, answer) in table {
-        let text = variables(rt.alloc(), count, last)?;
-        let found = expression(rt.alloc(), text.as_str())?;
-        assert!(rt; found.as_str().starts_with(answer));
-    }
-    Ok(())
 }

@@ -1,12 +1,77 @@
+//! The value of each expression, or the variable that it needs, or its alarm.
 ghost use Rattle.number_vectors.specs.Sample.{sample_table};
 
+use crate::literals::number;
 use macro_eval::{
     Eval, Look, Scope, VarFault, compile, compile_statement, count_reads, eval, evaluate, holds,
 };
 use macro_expr::{Rel, parse_expr, parse_statement};
 use nc_number::{Value, Var};
-use std::alloc::{AllocError, Global};
-use std::test::Fail;
+use std::alloc::Global;
+
+/// `TEXT -> ANSWER`: a value, `vacant`, the shared variable that must be read next, or an alarm.
+const VALUES: &str = "\
+2+3*4 -> 14
+5 XOR 3 AND 1 -> 4
+-7 MOD 3 -> -1
+7 MOD [-3] -> 1
+SQRT[2] -> 1.414213
+ROUND[-2.5] -> -3
+ROUND[2.4] -> 2
+FIX[-2.9] -> -2
+FUP[2.1] -> 3
+ABS[-1.5] -> 1.5
+99999999.999999+0.000001 -> alarm 1
+99999999.999999 -> 99999999.999999
+-99999999.999999 -> -99999999.999999
+-99999999.999999-0.000001 -> alarm 1
+99999999.999999+0.000001-1 -> alarm 1
+1/3 -> 0.333333
+2/3 -> 0.666667
+1/0 -> alarm 2
+1 MOD 0 -> alarm 2
+1/#1 -> alarm 2
+SQRT[-1] -> alarm 3
+1.5 AND 1 -> alarm 4
+-1 AND 1 -> alarm 4
+99999999 OR 0 -> 99999999
+10-4-3 -> 3
+8/4/2 -> 1
+-2*3+1 -> -5
+[#1] -> vacant
+#1 -> vacant
++#1 -> 0
+-#1 -> 0
+#1+2 -> 2
+ABS[#1] -> 0
+#[1+1] -> 2.5
+#[#3] -> 3
+#[#2] -> alarm 4
+#9 -> alarm 30
+#[#1] -> vacant
+#[-1] -> alarm 30";
+
+/// `COUNT TEXT -> ANSWER, TAKEN`: so many reads of the shared variable stand ready, 2, 500 and vacant, and so many are taken.
+const READS: &str = "\
+0 #500+#500 -> needs #500, 0
+1 #500+#500 -> needs #500, 1
+2 #500+#500 -> 502, 2
+3 #500+#500 -> 502, 2
+3 #500*#500+#500 -> 1000, 3
+1 1/0+#500 -> alarm 2, 0
+0 #500/0 -> needs #500, 0
+1 #500/0 -> alarm 2, 1
+1 #[#500] -> 2.5, 1
+2 #[#500*0+500] -> 500, 2";
+
+/// `TEXT -> ANSWER -> ANSWER ..`: what the statement evaluates, from left to right.
+const ORDERS: &str = "\
+#[#3]=4 -> 3 -> 4
+#9=5 -> 5
+IF [#1 EQ 2] THEN #[3]=#500 -> vacant -> 2 -> 3 -> needs #500
+IF [1/0 EQ 2] GOTO #3 -> alarm 2 -> 2 -> 3
+WHILE [2 LT #3] DO 1 -> 2 -> 3
+GOTO 5";
 
 /// `#0` and `#1` are vacant, `#2` is 2.5, `#3` is 3, `#500` is shared, and there is no other.
 struct Sample;
@@ -25,205 +90,108 @@ impl Scope for Sample {
     }
 }
 
-/// What kind of answer it is, and its number: 0 vacant, 1 a value in millionths, 2 the variable
-/// that is needed, 3 an alarm.
-fn shown(answer: &Eval) -> (u8, i64) {
+/// The answer for a text, and how many reads it takes; none where it has no tree.
+pub(crate) fn answer(alloc: Global, text: &str, reads: &[Var]) -> Option<(Eval, usize)> {
+    let tree = parse_expr(alloc, text.as_bytes()).ok()?;
+    let code = compile(alloc, &tree).ok()?;
+    let taken = count_reads(&code, &Sample, reads);
+    Some((eval(&code, &Sample, reads), taken))
+}
+
+/// Whether that is the answer that the text writes.
+pub(crate) fn is_due(answer: &Eval, wanted: &str) -> bool {
     match answer {
-        Eval::Got(variable) => (u8::from(is_number(variable)), variable.or_zero().micro()),
-        Eval::Need(variable) => (2, i64::from(*variable)),
-        Eval::Fault(number) => (3, i64::from(*number)),
+        Eval::Got(Var::Vacant) => wanted == "vacant",
+        Eval::Got(Var::Is(value)) => is_value(value, wanted),
+        Eval::Need(variable) => is_behind("needs #", wanted, *variable),
+        Eval::Fault(number) => is_behind("alarm ", wanted, u32::from(*number)),
     }
 }
 
-fn is_number(variable: &Var) -> bool {
-    match variable {
-        Var::Vacant => false,
-        Var::Is(_) => true,
+fn is_value(value: &Value, wanted: &str) -> bool {
+    match number(wanted) {
+        Some(due) => due.micro() == value.micro(),
+        None => false,
     }
 }
 
-/// The answer for a text, and how many reads it takes; 9 where the text has no tree.
-fn answer(alloc: Global, text: &str, reads: &[Var]) -> (u8, i64, usize) {
-    let Ok(tree) = parse_expr(alloc, text.as_bytes()) else {
-        return (9, 0, 0);
-    };
-    let Ok(code) = compile(alloc, &tree) else {
-        return (9, 0, 0);
-    };
-    let (kind, number) = shown(&eval(&code, &Sample, reads));
-    (kind, number, count_reads(&code, &Sample, reads))
+fn is_behind(word: &str, wanted: &str, number: u32) -> bool {
+    match wanted.strip_prefix(word) {
+        Some(digits) => digits.parse::<u32>() == Ok(number),
+        None => false,
+    }
 }
 
-fn number(micro: i64) -> Var {
+fn has_value(alloc: Global, row: &str) -> Option<bool> {
+    let (text, wanted) = row.split_once(" -> ")?;
+    let (answer, taken) = answer(alloc, text, &[])?;
+    Some(taken == 0 && is_due(&answer, wanted))
+}
+
+#[test]
+fn each_expression_has_its_value(rt: HostRuntime) {
+    for row in VALUES.lines() {
+        assert!(rt; has_value(rt.alloc(), row) == Some(true), "{row}");
+    }
+}
+
+/// A variable that holds so many millionths; vacant past the range.
+pub(crate) fn holding(micro: i64) -> Var {
     match Value::of(micro) {
         Some(value) => Var::Is(value),
         None => Var::Vacant,
     }
 }
 
-static VALUES: [(&str, u8, i64); 39] = [
-    ("2+3*4", 1, 14_000_000),
-    ("5 XOR 3 AND 1", 1, 4_000_000),
-    ("-7 MOD 3", 1, -1_000_000),
-    ("7 MOD [-3]", 1, 1_000_000),
-    ("SQRT[2]", 1, 1_414_213),
-    ("ROUND[-2.5]", 1, -3_000_000),
-    ("ROUND[2.4]", 1, 2_000_000),
-    ("FIX[-2.9]", 1, -2_000_000),
-    ("FUP[2.1]", 1, 3_000_000),
-    ("ABS[-1.5]", 1, 1_500_000),
-    ("99999999.999999+0.000001", 3, 1),
-    ("99999999.999999", 1, 99_999_999_999_999),
-    ("-99999999.999999", 1, -99_999_999_999_999),
-    ("-99999999.999999-0.000001", 3, 1),
-    ("99999999.999999+0.000001-1", 3, 1),
-    ("1/3", 1, 333_333),
-    ("2/3", 1, 666_667),
-    ("1/0", 3, 2),
-    ("1 MOD 0", 3, 2),
-    ("1/#1", 3, 2),
-    ("SQRT[-1]", 3, 3),
-    ("1.5 AND 1", 3, 4),
-    ("-1 AND 1", 3, 4),
-    ("99999999 OR 0", 1, 99_999_999_000_000),
-    ("10-4-3", 1, 3_000_000),
-    ("8/4/2", 1, 1_000_000),
-    ("-2*3+1", 1, -5_000_000),
-    ("[#1]", 0, 0),
-    ("#1", 0, 0),
-    ("+#1", 1, 0),
-    ("-#1", 1, 0),
-    ("#1+2", 1, 2_000_000),
-    ("ABS[#1]", 1, 0),
-    ("#[1+1]", 1, 2_500_000),
-    ("#[#3]", 1, 3_000_000),
-    ("#[#2]", 3, 4),
-    ("#9", 3, 30),
-    ("#[#1]", 0, 0),
-    ("#[-1]", 3, 30),
-];
-
-#[test]
-fn each_expression_has_its_value(rt: HostRuntime) -> Result<(), Fail> {
-    for (text, kind, number) in &VALUES {
-        assert_eq!(rt; answer(rt.alloc(), text, &[]), (*kind, *number, 0));
-    }
-    Ok(())
+fn takes_reads(alloc: Global, row: &str) -> Option<bool> {
+    let (question, wanted) = row.split_once(" -> ")?;
+    let (count, text) = question.split_once(' ')?;
+    let (wanted, wanted_taken) = wanted.split_once(", ")?;
+    let reads = [holding(2_000_000), holding(500_000_000), Var::Vacant];
+    let some = reads.get(..count.parse::<usize>().ok()?)?;
+    let (answer, taken) = answer(alloc, text, some)?;
+    Some(wanted_taken.parse::<usize>() == Ok(taken) && is_due(&answer, wanted))
 }
 
-static READS: [(&str, usize, u8, i64, usize); 10] = [
-    ("#500+#500", 0, 2, 500, 0),
-    ("#500+#500", 1, 2, 500, 1),
-    ("#500+#500", 2, 1, 502_000_000, 2),
-    ("#500+#500", 3, 1, 502_000_000, 2),
-    ("#500*#500+#500", 3, 1, 1_000_000_000, 3),
-    ("1/0+#500", 1, 3, 2, 0),
-    ("#500/0", 0, 2, 500, 0),
-    ("#500/0", 1, 3, 2, 1),
-    ("#[#500]", 1, 1, 2_500_000, 1),
-    ("#[#500*0+500]", 2, 1, 500_000_000, 2),
-];
-
 #[test]
-fn each_shared_variable_takes_the_next_read(rt: HostRuntime) -> Result<(), Fail> {
-    let reads = [number(2_000_000), number(500_000_000), Var::Vacant];
-    for (text, count, kind, number, taken) in &READS {
-        let (some, _) = reads.split_at((*count).min(3));
-        assert_eq!(rt; answer(rt.alloc(), text, some), (*kind, *number, *taken));
+fn each_shared_variable_takes_the_next_read(rt: HostRuntime) {
+    for row in READS.lines() {
+        assert!(rt; takes_reads(rt.alloc(), row) == Some(true), "{row}");
     }
-    Ok(())
 }
 
-/// The answers of what the statement evaluates, one behind the other; `?` where it has no tree.
-fn evaluated(alloc: Global, text: &str) -> Result<String, AllocError> {
-    let mut answers = String::new(alloc);
-    let Ok(statement) = parse_statement(alloc, text.as_bytes()) else {
-        return format!(in alloc; "?");
-    };
-    let Ok(list) = compile_statement(alloc, &statement) else {
-        return format!(in alloc; "?");
-    };
+fn is_evaluated(alloc: Global, row: &str) -> Option<bool> {
+    let mut parts = row.split(" -> ");
+    let statement = parse_statement(alloc, parts.next()?.as_bytes()).ok()?;
+    let list = compile_statement(alloc, &statement).ok()?;
     for code in list.codes() {
         let (answer, _) = evaluate(code, &Sample, &[]);
-        let (kind, number) = shown(&answer);
-        answers = format!(in alloc; "{answers}{kind}:{number} ")?;
+        if !is_due(&answer, parts.next()?) {
+            return Some(false);
+        }
     }
-    Ok(answers)
+    Some(parts.next().is_none())
 }
 
-static ORDERS: [(&str, &str); 6] = [
-    ("#[#3]=4", "1:3000000 1:4000000 "),
-    ("#9=5", "1:5000000 "),
-    (
-        "IF [#1 EQ 2] THEN #[3]=#500",
-        "0:0 1:2000000 1:3000000 2:500 ",
-    ),
-    ("IF [1/0 EQ 2] GOTO #3", "3:2 1:2000000 1:3000000 "),
-    ("WHILE [2 LT #3] DO 1", "1:2000000 1:3000000 "),
-    ("GOTO 5", ""),
-];
-
 #[test]
-fn a_statement_is_evaluated_from_left_to_right(rt: HostRuntime) -> Result<(), Fail> {
-    for (text, answers) in &ORDERS {
-        assert_eq!(rt; evaluated(rt.alloc(), text)?.as_str(), *answers);
+fn a_statement_is_evaluated_from_left_to_right(rt: HostRuntime) {
+    for row in ORDERS.lines() {
+        assert!(rt; is_evaluated(rt.alloc(), row) == Some(true), "{row}");
     }
-    Ok(())
 }
 
 #[test]
 fn a_vacant_variable_is_not_zero(rt: HostRuntime) {
-    assert!(rt; !holds(Rel::Eq, Var::Vacant, number(0)));
-    assert!(rt; holds(Rel::Eq, Var::Vacant, Var::Vacant));
-    assert!(rt; holds(Rel::Ne, Var::Vacant, number(0)));
-    assert!(rt; holds(Rel::Ge, Var::Vacant, number(0)));
-    assert!(rt; !holds(Rel::Gt, Var::Vacant, number(0)));
-    assert!(rt; holds(Rel::Lt, number(-1), Var::Vacant));
-    assert!(rt; holds(Rel::Le, number(1), number(1)));
-}
-
-/// The text, and the two operators behind it so many times.
-fn chained(alloc: Global, first: &str, operators: &str, times: u32) -> Result<String, AllocError> {
-    let mut text = String::new(alloc);
-    text.push_str(first)?;
-    for _ in 0..times {
-        text.push_str(operators)?;
-    }
-    Ok(text)
-}
-
-/// A million operators of each rank, and what they come to.
-static LONG: [(&str, &str, i64); 4] = [
-    ("1", "+1-1", 1_000_000),
-    ("-1", "-1-1", -1_000_001_000_000),
-    ("1", "*2/2", 1_000_000),
-    ("7", " AND 7 MOD 8", 7_000_000),
-];
-
-#[test]
-fn a_million_operators_take_no_stack(rt: HostRuntime) -> Result<(), Fail> {
-    for (first, operators, value) in &LONG {
-        let mut text = chained(rt.alloc(), first, operators, 500_000)?;
-        assert_eq!(rt; answer(rt.alloc(), text.as_str(), &[]), (1, *value, 0));
-        text.push_str("*")?;
-        assert_eq!(rt; answer(rt.alloc(), text.as_str(), &[]), (9, 0, 0));
-    }
-    Ok(())
-}
-
-/// The expression in brackets, as the last operand of a product that ends a long sum.
-fn enclosed(alloc: Global, inner: &str) -> Result<String, AllocError> {
-    let sum = chained(alloc, "2", "+1-1", 100_000)?;
-    let product = chained(alloc, "+2", "*2/2", 100_000)?;
-    format!(in alloc; "{sum}{product}*[{inner}]")
+    let (zero, one, below) = (holding(0), holding(1), holding(-1));
+    assert!(rt; holds(Rel::Eq, Var::Vacant, Var::Vacant) && holds(Rel::Ne, Var::Vacant, zero));
+    assert!(rt; holds(Rel::Ge, Var::Vacant, zero) && holds(Rel::Lt, below, Var::Vacant));
+    assert!(rt; holds(Rel::Le, one, one));
+    assert!(rt; !holds(Rel::Eq, Var::Vacant, zero) && !holds(Rel::Gt, Var::Vacant, zero));
 }
 
 #[test]
-fn long_sums_stand_in_five_brackets(rt: HostRuntime) -> Result<(), Fail> {
-    let mut text = chained(rt.alloc(), "1", "+1*1-1*1", 100_000)?;
-    for _ in 0..5 {
-        text = enclosed(rt.alloc(), text.as_str())?;
-    }
-    assert_eq!(rt; answer(rt.alloc(), text.as_str(), &[]), (1, 94_000_000, 0));
-    Ok(())
+fn a_variable_is_vacant_from_the_start(rt: HostRuntime) {
+    let fresh = Var::default();
+    assert!(rt; fresh == Var::Vacant && fresh.or_zero() == Value::zero());
+    assert!(rt; holding(99_999_999_999_999).or_zero().micro() == 99_999_999_999_999);
 }

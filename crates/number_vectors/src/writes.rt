@@ -1,42 +1,26 @@
+use crate::values::holding;
 use common_vars::{Own, Shared, is_common, is_shared};
-use nc_number::{Value, Var};
+use nc_number::Var;
 use std::test::Fail;
 
 const WRITES: u32 = 200_000;
 
-fn number(micro: u32) -> Var {
-    match Value::of(i64::from(micro)) {
-        Some(value) => Var::Is(value),
-        None => Var::Vacant,
-    }
-}
-
+/// The millionths that it holds, 0 standing for vacant.
 fn micro(variable: Var) -> i64 {
-    match variable {
-        Var::Is(value) => value.micro(),
-        Var::Vacant => 0,
-    }
+    variable.or_zero().micro()
 }
 
 #[test]
 fn a_path_reads_what_it_wrote(rt: HostRuntime) -> Result<(), Fail> {
     let mut own = Own::new(rt.alloc())?;
-    own.set(199, number(4));
-    own.set(500, number(5));
-    own.set(199, number(6));
-    assert_eq!(rt;
-        [
-            micro(own.get(199)),
-            micro(own.get(500)),
-            micro(own.get(999))
-        ],
-        [6, 5, 0]
-    );
+    own.set(199, holding(4));
+    own.set(500, holding(5));
+    own.set(199, holding(6));
+    let read = [own.get(199), own.get(500), own.get(999)].map(|variable| micro(variable));
+    assert!(rt; read == [6, 5, 0]);
     let common = [99, 100, 199, 200, 499, 500, 999, 1000].map(|v| is_common(v));
-    assert_eq!(rt;
-        common,
-        [false, true, true, false, false, true, true, false]
-    );
+    let wanted = [false, true, true, false, false, true, true, false];
+    assert!(rt; common == wanted);
     Ok(())
 }
 
@@ -59,7 +43,7 @@ fn the_first_ones_from_each_hundred_on_are_shared(rt: HostRuntime) {
         (0, 100, 600, false),
         (0, 100, 0, false),
     ] {
-        assert_eq!(rt; is_shared(shared100, shared500, v), shared, "#{v}");
+        assert!(rt; is_shared(shared100, shared500, v) == shared, "#{v}");
     }
 }
 
@@ -69,7 +53,7 @@ fn early_moments_of_many_writes_are_found_at_once(rt: HostRuntime) -> Result<(),
     let mut shared = Shared::new(rt.alloc(), 0, 500)?;
     shared.reserve(WRITES as usize)?;
     for stamp in 0..WRITES {
-        shared.write(stamp, 500, number(stamp));
+        shared.write(stamp, 500, holding(i64::from(stamp)));
     }
     for stamp in 0..WRITES {
         assert_eq!(rt; micro(shared.at(stamp, 500)), i64::from(stamp));
@@ -80,24 +64,15 @@ fn early_moments_of_many_writes_are_found_at_once(rt: HostRuntime) -> Result<(),
 #[test]
 fn each_moment_of_the_run_has_its_value(rt: HostRuntime) -> Result<(), Fail> {
     let mut shared = Shared::new(rt.alloc(), 10, 500)?;
-    assert_eq!(rt; [100, 110].map(|v| shared.holds(v)), [true, false]);
+    assert!(rt; shared.holds(100) && !shared.holds(110));
     shared.reserve(3)?;
-    shared.write(2, 500, number(1));
-    shared.write(4, 100, number(7));
-    shared.write(4, 500, number(3));
-    let table = [
-        (0, 0, 0),
-        (1, 0, 0),
-        (2, 1, 0),
-        (3, 1, 0),
-        (4, 3, 7),
-        (9, 3, 7),
-    ];
-    for (k, upper, lower) in table {
-        assert_eq!(rt;
-            (micro(shared.at(k, 500)), micro(shared.at(k, 100))),
-            (upper, lower)
-        );
-    }
+    shared.write(2, 500, holding(1));
+    shared.write(4, 100, holding(7));
+    shared.write(4, 500, holding(3));
+    let moments = [0, 1, 2, 3, 4, 9];
+    let upper = moments.map(|k| micro(shared.at(k, 500)));
+    let lower = moments.map(|k| micro(shared.at(k, 100)));
+    assert!(rt; upper == [0, 0, 1, 1, 3, 3]);
+    assert!(rt; lower == [0, 0, 0, 0, 7, 7]);
     Ok(())
 }
