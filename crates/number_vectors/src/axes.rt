@@ -1,4 +1,4 @@
-//! What a block says of an axis.
+//! What a block says of an axis, and its bytes as a list.
 
 use nc_number::{Axis, ByteList};
 use std::alloc::Global;

@@ -1,4 +1,4 @@
-//! Texts of a million operators, which are read, evaluated and dropped without a deep stack.
+//! Long texts: a million operators, which take no deep stack, long sums in five brackets, and one variable too many.
 
 use crate::trees::expression;
 use crate::values::{answer, is_due};

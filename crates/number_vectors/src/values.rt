@@ -3,7 +3,8 @@ ghost use Rattle.number_vectors.specs.Sample.{sample_table};
 
 use crate::literals::number;
 use macro_eval::{
-    Eval, Look, Scope, VarFault, compile, compile_statement, count_reads, eval, evaluate, holds,
+    Code, Eval, Look, Scope, VarFault, compile, compile_statement, count_reads, eval, evaluate,
+    holds,
 };
 use macro_expr::{Rel, parse_expr, parse_statement};
 use nc_number::{Value, Var};
@@ -160,17 +161,24 @@ fn each_shared_variable_takes_the_next_read(rt: HostRuntime) {
     }
 }
 
-fn is_evaluated(alloc: Global, row: &str) -> Option<bool> {
-    let mut parts = row.split(" -> ");
-    let statement = parse_statement(alloc, parts.next()?.as_bytes()).ok()?;
-    let list = compile_statement(alloc, &statement).ok()?;
-    for code in list.codes() {
+/// Whether the codes come to the answers of the row, one behind the other, and to no other.
+fn are_due(codes: &[Code], row: &str) -> Option<bool> {
+    let mut wanted = row.split(" -> ");
+    let _text = wanted.next()?;
+    for code in codes {
         let (answer, _) = evaluate(code, &Sample, &[]);
-        if !is_due(&answer, parts.next()?) {
+        if !is_due(&answer, wanted.next()?) {
             return Some(false);
         }
     }
-    Some(parts.next().is_none())
+    Some(wanted.next().is_none())
+}
+
+fn is_evaluated(alloc: Global, row: &str) -> Option<bool> {
+    let text = row.split(" -> ").next()?;
+    let statement = parse_statement(alloc, text.as_bytes()).ok()?;
+    let list = compile_statement(alloc, &statement).ok()?;
+    are_due(list.codes(), row)
 }
 
 #[test]
