@@ -31,7 +31,8 @@ pub(crate) fn disk_of(alloc: Global, held: &str, made: &str) -> Result<FuseDisk,
     Ok(FuseDisk::new(disk, number_behind(made, "passes ")))
 }
 
-/// What is left of the disk without a crash (`still`), and after one that kept or lost what was written, or filled it with a byte.
+/// What is left of the disk without a crash (`still`), and after one that `kept` or `lost` what was written, or filled it with `dots` or
+/// with `sevens`, the byte 7.
 pub(crate) fn left_of(disk: FuseDisk, pick: &str) -> MemoryDisk {
     let disk = disk.into_inner();
     match pick {

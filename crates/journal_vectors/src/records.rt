@@ -9,8 +9,8 @@ use run_records::{
 use std::alloc::{AllocError, Global};
 use std::test::Fail;
 
-/// `BYTES, BYTES, ..|TAKEN|ROOM`: how many bytes the record has that stands in front of each, or why there is none, and then the records of
-/// a list of them: the path, what it did, and its stamps. A number at the end is how many records the list has room for before.
+/// `BYTES, BYTES, ..|TAKEN|ROOM`: the size of the record that stands in front of each, or why there is none, and then the records of a
+/// list of them: the path, what it did, and its stamps. `|2` at the end makes room for two records before.
 const RECORDS: &str = "\
 02 01 01 00000001 133xaa|7: 2 did 1
 03 01 00|no path:
@@ -34,7 +34,7 @@ const RECORDS: &str = "\
 02 01 00, 02 01 01 00000007, 02 01 02 00000064 00000065, 02 01 20 00000004 30x00000005 00000006, 02 01 00, 02 01 01 00000009\
 |3 7 11 131 3 7: 2 did, 2 did 7, 2 did 100 101, 2 did 4 5 5 5 5 5 5 5 5 5 5 5 5 5 5 5 5 5 5 5 5 5 5 5 5 5 5 5 5 5 5 6, 2 did, 2 did 9";
 
-/// `BYTES|TAKEN`: the settings and both tapes, or that there are none.
+/// `BYTES|TAKEN`: the settings and both tapes, each in brackets, or that there are none.
 const HEADERS: &str = "\
 5457494e0001 TEXTS|<><250a4f310a233530303d233530302b310a4d33300a250a><250a4f310a233530303d233530302b310a4d33300a250a>
 5457494e0001 TEXTS 00|bad header
@@ -52,7 +52,7 @@ fn is_put(entry: &Entry, bytes: &[u8]) -> bool {
     bytes.starts_with(put) && rest == untouched
 }
 
-/// Takes the record that stands in front, into the list, and puts its size; or why there is none.
+/// Takes the record that stands in front into the list, and puts its size, or why there is none.
 fn take_one(out: &mut String, list: &mut EntryList, bytes: &[u8]) -> Result<(), Fail> {
     list.reserve(1)?;
     match take_entry(bytes) {
