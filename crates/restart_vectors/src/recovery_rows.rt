@@ -5,7 +5,7 @@ ghost use Rattle.run_records.specs.Headers.{IsShort};
 use disk_model::{Crash, Disk, FuseDisk, MemoryDisk};
 use gate_file::GateFault;
 use nc_number::Path;
-use nc_restart::{RestartFault, recover};
+use nc_restart::{Recovered, RestartFault, recover};
 use run_journal::Journal;
 use run_records::{BadRecord, ByteList, Entry, EntryKind, Header, StampList, put_header};
 use std::alloc::Global;
@@ -62,9 +62,14 @@ fn file(alloc: Global, settings: &[u8], left: &[u8], batch: &[u8]) -> Result<Vec
 fn recovered(alloc: Global, bytes: Vec<u8>) -> Result<Result<u32, RestartFault>, Fail> {
     let disk = MemoryDisk::of_bytes(alloc, bytes, 100, &[])?;
     match recover(alloc, disk) {
-        Ok(run) => Ok(Ok(run.machine.count())),
+        Ok(run) => Ok(Ok(count_of(run))),
         Err((_disk, fault)) => Ok(Err(fault)),
     }
+}
+
+// How many records a run has that was recovered.
+fn count_of(run: Recovered<MemoryDisk>) -> u32 {
+    run.machine.count()
 }
 
 fn bad(offset: u64, cause: BadRecord) -> Result<u32, RestartFault> {

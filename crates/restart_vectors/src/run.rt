@@ -84,10 +84,8 @@ fn history_left<D: Disk + Drop>(alloc: Global, table: Table<D>) -> Result<String
 /// The table runs until its disk stops or both paths have ended, and then comes a crash.
 fn stopped(alloc: Global, table: Table<FuseDisk>, pick: Crash) -> Result<Left, Fail> {
     let mut table = table;
-    match run_on(&mut table, Count::of(&EntryList::empty(alloc))) {
-        Ok(count) => crashed(alloc, disk_left(table), pick, count.shown),
-        Err(fail) => Err(fail),
-    }
+    let ran = run_on(&mut table, Count::of(&EntryList::empty(alloc)));
+    crashed(alloc, disk_left(table), pick, ran?.shown)
 }
 
 /// A run from the beginning, whose disk stops behind so many calls.
@@ -108,10 +106,10 @@ pub(crate) fn run_to_stop(
 /// The history of a table whose run goes to its end.
 fn finished<D: Disk + Drop>(alloc: Global, table: Table<D>, from: Count) -> Result<String, Fail> {
     let mut table = table;
-    match run_on(&mut table, from) {
-        Ok(_count) => Ok(history_left(alloc, table)?),
-        Err(fail) => Err(fail),
-    }
+    let ran = run_on(&mut table, from);
+    let history = history_left(alloc, table);
+    let _count = ran?;
+    Ok(history?)
 }
 
 /// The history of a run that begins on this disk and goes to its end.
@@ -160,7 +158,12 @@ pub(crate) fn restarted(alloc: Global, header: &Header, bytes: &[u8]) -> Result<
 /// The history that these bytes hold, or why none.
 pub(crate) fn recovered(alloc: Global, bytes: &[u8]) -> Result<String, Fail> {
     match recover(alloc, disk_of(alloc, bytes, 1_000_000)?) {
-        Ok(run) => Ok(history_text(alloc, &run.entries)?),
+        Ok(run) => Ok(history_found(alloc, run)?),
         Err((_disk, fault)) => Ok(format!(in alloc; "{fault}")?),
     }
+}
+
+/// The history of a run that was recovered.
+fn history_found(alloc: Global, run: Recovered<FuseDisk>) -> Result<String, AllocError> {
+    history_text(alloc, &run.entries)
 }
