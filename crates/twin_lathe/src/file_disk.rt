@@ -83,46 +83,91 @@ mod tests {
 
     const NAME: &str = "file_disk_test.journal";
 
+    /// A file that is not there yet, call for call with its answer: a read asks for four bytes.
+    const LOOKED_FOR: &str = "len 0, read 0 0, sync done";
+
+    /// The same file as it is made: a write has two bytes.
+    const MADE: &str = "write 2 done, sync done, len 4, faults 0";
+
+    /// The same file opened once more. No byte may stand at or past 2^62.
+    const OPENED: &str =
+        "read 1 3, read 4 0, write 4611686018427387903 failed, len failed, faults 2";
+
+    /// What stands under the name, and the calls. A full device takes no byte, one that keeps nothing can't be synced, and a folder can't
+    /// be opened to be written. Behind a failed write or sync a write of no byte fails too.
+    const FAILING: &str = "\
+/dev/full|write 0 failed, sync failed, faults 2, len failed, read 0 failed, touch failed, sync failed, faults 6
+/dev/null|write 0 done, sync failed, faults 1, len failed, read 0 failed, touch failed, sync failed, faults 5
+/|write 0 failed, sync failed, faults 2, len failed, read 0 failed, touch failed, sync failed, faults 6";
+
+    fn is_done(answer: Result<(), Failed>, wanted: &str) -> bool {
+        match answer {
+            Ok(()) => wanted == "done",
+            Err(Failed) => wanted == "failed",
+        }
+    }
+
+    fn is_count(answer: Result<u64, Failed>, wanted: &str) -> bool {
+        match answer {
+            Ok(count) => wanted.parse::<u64>() == Ok(count),
+            Err(Failed) => wanted == "failed",
+        }
+    }
+
+    /// How many of four bytes are read at this place.
+    fn count_read<R: Files>(disk: &mut FileDisk<'_, R>, at: u64) -> Result<u64, Failed> {
+        match disk.read_at(at, &mut [0u8; 4]) {
+            Ok(count) => Ok(count as u64),
+            Err(Failed) => Err(Failed),
+        }
+    }
+
+    /// Whether a call gets its answer: `CALL ANSWER`, or `CALL PLACE ANSWER`.
+    fn holds<R: Files>(disk: &mut FileDisk<'_, R>, step: &str) -> bool {
+        let (call, wanted) = step.rsplit_once(' ').unwrap_or((step, ""));
+        let (name, place) = call.split_once(' ').unwrap_or((call, "0"));
+        let at = place.parse::<u64>().unwrap_or(0);
+        match name {
+            "len" => is_count(disk.len(), wanted),
+            "read" => is_count(count_read(disk, at), wanted),
+            "write" => is_done(disk.write_at(at, b"ab"), wanted),
+            "touch" => is_done(disk.write_at(at, b""), wanted),
+            "sync" => is_done(disk.sync(), wanted),
+            _faults => is_count(Ok(disk.faults()), wanted),
+        }
+    }
+
+    /// Whether all calls get their answers, one behind the other.
+    fn all_hold<R: Files>(disk: &mut FileDisk<'_, R>, steps: &str) -> bool {
+        for step in steps.split(", ") {
+            if !holds(disk, step) {
+                return false;
+            }
+        }
+        true
+    }
+
     #[test]
     fn a_file_is_made_by_the_first_write_and_no_sooner(rt: HostRuntime) -> Result<(), Fail> {
-        let mut piece = [7u8; 4];
         let mut disk = FileDisk::new(&rt, NAME);
-        assert_eq!(rt; disk.len(), Ok(0));
-        assert_eq!(rt; disk.read_at(0, &mut piece), Ok(0));
-        assert_eq!(rt; disk.sync(), Ok(()));
-        assert_eq!(rt; fs::exists(&rt, NAME)?, false);
-        assert_eq!(rt; disk.write_at(2, b"ab"), Ok(()));
-        assert_eq!(rt; disk.sync(), Ok(()));
-        assert_eq!(rt; disk.len(), Ok(4));
+        assert!(rt; all_hold(&mut disk, LOOKED_FOR));
+        assert!(rt; !fs::exists(&rt, NAME)?);
+        assert!(rt; all_hold(&mut disk, MADE));
         let mut again = FileDisk::new(&rt, NAME);
-        assert_eq!(rt; again.read_at(1, &mut piece), Ok(3));
-        assert_eq!(rt; piece, *b"\0ab\x07");
-        assert_eq!(rt; again.read_at(4, &mut piece), Ok(0));
-        assert_eq!(rt; again.write_at((1 << 62) - 1, b"c"), Err(Failed));
-        assert_eq!(rt; again.len(), Err(Failed));
-        assert_eq!(rt; (disk.faults(), again.faults()), (0, 2));
+        let mut piece = [7u8; 4];
+        assert!(rt; again.read_at(1, &mut piece) == Ok(3));
+        assert!(rt; piece == *b"\0ab\x07");
+        assert!(rt; all_hold(&mut again, OPENED));
         fs::remove_file(&rt, NAME)?;
         Ok(())
     }
 
     #[test]
     fn after_a_failed_write_or_sync_each_call_fails(rt: HostRuntime) -> Result<(), Fail> {
-        // A full device takes no byte, one that keeps nothing can't be synced, and a folder can't be opened to be
-        // written.
-        for (name, written, synced, faults) in [
-            ("/dev/full", Err(Failed), Err(Failed), 2),
-            ("/dev/null", Ok(()), Err(Failed), 1),
-            ("/", Err(Failed), Err(Failed), 2),
-        ] {
+        for row in FAILING.lines() {
+            let (name, steps) = row.split_once('|').unwrap_or((row, ""));
             let mut disk = FileDisk::new(&rt, name);
-            assert_eq!(rt; disk.write_at(0, b"a"), written, "{name}");
-            assert_eq!(rt; disk.sync(), synced, "{name}");
-            assert_eq!(rt; disk.faults(), faults, "{name}");
-            assert_eq!(rt; disk.len(), Err(Failed), "{name}");
-            assert_eq!(rt; disk.read_at(0, &mut [0u8]), Err(Failed), "{name}");
-            assert_eq!(rt; disk.write_at(0, b""), Err(Failed), "{name}");
-            assert_eq!(rt; disk.sync(), Err(Failed), "{name}");
-            assert_eq!(rt; disk.faults(), faults + 4, "{name}");
+            assert!(rt; all_hold(&mut disk, steps), "{row}");
         }
         Ok(())
     }

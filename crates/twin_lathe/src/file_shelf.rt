@@ -87,40 +87,74 @@ fn append<R: Files>(rt: &R, name: &str, into: &mut Vec<u8>, limit: u64) -> io::R
 #[cfg(test)]
 mod tests {
     use super::*;
+    use std::alloc::{AllocError, Global};
     use std::fs;
     use std::test::Fail;
 
+    const FOLDER: &str = "file_shelf_test";
+
+    const FILE: &str = "file_shelf_test/a.nc";
+
+    /// A name, the most bytes, the answer, the text behind a `%` that was there before, and the faults so far.
+    const ROWS: &str = "\
+file_shelf_test/a.nc|4|Ok(())|%M30~|0
+file_shelf_test/a.nc|18446744073709551615|Ok(())|%M30~|0
+file_shelf_test/a.nc|3|Err(TooLong)|%|0
+file_shelf_test/b.nc|4|Err(Absent)|%|0
+file_shelf_test/a.nc/b.nc|4|Err(Absent)|%|0
+|4|Err(Absent)|%|0
+file_shelf_test|4|Err(Failed)|%|1
+file_shelf_test/a.nc|4|Ok(())|%M30~|1";
+
+    /// A text with `~` for the end of a line.
+    fn put_text(out: &mut String, text: &[u8]) -> Result<(), AllocError> {
+        for byte in text {
+            out.push(if *byte == b'\n' {
+                '~'
+            } else {
+                char::from(*byte)
+            })?;
+        }
+        Ok(())
+    }
+
+    /// What a shelf answers to a name and a number of bytes, and what then stands behind the `%`, with its faults.
+    fn answer<R: Files>(
+        alloc: Global,
+        shelf: &mut FileShelf<'_, R>,
+        name: &str,
+        max: usize,
+    ) -> Result<String, AllocError> {
+        let mut into = b"%".to_vec(alloc)?;
+        let outcome = shelf.fetch(name, &mut into, max);
+        let mut out = format!(in alloc; "{outcome:?}|")?;
+        put_text(&mut out, into.as_slice())?;
+        write!(&mut out, "|{}", shelf.faults())?;
+        Ok(out)
+    }
+
+    /// Whether a row holds.
+    fn holds<R: Files>(
+        alloc: Global,
+        shelf: &mut FileShelf<'_, R>,
+        row: &str,
+    ) -> Result<bool, AllocError> {
+        let (name, rest) = row.split_once('|').unwrap_or((row, ""));
+        let (max, wanted) = rest.split_once('|').unwrap_or((rest, ""));
+        let got = answer(alloc, shelf, name, max.parse::<usize>().unwrap_or(0))?;
+        Ok(got.as_str() == wanted)
+    }
+
     #[test]
     fn files_are_read_whole_and_a_folder_is_a_fault(rt: HostRuntime) -> Result<(), Fail> {
-        let alloc = rt.alloc();
-        let folder = "file_shelf_test";
-        let file = "file_shelf_test/a.nc";
-        let _ = fs::create_dir(&rt, folder);
-        fs::write(&rt, file, "M30\n")?;
+        let _ = fs::create_dir(&rt, FOLDER);
+        fs::write(&rt, FILE, "M30\n")?;
         let mut shelf = FileShelf::new(&rt);
-        for (name, max, outcome, faults, text) in [
-            (file, 4, Ok(()), 0, "%M30\n"),
-            (file, usize::MAX, Ok(()), 0, "%M30\n"),
-            (file, 3, Err(FetchFault::TooLong), 0, "%"),
-            ("file_shelf_test/b.nc", 4, Err(FetchFault::Absent), 0, "%"),
-            (
-                "file_shelf_test/a.nc/b.nc",
-                4,
-                Err(FetchFault::Absent),
-                0,
-                "%",
-            ),
-            ("", 4, Err(FetchFault::Absent), 0, "%"),
-            (folder, 4, Err(FetchFault::Failed), 1, "%"),
-            (file, 4, Ok(()), 1, "%M30\n"),
-        ] {
-            let mut into = b"%".to_vec(alloc)?;
-            assert_eq!(rt; shelf.fetch(name, &mut into, max), outcome, "{name} {max}");
-            assert_eq!(rt; shelf.faults(), faults, "{name} {max}");
-            assert_eq!(rt; into.as_slice(), text.as_bytes(), "{name} {max}");
+        for row in ROWS.lines() {
+            assert!(rt; holds(rt.alloc(), &mut shelf, row)?, "{row}");
         }
-        fs::remove_file(&rt, file)?;
-        fs::remove_dir(&rt, folder)?;
+        fs::remove_file(&rt, FILE)?;
+        fs::remove_dir(&rt, FOLDER)?;
         Ok(())
     }
 }
