@@ -12,11 +12,13 @@ use std::test::Fail;
 /// `pair SETTINGS|LEFT|RIGHT` gives the settings and the blocks of both tapes. Each line behind it is a journal of them and what is
 /// found: its bodies, parted by commas, of hexadecimal digits, where `H` is the header and `3x01` is 01 three times. Of the first
 /// pair the header has 64 bytes, so the first batch stands at 74; there path 1 does 01010100000000, path 2 does 02010100000001, and
-/// they end with 010400 and 020400.
+/// they end with 010400 and 020400. A text that begins with a `%` is a whole tape. Of a journal that is `cut 63` so many bytes are left, and
+/// behind `raw` stand the bytes of a file.
 const ROWS: &str = "\
 pair |#500=#500+1~M30|#500=#500+1~M30
 H|
 H,01 01010100000000|1 did 0
+H,02 01010100000000 02010100000001|1 did 0, 2 did 1
 H,04 01010100000000 02010100000001 010400 020400|1 did 0, 2 did 1, 1 ended, 2 ended
 H,01 01010100000000,01 02010100000000,01 020400,01 010400|1 did 0, 2 did 0, 2 ended, 1 ended
 H,04 03010100000000 02010100000001 010400 020400|bad record at 75: no path
@@ -24,6 +26,7 @@ H,04 01010100000000 00010100000001 010400 020400|bad record at 82: no path
 H,04 01010100000000 02010100000001 010400 030400|bad record at 92: no path
 H,01 01010100000000,01 02010100000001,01 010400,01 ff0400|bad record at 110: no path
 H,01 03|bad record at 75: no path
+H,01 030100|bad record at 75: no path
 H,04 01000100000000 02010100000001 010400 020400|bad record at 75: no kind
 H,04 01010100000000 02060100000001 010400 020400|bad record at 82: no kind
 H,04 01010100000000 02010100000001 010400 020600|bad record at 92: no kind
@@ -48,6 +51,10 @@ H,41 010100|bad record at 74: wrong count
 H,01 01010100000000,00,01 010400|bad record at 87: wrong count
 H,01 01010100000000,01 02010100000001,01 010400,|bad record at 109: wrong count
 H,01 01010100000001|bad record at 75: not legal
+H,01 010100|bad record at 75: not legal
+H,01 010200|bad record at 75: not legal
+H,01 010400|bad record at 75: not legal
+H,02 01010100000000 02010100000002|bad record at 82: not legal
 H,04 01010100000000 02010100000002 010400 020400|bad record at 82: not legal
 H,04 01010100000000 02010100000001 010400 020100|bad record at 92: not legal
 H,05 01010100000000 02010100000001 010400 020400 020400|bad record at 95: not legal
@@ -61,9 +68,22 @@ pair records 3~|#500=#500+1~M30|#500=#500+1~M30
 H,03 01010100000000 02010100000001 010400|1 did 0, 2 did 1, 1 ended
 H,04 01010100000000 02010100000001 010400 020400|bad record at 102: too many records
 H,04 01010100000000 02010100000001 010400 020100|bad record at 102: not legal
+pair records 2~|#500=#500+1~M30|#500=#500+1~M30
+H,02 01010100000000 02010100000001|1 did 0, 2 did 1
 pair records 1~|#500=#500+1~M30|#500=#500+1~M30
+H,02 01010100000000 02010100000001|bad record at 92: too many records
+H,02 01010100000000 02010100000002|bad record at 92: not legal
 H,04 01010100000000 02010100000001 010400 020400|bad record at 92: too many records
 H,01 01010100000000,01 02010100000000|bad record at 98: too many records
+pair records 0~|#500=#500+1~M30|#500=#500+1~M30
+H,02 01010100000000 02010100000001|bad record at 5: refused tapes
+pair |%~O1~M30~|#500=#500+1~M30
+H,01 01010100000001|bad record at 5: refused tapes
+H,01 010600|bad record at 61: no kind
+H,02 01010100000000 02010100000001 cut 63|cut short at 55
+H cut 0|no run
+raw 00|no run
+raw 00ffff|no run
 pair |M101~M102~M30|M102~M101~M30
 H|bad record at 5: refused tapes
 H,01 010100|bad record at 5: refused tapes
@@ -117,17 +137,28 @@ fn put_body(out: &mut Vec<u8>, body: &[u8]) -> Result<(), Fail> {
     Ok(())
 }
 
-/// The bytes of a journal, whose header has these.
-fn journal_of(alloc: Global, header: &[u8], text: &str) -> Result<Vec<u8>, Fail> {
-    let mut out = Vec::new(alloc);
+/// The bytes of a whole journal, whose header has these.
+fn put_bodies(out: &mut Vec<u8>, alloc: Global, header: &[u8], text: &str) -> Result<(), Fail> {
     for entry in text.split(',') {
         let mut body = Vec::new(alloc);
         for part in entry.split_whitespace() {
             put_part(&mut body, header, part)?;
         }
-        put_body(&mut out, body.as_slice())?;
+        put_body(out, body.as_slice())?;
     }
     out.push(0)?;
+    Ok(())
+}
+
+/// The bytes of a journal, whose header has these: whole, or cut, or those that stand there.
+fn journal_of(alloc: Global, header: &[u8], text: &str) -> Result<Vec<u8>, Fail> {
+    let (whole, size) = text.split_once(" cut ").unwrap_or((text, ""));
+    let mut out = Vec::new(alloc);
+    match whole.strip_prefix("raw ") {
+        Some(digits) => put_digits(&mut out, digits)?,
+        None => put_bodies(&mut out, alloc, header, whole)?,
+    }
+    out.truncate(size.parse::<usize>().unwrap_or(usize::MAX));
     Ok(out)
 }
 

@@ -5,11 +5,11 @@
 #![tactic(auto)]
 
 #[cfg(test)]
+mod batch_rows;
+#[cfg(test)]
 mod journal_rows;
 #[cfg(test)]
 mod record_text;
-#[cfg(test)]
-mod recovery_rows;
 #[cfg(test)]
 mod run;
 #[cfg(test)]

@@ -34,9 +34,13 @@ records 1~|#3000=1~M30|M30|1|0|1,1,2|alarm 33, stopped by alarm 33, stopped by a
 |M30|M30|9|11|1,1,2|disk fault, stopped by its disk, stopped by its disk; 10 bytes 00000000040101040000
 |M30|M30|9|12|1,1,2|disk fault, stopped by its disk, stopped by its disk; 10 bytes 01000000040101040000";
 
-/// The tape whose main program has these blocks.
+/// The tape whose main program has these blocks, or the text itself where it begins as a tape does.
 fn tape_text(alloc: Global, blocks: &str) -> Result<String, AllocError> {
-    format!(in alloc; "%~O1~{blocks}~%~")
+    if blocks.starts_with('%') {
+        String::from_str(alloc, blocks)
+    } else {
+        format!(in alloc; "%~O1~{blocks}~%~")
+    }
 }
 
 /// The header of these settings, and of two tapes whose blocks these are.
