@@ -1,22 +1,25 @@
 //! Commands one after another over one disk: their words, their statuses, and the texts that they write.
+use crate::row::{is_text, lines_of};
 use disk_model::MemoryDisk;
 use lathe_top::{Outcome, top};
+use nc_number::NoMemory;
 use nc_outside::{MemoryShelf, MemoryTurret, VecSink};
 use std::alloc::{AllocError, Global};
+use std::process::Abort;
 use std::sync::Wait;
 use std::test::Fail;
 use std::thread::Threads;
 
-/// How many bytes and how many calls a disk has room for.
+/// How many calls a disk has room for.
 const ROOM: usize = 100_000;
 
 /// How many calls a turret has room for.
 const TURRET_ROOM: usize = 100;
 
 /// A line for each step, and a `~` for the end of a line. `pair LEFT|RIGHT|SETTINGS` begins a story with these files, and a disk
-/// of no bytes. `failing N` gives it a disk whose call of this number fails, `bytes HEX` one of these bytes, and `honest` one of
-/// the bytes that it has and that does not fail. Every other line is `WORDS|STATUS|TEXT`, or `WORDS|STATUS|TEXT|or OTHER` where it
-/// hangs on which path has its turn first.
+/// of no bytes. `failing N` gives it a disk of no bytes whose call of this number fails, and `bytes HEX` one of these bytes. Every
+/// other line is a command: `WORDS|STATUS|TEXT`, or `WORDS|STATUS|TEXT|or OTHER` where it hangs on which path has its turn first.
+/// It leaves its bytes on a disk that does not fail, and `honest` says so.
 const STORIES: &str = "\
 pair %~O0001 (UPPER TURRET)~N10 G21 G40 G97 G99~N20 G28 U0 W0~N30 G50 S2500~N40 T0101~N50 G97 S800 M03~N60 G00 X52. Z2. M08~N70 M101~N80 G90 X48. Z-30. F0.25~N90 X46.~N100 G00 X100. Z50. M09~N110 T0100~N120 M102~N130 M30~%~|%~O0002 (LOWER TURRET)~N10 G21 G40 G99~N20 G28 U0 W0~N30 T0202~N40 M101~N50 G97 S600 M03~N60 G00 X54. Z-10.~N70 G01 X40. F0.1~N80 G03 X46. Z-13. R3.~N90 G04 P500~N100 G00 X60.~N110 T0200~N120 M102~N130 M30~%~|place 1 X200. Z150.~place 2 X200. Z150.~home 1 X300. Z200.~home 2 X300. Z200.~work 1 54 X0 Z100.~work 2 54 X0 Z100.~tool 1 1 X-20. Z-10.~tool 2 2 X-10. Z5.~
 verify left right settings|0|accepted~
@@ -113,32 +116,37 @@ make 1000000|2|usage~
 resume 1|2|usage~
 ";
 
-/// A text of a row, with its line ends.
-fn unfolded(alloc: Global, text: &str) -> Result<String, AllocError> {
-    let mut out = String::new(alloc);
-    for part in text.split_inclusive('~') {
-        match part.strip_suffix('~') {
-            Some(line) => {
-                out.push_str(line)?;
-                out.push('\n')?;
-            }
-            None => out.push_str(part)?,
-        }
-    }
-    Ok(out)
+/// A file of a text of a row.
+fn push_file(
+    alloc: Global,
+    files: &mut Vec<(String, Vec<u8>)>,
+    name: &str,
+    text: &str,
+) -> Result<(), AllocError> {
+    let name = String::from_str(alloc, name)?;
+    let bytes = lines_of(alloc, text)?;
+    files.push((name, bytes))?;
+    Ok(())
 }
 
 /// The files of a pair.
-fn shelf_of(alloc: Global, pair: &str) -> Result<MemoryShelf, Fail> {
+fn shelf_of(alloc: Global, pair: &str) -> Result<MemoryShelf, NoMemory> {
+    let (left, more) = pair.split_once('|').unwrap_or((pair, ""));
+    let (right, settings) = more.split_once('|').unwrap_or((more, ""));
     let mut files = Vec::new(alloc);
-    let mut names = ["left", "right", "settings"].iter();
-    for text in pair.split('|') {
-        if let Some(name) = names.next() {
-            let name = String::from_str(alloc, name)?;
-            files.push((name, unfolded(alloc, text)?.into_bytes()))?;
-        }
+    push_file(alloc, &mut files, "left", left)?;
+    push_file(alloc, &mut files, "right", right)?;
+    push_file(alloc, &mut files, "settings", settings)?;
+    MemoryShelf::new(alloc, files, &[])
+}
+
+/// The words of a command.
+fn words_of(alloc: Global, line: &str) -> Result<Vec<String>, AllocError> {
+    let mut words = Vec::new(alloc);
+    for word in line.split_whitespace() {
+        words.push(String::from_str(alloc, word)?)?;
     }
-    Ok(MemoryShelf::new(alloc, files, &[])?)
+    Ok(words)
 }
 
 /// The value of a hexadecimal digit.
@@ -150,14 +158,11 @@ fn digit(byte: u8) -> u8 {
     }
 }
 
-/// The bytes that the digits write, two for each.
+/// The bytes that the digits write, two for each, with blanks between some.
 fn bytes_of(alloc: Global, text: &str) -> Result<Vec<u8>, AllocError> {
     let mut out = Vec::new(alloc);
     let mut high: Option<u8> = None;
-    for byte in text.bytes() {
-        if byte == b' ' {
-            continue;
-        }
+    for byte in text.bytes().filter(|byte| *byte != b' ') {
         high = match high {
             None => Some(digit(byte)),
             Some(first) => {
@@ -169,79 +174,132 @@ fn bytes_of(alloc: Global, text: &str) -> Result<Vec<u8>, AllocError> {
     Ok(out)
 }
 
-/// What a command answers, as a row has it, and the disk behind it.
-fn played<R: Threads + Wait + Sync>(
+/// Where a story is: its files, the bytes on its disk, and the number of the call that fails, 0 where none does.
+#[derive(Drop)]
+struct Story {
+    pair: String,
+    bytes: Vec<u8>,
+    failing: u64,
+}
+
+/// What a command answers: its status, its text, and the bytes that it leaves on the disk.
+#[derive(Drop)]
+struct Answer {
+    status: u8,
+    text: Vec<u8>,
+    bytes: Vec<u8>,
+}
+
+fn bytes_on(alloc: Global, disk: &MemoryDisk) -> Result<Vec<u8>, AllocError> {
+    disk.bytes().to_vec(alloc)
+}
+
+/// The status, and the bytes that are on the disk.
+fn left_by(
+    alloc: Global,
+    outcome: Outcome<MemoryDisk, MemoryTurret>,
+) -> (u8, Result<Vec<u8>, AllocError>) {
+    (outcome.status, bytes_on(alloc, &outcome.disk))
+}
+
+/// Gives a command the disk and two turrets, and says what it leaves.
+fn call<R: Threads + Wait + Sync + Abort>(
+    rt: &R,
+    alloc: Global,
+    words: &[String],
+    shelf: &mut MemoryShelf,
+    disk: MemoryDisk,
+    out: &mut VecSink,
+) -> (u8, Result<Vec<u8>, AllocError>) {
+    let left = MemoryTurret::new(alloc, TURRET_ROOM, &[]).expect(rt, "a turret");
+    let right = MemoryTurret::new(alloc, TURRET_ROOM, &[]).expect(rt, "a turret");
+    left_by(alloc, top(rt, alloc, words, shelf, disk, left, right, out))
+}
+
+/// What a command answers over the files and the disk of a story.
+fn answered<R: Threads + Wait + Sync + Abort>(
     rt: &R,
     alloc: Global,
     line: &str,
-    shelf: &mut MemoryShelf,
-    disk: MemoryDisk,
-) -> Result<(String, MemoryDisk), Fail> {
-    let mut words = Vec::new(alloc);
-    for word in line.split_whitespace() {
-        words.push(String::from_str(alloc, word)?)?;
-    }
+    story: &Story,
+) -> Result<Answer, Fail> {
+    let words = words_of(alloc, line)?;
+    let bytes = story.bytes.as_slice().to_vec(alloc)?;
     let mut out = VecSink::new(alloc, &[])?;
-    let left = MemoryTurret::new(alloc, TURRET_ROOM, &[])?;
-    let right = MemoryTurret::new(alloc, TURRET_ROOM, &[])?;
-    let outcome = top(
-        rt,
-        alloc,
-        words.as_slice(),
-        shelf,
-        disk,
-        left,
-        right,
-        &mut out,
-    );
-    let Outcome { status, disk, .. } = outcome;
-    let mut answer = format!(in alloc; "{line}|{status}|")?;
-    for byte in out.bytes() {
-        answer.push(match *byte {
-            b'\n' => '~',
-            other => char::from(other),
-        })?;
-    }
-    Ok((answer, disk))
+    let mut shelf = shelf_of(alloc, story.pair.as_str()).expect(rt, "a shelf");
+    let disk = MemoryDisk::of_bytes(alloc, bytes, ROOM, &[story.failing]).expect(rt, "a disk");
+    let (status, bytes) = call(rt, alloc, words.as_slice(), &mut shelf, disk, &mut out);
+    Ok(Answer {
+        status,
+        text: out.bytes().to_vec(alloc)?,
+        bytes: bytes?,
+    })
 }
 
-/// Whether a row has this answer, as its text or as the other one.
-fn has_answer(alloc: Global, row: &str, answer: &str) -> Result<bool, AllocError> {
-    let Some((first, other)) = row.split_once("|or ") else {
-        return Ok(row == answer);
-    };
-    match first.rsplit_once('|') {
-        Some((head, _)) if first != answer => {
-            let second = format!(in alloc; "{head}|{other}")?;
-            Ok(second.as_str() == answer)
-        }
-        _ => Ok(true),
+/// Whether a command answers what its row wants behind its words.
+fn is_answer(alloc: Global, answer: &Answer, wanted: &str) -> Result<bool, AllocError> {
+    let (status, texts) = wanted.split_once('|').unwrap_or((wanted, ""));
+    let (text, other) = texts.split_once("|or ").unwrap_or((texts, texts));
+    let got = answer.text.as_slice();
+    let has_text = is_text(alloc, got, text)? || is_text(alloc, got, other)?;
+    Ok(has_text && status.parse() == Ok(answer.status))
+}
+
+/// A story begins with these files.
+fn begun(alloc: Global, pair: &str) -> Result<Story, AllocError> {
+    let pair = String::from_str(alloc, pair)?;
+    Ok(Story {
+        pair,
+        bytes: Vec::new(alloc),
+        failing: 0,
+    })
+}
+
+/// A story goes on with another disk.
+fn with_disk(story: Story, bytes: Vec<u8>, failing: u64) -> Story {
+    let Story { pair, .. } = story;
+    Story {
+        pair,
+        bytes,
+        failing,
+    }
+}
+
+/// Asserts that a command answers what its row wants, and goes on with the disk that it leaves.
+fn commanded<R: Threads + Wait + Sync + Abort>(
+    rt: &R,
+    alloc: Global,
+    story: Story,
+    row: &str,
+) -> Result<Story, Fail> {
+    let (line, wanted) = row.split_once('|').unwrap_or((row, ""));
+    let answer = answered(rt, alloc, line, &story)?;
+    assert!(rt; is_answer(alloc, &answer, wanted)?, "{row}");
+    Ok(with_disk(story, answer.bytes, 0))
+}
+
+/// A story goes on by the step of a row.
+fn told<R: Threads + Wait + Sync + Abort>(
+    rt: &R,
+    alloc: Global,
+    story: Story,
+    row: &str,
+) -> Result<Story, Fail> {
+    let (step, what) = row.split_once(' ').unwrap_or((row, ""));
+    match step {
+        "pair" => Ok(begun(alloc, what)?),
+        "failing" => Ok(with_disk(story, Vec::new(alloc), what.parse().unwrap_or(0))),
+        "bytes" => Ok(with_disk(story, bytes_of(alloc, what)?, 0)),
+        "honest" => Ok(story),
+        _ => commanded(rt, alloc, story, row),
     }
 }
 
 #[test]
 fn each_command_of_a_story_answers_its_text(rt: HostRuntime) -> Result<(), Fail> {
-    let alloc = rt.alloc();
-    let mut shelf = shelf_of(alloc, "")?;
-    let mut disk = MemoryDisk::new(alloc, ROOM, ROOM, &[])?;
+    let mut story = begun(rt.alloc(), "")?;
     for row in STORIES.lines() {
-        if let Some(pair) = row.strip_prefix("pair ") {
-            shelf = shelf_of(alloc, pair)?;
-            disk = MemoryDisk::new(alloc, ROOM, ROOM, &[])?;
-        } else if let Some(call) = row.strip_prefix("failing ") {
-            let call: u64 = call.parse()?;
-            disk = MemoryDisk::new(alloc, ROOM, ROOM, &[call])?;
-        } else if let Some(text) = row.strip_prefix("bytes ") {
-            disk = MemoryDisk::of_bytes(alloc, bytes_of(alloc, text)?, ROOM, &[])?;
-        } else if row == "honest" {
-            disk = MemoryDisk::of_bytes(alloc, disk.bytes().to_vec(alloc)?, ROOM, &[])?;
-        } else if let Some((line, _)) = row.split_once('|') {
-            let (answer, left) = played(&rt, alloc, line, &mut shelf, disk)?;
-            disk = left;
-            if !has_answer(alloc, row, answer.as_str())? {
-                assert_eq!(rt; answer.as_str(), row);
-            }
-        }
+        story = told(&rt, rt.alloc(), story, row)?;
     }
     Ok(())
 }

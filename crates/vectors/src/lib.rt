@@ -23,6 +23,8 @@ mod refusals;
 #[cfg(test)]
 mod reports;
 #[cfg(test)]
+mod row;
+#[cfg(test)]
 mod settings;
 #[cfg(test)]
 mod verdicts;

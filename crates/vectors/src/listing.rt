@@ -1,7 +1,18 @@
-//! What the reader says of a text, as text, so that a table of tests has it written out by hand.
+//! What the reader says of a text, as rows have it: `O1 line 2~3 N10 G0 X1.5~` with a line for each program and each block, or
+//! `refused 13 line 1`.
 use nc_number::Failing;
 use nc_text::{Block, Body, Program, Reader, Tape, TextFault, Word};
 use std::alloc::{AllocError, Global};
+use std::str::from_utf8;
+
+/// What is shown of a word.
+#[derive(Clone, Copy)]
+pub(crate) enum Shown {
+    /// `X1.5`
+    Values,
+    /// `X1.5 8-11`, with the places before and behind its value.
+    Places,
+}
 
 /// The tape of a text that comes in pieces of that many bytes.
 pub(crate) fn read_in(
@@ -17,120 +28,81 @@ pub(crate) fn read_in(
     reader.finish()
 }
 
-/// A line for each program and for each block, or the refusal.
-pub(crate) fn answer(
+/// The programs and blocks, or the refusal.
+pub(crate) fn listing(
     alloc: Global,
-    skips: u16,
-    text: &[u8],
-    step: usize,
+    shown: Shown,
+    answer: Result<Tape, Failing<TextFault>>,
 ) -> Result<String, AllocError> {
-    match read_in(alloc, skips, text, step) {
-        Ok(tape) => listing(alloc, &tape),
-        Err(fault) => refusal(alloc, &fault),
+    match answer {
+        Ok(tape) => programs_listed(alloc, shown, tape.as_slice()),
+        Err(fault) => refusal(alloc, fault),
     }
 }
 
-pub(crate) fn refusal(alloc: Global, fault: &Failing<TextFault>) -> Result<String, AllocError> {
+/// The number and the line of a refusal.
+pub(crate) fn refusal(alloc: Global, fault: Failing<TextFault>) -> Result<String, AllocError> {
     match fault {
-        Failing::Fault(fault) => {
-            let (number, line) = (fault.number, fault.line);
-            format!(in alloc; "refused {number} line {line}\n")
+        Failing::Fault(TextFault { number, line }) => {
+            format!(in alloc; "refused {number} line {line}")
         }
-        Failing::NoMemory => String::from_str(alloc, "no memory\n"),
+        Failing::NoMemory => Err(AllocError),
     }
 }
 
-fn listing(alloc: Global, tape: &Tape) -> Result<String, AllocError> {
+fn programs_listed(
+    alloc: Global,
+    shown: Shown,
+    programs: &[Program],
+) -> Result<String, AllocError> {
     let mut out = String::new(alloc);
-    for program in tape.as_slice() {
-        let (number, line) = (program.number, program.line);
-        writeln!(&mut out, "O{number} line {line}")?;
-        put_blocks(&mut out, program)?;
+    for program in programs {
+        put_program(&mut out, shown, program)?;
     }
     Ok(out)
 }
 
-fn put_blocks(out: &mut String, program: &Program) -> Result<(), AllocError> {
+fn put_program(out: &mut String, shown: Shown, program: &Program) -> Result<(), AllocError> {
+    let (number, line) = (program.number, program.line);
+    write!(out, "O{number} line {line}~")?;
     for block in program.blocks.as_slice() {
-        put_block(out, block)?;
+        put_block(out, shown, block)?;
     }
     Ok(())
 }
 
 /// The line of the tape, the sequence number, and the words or the statement.
-fn put_block(out: &mut String, block: &Block) -> Result<(), AllocError> {
+pub(crate) fn put_block(out: &mut String, shown: Shown, block: &Block) -> Result<(), AllocError> {
     let line = block.line;
     write!(out, "{line}")?;
     if let Some(number) = block.sequence {
         write!(out, " N{number}")?;
     }
     match &block.body {
-        Body::Words(words) => put_words(out, words.as_slice())?,
-        Body::Statement(text) => {
-            out.push(' ')?;
-            put_text(out, text.as_slice())?;
-        }
+        Body::Words(words) => put_words(out, shown, words.as_slice())?,
+        Body::Statement(text) => put_text(out, b' ', text.as_slice())?,
     }
-    out.push('\n')
+    out.push('~')
 }
 
-fn put_words(out: &mut String, words: &[Word]) -> Result<(), AllocError> {
+fn put_words(out: &mut String, shown: Shown, words: &[Word]) -> Result<(), AllocError> {
     for word in words {
         out.push(' ')?;
-        out.push(char::from(word.letter))?;
-        put_text(out, word.text.as_slice())?;
+        put_text(out, word.letter, word.text.as_slice())?;
+        put_places(out, shown, word.start, word.end)?;
     }
     Ok(())
 }
 
-fn put_text(out: &mut String, text: &[u8]) -> Result<(), AllocError> {
-    for byte in text {
-        out.push(char::from(*byte))?;
+fn put_places(out: &mut String, shown: Shown, start: u32, end: u32) -> Result<(), AllocError> {
+    match shown {
+        Shown::Values => Ok(()),
+        Shown::Places => write!(out, " {start}-{end}"),
     }
-    Ok(())
 }
 
-/// Where the values of a block's words stand on their line, as `G5-6`.
-pub(crate) fn places(alloc: Global, block: &Block) -> Result<String, AllocError> {
-    let mut out = String::new(alloc);
-    if let Body::Words(words) = &block.body {
-        for word in words.as_slice() {
-            let (letter, start, end) = (char::from(word.letter), word.start, word.end);
-            write!(&mut out, "{letter}{start}-{end} ")?;
-        }
-    }
-    Ok(out)
-}
-
-/// A line for each M word: the line of the tape, and the word.
-pub(crate) fn auxiliaries(alloc: Global, program: &Program) -> Result<String, AllocError> {
-    let mut out = String::new(alloc);
-    for block in program.blocks.as_slice() {
-        if let Body::Words(words) = &block.body {
-            put_auxiliaries(&mut out, block.line, words.as_slice())?;
-        }
-    }
-    Ok(out)
-}
-
-fn put_auxiliaries(out: &mut String, line: u32, words: &[Word]) -> Result<(), AllocError> {
-    for word in words {
-        if word.letter == b'M' {
-            write!(out, "{line} M")?;
-            put_text(out, word.text.as_slice())?;
-            out.push('\n')?;
-        }
-    }
-    Ok(())
-}
-
-/// A line for each statement: the line of the tape, and the statement.
-pub(crate) fn statements(alloc: Global, program: &Program) -> Result<String, AllocError> {
-    let mut out = String::new(alloc);
-    for block in program.blocks.as_slice() {
-        if let Body::Statement(_) = &block.body {
-            put_block(&mut out, block)?;
-        }
-    }
-    Ok(out)
+/// A byte, and the text behind it.
+fn put_text(out: &mut String, first: u8, text: &[u8]) -> Result<(), AllocError> {
+    out.push(char::from(first))?;
+    out.push_str(from_utf8(text).unwrap_or("?"))
 }
