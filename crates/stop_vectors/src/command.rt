@@ -1,18 +1,28 @@
 //! A command over objects in memory.
-use crate::pair::gist_of;
 use disk_model::{Disk, MemoryDisk};
 use lathe_top::{Outcome, top};
-use nc_outside::{MemoryShelf, MemoryTurret, VecSink};
+use nc_outside::{MemoryShelf, MemoryTurret, Turret, VecSink};
 use std::alloc::{AllocError, Global};
+use std::process::Abort;
 use std::sync::Wait;
-use std::test::Fail;
 use std::thread::Threads;
 
-/// The numbers of the calls that fail: of the shelf, of the output, and of the turret of each path.
+/// Whose call fails.
+#[derive(Clone, Copy)]
+pub(crate) enum Outside {
+    Shelf,
+    Output,
+    Disk,
+    Left,
+    Right,
+}
+
+/// The numbers of the calls that fail: of the shelf, of the output, of the disk, and of the turret of each path.
 #[derive(Clone, Copy)]
 pub(crate) struct Failing<'a> {
     pub(crate) fetches: &'a [u64],
     pub(crate) puts: &'a [u64],
+    pub(crate) disk: &'a [u64],
     pub(crate) left: &'a [u64],
     pub(crate) right: &'a [u64],
 }
@@ -21,19 +31,55 @@ pub(crate) struct Failing<'a> {
 pub(crate) const HONEST: Failing<'static> = Failing {
     fetches: &[],
     puts: &[],
+    disk: &[],
     left: &[],
     right: &[],
 };
 
-/// What a command comes to: its status and the gist of its text, and the disk that it leaves.
+/// These calls of one of them fail.
+pub(crate) fn failing_of(outside: Outside, calls: &[u64]) -> Failing<'_> {
+    let mut failing = HONEST;
+    match outside {
+        Outside::Shelf => failing.fetches = calls,
+        Outside::Output => failing.puts = calls,
+        Outside::Disk => failing.disk = calls,
+        Outside::Left => failing.left = calls,
+        Outside::Right => failing.right = calls,
+    }
+    failing
+}
+
+/// What a command moves and writes to.
 #[derive(Drop)]
-pub(crate) struct Answer<D: Drop> {
-    pub(crate) said: String,
-    pub(crate) disk: D,
+pub(crate) struct Devices<T: Turret + Drop> {
+    pub(crate) left: T,
+    pub(crate) right: T,
+    pub(crate) sink: VecSink,
+}
+
+/// Turrets with so much room, and an output.
+pub(crate) fn devices_of<R: Abort>(
+    rt: &R,
+    alloc: Global,
+    room: usize,
+    failing: Failing<'_>,
+) -> Devices<MemoryTurret> {
+    Devices {
+        left: MemoryTurret::new(alloc, room, failing.left).expect(rt, "a turret"),
+        right: MemoryTurret::new(alloc, room, failing.right).expect(rt, "a turret"),
+        sink: VecSink::new(alloc, failing.puts).expect(rt, "an output"),
+    }
+}
+
+/// What a command comes to, with its output.
+#[derive(Drop)]
+pub(crate) struct Done<D: Disk + Drop, T: Turret + Drop> {
+    pub(crate) outcome: Outcome<D, T>,
+    pub(crate) sink: VecSink,
 }
 
 /// The words of a line.
-pub(crate) fn words_of(alloc: Global, line: &str) -> Result<Vec<String>, AllocError> {
+fn words_of(alloc: Global, line: &str) -> Result<Vec<String>, AllocError> {
     let mut words = Vec::new(alloc);
     for word in line.split_whitespace() {
         words.push(String::from_str(alloc, word)?)?;
@@ -42,29 +88,33 @@ pub(crate) fn words_of(alloc: Global, line: &str) -> Result<Vec<String>, AllocEr
 }
 
 /// A disk of these bytes, whose calls of these numbers fail.
-pub(crate) fn disk_of(alloc: Global, bytes: &[u8], failing: &[u64]) -> Result<MemoryDisk, Fail> {
-    Ok(MemoryDisk::of_bytes(alloc, bytes.to_vec(alloc)?, 10_000, failing)?)
-}
-
-/// What a command says: its status, and the gist of its text.
-fn said(alloc: Global, status: u8, sink: &VecSink) -> Result<String, Fail> {
-    let gist = gist_of(alloc, sink.bytes())?;
-    Ok(format!(in alloc; "{status} {gist}")?)
+pub(crate) fn disk_of<R: Abort>(
+    rt: &R,
+    alloc: Global,
+    bytes: &[u8],
+    failing: &[u64],
+) -> MemoryDisk {
+    let bytes = bytes.to_vec(alloc).expect(rt, "bytes");
+    MemoryDisk::of_bytes(alloc, bytes, 10_000, failing).expect(rt, "a disk")
 }
 
 /// Does a command of these words.
-pub(crate) fn answer_of<R: Threads + Wait + Sync, D: Disk + Send + Drop>(
+pub(crate) fn done_by<R, D, T>(
     rt: &R,
     alloc: Global,
     line: &str,
     shelf: &mut MemoryShelf,
     disk: D,
-    failing: Failing<'_>,
-) -> Result<Answer<D>, Fail> {
-    let words = words_of(alloc, line)?;
-    let left = MemoryTurret::new(alloc, 100, failing.left)?;
-    let right = MemoryTurret::new(alloc, 100, failing.right)?;
-    let mut sink = VecSink::new(alloc, failing.puts)?;
+    devices: Devices<T>,
+) -> Done<D, T>
+where
+    R: Threads + Wait + Sync + Abort,
+    D: Disk + Send + Drop,
+    T: Turret + Send + Drop,
+{
+    let words = words_of(alloc, line).expect(rt, "words");
+    let Devices { left, right, sink } = devices;
+    let mut sink = sink;
     let outcome = top(
         rt,
         alloc,
@@ -75,12 +125,5 @@ pub(crate) fn answer_of<R: Threads + Wait + Sync, D: Disk + Send + Drop>(
         right,
         &mut sink,
     );
-    let Outcome {
-        status,
-        disk,
-        left: _,
-        right: _,
-    } = outcome;
-    let said = said(alloc, status, &sink)?;
-    Ok(Answer { said, disk })
+    Done { outcome, sink }
 }

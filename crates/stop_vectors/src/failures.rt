@@ -1,62 +1,45 @@
 //! Runs of which one call of the outside fails, each of them once.
-use crate::command::{Answer, Failing, HONEST, answer_of, disk_of};
-use crate::pair::{RUN, shelf_of};
+use crate::command::{Outside, disk_of, failing_of};
+use crate::pair::{RUN, said_over};
 use crate::stops::gone_on;
-use std::alloc::Global;
+use std::alloc::{AllocError, Global};
+use std::process::Abort;
 use std::sync::Wait;
 use std::test::Fail;
 use std::thread::Threads;
 
-/// Whose call fails.
-#[derive(Clone, Copy)]
-enum Outside {
-    Shelf,
-    Output,
-    Disk,
-    Left,
-    Right,
+/// What a run says, and what it then comes to.
+fn both(alloc: Global, said: &str, then: &str) -> Result<String, AllocError> {
+    format!(in alloc; "{said}, {then}")
 }
 
 /// What a run says whose call of this number fails, and what the run then comes to.
-fn failed<R: Threads + Wait + Sync>(
+fn failed<R: Threads + Wait + Sync + Abort>(
     rt: &R,
     alloc: Global,
     outside: Outside,
     number: u64,
-) -> Result<String, Fail> {
+) -> String {
     let calls = [number];
-    let mut failing = HONEST;
-    match outside {
-        Outside::Shelf => failing.fetches = &calls,
-        Outside::Output => failing.puts = &calls,
-        Outside::Disk => {}
-        Outside::Left => failing.left = &calls,
-        Outside::Right => failing.right = &calls,
-    }
-    let disk_calls: &[u64] = if let Outside::Disk = outside {
-        &calls
-    } else {
-        &[]
-    };
-    let mut shelf = shelf_of(alloc, failing.fetches)?;
-    let disk = disk_of(alloc, &[], disk_calls)?;
-    let Answer { said, disk } = answer_of(rt, alloc, RUN, &mut shelf, disk, failing)?;
-    let then = gone_on(rt, alloc, disk.bytes())?;
-    Ok(format!(in alloc; "{said}, {then}")?)
+    let failing = failing_of(outside, &calls);
+    let disk = disk_of(rt, alloc, &[], failing.disk);
+    let (said, disk) = said_over(rt, alloc, RUN, disk, failing);
+    let then = gone_on(rt, alloc, disk.bytes());
+    both(alloc, said.as_str(), then.as_str()).expect(rt, "a text")
 }
 
 /// What runs say of which one call fails each time, from the first call on, with how many runs in succession say the same; up to
 /// the one that meets no fault.
-fn failures_of<R: Threads + Wait + Sync>(
+fn failures_of<R: Threads + Wait + Sync + Abort>(
     rt: &R,
     alloc: Global,
     outside: Outside,
-) -> Result<String, Fail> {
+) -> Result<String, AllocError> {
     let mut out = String::new(alloc);
     let mut last = String::new(alloc);
     let mut count = 0u64;
     for number in 1..1_000u64 {
-        let said = failed(rt, alloc, outside, number)?;
+        let said = failed(rt, alloc, outside, number);
         if said.as_str() != last.as_str() {
             if count > 0 {
                 writeln!(&mut out, "{count} times {last}")?;
@@ -94,7 +77,7 @@ fn each_call_of_the_outside_fails_once(rt: HostRuntime) -> Result<(), Fail> {
         let got = failures_of(&rt, alloc, outside)?;
         assert_eq!(&rt; got.as_str(), wanted);
     }
-    let got = failed(&rt, alloc, Outside::Output, 1)?;
+    let got = failed(&rt, alloc, Outside::Output, 1);
     assert_eq!(&rt; got.as_str(), "5 , 0 whole report");
     Ok(())
 }

@@ -1,17 +1,24 @@
 //! That both turrets are called at the same time.
+use crate::command::{Devices, done_by};
+use crate::shelf::shelf_of;
 use disk_model::MemoryDisk;
-use lathe_top::{Outcome, top};
 use nc_number::Point;
-use nc_outside::{Failed, MemoryShelf, Move, Turret, VecSink};
+use nc_outside::{Failed, Move, Turret, VecSink};
 use std::alloc::Global;
+use std::process::Abort;
 use std::sync::Wait;
 use std::sync::atomic::AtomicU64;
 use std::sync::atomic::Ordering::SeqCst;
-use std::test::Fail;
 use std::thread::Threads;
 
 /// How often a turret looks for the move of the other one before it fails.
 const LOOKS: u32 = 10_000_000;
+
+/// Two tapes of one rapid each, and settings that say nothing.
+const FILES: &str = "\
+left|%~O1~G00 X1.~M30~%~
+right|%~O1~G00 Z1.~M30~%~
+cell|";
 
 /// A turret that answers a move only once the other one was handed a move, and fails where that takes too long.
 #[derive(Drop)]
@@ -47,24 +54,22 @@ impl<'a> Turret for GateTurret<'a> {
     }
 }
 
-/// The status of a run of two tapes of one rapid each, over turrets that wait for each other.
-fn status_of_gates<R: Threads + Wait + Sync>(rt: &R, alloc: Global) -> Result<u8, Fail> {
-    let mut files = Vec::new(alloc);
-    for (name, text) in [
-        ("left", "%\nO1\nG00 X1.\nM30\n%\n"),
-        ("right", "%\nO1\nG00 Z1.\nM30\n%\n"),
-        ("cell", ""),
-    ] {
-        let text = text.as_bytes().to_vec(alloc)?;
-        files.push((String::from_str(alloc, name)?, text))?;
-    }
-    let mut words = Vec::new(alloc);
-    for word in ["run", "left", "right", "cell"] {
-        words.push(String::from_str(alloc, word)?)?;
-    }
-    let mut shelf = MemoryShelf::new(alloc, files, &[])?;
-    let mut sink = VecSink::new(alloc, &[])?;
-    let disk = MemoryDisk::new(alloc, 10_000, 1_000, &[])?;
+/// The status of a run of both tapes over these devices.
+fn status_of<R: Threads + Wait + Sync + Abort>(
+    rt: &R,
+    alloc: Global,
+    devices: Devices<GateTurret<'_>>,
+) -> u8 {
+    let mut shelf = shelf_of(rt, alloc, FILES, &[]);
+    let disk = MemoryDisk::new(alloc, 10_000, 1_000, &[]).expect(rt, "a disk");
+    let line = "run left right cell";
+    done_by(rt, alloc, line, &mut shelf, disk, devices)
+        .outcome
+        .status
+}
+
+/// The status of a run whose turrets wait for each other.
+fn status_of_gates<R: Threads + Wait + Sync + Abort>(rt: &R, alloc: Global) -> u8 {
     let (one, two) = (AtomicU64::new(0), AtomicU64::new(0));
     let left = GateTurret {
         mine: &one,
@@ -76,23 +81,12 @@ fn status_of_gates<R: Threads + Wait + Sync>(rt: &R, alloc: Global) -> Result<u8
         other: &one,
         faults: 0,
     };
-    let outcome = top(
-        rt,
-        alloc,
-        words.as_slice(),
-        &mut shelf,
-        disk,
-        left,
-        right,
-        &mut sink,
-    );
-    let Outcome { status, .. } = outcome;
-    Ok(status)
+    let sink = VecSink::new(alloc, &[]).expect(rt, "an output");
+    status_of(rt, alloc, Devices { left, right, sink })
 }
 
 #[test]
-fn both_turrets_at_once(rt: HostRuntime) -> Result<(), Fail> {
-    let status = status_of_gates(&rt, rt.alloc())?;
+fn both_turrets_at_once(rt: HostRuntime) {
+    let status = status_of_gates(&rt, rt.alloc());
     assert_eq!(&rt; status, 0);
-    Ok(())
 }

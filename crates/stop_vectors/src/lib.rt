@@ -16,9 +16,13 @@ mod failures;
 #[cfg(test)]
 mod gates;
 #[cfg(test)]
+mod line_ends;
+#[cfg(test)]
 mod opened_pairs;
 #[cfg(test)]
 mod pair;
+#[cfg(test)]
+mod shelf;
 #[cfg(test)]
 mod stops;
 #[cfg(test)]

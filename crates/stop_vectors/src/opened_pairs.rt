@@ -4,6 +4,7 @@ ghost use Rattle.run_records.specs.Headers.{IsShort};
 ghost use Rattle.run_table.specs.Kept.{IsVerdictOf};
 ghost use Rattle.run_table.specs.Running.{MayRun, end_of};
 
+use crate::line_ends::lines_of;
 use disk_model::MemoryDisk;
 use nc_verify::{Verified, verdict};
 use run_records::{ByteList, Header};
@@ -14,12 +15,7 @@ use std::test::Fail;
 // The text of a tape of these blocks, with each `~` as the end of a line.
 fn tape(alloc: Global, blocks: &str) -> Result<ByteList, AllocError> {
     let text = format!(in alloc; "%~O1~{blocks}~M30~%~")?;
-    let bytes = text
-        .as_str()
-        .bytes()
-        .map(|byte| if byte == b'~' { b'\n' } else { byte })
-        .collect(alloc)?;
-    Ok(ByteList::of(bytes))
+    Ok(ByteList::of(lines_of(alloc, text.as_str())?))
 }
 
 fn header_of_any(alloc: Global, left: &str, right: &str) -> Result<Header, AllocError> {

@@ -1,10 +1,10 @@
 //! Runs that are stopped at each call of their disk, and their restarts, which are stopped too.
-use crate::command::{Answer, HONEST, answer_of, disk_of};
-use crate::pair::{RUN, shelf_of};
+use crate::command::{HONEST, disk_of};
+use crate::pair::{RUN, said_over};
 use disk_model::{Crash, FuseDisk, MemoryDisk};
-use std::alloc::Global;
+use std::alloc::{AllocError, Global};
+use std::process::Abort;
 use std::sync::Wait;
-use std::test::Fail;
 use std::thread::Threads;
 
 /// What a stop leaves: what the command said, and the bytes of the disk behind the crash.
@@ -23,80 +23,104 @@ fn crash(number: u64) -> Crash {
     }
 }
 
+/// The bytes of a disk behind a crash.
+fn crashed(alloc: Global, disk: MemoryDisk, pick: Crash) -> Result<Vec<u8>, AllocError> {
+    disk.crash(pick).bytes().to_vec(alloc)
+}
+
 /// A command over these bytes whose disk stops behind so many calls, and then crashes.
-fn stopped<R: Threads + Wait + Sync>(
+fn stopped<R: Threads + Wait + Sync + Abort>(
     rt: &R,
     alloc: Global,
     line: &str,
     bytes: &[u8],
     passes: u64,
     pick: Crash,
-) -> Result<Left, Fail> {
-    let mut shelf = shelf_of(alloc, &[])?;
-    let disk = FuseDisk::new(disk_of(alloc, bytes, &[])?, passes);
-    let answer = answer_of(rt, alloc, line, &mut shelf, disk, HONEST)?;
-    let Answer { said, disk } = answer;
-    let bytes = disk.into_inner().crash(pick).bytes().to_vec(alloc)?;
-    Ok(Left { said, bytes })
+) -> Left {
+    let disk = FuseDisk::new(disk_of(rt, alloc, bytes, &[]), passes);
+    let (said, disk) = said_over(rt, alloc, line, disk, HONEST);
+    let bytes = crashed(alloc, disk.into_inner(), pick).expect(rt, "bytes");
+    Left { said, bytes }
 }
 
 /// What an honest command says over these bytes.
-fn said_over<R: Threads + Wait + Sync>(
+fn said_honestly<R: Threads + Wait + Sync + Abort>(
     rt: &R,
     alloc: Global,
     line: &str,
     bytes: &[u8],
-) -> Result<String, Fail> {
-    let mut shelf = shelf_of(alloc, &[])?;
-    let disk: MemoryDisk = disk_of(alloc, bytes, &[])?;
-    let Answer { said, disk: _ } = answer_of(rt, alloc, line, &mut shelf, disk, HONEST)?;
-    Ok(said)
+) -> String {
+    let disk = disk_of(rt, alloc, bytes, &[]);
+    let (said, _) = said_over(rt, alloc, line, disk, HONEST);
+    said
 }
 
 /// What the run comes to over these bytes. Where they hold no run, it is made again.
-pub(crate) fn gone_on<R: Threads + Wait + Sync>(
+pub(crate) fn gone_on<R: Threads + Wait + Sync + Abort>(
     rt: &R,
     alloc: Global,
     bytes: &[u8],
-) -> Result<String, Fail> {
-    let said = said_over(rt, alloc, "resume", bytes)?;
+) -> String {
+    let said = said_honestly(rt, alloc, "resume", bytes);
     if said.as_str() == "8 no run" {
-        return said_over(rt, alloc, RUN, bytes);
+        said_honestly(rt, alloc, RUN, bytes)
+    } else {
+        said
     }
-    Ok(said)
+}
+
+/// Whether a command that a stop ends may say this.
+fn is_told(said: &str) -> bool {
+    matches!(said, "6 disk fault" | "6 end disk fault" | "0 whole report")
 }
 
 /// What is wrong with what a stop left: it came without a fault of the disk, or the run does not come to its report.
-fn put_wrong<R: Threads + Wait + Sync>(
-    out: &mut String,
-    rt: &R,
-    alloc: Global,
-    left: &Left,
-) -> Result<(), Fail> {
-    if !matches!(
-        left.said.as_str(),
-        "6 disk fault" | "6 end disk fault" | "0 whole report"
-    ) {
-        writeln!(out, "it said {}", left.said.as_str())?;
+fn put_wrong(out: &mut String, said: &str, then: &str) -> Result<(), AllocError> {
+    if !is_told(said) {
+        writeln!(out, "it said {said}")?;
     }
-    let got = gone_on(rt, alloc, left.bytes.as_slice())?;
-    if got.as_str() != "0 whole report" {
-        writeln!(out, "{} and then {got}", left.said.as_str())?;
+    if then != "0 whole report" {
+        writeln!(out, "{said} and then {then}")?;
     }
     Ok(())
 }
 
+/// What a stopped command said, behind what is wrong with what it left.
+fn said_by_stopped<R: Threads + Wait + Sync + Abort>(
+    out: &mut String,
+    rt: &R,
+    alloc: Global,
+    left: Left,
+) -> String {
+    let then = gone_on(rt, alloc, left.bytes.as_slice());
+    put_wrong(out, left.said.as_str(), then.as_str()).expect(rt, "what is wrong");
+    left.said
+}
+
+/// Whether a run that may make so many calls of its disk makes its whole report, whatever crash follows.
+fn is_whole<R: Threads + Wait + Sync + Abort>(
+    out: &mut String,
+    rt: &R,
+    alloc: Global,
+    passes: u64,
+) -> bool {
+    let mut is_whole = false;
+    for pick in 0..3u64 {
+        let left = stopped(rt, alloc, RUN, &[], passes, crash(pick));
+        let said = said_by_stopped(out, rt, alloc, left);
+        is_whole = said.as_str() == "0 whole report";
+    }
+    is_whole
+}
+
 /// At how many calls of its disk a run may be stopped, behind all that is wrong with what the stops leave.
-fn stops_of_run<R: Threads + Wait + Sync>(rt: &R, alloc: Global) -> Result<String, Fail> {
+fn stops_of_run<R: Threads + Wait + Sync + Abort>(
+    rt: &R,
+    alloc: Global,
+) -> Result<String, AllocError> {
     let mut out = String::new(alloc);
     for passes in 0..1_000u64 {
-        let mut is_whole = false;
-        for pick in 0..3u64 {
-            let left = stopped(rt, alloc, RUN, &[], passes, crash(pick))?;
-            put_wrong(&mut out, rt, alloc, &left)?;
-            is_whole = left.said.as_str() == "0 whole report";
-        }
-        if is_whole {
+        if is_whole(&mut out, rt, alloc, passes) {
             write!(&mut out, "{passes}")?;
             break;
         }
@@ -105,49 +129,46 @@ fn stops_of_run<R: Threads + Wait + Sync>(rt: &R, alloc: Global) -> Result<Strin
 }
 
 /// The same of a restart over what a stop of the run left; nothing where that holds no run.
-fn put_stops_of_restart<R: Threads + Wait + Sync>(
+fn put_stops_of_restart<R: Threads + Wait + Sync + Abort>(
     out: &mut String,
     rt: &R,
     alloc: Global,
     bytes: &[u8],
-) -> Result<(), Fail> {
+) {
     for passes in 0..1_000u64 {
-        let left = stopped(rt, alloc, "resume", bytes, passes, crash(passes))?;
+        let left = stopped(rt, alloc, "resume", bytes, passes, crash(passes));
         if left.said.as_str() == "8 no run" {
             break;
         }
-        put_wrong(out, rt, alloc, &left)?;
-        if left.said.as_str() == "0 whole report" {
+        let said = said_by_stopped(out, rt, alloc, left);
+        if said.as_str() == "0 whole report" {
             break;
         }
     }
-    Ok(())
 }
 
 /// What is wrong with restarts that are stopped too, over what each stop of the run left.
-fn stops_of_restarts<R: Threads + Wait + Sync>(rt: &R, alloc: Global) -> Result<String, Fail> {
+fn stops_of_restarts<R: Threads + Wait + Sync + Abort>(rt: &R, alloc: Global) -> String {
     let mut out = String::new(alloc);
     for passes in 0..1_000u64 {
-        let left = stopped(rt, alloc, RUN, &[], passes, crash(passes))?;
+        let left = stopped(rt, alloc, RUN, &[], passes, crash(passes));
         if left.said.as_str() == "0 whole report" {
             break;
         }
-        put_stops_of_restart(&mut out, rt, alloc, left.bytes.as_slice())?;
+        put_stops_of_restart(&mut out, rt, alloc, left.bytes.as_slice());
     }
-    Ok(out)
+    out
 }
 
 // The beginning makes eight calls, and each of the 24 records that show something four more.
 #[test]
-fn a_run_that_is_stopped_at_each_call_goes_on(rt: HostRuntime) -> Result<(), Fail> {
-    let got = stops_of_run(&rt, rt.alloc())?;
+fn a_run_that_is_stopped_at_each_call_goes_on(rt: HostRuntime) {
+    let got = stops_of_run(&rt, rt.alloc()).expect(&rt, "what is wrong");
     assert_eq!(&rt; got.as_str(), "104");
-    Ok(())
 }
 
 #[test]
-fn a_restart_that_is_stopped_at_each_call_goes_on(rt: HostRuntime) -> Result<(), Fail> {
-    let got = stops_of_restarts(&rt, rt.alloc())?;
+fn a_restart_that_is_stopped_at_each_call_goes_on(rt: HostRuntime) {
+    let got = stops_of_restarts(&rt, rt.alloc());
     assert_eq!(&rt; got.as_str(), "");
-    Ok(())
 }

@@ -1,12 +1,15 @@
 //! How the run of a table ends, and how much each turret gets.
 ghost use Rattle.std.specs.Prelude.{◌≡◌, None};
+ghost use Rattle.run_records.specs.Headers.{IsShort};
 ghost use Rattle.run_table.specs.Running.{MayRun, end_of};
 
 use crate::opened_pairs::{header_of, table_of};
 use disk_model::MemoryDisk;
 use nc_outside::MemoryTurret;
+use run_records::Header;
 use run_table::{RunEnd, Table};
 use std::alloc::{AllocError, Global};
+use std::process::Abort;
 use std::sync::Wait;
 use std::test::Fail;
 use std::thread::Threads;
@@ -43,35 +46,67 @@ fn text_of(alloc: Global, run: &TurretRun<MemoryDisk, MemoryTurret>) -> Result<S
     format!(in alloc; "{} {left} {right}", end_word(run.end))
 }
 
-// How the run of a table ends, and how much each turret got.
-fn run_text<R: Threads + Wait + Sync>(
+/// A turret with room for 73 moves, whose call of this number fails.
+fn turret_of<R: Abort>(rt: &R, alloc: Global, failing: u64) -> MemoryTurret {
+    MemoryTurret::new(alloc, 73, &[failing]).expect(rt, "a turret")
+}
+
+/// How a run of so many records ends, each turret's call of these numbers failing, and how much each turret got.
+fn run_text<R: Threads + Wait + Sync + Abort>(
     rt: &R,
     alloc: Global,
     table: Table<MemoryDisk>,
     limit: u32,
-    left: MemoryTurret,
-    right: MemoryTurret,
-) -> Result<String, AllocError>
+    failing: (u64, u64),
+) -> String
     requires may { MayRun table }
     requires unended { end_of table.machine ≡ None }
 {
+    let left = turret_of(rt, alloc, failing.0);
+    let right = turret_of(rt, alloc, failing.1);
     let run = run_with_turrets(rt, alloc, table, limit, left, right);
-    text_of(alloc, &run)
+    text_of(alloc, &run).expect(rt, "a text")
 }
 
-fn row_text<R: Threads + Wait + Sync>(
+/// The same of a run of the header's pair.
+fn header_text<R: Threads + Wait + Sync + Abort>(
     rt: &R,
     alloc: Global,
-    tapes: (&str, &str),
+    header: &Header,
     limit: u32,
     failing: (u64, u64),
+) -> Result<String, Fail>
+    requires { IsShort header.now }
+{
+    let disk = MemoryDisk::of_bytes(alloc, Vec::new(alloc), 10_000, &[]).expect(rt, "a disk");
+    match table_of(alloc, header, disk) {
+        Ok(table) => Ok(run_text(rt, alloc, table, limit, failing)),
+        Err(fail) => Err(fail),
+    }
+}
+
+/// The number that a word writes.
+fn number<R: Abort>(rt: &R, word: Option<&str>) -> u64 {
+    word.unwrap_or("").parse::<u64>().expect(rt, "a number")
+}
+
+/// How the run of a row ends, and how much each turret got.
+fn row_text<R: Threads + Wait + Sync + Abort>(
+    rt: &R,
+    alloc: Global,
+    row: &str,
 ) -> Result<String, Fail> {
-    let header = header_of(alloc, tapes.0, tapes.1)?;
-    let disk = MemoryDisk::of_bytes(alloc, Vec::new(alloc), 10_000, &[])?;
-    let left = MemoryTurret::new(alloc, 73, &[failing.0])?;
-    let right = MemoryTurret::new(alloc, 73, &[failing.1])?;
-    match table_of(alloc, &header, disk) {
-        Ok(table) => Ok(run_text(rt, alloc, table, limit, left, right)?),
+    let mut words = row.split('|');
+    let left = words.next().unwrap_or("");
+    let right = words.next().unwrap_or("");
+    let limit = words
+        .next()
+        .unwrap_or("")
+        .parse::<u32>()
+        .expect(rt, "a limit");
+    let failing = (number(rt, words.next()), number(rt, words.next()));
+    match header_of(alloc, left, right) {
+        Ok(header) => header_text(rt, alloc, &header, limit, failing),
         Err(fail) => Err(fail),
     }
 }
@@ -79,19 +114,9 @@ fn row_text<R: Threads + Wait + Sync>(
 #[test]
 fn each_turret_gets_its_place_and_its_moves(rt: HostRuntime) -> Result<(), Fail> {
     for row in ROWS.lines() {
-        let words: Vec<&str> = row.split('|').collect(rt.alloc())?;
-        let [left, right, limit, first, second, expected] = words.as_slice() else {
-            return Err(Fail::new("a row of six words"));
-        };
-        let failing = (first.parse::<u64>()?, second.parse::<u64>()?);
-        let text = row_text(
-            &rt,
-            rt.alloc(),
-            (left, right),
-            limit.parse::<u32>()?,
-            failing,
-        )?;
-        assert_eq!(rt; text.as_str(), *expected, "{row}");
+        let (run, expected) = row.rsplit_once('|').unwrap_or((row, ""));
+        let text = row_text(&rt, rt.alloc(), run)?;
+        assert_eq!(rt; text.as_str(), expected, "{row}");
     }
     Ok(())
 }

@@ -1,16 +1,17 @@
 //! What the turrets hold behind a whole run.
-use crate::pair::{RUN, shelf_of};
+use crate::command::{Done, HONEST, devices_of, done_by};
+use crate::pair::{FILES, RUN};
+use crate::shelf::shelf_of;
 use disk_model::MemoryDisk;
-use lathe_top::{Outcome, top};
-use nc_outside::{Got, MemoryTurret, VecSink};
-use std::alloc::Global;
+use nc_outside::Got;
+use std::alloc::{AllocError, Global};
+use std::process::Abort;
 use std::sync::Wait;
-use std::test::Fail;
 use std::thread::Threads;
 
 /// How many moves a turret got behind its place. None where it was not placed first, or once more.
-fn moves_behind_place(turret: &MemoryTurret) -> Option<usize> {
-    let [Got::Placed(_), moves @ ..] = turret.got() else {
+fn moves_behind_place(got: &[Got]) -> Option<usize> {
+    let [Got::Placed(_), moves @ ..] = got else {
         return None;
     };
     for what in moves {
@@ -22,52 +23,31 @@ fn moves_behind_place(turret: &MemoryTurret) -> Option<usize> {
 }
 
 /// The status of a command, and how many moves each turret got behind its place.
-fn moves_of<R: Threads + Wait + Sync>(
-    rt: &R,
+fn moves_text(
     alloc: Global,
-    line: &str,
-) -> Result<(u8, Option<usize>, Option<usize>), Fail> {
-    let mut words = Vec::new(alloc);
-    for word in line.split_whitespace() {
-        words.push(String::from_str(alloc, word)?)?;
-    }
-    let mut shelf = shelf_of(alloc, &[])?;
-    let mut sink = VecSink::new(alloc, &[])?;
-    let disk = MemoryDisk::new(alloc, 1_048_576, 65_536, &[])?;
-    let left = MemoryTurret::new(alloc, 5_000, &[])?;
-    let right = MemoryTurret::new(alloc, 5_000, &[])?;
-    let outcome = top(
-        rt,
-        alloc,
-        words.as_slice(),
-        &mut shelf,
-        disk,
-        left,
-        right,
-        &mut sink,
-    );
-    let Outcome {
-        status,
-        left,
-        right,
-        ..
-    } = outcome;
-    Ok((
-        status,
-        moves_behind_place(&left),
-        moves_behind_place(&right),
-    ))
+    status: u8,
+    left: &[Got],
+    right: &[Got],
+) -> Result<String, AllocError> {
+    let (one, two) = (moves_behind_place(left), moves_behind_place(right));
+    format!(in alloc; "{status} {one:?} {two:?}")
+}
+
+/// The status of a command, and how many moves each turret got behind its place.
+fn moves_of<R: Threads + Wait + Sync + Abort>(rt: &R, alloc: Global, line: &str) -> String {
+    let mut shelf = shelf_of(rt, alloc, FILES, &[]);
+    let disk = MemoryDisk::new(alloc, 1_048_576, 65_536, &[]).expect(rt, "a disk");
+    let devices = devices_of(rt, alloc, 5_000, HONEST);
+    let Done { outcome, .. } = done_by(rt, alloc, line, &mut shelf, disk, devices);
+    let (left, right) = (outcome.left.got(), outcome.right.got());
+    moves_text(alloc, outcome.status, left, right).expect(rt, "a text")
 }
 
 // The pair as a shop has it, and a made pair of ten thousand blocks.
 #[test]
-fn no_run_strays(rt: HostRuntime) -> Result<(), Fail> {
-    let alloc = rt.alloc();
-    for (line, first, second) in [(RUN, 19usize, 11usize), ("make 7", 4_901, 4_901)] {
-        let (status, one, two) = moves_of(&rt, alloc, line)?;
-        assert_eq!(&rt; status, 0);
-        assert_eq!(&rt; one, Some(first));
-        assert_eq!(&rt; two, Some(second));
-    }
-    Ok(())
+fn no_run_strays(rt: HostRuntime) {
+    let of_shop = moves_of(&rt, rt.alloc(), RUN);
+    assert_eq!(&rt; of_shop.as_str(), "0 Some(19) Some(11)");
+    let made = moves_of(&rt, rt.alloc(), "make 7");
+    assert_eq!(&rt; made.as_str(), "0 Some(4901) Some(4901)");
 }
