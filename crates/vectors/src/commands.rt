@@ -245,61 +245,68 @@ fn is_answer(alloc: Global, answer: &Answer, wanted: &str) -> Result<bool, Alloc
     Ok(has_text && status.parse() == Ok(answer.status))
 }
 
-/// A story begins with these files.
-fn begun(alloc: Global, pair: &str) -> Result<Story, AllocError> {
-    let pair = String::from_str(alloc, pair)?;
-    Ok(Story {
-        pair,
-        bytes: Vec::new(alloc),
-        failing: 0,
-    })
-}
-
 /// A story goes on with another disk.
-fn with_disk(story: Story, bytes: Vec<u8>, failing: u64) -> Story {
-    let Story { pair, .. } = story;
-    Story {
-        pair,
-        bytes,
-        failing,
-    }
+fn put_disk(story: &mut Story, bytes: Vec<u8>, failing: u64) {
+    story.bytes = bytes;
+    story.failing = failing;
 }
 
-/// Asserts that a command answers what its row wants, and goes on with the disk that it leaves.
-fn commanded<R: Threads + Wait + Sync + Abort>(
+/// A story begins with these files.
+fn begin(alloc: Global, story: &mut Story, pair: &str) -> Result<(), AllocError> {
+    story.pair = String::from_str(alloc, pair)?;
+    put_disk(story, Vec::new(alloc), 0);
+    Ok(())
+}
+
+/// A story goes on with a disk of the bytes that the digits write.
+fn put_bytes(alloc: Global, story: &mut Story, text: &str) -> Result<(), AllocError> {
+    let bytes = bytes_of(alloc, text)?;
+    put_disk(story, bytes, 0);
+    Ok(())
+}
+
+/// Whether a command answers what its row wants. The story goes on with the disk that it leaves.
+fn holds<R: Threads + Wait + Sync + Abort>(
     rt: &R,
     alloc: Global,
-    story: Story,
+    story: &mut Story,
     row: &str,
-) -> Result<Story, Fail> {
+) -> Result<bool, Fail> {
     let (line, wanted) = row.split_once('|').unwrap_or((row, ""));
-    let answer = answered(rt, alloc, line, &story)?;
-    assert!(rt; is_answer(alloc, &answer, wanted)?, "{row}");
-    Ok(with_disk(story, answer.bytes, 0))
+    let answer = answered(rt, alloc, line, story)?;
+    let holds = is_answer(alloc, &answer, wanted)?;
+    put_disk(story, answer.bytes, 0);
+    Ok(holds)
 }
 
-/// A story goes on by the step of a row.
-fn told<R: Threads + Wait + Sync + Abort>(
+/// Takes the step of a row, and says whether its answer is what the row wants.
+fn takes<R: Threads + Wait + Sync + Abort>(
     rt: &R,
     alloc: Global,
-    story: Story,
+    story: &mut Story,
     row: &str,
-) -> Result<Story, Fail> {
+) -> Result<bool, Fail> {
     let (step, what) = row.split_once(' ').unwrap_or((row, ""));
     match step {
-        "pair" => Ok(begun(alloc, what)?),
-        "failing" => Ok(with_disk(story, Vec::new(alloc), what.parse().unwrap_or(0))),
-        "bytes" => Ok(with_disk(story, bytes_of(alloc, what)?, 0)),
-        "honest" => Ok(story),
-        _ => commanded(rt, alloc, story, row),
+        "pair" => begin(alloc, story, what)?,
+        "failing" => put_disk(story, Vec::new(alloc), what.parse().unwrap_or(0)),
+        "bytes" => put_bytes(alloc, story, what)?,
+        "honest" => story.failing = 0,
+        _ => return holds(rt, alloc, story, row),
     }
+    Ok(true)
 }
 
 #[test]
 fn each_command_of_a_story_answers_its_text(rt: HostRuntime) -> Result<(), Fail> {
-    let mut story = begun(rt.alloc(), "")?;
+    let alloc = rt.alloc();
+    let mut story = Story {
+        pair: String::new(alloc),
+        bytes: Vec::new(alloc),
+        failing: 0,
+    };
     for row in STORIES.lines() {
-        story = told(&rt, rt.alloc(), story, row)?;
+        assert!(&rt; takes(&rt, alloc, &mut story, row)?, "{row}");
     }
     Ok(())
 }
