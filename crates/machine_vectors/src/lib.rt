@@ -7,7 +7,11 @@
 #[cfg(test)]
 mod answer;
 #[cfg(test)]
+mod held;
+#[cfg(test)]
 mod pair;
+#[cfg(test)]
+mod record;
 #[cfg(test)]
 mod record_rows;
 #[cfg(test)]

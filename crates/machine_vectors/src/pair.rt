@@ -6,11 +6,18 @@ use std::alloc::{AllocError, Global};
 use std::test::Fail;
 use tape_flow::{Flow, compile};
 
+/// A byte of a tape: the end of a line for a `~`.
+fn byte_of(byte: u8) -> u8 {
+    if byte == b'~' { b'\n' } else { byte }
+}
+
 /// A text with each `~` as the end of a line.
 fn lines_of(alloc: Global, text: &str) -> Result<Vec<u8>, AllocError> {
-    text.bytes()
-        .map(|byte| if byte == b'~' { b'\n' } else { byte })
-        .collect(alloc)
+    let mut bytes = Vec::new(alloc);
+    for byte in text.bytes() {
+        bytes.push(byte_of(byte))?;
+    }
+    Ok(bytes)
 }
 
 /// The settings where a text sets nothing.

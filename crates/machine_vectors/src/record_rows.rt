@@ -1,4 +1,5 @@
 //! Records that a machine is given, and which of them it refuses.
+use crate::pair::default_settings;
 use crate::walk::failure_of;
 use std::test::Fail;
 
@@ -24,8 +25,9 @@ M101~#1=#500~M30|#500=1~M101~M30|1,2,2,1 did 2,1 did 1,1 did 3|arrives 101, did,
 #[test]
 fn records_and_which_are_refused(rt: HostRuntime) -> Result<(), Fail> {
     let alloc = rt.alloc();
+    let settings = default_settings(alloc)?;
     for row in ROWS.lines() {
-        let failure = failure_of(alloc, row)?;
+        let failure = failure_of(alloc, &settings, row)?;
         assert_eq!(&rt; failure.as_str(), "");
     }
     Ok(())

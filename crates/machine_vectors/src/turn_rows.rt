@@ -1,4 +1,5 @@
 //! Turns of a machine, and what they answer.
+use crate::pair::default_settings;
 use crate::walk::failure_of;
 use std::test::Fail;
 
@@ -31,8 +32,9 @@ M99|M30|1,1,2,1|did, did, ends, did";
 #[test]
 fn turns_and_what_they_answer(rt: HostRuntime) -> Result<(), Fail> {
     let alloc = rt.alloc();
+    let settings = default_settings(alloc)?;
     for row in ROWS.lines() {
-        let failure = failure_of(alloc, row)?;
+        let failure = failure_of(alloc, &settings, row)?;
         assert_eq!(&rt; failure.as_str(), "");
     }
     Ok(())

@@ -3,18 +3,37 @@ ghost use Rattle.std.specs.Prelude.{◌≡◌, ◌<◌, OnOk, IfOk};
 ghost use Rattle.two_path.specs.Machine.{without_reads};
 ghost use Rattle.two_path.specs.Joined.{AreAtTheirWaits};
 
-use crate::answer::{path_of, put_point, put_turn, put_var};
-use crate::pair::{default_settings, flow_of};
+use crate::answer::put_turn;
+use crate::held::{put_difference, put_held, state_of};
+use crate::pair::flow_of;
+use crate::record::entry_of;
 use cell_settings::Settings;
-use nc_number::Path;
-use run_records::{Entry, EntryKind, StampList};
+use nc_number::{NoMemory, Path};
+use run_records::Entry;
 use std::alloc::{AllocError, Global};
 use std::test::Fail;
 use tape_flow::Flow;
-use two_path::{Machine, Turned, a_machine_begins_without_waits};
+use two_path::{Illegal, Machine, Turn, Turned, a_machine_begins_without_waits};
 
-/// Makes room for a record, where there are few yet.
-fn make_room(machine: &mut Machine) -> Result<(), Fail>
+/// A machine of the pair before its first turn.
+fn opened(
+    alloc: Global,
+    left: &Flow,
+    right: &Flow,
+    settings: &Settings,
+) -> Result<Machine, NoMemory>
+    ensures no_reads { IfOk result (λ m. without_reads m.machine ≡ m.machine) }
+    ensures waits { IfOk result (λ m. AreAtTheirWaits left.now.order right.now.order m.machine) }
+{
+    a_machine_begins_without_waits();
+    match Machine::new(alloc, left, right, settings) {
+        Ok(machine) => Ok(machine),
+        Err(fail) => Err(fail),
+    }
+}
+
+/// Makes room for a record. There is none for more than a thousand.
+fn make_room(machine: &mut Machine) -> Result<(), NoMemory>
     ensures machine { machine.new.machine ≡ machine.old.machine }
     ensures room { OnOk result (0 < machine.new.room) }
     ensures few { OnOk result (machine.new.machine.count < 1000) }
@@ -23,17 +42,16 @@ fn make_room(machine: &mut Machine) -> Result<(), Fail>
     if machine.count() < 1000 {
         Ok(())
     } else {
-        Err(Fail::new("fewer than a thousand records"))
+        Err(NoMemory)
     }
 }
 
-/// One turn of the path.
-fn turned(machine: &mut Machine, left: &Flow, right: &Flow, path: Path) -> Result<Turned, Fail>
-    requires { AreAtTheirWaits left.now.order right.now.order machine.old.machine }
-    ensures { AreAtTheirWaits left.now.order right.now.order machine.new.machine }
-{
-    make_room(machine)?;
-    Ok(machine.turn(left, right, path))
+/// What a record came to that is done again.
+fn put_outcome(out: &mut String, outcome: &Result<Turn, Illegal>) -> Result<(), AllocError> {
+    match outcome {
+        Ok(turn) => put_turn(out, turn),
+        Err(_illegal) => out.push_str("illegal"),
+    }
 }
 
 /// What the turn of a record is that is done again.
@@ -43,89 +61,117 @@ fn put_again(
     left: &Flow,
     right: &Flow,
     entry: &Entry,
-) -> Result<(), Fail>
+) -> Result<(), NoMemory>
     requires no_reads { without_reads machine.old.machine ≡ machine.old.machine }
     requires waits { AreAtTheirWaits left.now.order right.now.order machine.old.machine }
     ensures no_reads { without_reads machine.new.machine ≡ machine.new.machine }
     ensures waits { AreAtTheirWaits left.now.order right.now.order machine.new.machine }
 {
     make_room(machine)?;
-    match machine.apply(left, right, entry) {
-        Ok(turn) => put_turn(out, &turn)?,
-        Err(_illegal) => out.push_str("illegal")?,
+    match put_outcome(out, &machine.apply(left, right, entry)) {
+        Ok(()) => Ok(()),
+        Err(_fail) => Err(NoMemory),
     }
-    Ok(())
 }
 
-/// What a path holds: its line and position, #1 and #2, and whether it waits or has ended.
-fn put_path(
+/// What the turn of a record is that is done again, where that is not the answer.
+fn put_other(
     out: &mut String,
-    machine: &Machine,
-    flow: &Flow,
+    alloc: Global,
+    machine: &mut Machine,
+    left: &Flow,
+    right: &Flow,
+    entry: &Entry,
+    answer: &str,
+) -> Result<(), NoMemory>
+    requires no_reads { without_reads machine.old.machine ≡ machine.old.machine }
+    requires waits { AreAtTheirWaits left.now.order right.now.order machine.old.machine }
+    ensures no_reads { without_reads machine.new.machine ≡ machine.new.machine }
+    ensures waits { AreAtTheirWaits left.now.order right.now.order machine.new.machine }
+{
+    let mut again = String::new(alloc);
+    put_again(&mut again, machine, left, right, entry)?;
+    Ok(put_unless(out, again.as_str(), answer)?)
+}
+
+/// The text of a turn that was done again, unless it is the answer.
+fn put_unless(out: &mut String, again: &str, answer: &str) -> Result<(), AllocError> {
+    if again == answer {
+        return Ok(());
+    }
+    write!(out, " and again {again}")
+}
+
+fn answer_of(alloc: Global, turn: &Turn) -> Result<String, AllocError> {
+    let mut answer = String::new(alloc);
+    put_turn(&mut answer, turn)?;
+    Ok(answer)
+}
+
+/// A turn, whose record the second machine does again with the same answer.
+fn put_turned(
+    out: &mut String,
+    alloc: Global,
+    second: &mut Machine,
+    left: &Flow,
+    right: &Flow,
+    turned: &Turned,
+) -> Result<(), NoMemory>
+    requires no_reads { without_reads second.old.machine ≡ second.old.machine }
+    requires waits { AreAtTheirWaits left.now.order right.now.order second.old.machine }
+    ensures no_reads { without_reads second.new.machine ≡ second.new.machine }
+    ensures waits { AreAtTheirWaits left.now.order right.now.order second.new.machine }
+{
+    let answer = answer_of(alloc, &turned.turn)?;
+    out.push_str(answer.as_str())?;
+    match &turned.entry {
+        Some(entry) => put_other(out, alloc, second, left, right, entry, answer.as_str()),
+        None => Ok(()),
+    }
+}
+
+/// A turn of the path on both machines.
+fn put_both(
+    out: &mut String,
+    alloc: Global,
+    machine: &mut Machine,
+    second: &mut Machine,
+    left: &Flow,
+    right: &Flow,
     path: Path,
-) -> Result<(), AllocError> {
-    let state = machine.path(path);
-    let line = state.line(flow);
-    write!(out, " path {} line {line}", path.number())?;
-    put_point(out, state.position())?;
-    out.push_str(" #1 ")?;
-    put_var(out, &state.local(1))?;
-    out.push_str(" #2 ")?;
-    put_var(out, &state.local(2))?;
-    if let Some(code) = machine.waiting(path) {
-        write!(out, " waits {code}")?;
-    }
-    if machine.finished(path) {
-        out.push_str(" ended")?;
-    }
-    Ok(())
+) -> Result<(), NoMemory>
+    requires waits { AreAtTheirWaits left.now.order right.now.order machine.old.machine }
+    requires no_reads { without_reads second.old.machine ≡ second.old.machine }
+    requires second_waits { AreAtTheirWaits left.now.order right.now.order second.old.machine }
+    ensures waits { AreAtTheirWaits left.now.order right.now.order machine.new.machine }
+    ensures no_reads { without_reads second.new.machine ≡ second.new.machine }
+    ensures second_waits { AreAtTheirWaits left.now.order right.now.order second.new.machine }
+{
+    make_room(machine)?;
+    put_turned(
+        out,
+        alloc,
+        second,
+        left,
+        right,
+        &machine.turn(left, right, path),
+    )
 }
 
-/// What a shared variable holds.
-fn put_shared(out: &mut String, machine: &Machine, v: u32) -> Result<(), AllocError> {
-    if machine.is_shared(v) {
-        write!(out, " #{v} ")?;
-        put_var(out, &machine.shared(v))?;
-    }
-    Ok(())
-}
-
-/// What a machine holds but for block reads.
-fn state_of(
-    alloc: Global,
-    machine: &Machine,
-    left: &Flow,
-    right: &Flow,
-) -> Result<String, AllocError> {
-    let mut out = String::new(alloc);
-    write!(&mut out, "{} records", machine.count())?;
-    put_shared(&mut out, machine, 500)?;
-    put_shared(&mut out, machine, 501)?;
-    put_path(&mut out, machine, left, Path::One)?;
-    put_path(&mut out, machine, right, Path::Two)?;
-    if machine.alarm().is_some() {
-        out.push_str(" alarm")?;
-    }
-    Ok(out)
-}
-
-/// Both machines of a pair hold the same.
-fn put_difference(
+/// Where the machines of a pair do not hold the same, what they hold.
+fn put_disagreement(
     out: &mut String,
     alloc: Global,
-    first: &str,
     machine: &Machine,
+    second: &Machine,
     left: &Flow,
     right: &Flow,
 ) -> Result<(), AllocError> {
-    let second = state_of(alloc, machine, left, right)?;
-    if first != second.as_str() {
-        write!(out, " but then {first} is {second}")?;
-    }
-    Ok(())
+    let held = state_of(alloc, machine, left, right)?;
+    put_difference(out, alloc, held.as_str(), second, left, right)
 }
 
-/// A turn of the path, whose record the second machine does again with the same answer.
+/// A turn of the path on both machines, which then hold the same.
 fn put_step(
     out: &mut String,
     alloc: Global,
@@ -134,7 +180,7 @@ fn put_step(
     left: &Flow,
     right: &Flow,
     path: Path,
-) -> Result<(), Fail>
+) -> Result<(), NoMemory>
     requires waits { AreAtTheirWaits left.now.order right.now.order machine.old.machine }
     requires no_reads { without_reads second.old.machine ≡ second.old.machine }
     requires second_waits { AreAtTheirWaits left.now.order right.now.order second.old.machine }
@@ -142,47 +188,49 @@ fn put_step(
     ensures no_reads { without_reads second.new.machine ≡ second.new.machine }
     ensures second_waits { AreAtTheirWaits left.now.order right.now.order second.new.machine }
 {
-    let turned = turned(machine, left, right, path)?;
+    put_both(out, alloc, machine, second, left, right, path)?;
+    Ok(put_disagreement(out, alloc, machine, second, left, right)?)
+}
+
+/// The answer to a record, which changes nothing where it is illegal.
+fn put_answered(
+    out: &mut String,
+    alloc: Global,
+    answer: &str,
+    before: &str,
+    second: &Machine,
+    left: &Flow,
+    right: &Flow,
+) -> Result<(), AllocError> {
+    out.push_str(answer)?;
+    if answer == "illegal" {
+        put_difference(out, alloc, before, second, left, right)
+    } else {
+        Ok(())
+    }
+}
+
+/// A record that the second machine is given, and its answer.
+fn put_given(
+    out: &mut String,
+    alloc: Global,
+    second: &mut Machine,
+    left: &Flow,
+    right: &Flow,
+    entry: &Entry,
+    before: &str,
+) -> Result<(), NoMemory>
+    requires no_reads { without_reads second.old.machine ≡ second.old.machine }
+    requires waits { AreAtTheirWaits left.now.order right.now.order second.old.machine }
+    ensures no_reads { without_reads second.new.machine ≡ second.new.machine }
+    ensures waits { AreAtTheirWaits left.now.order right.now.order second.new.machine }
+{
     let mut answer = String::new(alloc);
-    put_turn(&mut answer, &turned.turn)?;
-    out.push_str(answer.as_str())?;
-    if let Some(entry) = &turned.entry {
-        let mut again = String::new(alloc);
-        put_again(&mut again, second, left, right, entry)?;
-        if again.as_str() != answer.as_str() {
-            write!(out, " and again {again}")?;
-        }
-    }
-    let held = state_of(alloc, machine, left, right)?;
-    put_difference(out, alloc, held.as_str(), second, left, right)?;
-    Ok(())
+    put_again(&mut answer, second, left, right, entry)?;
+    Ok(put_answered(out, alloc, answer.as_str(), before, second, left, right)?)
 }
 
-fn kind_of(word: &str) -> EntryKind {
-    match word {
-        "did" => EntryKind::Did,
-        "arrived" => EntryKind::Arrived,
-        "met" => EntryKind::Met,
-        "ended" => EntryKind::Ended,
-        _ => EntryKind::Alarmed,
-    }
-}
-
-/// The record of a path's number, a kind, and stamps.
-fn entry_of(text: &str) -> Result<Entry, Fail> {
-    let mut words = text.split_whitespace();
-    let path = path_of(words.next().unwrap_or(""));
-    let kind = kind_of(words.next().unwrap_or(""));
-    let mut stamps = StampList::empty();
-    for word in words {
-        if stamps.as_slice().len() < 32 {
-            stamps.push(word.parse::<u32>()?);
-        }
-    }
-    Ok(Entry { path, kind, stamps })
-}
-
-/// A record that the second machine is given. It changes nothing where it is illegal.
+/// A record that the second machine is given, from its text.
 fn put_record(
     out: &mut String,
     alloc: Global,
@@ -190,21 +238,22 @@ fn put_record(
     left: &Flow,
     right: &Flow,
     text: &str,
-) -> Result<(), Fail>
+) -> Result<(), NoMemory>
     requires no_reads { without_reads second.old.machine ≡ second.old.machine }
     requires waits { AreAtTheirWaits left.now.order right.now.order second.old.machine }
     ensures no_reads { without_reads second.new.machine ≡ second.new.machine }
     ensures waits { AreAtTheirWaits left.now.order right.now.order second.new.machine }
 {
     let before = state_of(alloc, second, left, right)?;
-    let entry = entry_of(text)?;
-    let mut answer = String::new(alloc);
-    put_again(&mut answer, second, left, right, &entry)?;
-    out.push_str(answer.as_str())?;
-    if answer.as_str() == "illegal" {
-        put_difference(out, alloc, before.as_str(), second, left, right)?;
-    }
-    Ok(())
+    put_given(
+        out,
+        alloc,
+        second,
+        left,
+        right,
+        &entry_of(text),
+        before.as_str(),
+    )
 }
 
 /// One word of a row: `1` or `2` is a turn of that path, `?` asks what the second machine holds, and all else is a record.
@@ -216,7 +265,7 @@ fn put_word(
     left: &Flow,
     right: &Flow,
     word: &str,
-) -> Result<(), Fail>
+) -> Result<(), NoMemory>
     requires waits { AreAtTheirWaits left.now.order right.now.order machine.old.machine }
     requires no_reads { without_reads second.old.machine ≡ second.old.machine }
     requires second_waits { AreAtTheirWaits left.now.order right.now.order second.old.machine }
@@ -224,15 +273,20 @@ fn put_word(
     ensures no_reads { without_reads second.new.machine ≡ second.new.machine }
     ensures second_waits { AreAtTheirWaits left.now.order right.now.order second.new.machine }
 {
-    if word == "1" || word == "2" {
-        return put_step(out, alloc, machine, second, left, right, path_of(word));
+    match word {
+        "1" => put_step(out, alloc, machine, second, left, right, Path::One),
+        "2" => put_step(out, alloc, machine, second, left, right, Path::Two),
+        "?" => Ok(put_held(out, alloc, second, left, right)?),
+        _ => put_record(out, alloc, second, left, right, word),
     }
-    if word == "?" {
-        let held = state_of(alloc, second, left, right)?;
-        out.push_str(held.as_str())?;
+}
+
+/// What stands between two answers.
+fn put_comma(out: &mut String) -> Result<(), AllocError> {
+    if out.is_empty() {
         return Ok(());
     }
-    put_record(out, alloc, second, left, right, word)
+    out.push_str(", ")
 }
 
 /// All words of a row, on both machines of its pair.
@@ -244,27 +298,49 @@ fn put_words(
     left: &Flow,
     right: &Flow,
     words: &str,
-) -> Result<(), Fail>
+) -> Result<(), NoMemory>
     requires waits { AreAtTheirWaits left.now.order right.now.order machine.old.machine }
     requires no_reads { without_reads second.old.machine ≡ second.old.machine }
     requires second_waits { AreAtTheirWaits left.now.order right.now.order second.old.machine }
 {
     for word in words.split(',') {
-        if !out.is_empty() {
-            out.push_str(", ")?;
-        }
+        put_comma(out)?;
         put_word(out, alloc, machine, second, left, right, word.trim())?;
     }
     Ok(())
 }
 
-/// A machine of the pair before its first turn.
-fn opened(alloc: Global, left: &Flow, right: &Flow, settings: &Settings) -> Result<Machine, Fail>
-    ensures no_reads { IfOk result (λ m. without_reads m.machine ≡ m.machine) }
-    ensures waits { IfOk result (λ m. AreAtTheirWaits left.now.order right.now.order m.machine) }
+/// What both machines answer to the words of a row.
+fn text_of(
+    alloc: Global,
+    machine: &mut Machine,
+    second: &mut Machine,
+    left: &Flow,
+    right: &Flow,
+    words: &str,
+) -> Result<String, Fail>
+    requires waits { AreAtTheirWaits left.now.order right.now.order machine.old.machine }
+    requires no_reads { without_reads second.old.machine ≡ second.old.machine }
+    requires second_waits { AreAtTheirWaits left.now.order right.now.order second.old.machine }
 {
-    a_machine_begins_without_waits();
-    Ok(Machine::new(alloc, left, right, settings)?)
+    let mut out = String::new(alloc);
+    put_words(&mut out, alloc, machine, second, left, right, words)?;
+    Ok(out)
+}
+
+/// What the machine and a second one answer to the words of a row.
+fn answers_beside(
+    alloc: Global,
+    machine: &mut Machine,
+    left: &Flow,
+    right: &Flow,
+    settings: &Settings,
+    words: &str,
+) -> Result<String, Fail>
+    requires { AreAtTheirWaits left.now.order right.now.order machine.old.machine }
+{
+    let mut second = opened(alloc, left, right, settings)?;
+    text_of(alloc, machine, &mut second, left, right, words)
 }
 
 /// What the machines of the pair answer to the words of a row.
@@ -275,38 +351,42 @@ fn answers_of(
     settings: &Settings,
     words: &str,
 ) -> Result<String, Fail> {
-    let mut out = String::new(alloc);
     let mut machine = opened(alloc, left, right, settings)?;
-    let mut second = opened(alloc, left, right, settings)?;
-    put_words(
-        &mut out,
-        alloc,
-        &mut machine,
-        &mut second,
-        left,
-        right,
-        words,
-    )?;
-    Ok(out)
+    answers_beside(alloc, &mut machine, left, right, settings, words)
+}
+
+/// What the machines of a flow and a tape answer to the words of a row.
+fn play_beside(
+    alloc: Global,
+    settings: &Settings,
+    left: &Flow,
+    right: &str,
+    words: &str,
+) -> Result<String, Fail> {
+    let right = flow_of(alloc, right, settings)?;
+    answers_of(alloc, left, &right, settings, words)
 }
 
 /// What the machines of the two tapes, whose blocks these are, answer to the words of a row.
-pub(crate) fn play(alloc: Global, left: &str, right: &str, words: &str) -> Result<String, Fail> {
-    let settings = default_settings(alloc)?;
-    let left = flow_of(alloc, left, &settings)?;
-    let right = flow_of(alloc, right, &settings)?;
-    answers_of(alloc, &left, &right, &settings, words)
+fn play(
+    alloc: Global,
+    settings: &Settings,
+    left: &str,
+    right: &str,
+    words: &str,
+) -> Result<String, Fail> {
+    let left = flow_of(alloc, left, settings)?;
+    play_beside(alloc, settings, &left, right, words)
 }
 
 /// Whether a row `left|right|words|answers` is so, and else what was answered.
-pub(crate) fn failure_of(alloc: Global, row: &str) -> Result<String, Fail> {
-    let (left, rest) = row.split_once('|').ok_or("a left tape")?;
-    let (right, rest) = rest.split_once('|').ok_or("a right tape")?;
-    let (words, wanted) = rest.split_once('|').ok_or("words and answers")?;
-    let got = play(alloc, left, right, words)?;
-    let mut failure = String::new(alloc);
-    if got.as_str() != wanted {
-        write!(&mut failure, "{row} but {got}")?;
+pub(crate) fn failure_of(alloc: Global, settings: &Settings, row: &str) -> Result<String, Fail> {
+    let (left, rest) = row.split_once('|').unwrap_or((row, ""));
+    let (right, rest) = rest.split_once('|').unwrap_or((rest, ""));
+    let (words, wanted) = rest.split_once('|').unwrap_or((rest, ""));
+    let got = play(alloc, settings, left, right, words)?;
+    if got.as_str() == wanted {
+        return Ok(String::new(alloc));
     }
-    Ok(failure)
+    Ok(format!(in alloc; "{row} but {got}")?)
 }
