@@ -1,55 +1,94 @@
 //! What the parts of a block come to: its modal state, its motion and its moves in their order.
-use code_tables::{CodeKind, system_a};
+use crate::lone_path::{put_var, units};
+use crate::move_text::put_move;
+use code_tables::{CodeKind, Row, system_a};
 use modal_state::Modal;
-use nc_number::{Point, Value, Var};
+use nc_number::{Point, Var};
 use nc_outside::{Move, MoveList};
 use offset_store::Offsets;
 use path_state::{MotionWords, all_moves, modal_after, motion_of};
+use std::alloc::{AllocError, Global};
 use std::test::Fail;
+
+/// Moves as text, each with a `~` behind it.
+fn moves_text(alloc: Global, moves: &MoveList) -> Result<String, AllocError> {
+    let mut out = String::new(alloc);
+    for what in moves.as_slice() {
+        put_move(&mut out, what)?;
+        out.push('~')?;
+    }
+    Ok(out)
+}
+
+/// All moves of a block with S1200 whose motion is a rest of half a second.
+fn rest_text(alloc: Global, tool: u16, code: u32) -> Result<String, AllocError> {
+    let mut motion = MoveList::empty();
+    motion.push(Move::Dwell { ms: 500 });
+    let speed = units(1_200);
+    let moves = all_moves(false, &Modal::new(), speed, Some(tool), &motion, Some(code));
+    moves_text(alloc, &moves)
+}
+
+/// All moves of a block with G50 S1200, without a tool and a motion.
+fn limit_text(alloc: Global, code: u32) -> Result<String, AllocError> {
+    let motion = MoveList::empty();
+    let speed = units(1_200);
+    let moves = all_moves(true, &Modal::new(), speed, None, &motion, Some(code));
+    moves_text(alloc, &moves)
+}
 
 #[test]
 fn a_block_gets_its_speed_its_tool_its_motion_and_its_code(rt: HostRuntime) -> Result<(), Fail> {
-    let speed = Var::Is(Value::of_units(1_200).ok_or("a speed")?);
-    let mut motion = MoveList::empty();
-    motion.push(Move::Dwell { ms: 500 });
-    let modal = Modal::new();
-    let moves = all_moves(false, &modal, speed, Some(101), &motion, Some(3));
-    let want = [
-        Move::Speed {
-            surface: false,
-            s: 1_200,
-        },
-        Move::Tool { t: 101 },
-        Move::Dwell { ms: 500 },
-        Move::Aux { m: 3 },
-    ];
-    assert_eq!(rt; moves.as_slice(), want.as_slice());
-    let moves = all_moves(true, &modal, speed, None, &MoveList::empty(), Some(30));
-    assert_eq!(rt; moves.as_slice(), [Move::Limit { s: 1_200 }].as_slice());
+    let got = rest_text(rt.alloc(), 101, 3)?;
+    assert_eq!(&rt;
+        got.as_str(),
+        "speed G97 S1200~tool T0101~dwell 500~aux M03~"
+    );
+    let got = limit_text(rt.alloc(), 30)?;
+    assert_eq!(&rt; got.as_str(), "limit S1200~");
     Ok(())
+}
+
+/// The speed, the limit and the offset of a modal state.
+fn modal_text(alloc: Global, modal: &Modal) -> Result<String, AllocError> {
+    let mut out = String::new(alloc);
+    put_var(&mut out, &modal.speed())?;
+    out.push(' ')?;
+    put_var(&mut out, &modal.limit())?;
+    let offset = modal.offset();
+    write!(&mut out, " offset {offset}")?;
+    Ok(out)
+}
+
+/// What a block of these codes with a speed and a tool leaves in force, or its alarm.
+fn text_after(alloc: Global, codes: &[Row], speed: Var, tool: u16) -> Result<String, AllocError> {
+    match modal_after(&Modal::new(), codes, Var::Vacant, speed, Some(tool)) {
+        Ok(after) => modal_text(alloc, &after),
+        Err(number) => format!(in alloc; "alarm {number}"),
+    }
+}
+
+/// What G50 with a speed and a tool leaves in force.
+fn text_after_g50(alloc: Global, speed: Var, tool: u16) -> Result<String, AllocError> {
+    match system_a().find(50) {
+        Some(row) => text_after(alloc, &[row], speed, tool),
+        None => String::from_str(alloc, "no G50"),
+    }
 }
 
 #[test]
 fn beside_g50_a_speed_is_the_highest_and_a_tool_without_an_offset_is_refused(
     rt: HostRuntime,
 ) -> Result<(), Fail> {
-    let speed = Var::Is(Value::of_units(2_000).ok_or("a speed")?);
-    let row = system_a().find(50).ok_or("G50")?;
-    let modal = Modal::new();
-    let after = modal_after(&modal, &[row], Var::Vacant, speed, Some(101))
-        .ok()
-        .ok_or("taken")?;
-    assert_eq!(rt;
-        (after.speed(), after.limit(), after.offset()),
-        (Var::Vacant, speed, 1)
-    );
-    let refused = modal_after(&modal, &[], Var::Vacant, Var::Vacant, Some(165));
-    assert_eq!(rt; refused, Err(40));
+    let got = text_after_g50(rt.alloc(), units(2_000), 101)?;
+    assert_eq!(&rt; got.as_str(), "vacant 2000 offset 1");
+    let got = text_after(rt.alloc(), &[], Var::Vacant, 165)?;
+    assert_eq!(&rt; got.as_str(), "alarm 40");
     Ok(())
 }
 
-#[test]
-fn a_rapid_leads_to_its_target_and_a_cut_wants_a_feed(rt: HostRuntime) {
+/// The moves of the words X40. W-5. by a code of this kind from X50. Z2., or their alarm.
+fn motion_text(alloc: Global, kind: CodeKind, has_l: bool) -> Result<String, AllocError> {
     let words = MotionWords {
         x: Some(40_000),
         z: None,
@@ -69,18 +108,20 @@ fn a_rapid_leads_to_its_target_and_a_cut_wants_a_feed(rt: HostRuntime) {
         x: 300_000,
         z: 200_000,
     };
-    let to = Point {
-        x: 40_000,
-        z: -3_000,
-    };
     let (modal, offsets) = (Modal::new(), Offsets::new());
-    let kind = CodeKind::Rapid;
-    match motion_of(at, home, &modal, &offsets, kind, false, &words) {
-        Ok(motion) => assert_eq!(rt; motion.moves.as_slice(), [Move::Rapid { to }].as_slice()),
-        Err(number) => assert_eq!(rt; number, 0),
+    match motion_of(at, home, &modal, &offsets, kind, has_l, &words) {
+        Ok(motion) => moves_text(alloc, &motion.moves),
+        Err(number) => format!(in alloc; "alarm {number}"),
     }
-    let cut = motion_of(at, home, &modal, &offsets, CodeKind::Feed, false, &words);
-    assert_eq!(rt; cut.map(|_| ()), Err(44));
-    let set = motion_of(at, home, &modal, &offsets, CodeKind::Setting, true, &words);
-    assert_eq!(rt; set.map(|_| ()), Err(40));
+}
+
+#[test]
+fn a_rapid_leads_to_its_target_and_a_cut_wants_a_feed(rt: HostRuntime) -> Result<(), Fail> {
+    let rapid = motion_text(rt.alloc(), CodeKind::Rapid, false)?;
+    assert_eq!(&rt; rapid.as_str(), "rapid X40.000 Z-3.000~");
+    let cut = motion_text(rt.alloc(), CodeKind::Feed, false)?;
+    assert_eq!(&rt; cut.as_str(), "alarm 44");
+    let set = motion_text(rt.alloc(), CodeKind::Setting, true)?;
+    assert_eq!(&rt; set.as_str(), "alarm 40");
+    Ok(())
 }

@@ -1,10 +1,10 @@
 //! What one block does to its path: its moves, what it changes, and where control goes, or its alarm.
-use crate::lone_path::{
-    flow_of, on_one_line, opened, put_differences, put_turn, settings_of, state_of,
-};
-use nc_number::Path;
+use crate::lone_path::{flow_of, on_one_line, put_changes, put_turn, settings_of, state_of};
+use cell_settings::Settings;
+use nc_number::{NoMemory, Path};
 use path_state::PathState;
-use std::alloc::Global;
+use std::alloc::{AllocError, Global};
+use std::process::Abort;
 use std::test::Fail;
 use tape_flow::Flow;
 
@@ -292,8 +292,8 @@ DO1~X1.|END1||to 3
 WHILE [#1 LT 2] DO1~#1=#1+1|END1||to 3
 DO1~DO2~X1.|END2|END1~M30|to 4";
 
-/// Lets the path run until it stands at the line.
-fn run_to(alloc: Global, path: &mut PathState, flow: &Flow, line: u32) -> Result<(), Fail> {
+/// Lets the path run until it stands at the line, for a hundred turns at most.
+fn run_to(alloc: Global, path: &mut PathState, flow: &Flow, line: u32) -> Result<(), AllocError> {
     let mut unheard = String::new(alloc);
     for _ in 0..100u8 {
         if path.line(flow) == line {
@@ -301,49 +301,103 @@ fn run_to(alloc: Global, path: &mut PathState, flow: &Flow, line: u32) -> Result
         }
         put_turn(&mut unheard, "", alloc, path, flow)?;
     }
-    Err(Fail::new("the block is not reached"))
+    Ok(())
 }
 
-/// What the block at the line does to the path.
-fn told(alloc: Global, path: &mut PathState, flow: &Flow, line: u32) -> Result<String, Fail> {
-    run_to(alloc, path, flow, line)?;
-    let mut out = String::new(alloc);
-    let before = state_of(alloc, path)?;
-    let goes_on = put_turn(&mut out, "", alloc, path, flow)?;
-    let after = state_of(alloc, path)?;
-    put_differences(&mut out, before.as_str(), after.as_str())?;
+/// What the block of the path does, from the state before.
+fn put_told(
+    out: &mut String,
+    alloc: Global,
+    path: &mut PathState,
+    flow: &Flow,
+    before: &str,
+) -> Result<(), AllocError> {
+    let goes_on = put_turn(out, "", alloc, path, flow)?;
+    put_changes(out, alloc, before, path)?;
     if goes_on {
         let to = path.line(flow);
-        writeln!(&mut out, "to {to}")?;
+        writeln!(out, "to {to}")?;
     }
+    Ok(())
+}
+
+/// What the block of the path does.
+fn told(alloc: Global, path: &mut PathState, flow: &Flow) -> Result<String, NoMemory> {
+    let mut out = String::new(alloc);
+    let before = state_of(alloc, path)?;
+    put_told(&mut out, alloc, path, flow, before.as_str())?;
     Ok(on_one_line(alloc, out.as_str())?)
 }
 
-/// What the block does behind the blocks before it.
-fn outcome(alloc: Global, before: &str, block: &str, behind: &str) -> Result<String, Fail> {
-    let settings = settings_of(alloc, CELL)?;
-    let behind = if behind.is_empty() { "M30" } else { behind };
-    let mut head = String::from_str(alloc, "%~O1~")?;
-    let mut line = 3u32;
-    for earlier in before.split('~').filter(|earlier| !earlier.is_empty()) {
-        write!(&mut head, "{earlier}~")?;
-        line = line.saturating_add(1);
+/// What the block at the line does to the path.
+fn told_at(
+    alloc: Global,
+    path: &mut PathState,
+    flow: &Flow,
+    line: u32,
+) -> Result<String, NoMemory> {
+    run_to(alloc, path, flow, line)?;
+    if path.line(flow) == line {
+        told(alloc, path, flow)
+    } else {
+        Ok(String::from_str(alloc, "the block is not reached")?)
     }
-    let text = format!(in alloc; "{head}{block}~{behind}~%~")?;
-    let flow = flow_of(alloc, text.as_str(), &settings)?;
-    let mut path = opened(alloc, &flow, &settings, Path::One)?;
-    told(alloc, &mut path, &flow, line)
+}
+
+/// What the block at the line does to the path of the flow.
+fn run(alloc: Global, flow: &Flow, settings: &Settings, line: u32) -> Result<String, NoMemory> {
+    match PathState::new(alloc, flow, settings, Path::One) {
+        Ok(mut path) => told_at(alloc, &mut path, flow, line),
+        Err(fail) => Err(fail),
+    }
+}
+
+/// The line of a block behind those before it, the first of which stands at line 3.
+fn line_behind(before: &str) -> u32 {
+    if before.is_empty() {
+        return 3;
+    }
+    let mut line = 4u32;
+    for byte in before.bytes() {
+        if byte == b'~' {
+            line = line.saturating_add(1);
+        }
+    }
+    line
+}
+
+/// The tape of a block, those before it and those behind it.
+fn tape_text(alloc: Global, before: &str, block: &str, behind: &str) -> Result<String, AllocError> {
+    let end = if before.is_empty() { "" } else { "~" };
+    let behind = if behind.is_empty() { "M30" } else { behind };
+    let mut text = String::new(alloc);
+    write!(&mut text, "%~O1~{before}{end}{block}~{behind}~%~")?;
+    Ok(text)
+}
+
+/// What the block at the line of the tape does.
+fn outcome(alloc: Global, settings: &Settings, text: &str, line: u32) -> Result<String, Fail> {
+    let flow = flow_of(alloc, text, settings)?;
+    Ok(run(alloc, &flow, settings, line)?)
+}
+
+/// Whether the block of a row does what the row says.
+fn row_holds(rt: &impl Abort, alloc: Global, settings: &Settings, row: &str) -> Result<(), Fail> {
+    let (before, rest) = row.split_once('|').unwrap_or((row, ""));
+    let (block, rest) = rest.split_once('|').unwrap_or((rest, ""));
+    let (behind, wanted) = rest.split_once('|').unwrap_or((rest, ""));
+    let text = tape_text(alloc, before, block, behind)?;
+    let got = outcome(alloc, settings, text.as_str(), line_behind(before))?;
+    assert_eq!(rt; got.as_str(), wanted, "{row}");
+    Ok(())
 }
 
 #[test]
 fn a_block_and_what_it_does(rt: HostRuntime) -> Result<(), Fail> {
     let alloc = rt.alloc();
+    let settings = settings_of(alloc, CELL)?;
     for row in ROWS.lines() {
-        let (before, rest) = row.split_once('|').ok_or("blocks before")?;
-        let (block, rest) = rest.split_once('|').ok_or("a block")?;
-        let (behind, wanted) = rest.split_once('|').ok_or("blocks behind")?;
-        let got = outcome(alloc, before, block, behind)?;
-        assert_eq!(&rt; got.as_str(), wanted, "{row}");
+        row_holds(&rt, alloc, &settings, row)?;
     }
     Ok(())
 }

@@ -5,7 +5,7 @@ ghost use Rattle.std.specs.Prelude.{◌≤◌};
 use crate::move_text::{put_move, put_point, put_value};
 use cell_settings::{Settings, read_settings};
 use modal_state::Modal;
-use nc_number::{Failing, Path, Point, Value, Var};
+use nc_number::{Failing, Point, Value, Var};
 use nc_outside::MoveList;
 use nc_text::{Reader, Tape, TextFault};
 use offset_store::Offsets;
@@ -14,11 +14,18 @@ use std::alloc::{AllocError, Global};
 use std::test::Fail;
 use tape_flow::{Flow, compile};
 
+/// A byte of a tape: the end of a line for a `~`.
+fn byte_of(byte: u8) -> u8 {
+    if byte == b'~' { b'\n' } else { byte }
+}
+
 /// A text with each `~` as the end of a line.
 fn lines_of(alloc: Global, text: &str) -> Result<Vec<u8>, AllocError> {
-    text.bytes()
-        .map(|byte| if byte == b'~' { b'\n' } else { byte })
-        .collect(alloc)
+    let mut bytes = Vec::new(alloc);
+    for byte in text.bytes() {
+        bytes.push(byte_of(byte))?;
+    }
+    Ok(bytes)
 }
 
 /// The settings of a text in which `~` stands for the end of a line.
@@ -51,15 +58,30 @@ pub(crate) fn flow_of(alloc: Global, text: &str, settings: &Settings) -> Result<
     }
 }
 
+/// So many units as a variable holds them.
+pub(crate) fn units(number: i64) -> Var {
+    match Value::of_units(number) {
+        Some(value) => Var::Is(value),
+        None => Var::Vacant,
+    }
+}
+
 /// What each reading of a shared variable gives: #500 is 10, #501 is 11 and on; from #550 on they are vacant.
 fn shared_value(v: u32) -> Var {
     if v >= 550 {
         return Var::Vacant;
     }
-    match Value::of_units(i64::from(v) - 490) {
-        Some(value) => Var::Is(value),
-        None => Var::Vacant,
-    }
+    units(i64::from(v) - 490)
+}
+
+/// What comes behind an answer.
+enum Then {
+    /// The block goes on, once this shared variable is read.
+    Reads(u32),
+    /// The path goes on with its next block.
+    GoesOn,
+    /// The path has stopped.
+    Stops,
 }
 
 /// What the path answers to the turn of its block. It passes a wait at once.
@@ -74,53 +96,83 @@ fn answer(path: &mut PathState, flow: &Flow, reads: &[Var]) -> Advance {
     }
 }
 
-/// The turn of the path's block with all its readings, each part on a line of its own, the moves behind `head`. Whether
-/// the path goes on.
+/// What comes behind the answer.
+fn then_of(said: &Advance) -> Then {
+    match said {
+        Advance::Need(v) => Then::Reads(*v),
+        Advance::Effect { .. } => Then::GoesOn,
+        Advance::AtWait(_) => Then::GoesOn,
+        Advance::AtEnd { .. } => Then::Stops,
+        Advance::Alarm { .. } => Then::Stops,
+    }
+}
+
+/// The moves of a block, and what it wrote to a shared variable.
+fn put_effect(
+    out: &mut String,
+    head: &str,
+    moves: &MoveList,
+    write: &Option<(u32, Var)>,
+) -> Result<(), AllocError> {
+    put_moves(out, head, moves)?;
+    match write {
+        Some((v, value)) => put_variable(out, "writes #", *v, value),
+        None => Ok(()),
+    }
+}
+
+fn put_end(out: &mut String, head: &str, moves: &MoveList) -> Result<(), AllocError> {
+    put_moves(out, head, moves)?;
+    out.push_str("end\n")
+}
+
+/// What a turn was.
+fn put_answer(out: &mut String, head: &str, said: &Advance) -> Result<(), AllocError> {
+    match said {
+        Advance::Need(v) => writeln!(out, "reads #{v}"),
+        Advance::Effect { write, moves } => put_effect(out, head, &moves.list, write),
+        Advance::AtWait(code) => writeln!(out, "wait {code}"),
+        Advance::AtEnd { moves } => put_end(out, head, &moves.list),
+        Advance::Alarm { cause, value } => put_alarm(out, *cause, *value),
+    }
+}
+
+/// What a turn was, and what comes behind it.
+fn put_said(out: &mut String, head: &str, said: &Advance) -> Result<Then, AllocError> {
+    put_answer(out, head, said)?;
+    Ok(then_of(said))
+}
+
+/// The turn of the path's block with the readings that it has so far.
+fn put_part(
+    out: &mut String,
+    head: &str,
+    path: &mut PathState,
+    flow: &Flow,
+    reads: &[Var],
+) -> Result<Then, AllocError> {
+    put_said(out, head, &answer(path, flow, reads))
+}
+
+/// The turn of the path's block with all its readings, of which there are 32 at most, each part on a line of its own, the moves
+/// behind `head`. Whether the path goes on.
 pub(crate) fn put_turn(
     out: &mut String,
     head: &str,
     alloc: Global,
     path: &mut PathState,
     flow: &Flow,
-) -> Result<bool, Fail> {
+) -> Result<bool, AllocError> {
     let mut reads = Vec::new(alloc);
     for _ in 0..33u8 {
-        match answer(path, flow, reads.as_slice()) {
-            Advance::Need(v) => {
-                writeln!(out, "reads #{v}")?;
-                reads.push(shared_value(v))?;
-            }
-            said => return Ok(put_answer(out, head, &said)?),
+        match put_part(out, head, path, flow, reads.as_slice())? {
+            Then::Reads(v) => reads.push(shared_value(v))?,
+            Then::GoesOn => return Ok(true),
+            Then::Stops => return Ok(false),
         }
     }
-    Err(Fail::new("a block reads 32 times at most"))
-}
-
-/// What a turn was. Whether the path goes on.
-fn put_answer(out: &mut String, head: &str, said: &Advance) -> Result<bool, AllocError> {
-    match said {
-        Advance::Need(_) => Ok(false),
-        Advance::Effect { write, moves } => {
-            put_moves(out, head, &moves.list)?;
-            if let Some((v, value)) = write {
-                put_variable(out, "writes #", *v, value)?;
-            }
-            Ok(true)
-        }
-        Advance::AtWait(code) => {
-            writeln!(out, "wait {code}")?;
-            Ok(true)
-        }
-        Advance::AtEnd { moves } => {
-            put_moves(out, head, &moves.list)?;
-            out.push_str("end\n")?;
-            Ok(false)
-        }
-        Advance::Alarm { cause, value } => {
-            put_alarm(out, *cause, *value)?;
-            Ok(false)
-        }
-    }
+    out.push_str("more than 32 readings\n")?;
+    Ok(false)
 }
 
 fn put_moves(out: &mut String, head: &str, moves: &MoveList) -> Result<(), AllocError> {
@@ -142,7 +194,7 @@ fn put_alarm(out: &mut String, cause: u8, value: Value) -> Result<(), AllocError
     out.push('\n')
 }
 
-fn put_var(out: &mut String, value: &Var) -> Result<(), AllocError> {
+pub(crate) fn put_var(out: &mut String, value: &Var) -> Result<(), AllocError> {
     match value {
         Var::Vacant => out.push_str("vacant"),
         Var::Is(value) => put_value(out, *value),
@@ -165,10 +217,7 @@ fn put_named_point(out: &mut String, head: &str, n: u8, at: Point) -> Result<(),
 /// are looked at, and of its own common variables #100 to #102 and #600 to #602.
 pub(crate) fn state_of(alloc: Global, path: &PathState) -> Result<String, AllocError> {
     let mut out = String::new(alloc);
-    out.push_str("at")?;
-    put_point(&mut out, path.position())?;
-    out.push('\n')?;
-    put_calls(&mut out, path)?;
+    put_place(&mut out, path)?;
     put_modal(&mut out, path.modal())?;
     put_offsets(&mut out, path.offsets())?;
     put_locals(&mut out, path)?;
@@ -176,28 +225,38 @@ pub(crate) fn state_of(alloc: Global, path: &PathState) -> Result<String, AllocE
     Ok(out)
 }
 
-fn put_calls(out: &mut String, path: &PathState) -> Result<(), AllocError> {
+fn put_place(out: &mut String, path: &PathState) -> Result<(), AllocError> {
+    out.push_str("at")?;
+    put_point(out, path.position())?;
     let running = path.place().running();
     let (depth, program, left) = (path.depth(), running.program, running.left);
-    writeln!(out, "depth {depth}\nin O{program}\nleft {left}")
+    writeln!(out, "\ndepth {depth}\nin O{program}\nleft {left}")
 }
 
-fn put_modal(out: &mut String, modal: &Modal) -> Result<(), AllocError> {
-    for group in [1, 2, 5, 6, 7, 14] {
-        match modal.code(group) {
+/// The groups of codes that a modal state keeps.
+const GROUPS: &[u8] = &[1, 2, 5, 6, 7, 14];
+
+fn put_groups(out: &mut String, modal: &Modal) -> Result<(), AllocError> {
+    for group in GROUPS {
+        match modal.code(*group) {
             Some(code) => writeln!(out, "G{code:02}")?,
             None => out.push_str("none\n")?,
         }
     }
-    for (name, value) in [
-        ("F ", modal.feed()),
-        ("S ", modal.speed()),
-        ("limit ", modal.limit()),
-    ] {
-        out.push_str(name)?;
-        put_var(out, &value)?;
-        out.push('\n')?;
-    }
+    Ok(())
+}
+
+fn put_named(out: &mut String, name: &str, value: &Var) -> Result<(), AllocError> {
+    out.push_str(name)?;
+    put_var(out, value)?;
+    out.push('\n')
+}
+
+fn put_modal(out: &mut String, modal: &Modal) -> Result<(), AllocError> {
+    put_groups(out, modal)?;
+    put_named(out, "F ", &modal.feed())?;
+    put_named(out, "S ", &modal.speed())?;
+    put_named(out, "limit ", &modal.limit())?;
     let (tool, offset) = (modal.tool(), modal.offset());
     writeln!(out, "T{tool:04}\noffset {offset}")?;
     put_cycle(out, modal.cycle())
@@ -248,28 +307,27 @@ fn put_own(out: &mut String, path: &PathState) -> Result<(), AllocError> {
     Ok(())
 }
 
-/// The path at the start of the flow, by the settings.
-pub(crate) fn opened(
-    alloc: Global,
-    flow: &Flow,
-    settings: &Settings,
-    path: Path,
-) -> Result<PathState, Fail> {
-    Ok(PathState::new(alloc, flow, settings, path)?)
-}
-
 /// The lines of a state that are not those of the state before it.
-pub(crate) fn put_differences(
-    out: &mut String,
-    before: &str,
-    after: &str,
-) -> Result<(), AllocError> {
-    for (old, new) in before.lines().zip(after.lines()) {
+fn put_differences(out: &mut String, before: &str, after: &str) -> Result<(), AllocError> {
+    let mut lines = after.lines();
+    for old in before.lines() {
+        let new = lines.next().unwrap_or("");
         if old != new {
             writeln!(out, "{new}")?;
         }
     }
     Ok(())
+}
+
+/// The lines of the path's state that are not those of the state before.
+pub(crate) fn put_changes(
+    out: &mut String,
+    alloc: Global,
+    before: &str,
+    path: &PathState,
+) -> Result<(), AllocError> {
+    let after = state_of(alloc, path)?;
+    put_differences(out, before, after.as_str())
 }
 
 /// A text of lines with `~` between them.

@@ -50,24 +50,42 @@ fn put_centre(out: &mut String, centre: Centre) -> Result<(), AllocError> {
     }
 }
 
+fn put_cut(
+    out: &mut String,
+    name: &str,
+    to: Point,
+    feed: Value,
+    per_rev: bool,
+) -> Result<(), AllocError> {
+    out.push_str(name)?;
+    put_point(out, to)?;
+    put_feed(out, feed, per_rev)
+}
+
+fn put_thread(out: &mut String, to: Point, lead: Value) -> Result<(), AllocError> {
+    out.push_str("thread")?;
+    put_point(out, to)?;
+    out.push_str(" F")?;
+    put_value(out, lead)
+}
+
+fn put_arc(out: &mut String, name: &str, to: Point, centre: Centre) -> Result<(), AllocError> {
+    out.push_str(name)?;
+    put_point(out, to)?;
+    put_centre(out, centre)
+}
+
+fn put_rapid(out: &mut String, to: Point) -> Result<(), AllocError> {
+    out.push_str("rapid")?;
+    put_point(out, to)
+}
+
 /// A move that leads somewhere, or a setting of the machine.
 pub(crate) fn put_move(out: &mut String, what: &Move) -> Result<(), AllocError> {
     match *what {
-        Move::Rapid { to } => {
-            out.push_str("rapid")?;
-            put_point(out, to)
-        }
-        Move::Feed { to, feed, per_rev } => {
-            out.push_str("feed")?;
-            put_point(out, to)?;
-            put_feed(out, feed, per_rev)
-        }
-        Move::Thread { to, lead } => {
-            out.push_str("thread")?;
-            put_point(out, to)?;
-            out.push_str(" F")?;
-            put_value(out, lead)
-        }
+        Move::Rapid { to } => put_rapid(out, to),
+        Move::Feed { to, feed, per_rev } => put_cut(out, "feed", to, feed, per_rev),
+        Move::Thread { to, lead } => put_thread(out, to, lead),
         Move::Arc {
             clockwise,
             to,
@@ -75,9 +93,7 @@ pub(crate) fn put_move(out: &mut String, what: &Move) -> Result<(), AllocError> 
             feed,
             per_rev,
         } => {
-            out.push_str(if clockwise { "cw" } else { "ccw" })?;
-            put_point(out, to)?;
-            put_centre(out, centre)?;
+            put_arc(out, if clockwise { "cw" } else { "ccw" }, to, centre)?;
             put_feed(out, feed, per_rev)
         }
         Move::Dwell { ms } => write!(out, "dwell {ms}"),

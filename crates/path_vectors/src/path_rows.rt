@@ -1,10 +1,10 @@
 //! Whole tapes, run by one path alone.
-use crate::lone_path::{
-    flow_of, on_one_line, opened, put_differences, put_turn, settings_of, state_of,
-};
-use nc_number::Path;
+use crate::lone_path::{flow_of, on_one_line, put_changes, put_turn, settings_of, state_of};
+use cell_settings::Settings;
+use nc_number::{NoMemory, Path};
 use path_state::PathState;
-use std::alloc::Global;
+use std::alloc::{AllocError, Global};
+use std::process::Abort;
 use std::test::Fail;
 use tape_flow::Flow;
 
@@ -44,41 +44,90 @@ const PAIR: &str = "\
 %~O0001 (UPPER TURRET)~N10 G21 G40 G97 G99~N20 G28 U0 W0~N30 G50 S2500~N40 T0101~N50 G97 S800 M03~N60 G00 X52. Z2. M08~N70 M101~N80 G90 X48. Z-30. F0.25~N90 X46.~N100 G00 X100. Z50. M09~N110 T0100~N120 M102~N130 M30~%~|4 rapid X200.000 Z150.000~4 rapid X300.000 Z200.000~5 limit S2500~6 tool T0101~7 speed G97 S800~7 aux M03~8 rapid X32.000 Z92.000~8 aux M08~wait 101~10 rapid X28.000 Z92.000~10 feed X28.000 Z60.000 F0.25 rev~10 feed X32.000 Z60.000 F0.25 rev~10 rapid X32.000 Z92.000~11 rapid X26.000 Z92.000~11 feed X26.000 Z60.000 F0.25 rev~11 feed X32.000 Z60.000 F0.25 rev~11 rapid X32.000 Z92.000~12 rapid X80.000 Z140.000~12 aux M09~13 tool T0100~wait 102~end~at X80.000 Z140.000~F 0.25~S 800~limit 2500~T0100~line 15 after 13 turns
 %~O0002 (LOWER TURRET)~N10 G21 G40 G99~N20 G28 U0 W0~N30 T0202~N40 M101~N50 G97 S600 M03~N60 G00 X54. Z-10.~N70 G01 X40. F0.1~N80 G03 X46. Z-13. R3.~N90 G04 P500~N100 G00 X60.~N110 T0200~N120 M102~N130 M30~%~|4 rapid X200.000 Z150.000~4 rapid X300.000 Z200.000~5 tool T0202~wait 101~7 speed G97 S600~7 aux M03~8 rapid X44.000 Z95.000~9 feed X30.000 Z95.000 F0.1 rev~10 ccw X36.000 Z92.000 R3.000 F0.1 rev~11 dwell 500~12 rapid X50.000 Z92.000~13 tool T0200~wait 102~end~at X50.000 Z92.000~F 0.1~S 600~T0200~line 15 after 13 turns";
 
-/// Lets the path run until it ends or raises an alarm, and tells what it did.
-fn told(alloc: Global, path: &mut PathState, flow: &Flow) -> Result<String, Fail> {
-    let mut out = String::new(alloc);
-    let before = state_of(alloc, path)?;
-    let mut turns = 0;
+/// The turn of the path's block, its moves behind the line of the block. Whether the path goes on.
+fn put_block(
+    out: &mut String,
+    alloc: Global,
+    path: &mut PathState,
+    flow: &Flow,
+) -> Result<bool, AllocError> {
+    let line = path.line(flow);
+    let mut head = String::new(alloc);
+    write!(&mut head, "{line} ")?;
+    put_turn(out, head.as_str(), alloc, path, flow)
+}
+
+/// Lets the path run until it ends or raises an alarm. How many turns it takes.
+fn put_run(
+    out: &mut String,
+    alloc: Global,
+    path: &mut PathState,
+    flow: &Flow,
+) -> Result<u8, AllocError> {
     for turn in 1..101u8 {
-        let line = path.line(flow);
-        let head = format!(in alloc; "{line} ")?;
-        turns = turn;
-        if !put_turn(&mut out, head.as_str(), alloc, path, flow)? {
-            break;
+        if !put_block(out, alloc, path, flow)? {
+            return Ok(turn);
         }
     }
-    let after = state_of(alloc, path)?;
-    put_differences(&mut out, before.as_str(), after.as_str())?;
+    Ok(100)
+}
+
+/// What the path does until it ends or raises an alarm, from the state before.
+fn put_told(
+    out: &mut String,
+    alloc: Global,
+    path: &mut PathState,
+    flow: &Flow,
+    before: &str,
+) -> Result<(), AllocError> {
+    let turns = put_run(out, alloc, path, flow)?;
+    put_changes(out, alloc, before, path)?;
     let line = path.line(flow);
-    writeln!(&mut out, "line {line} after {turns} turns")?;
+    writeln!(out, "line {line} after {turns} turns")
+}
+
+/// What the path does until it ends or raises an alarm.
+fn told(alloc: Global, path: &mut PathState, flow: &Flow) -> Result<String, NoMemory> {
+    let mut out = String::new(alloc);
+    let before = state_of(alloc, path)?;
+    put_told(&mut out, alloc, path, flow, before.as_str())?;
     Ok(on_one_line(alloc, out.as_str())?)
 }
 
+/// What the path does by the flow, from its start.
+fn run(alloc: Global, flow: &Flow, settings: &Settings, path: Path) -> Result<String, NoMemory> {
+    match PathState::new(alloc, flow, settings, path) {
+        Ok(mut state) => told(alloc, &mut state, flow),
+        Err(fail) => Err(fail),
+    }
+}
+
 /// What the path does by the tape.
-fn outcome(alloc: Global, settings: &str, text: &str, path: Path) -> Result<String, Fail> {
-    let settings = settings_of(alloc, settings)?;
-    let flow = flow_of(alloc, text, &settings)?;
-    let mut path = opened(alloc, &flow, &settings, path)?;
-    told(alloc, &mut path, &flow)
+fn outcome(alloc: Global, settings: &Settings, text: &str, path: Path) -> Result<String, Fail> {
+    let flow = flow_of(alloc, text, settings)?;
+    Ok(run(alloc, &flow, settings, path)?)
+}
+
+/// Whether the path does by the tape of a row what the row says.
+fn row_holds(
+    rt: &impl Abort,
+    alloc: Global,
+    settings: &Settings,
+    row: &str,
+    path: Path,
+) -> Result<(), Fail> {
+    let (text, wanted) = row.split_once('|').unwrap_or((row, ""));
+    let got = outcome(alloc, settings, text, path)?;
+    assert_eq!(rt; got.as_str(), wanted, "{text}");
+    Ok(())
 }
 
 #[test]
 fn a_tape_and_what_its_path_does(rt: HostRuntime) -> Result<(), Fail> {
     let alloc = rt.alloc();
+    let settings = settings_of(alloc, "tool 1 1 X-1. Z0~")?;
     for row in ROWS.lines() {
-        let (text, wanted) = row.split_once('|').ok_or("a tape and what it does")?;
-        let got = outcome(alloc, "tool 1 1 X-1. Z0~", text, Path::One)?;
-        assert_eq!(&rt; got.as_str(), wanted, "{text}");
+        row_holds(&rt, alloc, &settings, row, Path::One)?;
     }
     Ok(())
 }
@@ -86,10 +135,8 @@ fn a_tape_and_what_its_path_does(rt: HostRuntime) -> Result<(), Fail> {
 #[test]
 fn the_paths_of_a_pair_as_a_shop_has_it(rt: HostRuntime) -> Result<(), Fail> {
     let alloc = rt.alloc();
-    for (row, path) in PAIR.lines().zip(&[Path::One, Path::Two]) {
-        let (text, wanted) = row.split_once('|').ok_or("a tape and what it does")?;
-        let got = outcome(alloc, CELL, text, *path)?;
-        assert_eq!(&rt; got.as_str(), wanted, "{text}");
-    }
-    Ok(())
+    let settings = settings_of(alloc, CELL)?;
+    let mut rows = PAIR.lines();
+    row_holds(&rt, alloc, &settings, rows.next().unwrap_or(""), Path::One)?;
+    row_holds(&rt, alloc, &settings, rows.next().unwrap_or(""), Path::Two)
 }
