@@ -9,9 +9,10 @@ use std::process::Abort;
 use std::sync::Wait;
 use std::sync::atomic::AtomicU64;
 use std::sync::atomic::Ordering::SeqCst;
+use std::thread;
 use std::thread::Threads;
 
-/// How often a turret looks for the move of the other one before it fails.
+/// How often a turret looks for the move of the other one before it fails. In between it lets other threads run.
 const LOOKS: u32 = 10_000_000;
 
 /// Two tapes of one rapid each, and settings that say nothing.
@@ -48,6 +49,7 @@ impl<'a> Turret for GateTurret<'a> {
             if self.other.load(SeqCst) > 0 {
                 return Ok(());
             }
+            thread::yield_now();
         }
         self.faults = self.faults.saturating_add(1);
         Err(Failed)
