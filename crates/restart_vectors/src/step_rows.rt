@@ -145,10 +145,10 @@ fn put_told(
     words: &str,
 ) -> Result<(), Fail> {
     let mut table = table;
-    match put_answers(out, &mut table, budget, words) {
-        Ok(()) => Ok(put_bytes(out, &disk_left(table), header)?),
-        Err(fail) => Err(fail),
-    }
+    let answered = put_answers(out, &mut table, budget, words);
+    let disk = disk_left(table);
+    answered?;
+    Ok(put_bytes(out, &disk, header)?)
 }
 
 /// What the steps of a table answer, and what they leave on the disk.
