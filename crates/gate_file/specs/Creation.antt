@@ -21,6 +21,8 @@ RefusesBeginning (Cut at) old new = ⊥
 pub record Begins {A : Type 0} (body : List ℕ) (old new : DiskState) (result : Result A GateFault) : Type 0 where
   pub kept : OnOk result ((bytes : List ℕ) → Reads old bytes → Keeps (body ∷ []) new (5 + length body))
   pub vacant : OnOk result ((bytes : List ℕ) → Reads old bytes → IsRunThere bytes → ⊥)
+  -- a run that is there stays as it is, whatever the answer
+  pub spares : (bytes : List ℕ) → Reads old bytes → IsRunThere bytes → Unwritten old new
   pub refused : IfErr result (λ fault. RefusesBeginning fault old new)
   pub later : old.faults ≤ new.faults
   -- a crash at any moment of the call leaves an image from before it, or no run, or the one body

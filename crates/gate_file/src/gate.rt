@@ -43,8 +43,8 @@ impl<D: Disk> Model for GateFile<D> {
 
 impl<D: Disk> GateFile<D> {
     /// Begins a file on the disk, with this first body. It begins with a sync, and writes over no run: where the first gate is open
-    /// and the file has more than one byte, the answer is `RunThere`. An error gives the disk back, and unless it is `DiskFault`
-    /// nothing was written.
+    /// and the file has more than one byte nothing is written, and the answer is `RunThere`, or `DiskFault` where the disk failed
+    /// before that was seen. An error gives the disk back, and unless it is `DiskFault` nothing was written.
     pub fn create(alloc: Global, disk: D, body: &[u8]) -> Result<GateFile<D>, (D, GateFault)>
         requires { length body.now < 2 ^ 32 }
         ensures begun { Begins body.now (D.state disk) (D.state (disk_of result)) (without_disk result) }

@@ -98,6 +98,7 @@ refused_beginning header pair fault a c accepted begins = record {
   begins = record {
     held = tt;
     vacant = tt;
+    spares = begins.spares;
     refused = begins.refused;
     later = begins.later;
     any_moment = begins.any_moment;

@@ -25,6 +25,7 @@ module _ {A B : Type 0} (header : Header) (short : IsShort header) (body : List 
       record {
         held = λ bytes reads. ([], no_record header short, same.kept bytes reads);
         vacant = same.vacant;
+        spares = same.spares;
         refused = tt;
         later = same.later;
         any_moment = λ bytes reads. widened (IsBeginning old.image (header_bytes header)) (IsRunBeginning old.image header) old new (same.any_moment bytes reads) (begins old.image header short);
@@ -37,6 +38,7 @@ module _ {A B : Type 0} (header : Header) (short : IsShort header) (body : List 
       record {
         held = tt;
         vacant = tt;
+        spares = same.spares;
         refused = same.refused;
         later = same.later;
         any_moment = λ bytes reads. widened (IsBeginning old.image (header_bytes header)) (IsRunBeginning old.image header) old new (same.any_moment bytes reads) (begins old.image header short);

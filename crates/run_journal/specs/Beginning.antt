@@ -1,7 +1,7 @@
 -- How a journal is begun.
 use Rattle.std.specs.Prelude.{◌⊎◌, ℕ, ◌+◌, ◌≤◌, List, [], length, Result, Ok, Err, OnOk, IfErr}
 use Rattle.disk_model.specs.Device.{DiskState, Reads}
-use Rattle.disk_model.specs.Moments.{LeavesOnly, Uses}
+use Rattle.disk_model.specs.Moments.{LeavesOnly, Unwritten, Uses}
 use Rattle.gate_file.specs.declared.fault.GateFault.{GateFault}
 use Rattle.gate_file.specs.Chain.{IsNoRun, IsRunThere}
 use Rattle.gate_file.specs.Creation.{RefusesBeginning}
@@ -19,6 +19,8 @@ pub record BeginsRun {A : Type 0} (header : Header) (old new : DiskState) (resul
   pub held : OnOk result ((bytes : List ℕ) → Reads old bytes
       → Holds header [] new (5 + length (header_bytes header)))
   pub vacant : OnOk result ((bytes : List ℕ) → Reads old bytes → IsRunThere bytes → ⊥)
+  -- a run that is there stays as it is, whatever the answer
+  pub spares : (bytes : List ℕ) → Reads old bytes → IsRunThere bytes → Unwritten old new
   pub refused : IfErr result (λ fault. RefusesBeginning fault old new)
   pub later : old.faults ≤ new.faults
   -- a crash at any moment of the call leaves an image from before it, or no run, or the header without a record

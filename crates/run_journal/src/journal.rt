@@ -41,8 +41,9 @@ impl<D: Disk> Model for Journal<D> {
 
 impl<D: Disk> Journal<D> {
     /// Begins a journal on the disk, with this header and no record. It begins with a sync, and writes over no run: where the first
-    /// gate is open and the file has more than one byte, the answer is `RunThere`. `NoRun` and `Cut` never come. An error gives the
-    /// disk back, and unless it is `DiskFault` nothing was written.
+    /// gate is open and the file has more than one byte nothing is written, and the answer is `RunThere`, or `DiskFault` where the
+    /// disk failed before that was seen. `NoRun` and `Cut` never come. An error gives the disk back, and unless it is `DiskFault`
+    /// nothing was written.
     pub fn begin(alloc: Global, disk: D, header: &Header) -> Result<Journal<D>, (D, GateFault)>
         requires { IsShort header.now }
         ensures begun { BeginsRun header.now (D.state disk) (D.state (disk_begun result)) (without_disk result) }

@@ -87,8 +87,8 @@ impl<D: Disk> Model for Table<D> {
 
 impl<D: Disk> Table<D> {
     /// Begins a run of the pair on the disk, by a new journal with this header, whose three texts
-    /// were accepted. `RunThere` comes exactly where the disk has a run already. An error gives the
-    /// disk back, and unless it is `DiskFault` nothing was written.
+    /// were accepted. `RunThere` comes exactly where the disk has a run already, which stays as it is, also
+    /// where the disk fails. An error gives the disk back, and unless it is `DiskFault` nothing was written.
     pub fn begin(
         alloc: Global,
         verified: Verified,

@@ -15,6 +15,7 @@ returns-in_err-shut_first g c =
     rw (p.1, p.2) (λ body short is. record {
       kept = search rules;
       vacant = search rules;
+      spares = λ bytes reads there. absurd (not_there c.in_ok-first.first bytes (c.in_ok-first.ensures.first bytes reads) there);
       refused = let rose = c.in_err-shut_first.ensures.cause.failed (search rules) in omega (arith, rose, peeks.later);
       later = omega (arith, peeks.later, shut.cause.later);
       any_moment = λ bytes reads.
@@ -36,6 +37,7 @@ returns-in_err-add_staged g c =
     rw (p.1, p.2) (λ body short is. record {
       kept = search rules;
       vacant = search rules;
+      spares = λ bytes reads there. absurd (not_there c.in_ok-first.first bytes (c.in_ok-first.ensures.first bytes reads) there);
       refused = let rose = c.in_err-add_staged.ensures.cause.failed (search rules) in omega (arith, rose, peeks.later, shut.cause.later);
       later = omega (arith, peeks.later, shut.cause.later, added.cause.later);
       any_moment = λ bytes reads.
@@ -63,6 +65,7 @@ returns g c = λ body short is.
           let keeps = c.in_ok-shut_first.ensures.shut bytes here (c.in_ok-first.ensures.settled bytes here) (c.in_ok-first.ensures.first bytes reads) in
           c.in_ok-add_staged.ensures.acknowledged [] body short is keeps;
       vacant = λ bytes reads there. not_there c.in_ok-first.first bytes (c.in_ok-first.ensures.first bytes reads) there;
+      spares = λ bytes reads there. absurd (not_there c.in_ok-first.first bytes (c.in_ok-first.ensures.first bytes reads) there);
       refused = search rules;
       later = omega (arith, peeks.later, shut.cause.later, added.cause.later);
       any_moment = λ bytes reads.
