@@ -1,21 +1,24 @@
--- What a stop at any moment of a call leaves stands for a beginning of one history.
-use Rattle.std.proofs.Common.{◌≡◌, ◌⊎◌, inl, inr, ⊎_elim, ℕ, ◌≤◌, List, [], length, take, drop, Some, sym, ap, subst, arith, ◌∙◌, length-take, take-append-drop}
+-- What a stop at any moment of a call leaves: no journal that is bad; and where a run was, a history of it that goes on.
+use Rattle.std.proofs.Common.{◌≡◌, ◌⊎◌, inl, inr, ⊎_elim, ℕ, ◌≤◌, ◌<◌, List, [], ◌∷◌, length, take, drop, Option, Some, None, sym, ap, subst, arith, ◌∙◌, length-take, take-append-drop}
 use Rattle.std.proofs.Math.Seq.{take-length}
 use Rattle.std.proofs.lemmas.List.{take-append-le}
-use Rattle.disk_model.specs.Device.{DiskState, Reads, IsSettled}
-use Rattle.gate_file.specs.Chain.{IsNoRun}
+use Rattle.command_words.specs.declared.command.Command.{Command}
 use Rattle.command_words.specs.declared.command.Command.TheVariants as command
+use Rattle.disk_model.specs.Device.{DiskState, Reads, IsCoherent, Only}
+use Rattle.disk_model.specs.Moments.{Unwritten}
+use Rattle.gate_file.specs.Chain.{IsNoRun, IsRunThere}
 use Rattle.run_records.specs.declared.entry.Entry.{Entry}
 use Rattle.run_records.specs.declared.header.Header.{Header}
 use Rattle.run_journal.specs.Beginning.{IsRunBeginning}
-use Rattle.run_journal.specs.Meaning.{a_run}
+use Rattle.run_journal.specs.Meaning.{no_run, a_run}
 use Rattle.run_journal.specs.Stands.{Stands}
 use Rattle.run_table.specs.Recording.{StandsForPrefix}
+use Rattle.nc_restart.specs.Lives.{AreOneHistory}
 use Rattle.nc_restart.specs.Meaning.{HasHistory, StandsForRun}
 use Rattle.lathe_top.specs.Session.{Session, IsSession}
 use Rattle.lathe_top.specs.Lathe.{LatheState}
-use Rattle.lathe_top.specs.Kept.{anew, again, HasSession, Leaves, IsOfOpening, IsRefusedBeginning, OnlyBegins, OnlyLooks}
-use Rattle.lathe_top.specs.Stops.{GoesOnAs, IsSomeRun}
+use Rattle.lathe_top.specs.Kept.{Opening, anew, again, made_limit, HasSession, Leaves, IsOfOpening, IsRefusedBeginning, OnlyBegins, OnlyLooks, RestsWhole}
+use Rattle.lathe_top.specs.Stops.{GoesOnAs, IsNoneOrRun, CallOver, lathe_before, lathe_behind, StoppedCall, AreStopped, images_of, BecomeOneHistory}
 use Rattle.lathe_top.proofs.DueOnce.{OneRun, header_in, entries_in}
 
 -- a beginning of a history is a history
@@ -27,7 +30,36 @@ take_within : {A : Type 0} (m n : ℕ) (xs : List A) → m ≤ n → n ≤ lengt
 take_within m n xs le within =
     sym (take-append-le m (take n xs) (drop n xs) (omega (arith, le, within, length-take n xs))) ∙ ap (take m) (take-append-drop n xs)
 
-module _ (one_run : OneRun) (never_bad : NeverBad) where
+-- the first ones of records that begin with others which begin with these
+front_kept : (base found history : List Entry) → take (length base) found ≡ base → take (length found) history ≡ found
+    → take (length base) history ≡ base
+front_kept base found history first begins =
+    let short : length base ≤ length found = omega (arith, ap length first, length-take (length base) found) in
+    let within : length found ≤ length history = omega (arith, ap length begins, length-take (length found) history) in
+    sym (take_within (length base) (length found) history short within) ∙ ap (take (length base)) begins ∙ first
+
+-- more than a shut gate and than one byte
+run_there : (bytes : List ℕ) → (IsNoRun bytes → ⊥) → IsRunThere bytes
+run_there [] some = absurd (some (inl (omega arith)))
+run_there (gate ∷ []) some = absurd (some (inl (omega arith)))
+run_there (gate ∷ b ∷ rest) some = (omega arith, λ shut. some (inr shut))
+
+-- What holds of each image of a disk holds of each that a call leaves which wrote nothing.
+module _ (P : List ℕ → Type 0) where
+  of_unwritten : (old new : DiskState) → ((c : List ℕ) → old.image c → P c) → Unwritten old new → (c : List ℕ) → new.image_since old.clock c → P c
+  of_unwritten old new held unwritten c since = held c (unwritten.moments.each c since)
+
+  of_looks : (old new : LatheState) → ((c : List ℕ) → old.disk.image c → P c) → OnlyLooks old new → (c : List ℕ)
+      → new.disk.image_since old.disk.clock c → P c
+  of_looks old new held looks c since =
+      ⊎_elim (λ untouched. of_unwritten old.disk new.disk held untouched.unwritten c since)
+      (λ look. of_unwritten old.disk new.disk held look.recovers.unwritten c since) looks.disk
+
+  of_rest : (old new : LatheState) → ((c : List ℕ) → old.disk.image c → P c) → RestsWhole old new → (c : List ℕ)
+      → new.disk.image_since old.disk.clock c → P c
+  of_rest old new held rests c since = of_unwritten old.disk new.disk held rests.disk.unwritten c since
+
+module _ (never_bad : NeverBad) where
   -- a beginning of a session's history
   prefix_run : (s : Session) → IsSession s → (least : ℕ) (c : List ℕ) → StandsForPrefix s.header least s.history c
       → (n : ℕ) × (least ≤ n) × (n ≤ length s.history) × StandsForRun (a_run s.header (take n s.history)) c
@@ -35,82 +67,143 @@ module _ (one_run : OneRun) (never_bad : NeverBad) where
       let has : HasHistory s.header s.history = record { pair = s.pair; accepted = is.accepted; history = is.goes_on.history_is } in
       (stands.0, stands.1, stands.2, never_bad s.header s.history stands.0 c has stands.3)
 
-  -- an image from before the call
-  same_image : (bytes c : List ℕ) (header : Header) (found : List Entry) → StandsForRun (a_run header found) bytes → c ≡ bytes → GoesOnAs header found c
-  same_image bytes c header found stands same =
-      (found, subst (λ x. StandsForRun (a_run header found) x) (sym same) stands, take-length found)
+  -- no image is bad: neither those before a call nor those that it leaves
+  opening_none : (opening : Opening) (image : List ℕ → Type 0) → ((c : List ℕ) → image c → IsNoneOrRun c) → (c : List ℕ)
+      → IsOfOpening opening image c → IsNoneOrRun c
+  opening_none anew image held c (inl earlier) = held c earlier
+  opening_none anew image held c (inr nothing) = inl nothing
+  opening_none again image held c earlier = held c earlier
 
-  session_image : (limit : ℕ) (old new : LatheState) (bytes : List ℕ) (header : Header) (found : List Entry) → Reads old.disk bytes
-      → IsSettled old.disk → StandsForRun (a_run header found) bytes → HasSession again limit old new → (c : List ℕ)
-      → new.disk.image_since old.disk.clock c → GoesOnAs header found c
-  session_image limit old new bytes header found reads settled stands has c since =
-      ⊎_elim (λ earlier. same_image bytes c header found stands (settled bytes reads c earlier))
-      (λ standing. part (prefix_run has.session has.is (length has.session.found) c standing)) ((has.keeps.moments bytes reads).each c since)
-    where
-      part : (n : ℕ) × (length has.session.found ≤ n) × (n ≤ length has.session.history)
-          × StandsForRun (a_run has.session.header (take n has.session.history)) c → GoesOnAs header found c
-      part p =
-          let s = has.session in
-          let same : a_run s.header s.found ≡ a_run header found =
-          one_run bytes (a_run s.header s.found) (a_run header found) (has.opened bytes reads) stands in
-          let headers : s.header ≡ header = ap (header_in s.header) same in
-          let records : s.found ≡ found = ap (entries_in s.found) same in
-          let begins : take (length s.found) (take p.0 s.history) ≡ s.found =
-          take_within (length s.found) p.0 s.history p.1 p.2 ∙ has.is.goes_on.extends in (
-            take p.0 s.history,
-            subst (λ (h : Header). StandsForRun (a_run h (take p.0 s.history)) c) headers p.3,
-            subst (λ (l : List Entry). take (length l) (take p.0 s.history) ≡ l) records begins,
-          )
+  prefix_none : (s : Session) → IsSession s → (least : ℕ) (c : List ℕ) → StandsForPrefix s.header least s.history c → IsNoneOrRun c
+  prefix_none s is least c stands = let p = prefix_run s is least c stands in inr (s.header, take p.0 s.history, p.3)
 
-  looking_image : (old new : LatheState) (bytes : List ℕ) (header : Header) (found : List Entry) → Reads old.disk bytes → IsSettled old.disk
-      → StandsForRun (a_run header found) bytes → OnlyLooks old new → (c : List ℕ) → new.disk.image_since old.disk.clock c → GoesOnAs header found c
-  looking_image old new bytes header found reads settled stands looks c since =
-      ⊎_elim (λ untouched. same_image bytes c header found stands (settled bytes reads c (untouched.unwritten.moments.each c since)))
-      (λ look. same_image bytes c header found stands (settled bytes reads c (look.recovers.unwritten.moments.each c since))) looks.disk
+  session_none : (opening : Opening) (limit : ℕ) (old new : LatheState) (bytes : List ℕ) → Reads old.disk bytes
+      → ((c : List ℕ) → old.disk.image c → IsNoneOrRun c) → HasSession opening limit old new → (c : List ℕ)
+      → new.disk.image_since old.disk.clock c → IsNoneOrRun c
+  session_none opening limit old new bytes reads held has c since =
+      ⊎_elim (opening_none opening old.disk.image held c)
+      (prefix_none has.session has.is (length has.session.found) c) ((has.keeps.moments bytes reads).each c since)
 
-  -- a stop of a call that resumes
-  pub resumed_image : (limit : ℕ) (old new : LatheState) (bytes : List ℕ) (header : Header) (found : List Entry) → Reads old.disk bytes
-      → IsSettled old.disk → StandsForRun (a_run header found) bytes → Leaves (Some (command.Resume limit)) old new → (c : List ℕ)
-      → new.disk.image_since old.disk.clock c → GoesOnAs header found c
-  resumed_image limit old new bytes header found reads settled stands (inl looks) c since =
-      looking_image old new bytes header found reads settled stands looks c since
-  resumed_image limit old new bytes header found reads settled stands (inr has) c since =
-      session_image limit old new bytes header found reads settled stands has c since
-
-  -- an image from before the call, no run, or a run
-  abbrev pub IsNoneOr : List ℕ → Type 0
-  IsNoneOr c = IsNoRun c ⊎ IsSomeRun c
-
-  none_there : (bytes c : List ℕ) → IsNoRun bytes → c ≡ bytes → IsNoneOr c
-  none_there bytes c none same = inl (subst IsNoRun (sym same) none)
-
-  begun_there : (s : Session) → IsSession s → (least : ℕ) (c : List ℕ) → StandsForPrefix s.header least s.history c → IsNoneOr c
-  begun_there s is least c stands = let p = prefix_run s is least c stands in inr (s.header, take p.0 s.history, p.3)
-
-  opening_there : (bytes c : List ℕ) (image : List ℕ → Type 0) → IsNoRun bytes → (image c → c ≡ bytes) → IsOfOpening anew image c → IsNoneOr c
-  opening_there bytes c image none same (inl earlier) = none_there bytes c none (same earlier)
-  opening_there bytes c image none same (inr nothing) = inl nothing
-
-  refused_there : (old new : DiskState) (bytes : List ℕ) → Reads old bytes → IsSettled old → IsNoRun bytes → (refused : IsRefusedBeginning old new)
-      → (c : List ℕ) → IsRunBeginning old.image refused.header c → IsNoneOr c
-  refused_there old new bytes reads settled none refused c (inl earlier) = none_there bytes c none (settled bytes reads c earlier)
-  refused_there old new bytes reads settled none refused c (inr (inl nothing)) = inl nothing
-  refused_there old new bytes reads settled none refused c (inr (inr stands)) =
+  refused_none : (old new : DiskState) → ((c : List ℕ) → old.image c → IsNoneOrRun c) → (refused : IsRefusedBeginning old new) → (c : List ℕ)
+      → IsRunBeginning old.image refused.header c → IsNoneOrRun c
+  refused_none old new held refused c (inl earlier) = held c earlier
+  refused_none old new held refused c (inr (inl nothing)) = inl nothing
+  refused_none old new held refused c (inr (inr stands)) =
       let has : HasHistory refused.header [] =
       record { pair = refused.pair; accepted = refused.accepted; history = record { legal = tt; few = omega arith } } in
       inr (refused.header, [], never_bad refused.header [] 0 c has stands)
 
-  beginning_image : (old new : LatheState) (bytes : List ℕ) → Reads old.disk bytes → IsSettled old.disk → IsNoRun bytes → OnlyBegins old new
-      → (c : List ℕ) → new.disk.image_since old.disk.clock c → IsNoneOr c
-  beginning_image old new bytes reads settled none begins c since =
-      ⊎_elim (λ untouched. none_there bytes c none (settled bytes reads c (untouched.unwritten.moments.each c since)))
-      (λ refused. refused_there old.disk new.disk bytes reads settled none refused c ((refused.begins.any_moment bytes reads).each c since))
-      begins.disk
+  begins_none : (old new : LatheState) (bytes : List ℕ) → Reads old.disk bytes → ((c : List ℕ) → old.disk.image c → IsNoneOrRun c)
+      → OnlyBegins old new → (c : List ℕ) → new.disk.image_since old.disk.clock c → IsNoneOrRun c
+  begins_none old new bytes reads held begins c since =
+      ⊎_elim (λ untouched. of_unwritten IsNoneOrRun old.disk new.disk held untouched.unwritten c since)
+      (λ refused. refused_none old.disk new.disk held refused c ((refused.begins.any_moment bytes reads).each c since)) begins.disk
 
-  -- a stop of a call that runs a pair anew
-  pub begun_image : (limit : ℕ) (old new : LatheState) (bytes : List ℕ) → Reads old.disk bytes → IsSettled old.disk → IsNoRun bytes
-      → OnlyBegins old new ⊎ HasSession anew limit old new → (c : List ℕ) → new.disk.image_since old.disk.clock c → IsNoneOr c
-  begun_image limit old new bytes reads settled none (inl begins) c since = beginning_image old new bytes reads settled none begins c since
-  begun_image limit old new bytes reads settled none (inr has) c since =
-      ⊎_elim (opening_there bytes c old.disk.image none (λ earlier. settled bytes reads c earlier))
-      (begun_there has.session has.is (length has.session.found) c) ((has.keeps.moments bytes reads).each c since)
+  pub none_or_run : (asked : Option Command) (old new : LatheState) (bytes : List ℕ) → Reads old.disk bytes
+      → ((c : List ℕ) → old.disk.image c → IsNoneOrRun c) → Leaves asked old new → (c : List ℕ)
+      → new.disk.image_since old.disk.clock c → IsNoneOrRun c
+  none_or_run (Some (command.Run left right settings limit)) old new bytes reads held (inl begins) c since =
+      begins_none old new bytes reads held begins c since
+  none_or_run (Some (command.Run left right settings limit)) old new bytes reads held (inr has) c since =
+      session_none anew limit old new bytes reads held has c since
+  none_or_run (Some (command.Make number)) old new bytes reads held (inl begins) c since =
+      begins_none old new bytes reads held begins c since
+  none_or_run (Some (command.Make number)) old new bytes reads held (inr has) c since =
+      session_none anew made_limit old new bytes reads held has c since
+  none_or_run (Some (command.Resume limit)) old new bytes reads held (inl looks) c since =
+      of_looks IsNoneOrRun old new held looks c since
+  none_or_run (Some (command.Resume limit)) old new bytes reads held (inr has) c since =
+      session_none again limit old new bytes reads held has c since
+  none_or_run (Some command.Moves) old new bytes reads held looks c since = of_looks IsNoneOrRun old new held looks c since
+  none_or_run (Some command.State) old new bytes reads held looks c since = of_looks IsNoneOrRun old new held looks c since
+  none_or_run (Some (command.Verify left right settings)) old new bytes reads held rests c since =
+      of_rest IsNoneOrRun old new held rests c since
+  none_or_run None old new bytes reads held rests c since = of_rest IsNoneOrRun old new held rests c since
+
+module _ (one_run : OneRun) (never_bad : NeverBad) (header : Header) (base : List Entry) where
+  -- what a read of a run gives is a run that is there
+  goes_there : (bytes : List ℕ) → GoesOnAs header base bytes → IsRunThere bytes
+  goes_there bytes goes = run_there bytes (λ none. absurd (let same : no_run ≡ a_run header goes.0 = one_run bytes no_run (a_run header goes.0) none goes.1 in cc))
+
+  session_kept : (limit : ℕ) (old new : LatheState) (bytes : List ℕ) → Reads old.disk bytes → ((c : List ℕ) → old.disk.image c → GoesOnAs header base c)
+      → GoesOnAs header base bytes → HasSession again limit old new → (c : List ℕ) → new.disk.image_since old.disk.clock c → GoesOnAs header base c
+  session_kept limit old new bytes reads held goes has c since =
+      ⊎_elim (held c) (λ standing. part (prefix_run never_bad has.session has.is (length has.session.found) c standing))
+      ((has.keeps.moments bytes reads).each c since)
+    where
+      part : (n : ℕ) × (length has.session.found ≤ n) × (n ≤ length has.session.history)
+          × StandsForRun (a_run has.session.header (take n has.session.history)) c → GoesOnAs header base c
+      part p =
+          let s = has.session in
+          let same : a_run s.header s.found ≡ a_run header goes.0 =
+          one_run bytes (a_run s.header s.found) (a_run header goes.0) (has.opened bytes reads) goes.1 in
+          let headers : s.header ≡ header = ap (header_in s.header) same in
+          let records : s.found ≡ goes.0 = ap (entries_in s.found) same in
+          let begins : take (length s.found) (take p.0 s.history) ≡ s.found =
+          take_within (length s.found) p.0 s.history p.1 p.2 ∙ has.is.goes_on.extends in
+          let first : take (length base) s.found ≡ base = subst (λ (l : List Entry). take (length base) l ≡ base) (sym records) goes.2 in (
+            take p.0 s.history,
+            subst (λ (h : Header). StandsForRun (a_run h (take p.0 s.history)) c) headers p.3,
+            front_kept base s.found (take p.0 s.history) first begins,
+          )
+
+  run_kept : (limit : ℕ) (old new : LatheState) (bytes : List ℕ) → Reads old.disk bytes → ((c : List ℕ) → old.disk.image c → GoesOnAs header base c)
+      → GoesOnAs header base bytes → OnlyBegins old new ⊎ HasSession anew limit old new → (c : List ℕ)
+      → new.disk.image_since old.disk.clock c → GoesOnAs header base c
+  run_kept limit old new bytes reads held goes (inl begins) c since =
+      ⊎_elim (λ untouched. of_unwritten (GoesOnAs header base) old.disk new.disk held untouched.unwritten c since)
+      (λ refused. of_unwritten (GoesOnAs header base) old.disk new.disk held (refused.begins.spares bytes reads (goes_there bytes goes)) c since)
+      begins.disk
+  run_kept limit old new bytes reads held goes (inr has) c since = absurd (has.opened.1 bytes reads (goes_there bytes goes))
+
+  -- a call whose disk reads as a run goes on with it, or leaves it alone
+  kept_by : (asked : Option Command) (old new : LatheState) (bytes : List ℕ) → Reads old.disk bytes
+      → ((c : List ℕ) → old.disk.image c → GoesOnAs header base c) → GoesOnAs header base bytes → Leaves asked old new → (c : List ℕ)
+      → new.disk.image_since old.disk.clock c → GoesOnAs header base c
+  kept_by (Some (command.Run left right settings limit)) old new bytes reads held goes leaves c since =
+      run_kept limit old new bytes reads held goes leaves c since
+  kept_by (Some (command.Make number)) old new bytes reads held goes leaves c since =
+      run_kept made_limit old new bytes reads held goes leaves c since
+  kept_by (Some (command.Resume limit)) old new bytes reads held goes (inl looks) c since =
+      of_looks (GoesOnAs header base) old new held looks c since
+  kept_by (Some (command.Resume limit)) old new bytes reads held goes (inr has) c since =
+      session_kept limit old new bytes reads held goes has c since
+  kept_by (Some command.Moves) old new bytes reads held goes looks c since = of_looks (GoesOnAs header base) old new held looks c since
+  kept_by (Some command.State) old new bytes reads held goes looks c since = of_looks (GoesOnAs header base) old new held looks c since
+  kept_by (Some (command.Verify left right settings)) old new bytes reads held goes rests c since =
+      of_rest (GoesOnAs header base) old new held rests c since
+  kept_by None old new bytes reads held goes rests c since = of_rest (GoesOnAs header base) old new held rests c since
+
+  pub goes_on_as : (asked : Option Command) (old new : LatheState) (bytes : List ℕ) → IsCoherent old.disk → Reads old.disk bytes
+      → ((c : List ℕ) → old.disk.image c → GoesOnAs header base c) → Leaves asked old new → (c : List ℕ)
+      → new.disk.image_since old.disk.clock c → GoesOnAs header base c
+  goes_on_as asked old new bytes coherent reads held leaves c since =
+      kept_by asked old new bytes reads held (held bytes (coherent.as_read bytes reads)) leaves c since
+
+-- Over lists of calls, each on what the cut before it left.
+module _ {D : Type 0} (state : D → DiskState) (coherent : (disk : D) → IsCoherent (state disk)) (one_run : OneRun) (never_bad : NeverBad) where
+  -- an image of a disk that has these bytes and nothing else
+  alone : (bytes c : List ℕ) (header : Header) (found : List Entry) → StandsForRun (a_run header found) bytes → c ≡ bytes → GoesOnAs header found c
+  alone bytes c header found stands same =
+      (found, subst (λ x. StandsForRun (a_run header found) x) (sym same) stands, take-length found)
+
+  pub one_history : (stops : List (StoppedCall D)) (bytes : List ℕ) (header : Header) (found : List Entry) → StandsForRun (a_run header found) bytes
+      → AreStopped state bytes stops → AreOneHistory header found (images_of stops)
+  one_history [] bytes header found stands are = tt
+  one_history (stop ∷ stops) bytes header found stands are =
+      let call = stop.call in
+      let goes : GoesOnAs header found stop.image =
+      goes_on_as one_run never_bad header found call.asked (lathe_before state call) (lathe_behind state call) bytes (coherent call.disk)
+      are.0.is.reads (λ c image. alone bytes c header found stands (are.0.settled bytes are.0.is.reads c image)) are.0.is.leaves stop.image are.0.left in
+      (goes.0, goes.1, goes.2, one_history stops stop.image header goes.0 goes.1 are.1)
+
+  pub becomes_one : (stops : List (StoppedCall D)) (bytes : List ℕ) → IsNoRun bytes → AreStopped state bytes stops
+      → BecomeOneHistory (images_of stops)
+  becomes_one [] bytes none are = tt
+  becomes_one (stop ∷ stops) bytes none are =
+      let call = stop.call in
+      let left : IsNoneOrRun stop.image =
+      none_or_run never_bad call.asked (lathe_before state call) (lathe_behind state call) bytes are.0.is.reads
+      (λ c image. inl (subst IsNoRun (sym (are.0.settled bytes are.0.is.reads c image)) none)) are.0.is.leaves stop.image are.0.left in
+      ⊎_elim (λ nothing. inl (nothing, becomes_one stops stop.image nothing are.1))
+      (λ run. inr (run.0, run.1, run.2, one_history stops stop.image run.0 run.1 run.2 are.1)) left

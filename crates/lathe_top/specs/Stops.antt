@@ -1,9 +1,16 @@
 -- What a stop at any moment of a call leaves.
-use Rattle.std.specs.Prelude.{◌≡◌, ℕ, List, length, take}
+use Rattle.std.specs.Prelude.{◌≡◌, ◌⊎◌, ℕ, List, [], ◌∷◌, length, map, take, Option}
+use Rattle.command_words.specs.declared.command.Command.{Command}
+use Rattle.disk_model.specs.Device.{DiskState, Reads, IsSettled}
+use Rattle.gate_file.specs.Chain.{IsNoRun}
 use Rattle.run_records.specs.declared.entry.Entry.{Entry}
 use Rattle.run_records.specs.declared.header.Header.{Header}
 use Rattle.run_journal.specs.Meaning.{a_run}
+use Rattle.turret_run.specs.Runs.{Turrets}
+use Rattle.nc_restart.specs.Lives.{AreOneHistory}
 use Rattle.nc_restart.specs.Meaning.{StandsForRun}
+use Rattle.lathe_top.specs.Kept.{Leaves}
+use Rattle.lathe_top.specs.Lathe.{LatheState}
 
 -- the image stands for a history of the run with this header, which begins with these records
 abbrev pub GoesOnAs : Header → List Entry → List ℕ → Type 0
@@ -13,3 +20,55 @@ GoesOnAs header found image =
 -- the image stands for a history of some run
 abbrev pub IsSomeRun : List ℕ → Type 0
 IsSomeRun image = (header : Header) × (history : List Entry) × StandsForRun (a_run header history) image
+
+-- the image is not bad: it stands for no run, or for a history of some run
+abbrev pub IsNoneOrRun : List ℕ → Type 0
+IsNoneOrRun image = IsNoRun image ⊎ IsSomeRun image
+
+-- A call of the program: its command, if its words are one, and the disk and the turrets before and behind it.
+pub record CallOver (D : Type 0) : Type 0 where
+  pub asked : Option Command
+  pub disk : D
+  pub after : D
+  pub turrets : Turrets
+  pub moved : Turrets
+
+abbrev pub lathe_before : {D : Type 0} → (D → DiskState) → CallOver D → LatheState
+lathe_before state call = record { disk = state call.disk; turrets = call.turrets }
+
+abbrev pub lathe_behind : {D : Type 0} → (D → DiskState) → CallOver D → LatheState
+lathe_behind state call = record { disk = state call.after; turrets = call.moved }
+
+-- the disk tells that it reads as these bytes, and the call leaves it and the turrets as its command does
+pub record IsCall {D : Type 0} (state : D → DiskState) (bytes : List ℕ) (call : CallOver D) : Type 0 where
+  pub reads : Reads (state call.disk) bytes
+  pub leaves : Leaves call.asked (lathe_before state call) (lathe_behind state call)
+
+-- a stop at some moment of the call leaves this, also one inside a call of the disk
+abbrev pub MayLeave : {D : Type 0} → (D → DiskState) → CallOver D → List ℕ → Type 0
+MayLeave state call image = (state call.after).image_since (state call.disk).clock image
+
+-- a call, and what the power cut at some moment of it left
+pub record StoppedCall (D : Type 0) : Type 0 where
+  pub call : CallOver D
+  pub image : List ℕ
+
+-- the call began on a disk that has these bytes and nothing else, and the cut left its image
+pub record IsStopped {D : Type 0} (state : D → DiskState) (bytes : List ℕ) (stop : StoppedCall D) : Type 0 where
+  pub is : IsCall state bytes stop.call
+  pub settled : IsSettled (state stop.call.disk)
+  pub left : MayLeave state stop.call stop.image
+
+-- each call begins on what the cut before it left
+abbrev pub AreStopped : {D : Type 0} → (D → DiskState) → List ℕ → List (StoppedCall D) → Type 0
+AreStopped state bytes [] = Unit {0}
+AreStopped state bytes (stop ∷ stops) = IsStopped state bytes stop × AreStopped state stop.image stops
+
+abbrev pub images_of : {D : Type 0} → List (StoppedCall D) → List (List ℕ)
+images_of stops = map (λ stop. stop.image) stops
+
+-- each image stands for no run, and from one on, if any, they are one history
+abbrev pub BecomeOneHistory : List (List ℕ) → Type 0
+BecomeOneHistory [] = Unit {0}
+BecomeOneHistory (image ∷ images) = (IsNoRun image × BecomeOneHistory images)
+    ⊎ ((header : Header) × (history : List Entry) × StandsForRun (a_run header history) image × AreOneHistory header history images)

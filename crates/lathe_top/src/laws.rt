@@ -1,47 +1,49 @@
 //! What holds over any calls and stops, for those who call: who calls the function has the law.
-ghost use Rattle.std.specs.Prelude.{◌⊎◌, ℕ, ◌+◌, ◌*◌, ◌≤◌, List, length, Some};
-ghost use Rattle.command_words.specs.declared.command.Command.TheVariants as command;
+ghost use Rattle.std.specs.Prelude.{ℕ, ◌+◌, ◌*◌, ◌≤◌, List, length};
 ghost use Rattle.nc_number.specs.declared.path.Path.{Path};
-ghost use Rattle.disk_model.specs.Device.{Reads, IsSettled};
 ghost use Rattle.gate_file.specs.Chain.{IsNoRun};
 ghost use Rattle.run_journal.specs.Meaning.{a_run};
 ghost use Rattle.run_records.specs.declared.entry.Entry.{Entry};
 ghost use Rattle.run_records.specs.declared.header.Header.{Header};
+ghost use Rattle.nc_restart.specs.Lives.{AreOneHistory};
 ghost use Rattle.nc_restart.specs.Meaning.{StandsForRun};
-ghost use Rattle.lathe_top.specs.Kept.{Leaves};
-ghost use Rattle.turret_run.specs.Runs.{Turrets};
+ghost use Rattle.disk_model.specs.Device.{DiskState};
 ghost use Rattle.lathe_top.specs.Session.{Session};
-ghost use Rattle.lathe_top.specs.Stops.{GoesOnAs, IsSomeRun};
+ghost use Rattle.lathe_top.specs.Stops.{AreStopped, BecomeOneHistory, CallOver, GoesOnAs, IsCall, IsNoneOrRun, MayLeave, StoppedCall, images_of};
 ghost use Rattle.lathe_top.specs.Turrets.{due_to};
 
 use disk_model::Disk;
 use nc_restart::{an_image_of_a_run_is_never_bad, an_image_stands_for_one_run};
 use run_table::a_record_makes_seven_moves_at_most;
 
-/// A stop at any moment of a call of `top`, inside a call of the disk too, leaves one history.
+/// A stop at any moment of a call of `top`, inside a call of the disk too, leaves one history, whatever the command is.
 ///
-/// The disk tells its bytes, and they are on it, as behind a restart. Where it had no run, a stop of `run` or of
-/// `make` leaves no run, or a history of some pair. Where it stood for a history, a stop of `resume` leaves a
-/// history of the same run that begins with that one. So over any stops and restarts the records are one history,
-/// of which nothing that was found is lost. Whatever the turrets do, it is so.
+/// The disk tells its bytes. Where each image that a crash before the call may leave is no run, or a history of some run, each that a
+/// stop leaves is so too: none is ever bad. Where each of them is a history of one run that begins with certain records, so is each that a
+/// stop leaves: nothing of them is lost. That holds of `run` over the journal of a run, too, which it leaves alone, and whatever fails.
 pub fn a_stop_leaves_one_history<D: Disk>()
-    ensures begun { (disk after : D) (turrets moved : Turrets)
-        (left right settings : List ℕ) (limit : ℕ) (bytes : List ℕ)
-        → Reads (D.state disk) bytes → IsSettled (D.state disk) → IsNoRun bytes
-        → Leaves (Some (command.Run left right settings limit)) (record { disk = D.state disk; turrets = turrets })
-        (record { disk = D.state after; turrets = moved })
-        → (c : List ℕ) → (D.state after).image_since (D.state disk).clock c → IsNoRun c ⊎ IsSomeRun c }
-    ensures made { (disk after : D) (turrets moved : Turrets) (number : ℕ) (bytes : List ℕ)
-        → Reads (D.state disk) bytes → IsSettled (D.state disk) → IsNoRun bytes
-        → Leaves (Some (command.Make number)) (record { disk = D.state disk; turrets = turrets })
-        (record { disk = D.state after; turrets = moved })
-        → (c : List ℕ) → (D.state after).image_since (D.state disk).clock c → IsNoRun c ⊎ IsSomeRun c }
-    ensures resumed { (disk after : D) (turrets moved : Turrets)
-        (limit : ℕ) (bytes : List ℕ) (header : Header) (found : List Entry)
-        → Reads (D.state disk) bytes → IsSettled (D.state disk) → StandsForRun (a_run header found) bytes
-        → Leaves (Some (command.Resume limit)) (record { disk = D.state disk; turrets = turrets })
-        (record { disk = D.state after; turrets = moved })
-        → (c : List ℕ) → (D.state after).image_since (D.state disk).clock c → GoesOnAs header found c }
+    ensures never_bad { (bytes : List ℕ) (call : CallOver D) → IsCall D.state bytes call
+        → ((c : List ℕ) → (D.state call.disk).image c → IsNoneOrRun c)
+        → (image : List ℕ) → MayLeave D.state call image → IsNoneOrRun image }
+    ensures kept { (bytes : List ℕ) (call : CallOver D) (header : Header) (found : List Entry) → IsCall D.state bytes call
+        → ((c : List ℕ) → (D.state call.disk).image c → GoesOnAs header found c)
+        → (image : List ℕ) → MayLeave D.state call image → GoesOnAs header found image }
+{
+    an_image_stands_for_one_run();
+    an_image_of_a_run_is_never_bad();
+}
+
+/// Over any calls of `top`, each cut off at any moment or behind its end, all records are one history of one pair.
+///
+/// Each call begins on a disk that has what the cut before it left. Until a run is begun there is none; from then on each cut
+/// leaves a history of that run which begins with the one that the call found, and so with all that were found before. The commands are
+/// any, and restarts may be cut off in restarting. No such history is stuck (`no_history_is_stuck` of nc_restart).
+pub fn calls_make_one_history<D: Disk>()
+    ensures begun { (bytes : List ℕ) (stops : List (StoppedCall D)) → IsNoRun bytes → AreStopped D.state bytes stops
+        → BecomeOneHistory (images_of stops) }
+    ensures resumed { (bytes : List ℕ) (header : Header) (found : List Entry) (stops : List (StoppedCall D))
+        → StandsForRun (a_run header found) bytes → AreStopped D.state bytes stops
+        → AreOneHistory header found (images_of stops) }
 {
     an_image_stands_for_one_run();
     an_image_of_a_run_is_never_bad();

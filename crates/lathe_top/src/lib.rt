@@ -28,5 +28,7 @@ mod verifying;
 pub use control::top;
 pub use fetching::{FileFault, Unfetched};
 pub use files::CommandFile;
-pub use laws::{a_session_hands_eight_moves_a_record_at_most, a_stop_leaves_one_history};
+pub use laws::{
+    a_session_hands_eight_moves_a_record_at_most, a_stop_leaves_one_history, calls_make_one_history,
+};
 pub use outcome::Outcome;
