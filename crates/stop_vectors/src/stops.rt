@@ -160,11 +160,55 @@ fn stops_of_restarts<R: Threads + Wait + Sync + Abort>(rt: &R, alloc: Global) ->
     out
 }
 
+/// What a run over the bytes of a run says, whose disk stops behind so many calls; and that it changed them, where it did.
+fn said_over_a_run<R: Threads + Wait + Sync + Abort>(
+    rt: &R,
+    alloc: Global,
+    bytes: &[u8],
+    passes: u64,
+) -> String {
+    let left = stopped(rt, alloc, RUN, bytes, passes, crash(passes));
+    let mut said = left.said;
+    if left.bytes.as_slice() != bytes {
+        said.push_str(" and changed it").expect(rt, "a text");
+    }
+    said
+}
+
+/// What such runs say, each of them stopped behind one call of its disk more, up to the one that is not stopped.
+fn runs_over_a_run<R: Threads + Wait + Sync + Abort>(
+    rt: &R,
+    alloc: Global,
+    bytes: &[u8],
+) -> Result<String, AllocError> {
+    let mut out = String::new(alloc);
+    for passes in 0..1_000u64 {
+        let said = said_over_a_run(rt, alloc, bytes, passes);
+        writeln!(&mut out, "{said}")?;
+        if said.as_str() == "8 run there" {
+            break;
+        }
+    }
+    Ok(out)
+}
+
 // The beginning makes eight calls, and each of the 24 records that show something four more.
 #[test]
 fn a_run_that_is_stopped_at_each_call_goes_on(rt: HostRuntime) {
     let got = stops_of_run(&rt, rt.alloc()).expect(&rt, "what is wrong");
     assert_eq!(&rt; got.as_str(), "104");
+}
+
+// A run looks for another by a sync, the length and the first gate.
+#[test]
+fn a_run_over_a_run_leaves_it_alone_wherever_it_is_stopped(rt: HostRuntime) {
+    let alloc = rt.alloc();
+    let half = stopped(&rt, alloc, RUN, &[], 40, Crash::Kept);
+    let got = runs_over_a_run(&rt, alloc, half.bytes.as_slice()).expect(&rt, "what they say");
+    assert_eq!(&rt;
+        got.as_str(),
+        "6 disk fault\n6 disk fault\n6 disk fault\n8 run there\n"
+    );
 }
 
 #[test]
