@@ -2,26 +2,27 @@
 ghost use Rattle.std.specs.Prelude.{◌≡◌, ◌≤◌};
 ghost use Rattle.disk_model.specs.Device.{Rose};
 
-use crate::journal_file::JournalFile;
+use crate::journal_file::{Access, JournalFile};
 use disk_model::{Disk, Failed};
+use std::fs::File;
 use std::rt::Files;
 
 /// A file in the current folder as a disk, which tells nothing of what it holds.
 ///
-/// A command that only looks makes no file. After a write or a sync that failed each call fails.
+/// A command that only looks makes no file. One command at a time may write it. After a write or a sync that failed each call fails.
 #[derive(Drop)]
-pub struct FileDisk<'a, R: Files> {
+pub struct FileDisk<'a, R: Files<File = File>> {
     file: JournalFile<'a, R>,
     faults: u64,
 }
 
-impl<'a, R: Files> FileDisk<'a, R> {
-    /// The file of this name in the current folder. It has not failed yet.
-    pub fn new(rt: &'a R, name: &'a str) -> Self
+impl<'a, R: Files<File = File>> FileDisk<'a, R> {
+    /// The file of this name in the current folder, for a command that does this with it. It has not failed yet.
+    pub(crate) fn new(rt: &'a R, name: &'a str, access: Access) -> Self
         ensures { result.faults ≡ 0 }
     {
         FileDisk {
-            file: JournalFile::new(rt, name),
+            file: JournalFile::new(rt, name, access),
             faults: 0,
         }
     }
@@ -35,7 +36,7 @@ impl<'a, R: Files> FileDisk<'a, R> {
     }
 }
 
-impl<R: Files> Disk for FileDisk<'_, R> {
+impl<R: Files<File = File>> Disk for FileDisk<'_, R> {
     ghost use Rattle.twin_lathe.specs.Untold.{untold, untold_agrees};
 
     ghost state = { λ disk. untold disk.faults };
@@ -83,15 +84,22 @@ mod tests {
 
     const NAME: &str = "file_disk_test.journal";
 
+    /// A file that two have.
+    const SHARED: &str = "shared_file_disk_test.journal";
+
     /// A file that is not there yet, call for call with its answer: a read asks for four bytes.
     const LOOKED_FOR: &str = "len 0, read 0 0, sync done";
 
     /// The same file as it is made: a write has two bytes.
     const MADE: &str = "write 2 done, sync done, len 4, faults 0";
 
-    /// The same file opened once more. No byte may stand at or past 2^62.
+    /// The same file opened once more, which the one that made it still has.
+    const SHOWN: &str =
+        "len 4, read 1 3, read 4 0, sync done, faults 0, write 0 failed, len failed, faults 2";
+
+    /// The same file opened behind the first. No byte may stand at or past 2^62.
     const OPENED: &str =
-        "read 1 3, read 4 0, write 4611686018427387903 failed, len failed, faults 2";
+        "write 4 done, len 6, write 4611686018427387903 failed, len failed, faults 2";
 
     /// What stands under the name, and the calls. A full device takes no byte, one that keeps nothing can't be synced, and a folder can't
     /// be opened to be written. Behind a failed write or sync a write of no byte fails too.
@@ -115,7 +123,10 @@ mod tests {
     }
 
     /// How many of four bytes are read at this place.
-    fn count_read<R: Files>(disk: &mut FileDisk<'_, R>, at: u64) -> Result<u64, Failed> {
+    fn count_read<R: Files<File = File>>(
+        disk: &mut FileDisk<'_, R>,
+        at: u64,
+    ) -> Result<u64, Failed> {
         match disk.read_at(at, &mut [0u8; 4]) {
             Ok(count) => Ok(count as u64),
             Err(Failed) => Err(Failed),
@@ -123,7 +134,7 @@ mod tests {
     }
 
     /// Whether a call gets its answer: `CALL ANSWER`, or `CALL PLACE ANSWER`.
-    fn holds<R: Files>(disk: &mut FileDisk<'_, R>, step: &str) -> bool {
+    fn holds<R: Files<File = File>>(disk: &mut FileDisk<'_, R>, step: &str) -> bool {
         let (call, wanted) = step.rsplit_once(' ').unwrap_or((step, ""));
         let (name, place) = call.split_once(' ').unwrap_or((call, "0"));
         let at = place.parse::<u64>().unwrap_or(0);
@@ -138,7 +149,7 @@ mod tests {
     }
 
     /// Whether all calls get their answers, one behind the other.
-    fn all_hold<R: Files>(disk: &mut FileDisk<'_, R>, steps: &str) -> bool {
+    fn all_hold<R: Files<File = File>>(disk: &mut FileDisk<'_, R>, steps: &str) -> bool {
         for step in steps.split(", ") {
             if !holds(disk, step) {
                 return false;
@@ -149,16 +160,32 @@ mod tests {
 
     #[test]
     fn a_file_is_made_by_the_first_write_and_no_sooner(rt: HostRuntime) -> Result<(), Fail> {
-        let mut disk = FileDisk::new(&rt, NAME);
+        let mut disk = FileDisk::new(&rt, NAME, Access::Write);
         assert!(rt; all_hold(&mut disk, LOOKED_FOR));
         assert!(rt; !fs::exists(&rt, NAME)?);
         assert!(rt; all_hold(&mut disk, MADE));
-        let mut again = FileDisk::new(&rt, NAME);
+        let mut again = FileDisk::new(&rt, NAME, Access::Write);
         let mut piece = [7u8; 4];
         assert!(rt; again.read_at(1, &mut piece) == Ok(3));
         assert!(rt; piece == *b"\0ab\x07");
-        assert!(rt; all_hold(&mut again, OPENED));
         fs::remove_file(&rt, NAME)?;
+        Ok(())
+    }
+
+    #[test]
+    fn a_file_is_written_by_one_at_a_time(rt: HostRuntime) -> Result<(), Fail> {
+        let mut first = FileDisk::new(&rt, SHARED, Access::Write);
+        assert!(rt; all_hold(&mut first, MADE));
+        let mut second = FileDisk::new(&rt, SHARED, Access::Write);
+        assert!(rt; all_hold(&mut second, SHOWN));
+        assert!(rt; all_hold(&mut first, "write 0 done, sync done, faults 0"));
+        drop(first);
+        let mut look = FileDisk::new(&rt, SHARED, Access::Look);
+        assert!(rt; all_hold(&mut look, "len 4"));
+        let mut third = FileDisk::new(&rt, SHARED, Access::Write);
+        assert!(rt; all_hold(&mut third, OPENED));
+        assert!(rt; all_hold(&mut look, "len 6, write 0 failed, faults 1"));
+        fs::remove_file(&rt, SHARED)?;
         Ok(())
     }
 
@@ -166,7 +193,7 @@ mod tests {
     fn after_a_failed_write_or_sync_each_call_fails(rt: HostRuntime) -> Result<(), Fail> {
         for row in FAILING.lines() {
             let (name, steps) = row.split_once('|').unwrap_or((row, ""));
-            let mut disk = FileDisk::new(&rt, name);
+            let mut disk = FileDisk::new(&rt, name, Access::Write);
             assert!(rt; all_hold(&mut disk, steps), "{row}");
         }
         Ok(())

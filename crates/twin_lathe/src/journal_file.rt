@@ -1,7 +1,7 @@
 //! The file of the journal, as the file system has it.
 ghost use Rattle.std.specs.Prelude.{◌+◌, ◌≤◌, ◌<◌, ◌^◌, IfOk, OnOk, length};
 
-use std::fs::{File, OpenFile};
+use std::fs::{File, OpenFile, TryLockError};
 use std::io;
 use std::io::{ErrorKind, Read, Seek, SeekFrom, Write};
 use std::rt::Files;
@@ -12,15 +12,26 @@ const FOLDER: &str = ".";
 /// A file ends before this.
 const END: u64 = 1 << 62;
 
+/// What a command does with the file.
+#[derive(Clone, Copy)]
+pub(crate) enum Access {
+    /// It reads what is there, and keeps nobody from writing.
+    Look,
+    /// It reads, and may write.
+    Write,
+}
+
 /// What is known of the file.
 #[derive(Drop)]
-enum Found<F: Drop> {
+enum Found {
     /// It was not looked for yet.
     Unknown,
     /// There is none.
     Absent,
-    /// It is open.
-    Open(F),
+    /// It is open, and no other command may write it meanwhile.
+    Open(File),
+    /// It is open to be read alone.
+    Shown(File),
     /// A write or a sync failed. The Ok of a later sync would tell nothing of what was written before.
     Lost,
 }
@@ -28,23 +39,25 @@ enum Found<F: Drop> {
 /// A file in the current folder.
 ///
 /// It is looked for at the first call, and made at the first write; until then it reads as a file of no bytes, so that
-/// a command which only looks leaves none behind. A file that may not be written is opened to be read. After a write or
-/// a sync that failed each call fails.
+/// a command which only looks leaves none behind. One command at a time may write it: one that finds another at it, or may not
+/// write the file, can only read it. After a write or a sync that failed each call fails.
 #[derive(Drop)]
-pub(crate) struct JournalFile<'a, R: Files> {
+pub(crate) struct JournalFile<'a, R: Files<File = File>> {
     rt: &'a R,
     name: &'a str,
-    found: Found<R::File>,
+    access: Access,
+    found: Found,
     /// Whether the folder was synced since the file was looked for or made.
     is_listed: bool,
 }
 
-impl<'a, R: Files> JournalFile<'a, R> {
+impl<'a, R: Files<File = File>> JournalFile<'a, R> {
     /// The file of this name, which is not looked for yet.
-    pub(crate) fn new(rt: &'a R, name: &'a str) -> Self {
+    pub(crate) fn new(rt: &'a R, name: &'a str, access: Access) -> Self {
         JournalFile {
             rt,
             name,
+            access,
             found: Found::Unknown,
             is_listed: false,
         }
@@ -57,8 +70,9 @@ impl<'a, R: Files> JournalFile<'a, R> {
         self.look()?;
         match &self.found {
             Found::Open(file) => length_of(file),
+            Found::Shown(file) => length_of(file),
             Found::Absent => Ok(0),
-            Found::Unknown | Found::Lost => Err(lost()),
+            Found::Unknown | Found::Lost => Err(refused()),
         }
     }
 
@@ -69,8 +83,9 @@ impl<'a, R: Files> JournalFile<'a, R> {
         self.look()?;
         match &mut self.found {
             Found::Open(file) => get(file, at, into),
+            Found::Shown(file) => get(file, at, into),
             Found::Absent => Ok(0),
-            Found::Unknown | Found::Lost => Err(lost()),
+            Found::Unknown | Found::Lost => Err(refused()),
         }
     }
 
@@ -100,7 +115,7 @@ impl<'a, R: Files> JournalFile<'a, R> {
     /// Looks for the file, where that was not done yet.
     fn look(&mut self) -> io::Result<()> {
         if let Found::Unknown = &self.found {
-            self.found = find(self.rt, self.name)?;
+            self.found = find(self.rt, self.name, self.access)?;
         }
         Ok(())
     }
@@ -110,12 +125,13 @@ impl<'a, R: Files> JournalFile<'a, R> {
     {
         self.look()?;
         if let Found::Absent = &self.found {
-            self.found = Found::Open(apart(File::create_new(self.rt, self.name)?)?);
+            let file = apart(File::create_new(self.rt, self.name)?)?;
+            self.found = opened(file, self.access)?;
             self.is_listed = false;
         }
         match &mut self.found {
             Found::Open(file) => put(file, at, bytes),
-            Found::Unknown | Found::Absent | Found::Lost => Err(lost()),
+            Found::Unknown | Found::Absent | Found::Shown(_) | Found::Lost => Err(refused()),
         }
     }
 
@@ -123,8 +139,9 @@ impl<'a, R: Files> JournalFile<'a, R> {
         self.look()?;
         match &self.found {
             Found::Open(file) => file.sync_all()?,
+            Found::Shown(file) => file.sync_all()?,
             Found::Absent => {}
-            Found::Unknown | Found::Lost => return Err(lost()),
+            Found::Unknown | Found::Lost => return Err(refused()),
         }
         if !self.is_listed {
             let folder = File::open(self.rt, FOLDER)?;
@@ -135,22 +152,40 @@ impl<'a, R: Files> JournalFile<'a, R> {
     }
 }
 
-/// The answer of a file of which nothing is believed any more.
-fn lost() -> io::Error {
+/// The answer of a file that may not be written, or of which nothing is believed any more.
+fn refused() -> io::Error {
     io::Error::from(ErrorKind::Other)
 }
 
 /// Opens the file to be read and written, or to be read where it may not be written.
-fn find<R: Files>(rt: &R, name: &str) -> io::Result<Found<R::File>> {
+fn find<R: Files<File = File>>(rt: &R, name: &str, access: Access) -> io::Result<Found> {
     match File::options().read(true).write(true).open(rt, name) {
-        Ok(file) => Ok(Found::Open(apart(file)?)),
+        Ok(file) => opened(apart(file)?, access),
         Err(error) => match error.kind() {
             ErrorKind::NotFound => Ok(Found::Absent),
             ErrorKind::PermissionDenied | ErrorKind::ReadOnlyFilesystem => {
-                Ok(Found::Open(apart(File::open(rt, name)?)?))
+                Ok(Found::Shown(apart(File::open(rt, name)?)?))
             }
             _ => Err(error),
         },
+    }
+}
+
+/// The open file, by what the command does with it. Whoever may write has it alone, up to the command's end, and nothing was read of
+/// it before, so that all that others wrote is seen.
+fn opened(file: File, access: Access) -> io::Result<Found> {
+    match access {
+        Access::Look => Ok(Found::Shown(file)),
+        Access::Write => taken(file),
+    }
+}
+
+/// The file to be written by this command alone; or to be read, where another one has it.
+fn taken(file: File) -> io::Result<Found> {
+    match file.try_lock() {
+        Ok(()) => Ok(Found::Open(file)),
+        Err(TryLockError::WouldBlock) => Ok(Found::Shown(file)),
+        Err(TryLockError::Error(error)) => Err(error),
     }
 }
 

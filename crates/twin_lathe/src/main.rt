@@ -13,6 +13,7 @@ mod std_sink;
 use ending::Ending;
 use file_disk::FileDisk;
 use file_shelf::FileShelf;
+use journal_file::Access;
 use lathe_top::top;
 use log_turret::LogTurret;
 use std::alloc::AllocError;
@@ -30,7 +31,7 @@ fn main(rt: HostRuntime) -> Ending {
     };
     let mut shelf = FileShelf::new(&rt);
     let mut out = StdSink::new(&rt);
-    let disk = FileDisk::new(&rt, JOURNAL);
+    let disk = FileDisk::new(&rt, JOURNAL, access_of(words.as_slice()));
     let outcome = top(
         &rt,
         rt.alloc(),
@@ -42,6 +43,18 @@ fn main(rt: HostRuntime) -> Ending {
         &mut out,
     );
     Ending::behind(&outcome)
+}
+
+/// What the command of these words does with the journal: `moves` and `state` only look at it.
+fn access_of(words: &[String]) -> Access {
+    let command = match words.first() {
+        Some(word) => word.as_str(),
+        None => "",
+    };
+    match command {
+        "moves" | "state" => Access::Look,
+        _ => Access::Write,
+    }
 }
 
 /// The words behind the program's name. Where one of them is no text they are no command, and none is given.
