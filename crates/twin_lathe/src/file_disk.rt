@@ -4,6 +4,7 @@ ghost use Rattle.disk_model.specs.Device.{Rose};
 
 use crate::journal_file::{Access, JournalFile};
 use disk_model::{Disk, Failed};
+use std::alloc::Global;
 use std::fs::File;
 use std::rt::Files;
 
@@ -18,11 +19,11 @@ pub struct FileDisk<'a, R: Files<File = File>> {
 
 impl<'a, R: Files<File = File>> FileDisk<'a, R> {
     /// The file of this name in the current folder, for a command that does this with it. It has not failed yet.
-    pub(crate) fn new(rt: &'a R, name: &'a str, access: Access) -> Self
+    pub(crate) fn new(rt: &'a R, alloc: Global, name: &'a str, access: Access) -> Self
         ensures { result.faults ≡ 0 }
     {
         FileDisk {
-            file: JournalFile::new(rt, name, access),
+            file: JournalFile::new(rt, alloc, name, access),
             faults: 0,
         }
     }
@@ -93,9 +94,11 @@ mod tests {
     /// The same file as it is made: a write has two bytes.
     const MADE: &str = "write 2 done, sync done, len 4, faults 0";
 
-    /// The same file opened once more, which the one that made it still has.
-    const SHOWN: &str =
-        "len 4, read 1 3, read 4 0, sync done, faults 0, write 0 failed, len failed, faults 2";
+    /// The same file opened once more to be written, while the one that made it has it.
+    const HELD: &str = "len failed, sync failed, read 1 failed, write 0 failed, faults 4";
+
+    /// The same file looked at meanwhile: as it was at the first look, whatever is written then.
+    const SHOWN: &str = "sync done, len 4, read 1 3, read 4 0, faults 0";
 
     /// The same file opened behind the first. No byte may stand at or past 2^62.
     const OPENED: &str =
@@ -160,11 +163,11 @@ mod tests {
 
     #[test]
     fn a_file_is_made_by_the_first_write_and_no_sooner(rt: HostRuntime) -> Result<(), Fail> {
-        let mut disk = FileDisk::new(&rt, NAME, Access::Write);
+        let mut disk = FileDisk::new(&rt, rt.alloc(), NAME, Access::Write);
         assert!(rt; all_hold(&mut disk, LOOKED_FOR));
         assert!(rt; !fs::exists(&rt, NAME)?);
         assert!(rt; all_hold(&mut disk, MADE));
-        let mut again = FileDisk::new(&rt, NAME, Access::Write);
+        let mut again = FileDisk::new(&rt, rt.alloc(), NAME, Access::Look);
         let mut piece = [7u8; 4];
         assert!(rt; again.read_at(1, &mut piece) == Ok(3));
         assert!(rt; piece == *b"\0ab\x07");
@@ -174,17 +177,17 @@ mod tests {
 
     #[test]
     fn a_file_is_written_by_one_at_a_time(rt: HostRuntime) -> Result<(), Fail> {
-        let mut first = FileDisk::new(&rt, SHARED, Access::Write);
+        let mut first = FileDisk::new(&rt, rt.alloc(), SHARED, Access::Write);
         assert!(rt; all_hold(&mut first, MADE));
-        let mut second = FileDisk::new(&rt, SHARED, Access::Write);
-        assert!(rt; all_hold(&mut second, SHOWN));
+        let mut second = FileDisk::new(&rt, rt.alloc(), SHARED, Access::Write);
+        assert!(rt; all_hold(&mut second, HELD));
+        let mut look = FileDisk::new(&rt, rt.alloc(), SHARED, Access::Look);
+        assert!(rt; all_hold(&mut look, SHOWN));
         assert!(rt; all_hold(&mut first, "write 0 done, sync done, faults 0"));
         drop(first);
-        let mut look = FileDisk::new(&rt, SHARED, Access::Look);
-        assert!(rt; all_hold(&mut look, "len 4"));
-        let mut third = FileDisk::new(&rt, SHARED, Access::Write);
+        let mut third = FileDisk::new(&rt, rt.alloc(), SHARED, Access::Write);
         assert!(rt; all_hold(&mut third, OPENED));
-        assert!(rt; all_hold(&mut look, "len 6, write 0 failed, faults 1"));
+        assert!(rt; all_hold(&mut look, "len 4, read 0 4, write 0 failed, faults 1"));
         fs::remove_file(&rt, SHARED)?;
         Ok(())
     }
@@ -193,7 +196,7 @@ mod tests {
     fn after_a_failed_write_or_sync_each_call_fails(rt: HostRuntime) -> Result<(), Fail> {
         for row in FAILING.lines() {
             let (name, steps) = row.split_once('|').unwrap_or((row, ""));
-            let mut disk = FileDisk::new(&rt, name, Access::Write);
+            let mut disk = FileDisk::new(&rt, rt.alloc(), name, Access::Write);
             assert!(rt; all_hold(&mut disk, steps), "{row}");
         }
         Ok(())

@@ -1,7 +1,9 @@
 //! The file of the journal, as the file system has it.
 ghost use Rattle.std.specs.Prelude.{◌+◌, ◌≤◌, ◌<◌, ◌^◌, IfOk, OnOk, length};
 
-use std::fs::{File, OpenFile, TryLockError};
+use crate::shown_file::ShownFile;
+use std::alloc::Global;
+use std::fs::{File, OpenFile};
 use std::io;
 use std::io::{ErrorKind, Read, Seek, SeekFrom, Write};
 use std::rt::Files;
@@ -31,7 +33,7 @@ enum Found {
     /// It is open, and no other command may write it meanwhile.
     Open(File),
     /// It is open to be read alone.
-    Shown(File),
+    Shown(ShownFile),
     /// A write or a sync failed. The Ok of a later sync would tell nothing of what was written before.
     Lost,
 }
@@ -39,11 +41,12 @@ enum Found {
 /// A file in the current folder.
 ///
 /// It is looked for at the first call, and made at the first write; until then it reads as a file of no bytes, so that
-/// a command which only looks leaves none behind. One command at a time may write it: one that finds another at it, or may not
-/// write the file, can only read it. After a write or a sync that failed each call fails.
+/// a command which only looks leaves none behind. One command at a time may write it, and to another that would each call
+/// fails. A file that may not be written is opened to be read. After a write or a sync that failed each call fails.
 #[derive(Drop)]
 pub(crate) struct JournalFile<'a, R: Files<File = File>> {
     rt: &'a R,
+    alloc: Global,
     name: &'a str,
     access: Access,
     found: Found,
@@ -53,9 +56,10 @@ pub(crate) struct JournalFile<'a, R: Files<File = File>> {
 
 impl<'a, R: Files<File = File>> JournalFile<'a, R> {
     /// The file of this name, which is not looked for yet.
-    pub(crate) fn new(rt: &'a R, name: &'a str, access: Access) -> Self {
+    pub(crate) fn new(rt: &'a R, alloc: Global, name: &'a str, access: Access) -> Self {
         JournalFile {
             rt,
+            alloc,
             name,
             access,
             found: Found::Unknown,
@@ -68,9 +72,9 @@ impl<'a, R: Files<File = File>> JournalFile<'a, R> {
         ensures { IfOk result (λ n. n < 2 ^ 62) }
     {
         self.look()?;
-        match &self.found {
+        match &mut self.found {
             Found::Open(file) => length_of(file),
-            Found::Shown(file) => length_of(file),
+            Found::Shown(file) => file.len(),
             Found::Absent => Ok(0),
             Found::Unknown | Found::Lost => Err(refused()),
         }
@@ -83,7 +87,7 @@ impl<'a, R: Files<File = File>> JournalFile<'a, R> {
         self.look()?;
         match &mut self.found {
             Found::Open(file) => get(file, at, into),
-            Found::Shown(file) => get(file, at, into),
+            Found::Shown(file) => file.read_at(at, into),
             Found::Absent => Ok(0),
             Found::Unknown | Found::Lost => Err(refused()),
         }
@@ -115,7 +119,7 @@ impl<'a, R: Files<File = File>> JournalFile<'a, R> {
     /// Looks for the file, where that was not done yet.
     fn look(&mut self) -> io::Result<()> {
         if let Found::Unknown = &self.found {
-            self.found = find(self.rt, self.name, self.access)?;
+            self.found = find(self.rt, self.alloc, self.name, self.access)?;
         }
         Ok(())
     }
@@ -126,7 +130,7 @@ impl<'a, R: Files<File = File>> JournalFile<'a, R> {
         self.look()?;
         if let Found::Absent = &self.found {
             let file = apart(File::create_new(self.rt, self.name)?)?;
-            self.found = opened(file, self.access)?;
+            self.found = opened(self.alloc, file, self.access)?;
             self.is_listed = false;
         }
         match &mut self.found {
@@ -139,7 +143,7 @@ impl<'a, R: Files<File = File>> JournalFile<'a, R> {
         self.look()?;
         match &self.found {
             Found::Open(file) => file.sync_all()?,
-            Found::Shown(file) => file.sync_all()?,
+            Found::Shown(file) => file.sync()?,
             Found::Absent => {}
             Found::Unknown | Found::Lost => return Err(refused()),
         }
@@ -158,13 +162,19 @@ fn refused() -> io::Error {
 }
 
 /// Opens the file to be read and written, or to be read where it may not be written.
-fn find<R: Files<File = File>>(rt: &R, name: &str, access: Access) -> io::Result<Found> {
+fn find<R: Files<File = File>>(
+    rt: &R,
+    alloc: Global,
+    name: &str,
+    access: Access,
+) -> io::Result<Found> {
     match File::options().read(true).write(true).open(rt, name) {
-        Ok(file) => opened(apart(file)?, access),
+        Ok(file) => opened(alloc, apart(file)?, access),
         Err(error) => match error.kind() {
             ErrorKind::NotFound => Ok(Found::Absent),
             ErrorKind::PermissionDenied | ErrorKind::ReadOnlyFilesystem => {
-                Ok(Found::Shown(apart(File::open(rt, name)?)?))
+                let file = apart(File::open(rt, name)?)?;
+                Ok(Found::Shown(ShownFile::new(alloc, file)))
             }
             _ => Err(error),
         },
@@ -172,20 +182,14 @@ fn find<R: Files<File = File>>(rt: &R, name: &str, access: Access) -> io::Result
 }
 
 /// The open file, by what the command does with it. Whoever may write has it alone, up to the command's end, and nothing was read of
-/// it before, so that all that others wrote is seen.
-fn opened(file: File, access: Access) -> io::Result<Found> {
+/// it before, so that all that others wrote is seen. Where another command has it, that is an error.
+fn opened(alloc: Global, file: File, access: Access) -> io::Result<Found> {
     match access {
-        Access::Look => Ok(Found::Shown(file)),
-        Access::Write => taken(file),
-    }
-}
-
-/// The file to be written by this command alone; or to be read, where another one has it.
-fn taken(file: File) -> io::Result<Found> {
-    match file.try_lock() {
-        Ok(()) => Ok(Found::Open(file)),
-        Err(TryLockError::WouldBlock) => Ok(Found::Shown(file)),
-        Err(TryLockError::Error(error)) => Err(error),
+        Access::Look => Ok(Found::Shown(ShownFile::new(alloc, file))),
+        Access::Write => {
+            file.try_lock()?;
+            Ok(Found::Open(file))
+        }
     }
 }
 

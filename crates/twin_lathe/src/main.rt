@@ -8,6 +8,7 @@ mod file_disk;
 mod file_shelf;
 mod journal_file;
 mod log_turret;
+mod shown_file;
 mod std_sink;
 
 use ending::Ending;
@@ -31,7 +32,7 @@ fn main(rt: HostRuntime) -> Ending {
     };
     let mut shelf = FileShelf::new(&rt);
     let mut out = StdSink::new(&rt);
-    let disk = FileDisk::new(&rt, JOURNAL, access_of(words.as_slice()));
+    let disk = FileDisk::new(&rt, rt.alloc(), JOURNAL, access_of(words.as_slice()));
     let outcome = top(
         &rt,
         rt.alloc(),
