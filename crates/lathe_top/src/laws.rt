@@ -25,8 +25,8 @@ pub fn a_stop_leaves_one_history<D: Disk>()
     ensures never_bad { (bytes : List ℕ) (call : CallOver D) → IsCall D.state bytes call
         → ((c : List ℕ) → (D.state call.disk).image c → IsNoneOrRun c)
         → (image : List ℕ) → MayLeave D.state call image → IsNoneOrRun image }
-    ensures kept { (bytes : List ℕ) (call : CallOver D) (header : Header) (found : List Entry) → IsCall D.state bytes call
-        → ((c : List ℕ) → (D.state call.disk).image c → GoesOnAs header found c)
+    ensures kept { (bytes : List ℕ) (call : CallOver D) (header : Header) (found : List Entry)
+        → IsCall D.state bytes call → ((c : List ℕ) → (D.state call.disk).image c → GoesOnAs header found c)
         → (image : List ℕ) → MayLeave D.state call image → GoesOnAs header found image }
 {
     an_image_stands_for_one_run();
@@ -39,8 +39,8 @@ pub fn a_stop_leaves_one_history<D: Disk>()
 /// leaves a history of that run which begins with the one that the call found, and so with all that were found before. The commands are
 /// any, and restarts may be cut off in restarting. No such history is stuck (`no_history_is_stuck` of nc_restart).
 pub fn calls_make_one_history<D: Disk>()
-    ensures begun { (bytes : List ℕ) (stops : List (StoppedCall D)) → IsNoRun bytes → AreStopped D.state bytes stops
-        → BecomeOneHistory (images_of stops) }
+    ensures begun { (bytes : List ℕ) (stops : List (StoppedCall D)) → IsNoRun bytes
+        → AreStopped D.state bytes stops → BecomeOneHistory (images_of stops) }
     ensures resumed { (bytes : List ℕ) (header : Header) (found : List Entry) (stops : List (StoppedCall D))
         → StandsForRun (a_run header found) bytes → AreStopped D.state bytes stops
         → AreOneHistory header found (images_of stops) }

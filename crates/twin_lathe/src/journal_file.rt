@@ -1,7 +1,7 @@
 //! The file of the journal, as the file system has it.
 ghost use Rattle.std.specs.Prelude.{◌+◌, ◌≤◌, ◌<◌, ◌^◌, IfOk, OnOk, length};
 
-use crate::shown_file::ShownFile;
+use crate::shown_file::{END, ShownFile};
 use std::alloc::Global;
 use std::fs::{File, OpenFile};
 use std::io;
@@ -10,9 +10,6 @@ use std::rt::Files;
 
 /// The folder of the journal, which is the current one.
 const FOLDER: &str = ".";
-
-/// A file ends before this.
-const END: u64 = 1 << 62;
 
 /// What a command does with the file.
 #[derive(Clone, Copy)]

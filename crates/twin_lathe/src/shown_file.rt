@@ -7,7 +7,7 @@ use std::io;
 use std::io::{ErrorKind, Read, Seek, SeekFrom};
 
 /// A file ends before this.
-const END: u64 = 1 << 62;
+pub(crate) const END: u64 = 1 << 62;
 
 /// A file that is read alone, as it stands when its bytes are asked for first: then all are read, from the first to the last.
 ///
