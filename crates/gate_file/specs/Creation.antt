@@ -5,7 +5,7 @@ use Rattle.disk_model.specs.Moments.{LeavesOnly, Unwritten, Uses}
 use Rattle.gate_file.specs.declared.fault.GateFault.{GateFault}
 use Rattle.gate_file.specs.declared.fault.GateFault.TheVariants.{DiskFault, NoRun, RunThere, Cut, NoMemory}
 use Rattle.gate_file.specs.Chain.{IsRunThere}
-use Rattle.gate_file.specs.Gate.{Keeps}
+use Rattle.gate_file.specs.Gate.{Keeps, IsCalm}
 use Rattle.gate_file.specs.First.{IsBeginning}
 
 -- why a file is not begun, and what the disk is then: where no call of it failed it is as it was
@@ -25,6 +25,7 @@ pub record Begins {A : Type 0} (body : List ℕ) (old new : DiskState) (result :
   pub spares : (bytes : List ℕ) → Reads old bytes → IsRunThere bytes → Unwritten old new
   pub refused : IfErr result (λ fault. RefusesBeginning fault old new)
   pub later : old.faults ≤ new.faults
+  pub calm : IsCalm old new result
   -- a crash at any moment of the call leaves an image from before it, or no run, or the one body
   pub any_moment : (bytes : List ℕ) → Reads old bytes → LeavesOnly (IsBeginning old.image body) old new
   pub uses : Uses 12 (length body + 6) old new

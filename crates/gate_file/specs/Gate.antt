@@ -1,6 +1,7 @@
 -- A file of gates on a disk.
 use Rattle.std.specs.Prelude.{◌≡◌, ℕ, ◌+◌, ◌*◌, ◌≤◌, Bool, List, ◌∷◌, length, Result, Ok, Err}
 use Rattle.gate_file.specs.declared.fault.GateFault.{GateFault}
+use Rattle.gate_file.specs.declared.fault.GateFault.TheVariants.{DiskFault}
 use Rattle.disk_model.specs.Device.{DiskState, Reads, Only}
 use Rattle.gate_file.specs.Chain.{Opens}
 
@@ -37,3 +38,12 @@ disk_of (Err fault) = fault.0
 abbrev pub disk_opened : {D : Type 0} → Result (Gate D × List (List ℕ)) (D × GateFault) → D
 disk_opened (Ok found) = found.0.disk
 disk_opened (Err fault) = fault.0
+
+-- the answer is a fault of the disk
+abbrev pub IsDiskFault : {A : Type 0} → Result A GateFault → Type 0
+IsDiskFault (Ok answer) = ⊥
+IsDiskFault (Err fault) = fault ≡ DiskFault
+
+-- no call of the disk failed, but where that is the answer
+abbrev pub IsCalm : {A : Type 0} → DiskState → DiskState → Result A GateFault → Type 0
+IsCalm old new result = (IsDiskFault result → ⊥) → new.faults ≡ old.faults

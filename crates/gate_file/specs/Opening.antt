@@ -6,7 +6,7 @@ use Rattle.gate_file.specs.declared.fault.GateFault.{GateFault}
 use Rattle.gate_file.specs.declared.fault.GateFault.TheVariants.{DiskFault, NoRun, RunThere, Cut, NoMemory}
 use Rattle.gate_file.specs.declared.open.Contents.{Contents}
 use Rattle.gate_file.specs.Chain.{Opens, Spells, IsShut, IsNoRun, IsCutShort, IsCutAt}
-use Rattle.gate_file.specs.Gate.{Gate, Keeps, OpeningUses}
+use Rattle.gate_file.specs.Gate.{Gate, Keeps, OpeningUses, IsCalm}
 
 -- why a file is not opened; what is said of the file is on the disk
 abbrev pub RefusesOpening : GateFault → DiskState → DiskState → Type 0
@@ -23,6 +23,7 @@ pub record Finds (old new : DiskState) (result : Result (List (List ℕ) × ℕ)
   pub some : IfOk result (λ found. found.0 ≡ [] → ⊥)
   pub refused : IfErr result (λ fault. RefusesOpening fault old new)
   pub later : old.faults ≤ new.faults
+  pub calm : IsCalm old new result
   -- a crash at any moment of the call leaves an image from before it
   pub unwritten : Unwritten old new
   pub uses : (bytes : List ℕ) → Reads old bytes → OpeningUses bytes old new

@@ -4,7 +4,7 @@ ghost use Rattle.disk_model.specs.Device.{Reads, HasCause, IsSettled, Only};
 ghost use Rattle.disk_model.specs.Moments.{LeavesOnly, Peeks, Uses};
 ghost use Rattle.gate_file.specs.Chain.{entry, IsNoRun};
 ghost use Rattle.gate_file.specs.Creation.{Begins, RefusesBeginning};
-ghost use Rattle.gate_file.specs.Gate.{Keeps};
+ghost use Rattle.gate_file.specs.Gate.{Keeps, IsCalm};
 ghost use Rattle.gate_file.specs.First.{StandsFirst};
 
 use crate::GateFault;
@@ -35,6 +35,7 @@ fn look_first<D: Disk>(disk: &mut D) -> Result<FirstGate, GateFault>
     ensures first { IfOk result (λ first. (bytes : List ℕ) → Reads (D.state disk.old) bytes → StandsFirst first bytes) }
     ensures settled { OnOk result (IsSettled (D.state disk.new)) }
     ensures refused { IfErr result (λ fault. RefusesBeginning fault (D.state disk.old) (D.state disk.new)) }
+    ensures calm { IsCalm (D.state disk.old) (D.state disk.new) result }
     ensures peeks { Peeks 3 (D.state disk.old) (D.state disk.new) }
 {
     disk.sync()?;

@@ -4,6 +4,7 @@ ghost use Rattle.disk_model.specs.Device.{Reads, Rose, IsSettled};
 ghost use Rattle.disk_model.specs.Moments.{Peeks};
 ghost use Rattle.gate_file.specs.Chain.{Opens, IsShut, IsEntry};
 ghost use Rattle.gate_file.specs.First.{IsHead};
+ghost use Rattle.gate_file.specs.Gate.{IsCalm};
 ghost use Rattle.gate_file.specs.Opening.{IsBefore, IsSeen, ReadsOn, RefusesOpening, RefusesReading, RefusesEntry, Finds, found_in};
 
 use crate::gate::BATCH_ROOM;
@@ -64,6 +65,7 @@ fn start_reading<D: Disk>(disk: &mut D) -> Result<u64, GateFault>
     ensures small { IfOk result (λ len. (1 < len) × (len < 2 ^ 62)) }
     ensures settled { OnOk result (IsSettled (D.state disk.new)) }
     ensures refused { IfErr result (λ fault. RefusesOpening fault (D.state disk.old) (D.state disk.new)) }
+    ensures calm { IsCalm (D.state disk.old) (D.state disk.new) result }
     ensures peeks { Peeks 2 (D.state disk.old) (D.state disk.new) }
 {
     disk.sync()?;
@@ -91,6 +93,7 @@ fn read_bodies<D: Disk>(
     ensures opens { (bytes : List ℕ) → IsBefore 0 len [] (D.state disk.old) bytes → (rest : List ℕ)
         × Opens bodies.new bytes rest }
     ensures refused { IfErr result (λ fault. RefusesReading 0 len [] fault (D.state disk.old) (D.state disk.new)) }
+    ensures calm { IsCalm (D.state disk.old) (D.state disk.new) result }
     ensures peeks { Peeks (2 * length bodies.new + 2) (D.state disk.old) (D.state disk.new) }
 {
     let mut at = 0;
@@ -121,6 +124,7 @@ fn read_on<D: Disk>(
     ensures grown { length bodies.old ≤ length bodies.new }
     ensures refused { IfErr result (λ fault. RefusesReading at len bodies.old fault
         (D.state disk.old) (D.state disk.new)) }
+    ensures calm { IsCalm (D.state disk.old) (D.state disk.new) result }
     ensures peeks { Peeks 2 (D.state disk.old) (D.state disk.new) }
 {
     let count = disk.read_at(at, window)?;
@@ -203,6 +207,7 @@ fn read_entry<D: Disk>(
         → IsEntry body.items (drop at bytes) (drop (at + 5 + length body.items) bytes))) }
     ensures fits { IfOk result (λ found. IfSome found (λ body. at + 5 + length body.items < len)) }
     ensures refused { IfErr result (λ fault. RefusesEntry seen.now at len fault (D.state disk.old) (D.state disk.new)) }
+    ensures calm { IsCalm (D.state disk.old) (D.state disk.new) result }
     ensures peeks { Peeks 1 (D.state disk.old) (D.state disk.new) }
 {
     let size = match head_of(seen) {
@@ -235,6 +240,7 @@ fn read_body<D: Disk>(
     ensures disk_fault { IfErr result (λ fault. fault ≡ GateFault.DiskFault
         → Rose (D.state disk.old).faults (D.state disk.new).faults) }
     ensures never { IfErr result (λ fault. (fault ≡ GateFault.RunThere → ⊥) × (fault ≡ GateFault.NoRun → ⊥)) }
+    ensures calm { IsCalm (D.state disk.old) (D.state disk.new) result }
     ensures peeks { Peeks 1 (D.state disk.old) (D.state disk.new) }
 {
     let mut body = vec![in alloc; 0u8; size]?;

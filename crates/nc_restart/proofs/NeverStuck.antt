@@ -1,4 +1,4 @@
--- No history of an accepted pair leads to paths that can't go on.
+-- No order of turns over an accepted pair, and no history of it, leads to paths that can't go on.
 use Rattle.std.proofs.Common.{List, refl, sym, ap, subst, ◌∙◌}
 use Rattle.nc_number.specs.declared.path.Path.TheVariants.{One, Two}
 use Rattle.block_order.specs.Labels.{IsUnforked, list}
@@ -6,10 +6,11 @@ use Rattle.tape_flow.specs.declared.flow.Flow.{Flow}
 use Rattle.run_records.specs.declared.entry.Entry.{Entry}
 use Rattle.path_state.specs.Controlled.{IsControlled}
 use Rattle.path_state.specs.Opening.{opening_path}
-use Rattle.two_path.specs.Stuck.{IsPair, IsFree, IsNeverStuckBehindRecords}
+use Rattle.two_path.specs.Histories.{Event, run}
+use Rattle.two_path.specs.Stuck.{IsPair, IsFree, IsNeverStuck, IsNeverStuckBehindRecords}
 use Rattle.nc_verify.specs.declared.verified.Verified.{Verified}
 use Rattle.nc_verify.specs.Verdict.{Texts}
-use Rattle.nc_restart.specs.Pair.{IsPairOf, tapes_in, machine_behind}
+use Rattle.nc_restart.specs.Pair.{IsPairOf, tapes_in, opening_of, machine_behind}
 use Rattle.nc_restart.specs.History.{IsHistory}
 
 accepted_pair : (texts : Texts) (pair : Verified) → ((flow : Flow) → IsControlled flow) → IsPairOf texts pair → IsPair pair.left pair.right
@@ -29,3 +30,15 @@ pub never_stuck : ((flow : Flow) → IsControlled flow) → ((left right : Flow)
 never_stuck controlled free texts pair entries is history =
     free pair.left pair.right (accepted_pair texts pair controlled is) (opening_path pair.left pair.settings One) (opening_path pair.right pair.settings Two)
     (record { one = refl; two = refl }) entries history.legal
+
+pub no_order_stuck : ((flow : Flow) → IsControlled flow) → ((left right : Flow) → IsPair left right → IsNeverStuck left right)
+    → (texts : Texts) (pair : Verified) → IsPairOf texts pair → IsNeverStuck pair.left pair.right
+no_order_stuck controlled free texts pair is = free pair.left pair.right (accepted_pair texts pair controlled is)
+
+-- and so from the first turn of its own machine
+pub no_run_stuck : ((flow : Flow) → IsControlled flow) → ((left right : Flow) → IsPair left right → IsNeverStuck left right)
+    → (texts : Texts) (pair : Verified) (events : List Event) → IsPairOf texts pair
+    → IsFree (tapes_in pair) (run (tapes_in pair) (opening_of pair) events)
+no_run_stuck controlled free texts pair events is =
+    no_order_stuck controlled free texts pair is (opening_path pair.left pair.settings One) (opening_path pair.right pair.settings Two)
+    (record { one = refl; two = refl }) events

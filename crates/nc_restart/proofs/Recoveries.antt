@@ -51,6 +51,7 @@ not_opened old new fault finds = record {
   found = tt;
   refused = refused_alike old new fault finds.refused;
   later = finds.later;
+  calm = λ other. finds.calm (λ is. other (ap fault_of is));
   unwritten = finds.unwritten;
   uses = finds.uses;
 }
@@ -79,6 +80,7 @@ module _ (old new : DiskState) (found : Found) (finds : FindsRun old new (Ok fou
     found = tt;
     refused = refused_reading fault bad;
     later = finds.later;
+    calm = λ other. finds.calm (λ is. is);
     unwritten = finds.unwritten;
     uses = finds.uses;
   }
@@ -102,6 +104,7 @@ module _ (old new : DiskState) (found : Found) (finds : FindsRun old new (Ok fou
         };
         refused = tt;
         later = finds.later;
+        calm = λ other. finds.calm (λ is. is);
         unwritten = finds.unwritten;
         uses = finds.uses;
       }

@@ -64,4 +64,6 @@ same_pair texts pair other is also =
       tapes = λ i. record { first = left i; second = right i };
       opening = λ i. opening (opening_by (left_order i) (same.0 i) One) (opening_by (right_order i) (same.0 i) Two);
       records = ap (λ (c : Cell). c.records) same.0;
+      left = same.1;
+      right = same.2;
     }

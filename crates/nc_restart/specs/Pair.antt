@@ -32,8 +32,10 @@ opening_of pair = opening (opening_path pair.left pair.settings One) (opening_pa
 abbrev pub machine_behind : Verified → List Entry → MachineView
 machine_behind pair entries = fold (tapes_in pair) (opening_of pair) entries
 
--- the pairs have one machine, and their settings allow as many records
+-- the pairs have one machine, their settings allow as many records, and their tapes say the same
 pub record IsSamePair (pair other : Verified) : Type 0 where
   pub tapes : tapes_in pair ≡ tapes_in other
   pub opening : opening_of pair ≡ opening_of other
   pub records : pair.settings.records ≡ other.settings.records
+  pub left : map program_form pair.left.programs ≡ map program_form other.left.programs
+  pub right : map program_form pair.right.programs ≡ map program_form other.right.programs

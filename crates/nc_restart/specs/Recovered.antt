@@ -1,5 +1,5 @@
 -- What a recovery promises.
-use Rattle.std.specs.Prelude.{ℕ, ◌+◌, ◌*◌, ◌≤◌, List, length, Result, Ok, Err, IfOk, IfErr}
+use Rattle.std.specs.Prelude.{◌≡◌, ℕ, ◌+◌, ◌*◌, ◌≤◌, List, length, Result, Ok, Err, IfOk, IfErr}
 use Rattle.disk_model.specs.Device.{DiskState, Reads, Rose, IsSettled}
 use Rattle.disk_model.specs.Moments.{Unwritten, Uses}
 use Rattle.gate_file.specs.Gate.{OpeningUses}
@@ -58,11 +58,18 @@ pub record IsFoundRun (old new : DiskState) (found : FoundRun) : Type 0 where
   pub means : (bytes : List ℕ) → Reads old bytes → StandsForRun (a_run found.header found.entries) bytes
   pub uses : Uses (4 * length found.entries + 12) 0 old new
 
+-- the answer is a fault of the disk
+abbrev pub IsDiskFault : {A : Type 0} → Result A RestartFault → Type 0
+IsDiskFault (Ok answer) = ⊥
+IsDiskFault (Err fault) = fault ≡ DiskFault
+
 -- What a call that recovers a run promises of the disk.
 pub record Recovers (old new : DiskState) (result : Result FoundRun RestartFault) : Type 0 where
   pub found : IfOk result (IsFoundRun old new)
   pub refused : IfErr result (λ fault. RefusesRecovery fault old new)
   pub later : old.faults ≤ new.faults
+  -- no call of the disk failed, but where that is the answer
+  pub calm : (IsDiskFault result → ⊥) → new.faults ≡ old.faults
   -- a crash at any moment of the call leaves an image from before it
   pub unwritten : Unwritten old new
   pub uses : (bytes : List ℕ) → Reads old bytes → OpeningUses bytes old new

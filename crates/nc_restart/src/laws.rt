@@ -4,19 +4,22 @@ ghost use Rattle.run_records.specs.declared.entry.Entry.{Entry};
 ghost use Rattle.run_records.specs.declared.header.Header.{Header};
 ghost use Rattle.run_journal.specs.Meaning.{Meaning, a_run};
 ghost use Rattle.run_journal.specs.Stands.{Stands};
-ghost use Rattle.two_path.specs.Stuck.{IsFree};
+ghost use Rattle.two_path.specs.Histories.{Event, run};
+ghost use Rattle.two_path.specs.Stuck.{IsFree, IsNeverStuck};
 ghost use Rattle.nc_verify.specs.declared.verified.Verified.{Verified};
 ghost use Rattle.nc_verify.specs.Verdict.{Texts};
 ghost use Rattle.nc_restart.specs.Lives.{LeaveEach, AreOneHistory};
 ghost use Rattle.nc_restart.specs.Meaning.{HasHistory, StandsForRun};
 ghost use Rattle.nc_restart.specs.History.{IsHistory};
-ghost use Rattle.nc_restart.specs.Pair.{IsPairOf, IsSamePair, tapes_in, machine_behind};
+ghost use Rattle.nc_restart.specs.Pair.{IsPairOf, IsSamePair, tapes_in, opening_of, machine_behind};
 
 use gate_file::a_file_stands_for_one_thing;
 use nc_verify::accepted_texts_are_not_refused;
 use path_state::control_goes_as_the_flow_orders;
 use run_journal::a_journal_stands_for_one_thing;
-use two_path::{each_event_keeps_the_history, histories_are_runs, no_legal_history_is_stuck};
+use two_path::{
+    each_event_keeps_the_history, histories_are_runs, no_legal_history_is_stuck, no_pair_is_stuck,
+};
 
 /// Texts that are accepted have one machine, whoever judges them.
 pub fn a_machine_hangs_on_its_texts()
@@ -53,6 +56,20 @@ pub fn restarts_make_one_history()
     a_file_stands_for_one_thing();
     each_event_keeps_the_history();
     histories_are_runs();
+}
+
+/// No order of turns of an accepted pair leads to paths that can't go on, no wait meets another, and no
+/// alarm says that waits differ: not from the machine with which a run of the pair begins, nor from any
+/// two paths at the starts of their tapes.
+///
+/// That the texts are accepted is all that is asked. [`nc_verify::verdict`] answers a pair only then.
+pub fn no_accepted_pair_is_stuck()
+    ensures begun { (texts : Texts) (pair : Verified) (events : List Event) → IsPairOf texts pair
+        → IsFree (tapes_in pair) (run (tapes_in pair) (opening_of pair) events) }
+    ensures any { (texts : Texts) (pair : Verified) → IsPairOf texts pair → IsNeverStuck pair.left pair.right }
+{
+    control_goes_as_the_flow_orders();
+    no_pair_is_stuck();
 }
 
 /// No history of an accepted pair leads to paths that can't go on, whoever made it and wherever it was

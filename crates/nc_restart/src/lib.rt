@@ -17,6 +17,6 @@ mod replay;
 pub use fault::RestartFault;
 pub use laws::{
     a_machine_hangs_on_its_texts, an_image_of_a_run_is_never_bad, an_image_stands_for_one_run,
-    no_history_is_stuck, restarts_make_one_history,
+    no_accepted_pair_is_stuck, no_history_is_stuck, restarts_make_one_history,
 };
 pub use recovery::{Recovered, recover};

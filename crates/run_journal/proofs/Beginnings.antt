@@ -28,6 +28,7 @@ module _ {A B : Type 0} (header : Header) (short : IsShort header) (body : List 
         spares = same.spares;
         refused = tt;
         later = same.later;
+        calm = same.calm;
         any_moment = λ bytes reads. widened (IsBeginning old.image (header_bytes header)) (IsRunBeginning old.image header) old new (same.any_moment bytes reads) (begins old.image header short);
         uses = same.uses;
       }
@@ -41,6 +42,7 @@ module _ {A B : Type 0} (header : Header) (short : IsShort header) (body : List 
         spares = same.spares;
         refused = same.refused;
         later = same.later;
+        calm = same.calm;
         any_moment = λ bytes reads. widened (IsBeginning old.image (header_bytes header)) (IsRunBeginning old.image header) old new (same.any_moment bytes reads) (begins old.image header short);
         uses = same.uses;
       }

@@ -39,6 +39,7 @@ none_opened disk coherent = record {
   found = tt;
   refused = tt;
   later = omega arith;
+  calm = λ other. refl;
   unwritten = unwritten_none disk coherent;
   uses = λ bytes reads. uses_opening disk disk [] bytes bytes 0 reads refl (uses_none 0 0 disk) (omega arith);
 }
@@ -56,6 +57,7 @@ module _ (old new : DiskState) where
     found = tt;
     refused = refused_alike gate fault same finds.refused;
     later = finds.later;
+    calm = λ other. finds.calm (λ is. other (subst (λ (g : GateFault). IsFaultOf g fault) is same));
     unwritten = finds.unwritten;
     uses = finds.uses;
   }
@@ -76,6 +78,7 @@ module _ (old new : DiskState) where
       found = tt;
       refused = bad_refused fault bad;
       later = finds.later;
+      calm = λ other. finds.calm (λ is. is);
       unwritten = finds.unwritten;
       uses = finds.uses;
     }
@@ -96,6 +99,7 @@ module _ (old new : DiskState) where
           );
           refused = tt;
           later = finds.later;
+          calm = λ other. finds.calm (λ is. is);
           unwritten = finds.unwritten;
           uses = finds.uses;
         }

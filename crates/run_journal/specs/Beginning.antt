@@ -5,6 +5,7 @@ use Rattle.disk_model.specs.Moments.{LeavesOnly, Unwritten, Uses}
 use Rattle.gate_file.specs.declared.fault.GateFault.{GateFault}
 use Rattle.gate_file.specs.Chain.{IsNoRun, IsRunThere}
 use Rattle.gate_file.specs.Creation.{RefusesBeginning}
+use Rattle.gate_file.specs.Gate.{IsCalm}
 use Rattle.run_records.specs.declared.header.Header.{Header}
 use Rattle.run_records.specs.Headers.{header_bytes}
 use Rattle.run_journal.specs.Kept.{Log}
@@ -23,6 +24,7 @@ pub record BeginsRun {A : Type 0} (header : Header) (old new : DiskState) (resul
   pub spares : (bytes : List ℕ) → Reads old bytes → IsRunThere bytes → Unwritten old new
   pub refused : IfErr result (λ fault. RefusesBeginning fault old new)
   pub later : old.faults ≤ new.faults
+  pub calm : IsCalm old new result
   -- a crash at any moment of the call leaves an image from before it, or no run, or the header without a record
   pub any_moment : (bytes : List ℕ) → Reads old bytes → LeavesOnly (IsRunBeginning old.image header) old new
   pub uses : Uses 12 (length (header_bytes header) + 6) old new

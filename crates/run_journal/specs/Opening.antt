@@ -48,11 +48,18 @@ pub record IsFound (batches : List (List Entry)) (old new : DiskState) (found : 
       × Keeps (bodies_of found.header batches) new found.end
   pub uses : Uses (4 * (length batches + 2) + 4) 0 old new
 
+-- the answer is a fault of the disk
+abbrev pub IsDiskFault : {A : Type 0} → Result A JournalFault → Type 0
+IsDiskFault (Ok answer) = ⊥
+IsDiskFault (Err fault) = fault ≡ DiskFault
+
 -- What a call that opens a journal promises.
 pub record FindsRun (old new : DiskState) (result : Result Found JournalFault) : Type 0 where
   pub found : IfOk result (λ found. (batches : List (List Entry)) × IsFound batches old new found)
   pub refused : IfErr result (λ fault. RefusesRun fault old new)
   pub later : old.faults ≤ new.faults
+  -- no call of the disk failed, but where that is the answer
+  pub calm : (IsDiskFault result → ⊥) → new.faults ≡ old.faults
   -- a crash at any moment of the call leaves an image from before it
   pub unwritten : Unwritten old new
   pub uses : (bytes : List ℕ) → Reads old bytes → OpeningUses bytes old new

@@ -1,4 +1,4 @@
-use Rattle.std.proofs.Common.{rules, ◌≡◌, ◌+◌, [], ◌∷◌, length, ap, ◌∙◌, arith, length-append}
+use Rattle.std.proofs.Common.{rules, ◌≡◌, ◌+◌, [], ◌∷◌, length, refl, ap, ◌∙◌, arith, length-append}
 use Rattle.std.proofs.lemmas.Result.{err_from_is_err_and}
 use Rattle.gate_file.specs.Chain.{entry}
 use Rattle.disk_model.proofs.Runs.{uses_add, uses_widened}
@@ -18,6 +18,7 @@ returns-in_err-shut_first g c =
       spares = λ bytes reads there. absurd (not_there c.in_ok-first.first bytes (c.in_ok-first.ensures.first bytes reads) there);
       refused = let rose = c.in_err-shut_first.ensures.cause.failed (search rules) in omega (arith, rose, peeks.later);
       later = omega (arith, peeks.later, shut.cause.later);
+      calm = λ other. absurd (other refl);
       any_moment = λ bytes reads.
           let here = peeks.unwritten.same ∙ reads in
           let none = shut.any_moment bytes here (c.in_ok-first.ensures.settled bytes here) (c.in_ok-first.ensures.first bytes reads) in
@@ -40,6 +41,7 @@ returns-in_err-add_staged g c =
       spares = λ bytes reads there. absurd (not_there c.in_ok-first.first bytes (c.in_ok-first.ensures.first bytes reads) there);
       refused = let rose = c.in_err-add_staged.ensures.cause.failed (search rules) in omega (arith, rose, peeks.later, shut.cause.later);
       later = omega (arith, peeks.later, shut.cause.later, added.cause.later);
+      calm = λ other. absurd (other refl);
       any_moment = λ bytes reads.
           let here = peeks.unwritten.same ∙ reads in
           let settled = c.in_ok-first.ensures.settled bytes here in
@@ -68,6 +70,7 @@ returns g c = λ body short is.
       spares = λ bytes reads there. absurd (not_there c.in_ok-first.first bytes (c.in_ok-first.ensures.first bytes reads) there);
       refused = search rules;
       later = omega (arith, peeks.later, shut.cause.later, added.cause.later);
+      calm = λ other. added.cause.calm (search rules) ∙ shut.cause.calm (search rules) ∙ c.in_ok-first.ensures.calm (λ fault. fault);
       any_moment = λ bytes reads.
           let here = peeks.unwritten.same ∙ reads in
           let settled = c.in_ok-first.ensures.settled bytes here in

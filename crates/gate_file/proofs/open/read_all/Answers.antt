@@ -1,4 +1,4 @@
-use Rattle.std.proofs.Common.{rules, ◌+◌, ◌*◌, [], length, refl, arith}
+use Rattle.std.proofs.Common.{rules, ◌+◌, ◌*◌, [], length, refl, ◌∙◌, arith}
 use Rattle.std.proofs.lemmas.Result.{err_from_is_err_and}
 use Rattle.disk_model.proofs.Runs.{unwritten_none, uses_none, uses_widened, peeks_more, settled_kept}
 use Rattle.gate_file.proofs.Reading.{uses_opening, keeps_read, shut_from_start}
@@ -14,6 +14,7 @@ returns-in_err-room-clause-finds g c =
       some = search rules;
       refused = tt;
       later = omega arith;
+      calm = λ other. refl;
       unwritten = unwritten_none d (g.met.D.Disk.coherent c.args.disk.now);
       uses = λ bytes reads. uses_opening d d [] bytes bytes 0 reads refl (uses_none 0 0 d) (omega arith);
       uses_ok = search rules;
@@ -28,6 +29,7 @@ returns-in_err-window-clause-finds g c =
       some = search rules;
       refused = tt;
       later = omega arith;
+      calm = λ other. refl;
       unwritten = unwritten_none d (g.met.D.Disk.coherent c.args.disk.now);
       uses = λ bytes reads. uses_opening d d [] bytes bytes 0 reads refl (uses_none 0 0 d) (omega arith);
       uses_ok = search rules;
@@ -43,6 +45,7 @@ returns-in_err-len-clause-finds g c =
       some = search rules;
       refused = c.in_err-len.ensures.refused;
       later = first.later;
+      calm = c.in_err-len.ensures.calm;
       unwritten = first.unwritten;
       uses = λ bytes reads. uses_opening (d c.args.disk.now) (d c.start_reading.new.disk) [] bytes bytes 2 reads refl first.uses (omega arith);
       uses_ok = search rules;
@@ -61,6 +64,7 @@ returns-in_err-end-clause-finds g c =
       some = search rules;
       refused = opening_refused c.in_ok-len.len _ (d c.args.disk.now) (d c.start_reading.new.disk) (d c.read_bodies.new.disk) first.later first.unwritten c.in_ok-len.ensures.settled second.unwritten c.in_ok-len.ensures.size c.in_err-end.ensures.refused;
       later = both.later;
+      calm = λ other. c.in_err-end.ensures.calm other ∙ c.in_ok-len.ensures.calm (λ fault. fault);
       unwritten = both.unwritten;
       uses = λ bytes reads.
           let read = c.read_bodies.ensures.opens bytes (before_all c.in_ok-len.len (d c.args.disk.now) (d c.start_reading.new.disk) bytes first.unwritten reads (c.in_ok-len.ensures.size bytes reads)) in
@@ -85,6 +89,7 @@ returns-then-end-eq0-clause-finds g c =
             shut_from_start bytes c.in_ok-end.end c.if-end-eq0.true (c.in_ok-end.ensures.shut bytes before).1,
       );
       later = both.later;
+      calm = λ other. c.in_ok-end.ensures.calm (λ fault. fault) ∙ c.in_ok-len.ensures.calm (λ fault. fault);
       unwritten = both.unwritten;
       uses = λ bytes reads.
           let read = c.read_bodies.ensures.opens bytes (before_all c.in_ok-len.len (d c.args.disk.now) (d c.start_reading.new.disk) bytes first.unwritten reads (c.in_ok-len.ensures.size bytes reads)) in
@@ -109,6 +114,7 @@ returns-clause-finds g c =
       some = λ none. c.if-end-eq0.false (c.in_ok-end.ensures.place.1 none);
       refused = search rules;
       later = both.later;
+      calm = λ other. c.in_ok-end.ensures.calm (λ fault. fault) ∙ c.in_ok-len.ensures.calm (λ fault. fault);
       unwritten = both.unwritten;
       uses = λ bytes reads.
           let read = c.read_bodies.ensures.opens bytes (before_all c.in_ok-len.len (d c.args.disk.now) (d c.start_reading.new.disk) bytes first.unwritten reads (c.in_ok-len.ensures.size bytes reads)) in

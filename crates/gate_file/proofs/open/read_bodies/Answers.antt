@@ -18,6 +18,11 @@ returns-in_err-next-clause-opens g c = λ bytes b.
     let i = c.loop-next.invariant in
     c.read_on.ensures.opens bytes (record { reads = i.peeks.unwritten.same ∙ b.reads; size = b.size; opens = i.opens bytes b })
 
+pub returns-in_err-next-clause-calm : goal.returns-in_err-next-clause-calm
+returns-in_err-next-clause-calm g c =
+    let p = err_from_is_err_and c.from_residual.result c.from_residual.ensures.1 in
+    rw (p.1, p.2) (λ other. c.in_err-next.ensures.calm other ∙ c.loop-next.invariant.calm)
+
 pub returns-in_err-next-clause-peeks : goal.returns-in_err-next-clause-peeks
 returns-in_err-next-clause-peeks g c =
     let d = g.D.Disk.state in
@@ -34,5 +39,6 @@ loop-next-preserved g c =
       opens = λ bytes b. on bytes (record { reads = i.peeks.unwritten.same ∙ b.reads; size = b.size; opens = i.opens bytes b });
       within = moved.1;
       none = λ empty. absurd (omega (arith, moved.2, ap length empty));
+      calm = c.in_ok-next.ensures.calm (λ fault. fault) ∙ i.calm;
       peeks = peeks_more (2 * length c.loop-next.bodies) 2 (2 * length c.read_on.new.bodies) (d c.args.disk.now) (d c.loop-next.disk) (d c.read_on.new.disk) i.peeks c.read_on.ensures.peeks (omega (arith, moved.2));
     }

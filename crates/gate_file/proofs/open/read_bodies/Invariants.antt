@@ -9,6 +9,7 @@ invariant-loop-next g l = record {
   opens : (bytes : List ℕ) → IsBefore 0 l.len [] (g.D.Disk.state l.fn.disk) bytes → Opens l.bodies bytes (drop l.at bytes);
   within : l.at < l.len;
   none : l.bodies ≡ [] → l.at ≡ 0;
+  calm : (g.D.Disk.state l.disk).faults ≡ (g.D.Disk.state l.fn.disk).faults;
   peeks : Peeks (2 * length l.bodies) (g.D.Disk.state l.fn.disk) (g.D.Disk.state l.disk);
 }
 
