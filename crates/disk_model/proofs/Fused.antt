@@ -1,5 +1,5 @@
 -- What a fuse makes of the calls that it passes on, and of those that it fails.
-use Rattle.std.proofs.Common.{◌≡◌, ◌⊎◌, inl, inr, ⊎_elim, ℕ, ◌+◌, ◌-◌, ◌^◌, ◌≤◌, ◌<◌, max, List, length, Bool, true, false, refl, sym, ap, arith, subst, Result}
+use Rattle.std.proofs.Common.{◌≡◌, ◌⊎◌, inl, inr, ⊎_elim, ℕ, ◌+◌, ◌-◌, ◌^◌, ◌≤◌, ◌<◌, max, min, List, length, Bool, true, false, refl, sym, ap, arith, subst, Result}
 use Rattle.std.specs.Prelude.{◌==◌, not}
 use Rattle.disk_model.specs.Device.{Torn, Tears, Looks, Elapses, HasCause, next}
 use Rattle.disk_model.specs.Calls.{Measures, Fetches, Writes, Syncs}
@@ -53,7 +53,7 @@ module _ (old new : Memory) (p q r : ℕ) (less : p - 1 ≤ q) where
   }
 
   pub passed_cause : {T E : Type 0} (result : Result T E) → HasCause (memory_state old) (memory_state new) result → HasCause (fuse_state (whole old p r)) (fuse_state (whole new q r)) result
-  passed_cause result passed = record { later = omega (arith, passed.later); failed = λ err. omega (arith, passed.failed err) }
+  passed_cause result passed = record { later = omega (arith, passed.later); failed = λ err. omega (arith, passed.failed err); calm = λ ok. ap (λ k. min (k + 0) (2 ^ 64 - 1)) (passed.calm ok) }
 
 -- A call that is failed reaches nothing.
 module _ (f : Fuse) (fits : f.burnt < 2 ^ 64) (out : f.passes ≡ 0) (reach : ℕ) where

@@ -1,5 +1,5 @@
 -- What a disk holds, and what a crash may leave of it.
-use Rattle.std.specs.Prelude.{◌≡◌, ◌⊎◌, ℕ, ◌+◌, ◌-◌, ◌^◌, ◌≤◌, ◌<◌, min, max, List, ◌++◌, length, take, drop, slice_index, replicate, Option, Some, None, Result, IsErr}
+use Rattle.std.specs.Prelude.{◌≡◌, ◌⊎◌, ℕ, ◌+◌, ◌-◌, ◌^◌, ◌≤◌, ◌<◌, min, max, List, ◌++◌, length, take, drop, slice_index, replicate, Option, Some, None, Result, IsOk, IsErr}
 
 -- All that can be said of a disk at one moment.
 pub record DiskState : Type 1 where
@@ -65,10 +65,11 @@ pub record Tears (at n : ℕ) (old new : DiskState) : Type 0 where
   pub reach : (bytes : List ℕ) → Reads old bytes → new.reach ≡ max old.reach (at + n)
   pub allows : (calls end : ℕ) → old.allows calls end → new.allows calls end
 
--- the count of faults never falls, and an error comes only where it rose
+-- The count of faults never falls. An error comes only where it rose, and an Ok only where it stayed.
 pub record HasCause {T E : Type 0} (old new : DiskState) (result : Result T E) : Type 0 where
   pub later : old.faults ≤ new.faults
   pub failed : IsErr result → Rose old.faults new.faults
+  pub calm : IsOk result → new.faults ≡ old.faults
 
 -- a crash leaves this and nothing else
 abbrev pub Only : List ℕ → (List ℕ → Type 0) → Type 0

@@ -17,7 +17,7 @@ pub trait Disk {
     /// What the disk holds, and what a crash may leave of it.
     ghost state: { Self → DiskState };
 
-    /// How many calls have failed. It never falls, and stays at the last value of u64.
+    /// How many calls have failed. It never falls, stays where a call succeeds, and stays at the last value of u64.
     fn faults(&self) -> u64
         ensures { result ≡ (state self.now).faults };
 

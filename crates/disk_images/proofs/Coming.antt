@@ -1,0 +1,81 @@
+-- What comes of a call: its faults, and whether it is what is due.
+use Rattle.std.proofs.Common.{◌≡◌, ℕ, ◌+◌, ◌-◌, ◌^◌, ◌<◌, ◌||◌, Bool, true, false, true≢false, inl, inr, List, [], Ok, Err, refl, sym, ◌∙◌, arith, subst}
+use Rattle.std.specs.Prelude.{nat_le, ◌==◌}
+use Rattle.std.specs.List.{list_any}
+use Rattle.std.proofs.lemmas.Bool.Decides.{nat_tests}
+use Rattle.disk_model.specs.Device.{HasCause, IsSettled, next}
+use Rattle.disk_images.specs.Among.{IsAmong}
+use Rattle.disk_images.specs.Images.{Images, after_look, after_settling, after_sync, images_state, next_fails, refuses_write, write_fails}
+use Rattle.disk_images.specs.Outcome.{Comes, as_due, for_want_of_memory}
+
+pub comes_due : (fails : Bool) (due counted new : Images) (failed : Bool) → fails ≡ failed → new ≡ due → Comes fails due counted new failed
+comes_due fails due counted new failed same is = subst (λ (b : Bool). Comes fails due counted new b) same (as_due is)
+
+pub comes_wanting : (fails : Bool) (due counted new : Images) (failed : Bool) → failed ≡ true → new ≡ counted → Comes fails due counted new failed
+comes_wanting fails due counted new failed same is = subst (λ (b : Bool). Comes fails due counted new b) (sym same) (for_want_of_memory is)
+
+pub has_fault : {T E : Type 0} (e : E) (d new : Images) → new.faults ≡ next d.faults → d.faults < 2 ^ 64
+    → HasCause {T = T} {E = E} (images_state d) (images_state new) (Err e)
+has_fault e d new is fits = record {
+  later = omega (arith, is, fits);
+  failed = λ _. omega (arith, is);
+  calm = λ ok. absurd (true≢false (sym ok));
+}
+
+pub no_fault : {T E : Type 0} (x : T) (d new : Images) → new.faults ≡ d.faults → HasCause {T = T} {E = E} (images_state d) (images_state new) (Ok x)
+no_fault x d new is = record {
+  later = omega (arith, is);
+  failed = λ err. absurd (true≢false (sym err));
+  calm = λ _. is;
+}
+
+-- after a sync a crash leaves what a read gives
+pub only_read : (d : Images) → d.others ≡ [] → IsSettled (images_state d)
+only_read d none bytes reads c (inl is) = let same : d.bytes ≡ bytes = cc in is ∙ same
+only_read d none bytes reads c (inr other) = absurd (subst (λ (l : List (List ℕ)). IsAmong l c) none other)
+
+pub sync_fails : (d : Images) → next_fails d ≡ true → after_sync d ≡ after_look d
+sync_fails d is = rw is refl
+
+pub sync_passes : (d : Images) → next_fails d ≡ false → after_sync d ≡ after_settling (after_look d)
+sync_passes d is = rw is refl
+
+pub look_calm : (d : Images) → next_fails d ≡ false → (after_look d).faults ≡ d.faults
+look_calm d is = rw is refl
+
+spent_or : (spent listed : Bool) → spent || listed ≡ false → spent ≡ false
+spent_or true listed is = is
+spent_or false listed is = refl
+
+-- a call that does not fail is counted
+pub short_of : (d : Images) → next_fails d ≡ false → d.calls < next d.calls
+short_of d is = let unspent : nat_le (2 ^ 64 - 1) d.calls ≡ false = spent_or (nat_le (2 ^ 64 - 1) d.calls) (list_any (λ n. n == d.calls + 1) d.failing) is in grind (arith, nat_tests)
+
+or_fails : (spent listed long : Bool) → spent || long ≡ true → (spent || listed) || long ≡ true
+or_fails true listed long is = refl
+or_fails false true long is = refl
+or_fails false false long is = is
+
+pub refused_fails : (d : Images) (end : ℕ) → refuses_write d end ≡ true → write_fails d end ≡ true
+refused_fails d end is = or_fails (nat_le (2 ^ 64 - 1) d.calls) (list_any (λ n. n == d.calls + 1) d.failing) (nat_le (2 ^ 62) end) is
+
+or_listed : (fails long : Bool) → fails ≡ true → fails || long ≡ true
+or_listed fails long is = rw is refl
+
+pub listed_fails : (d : Images) (end : ℕ) → next_fails d ≡ true → write_fails d end ≡ true
+listed_fails d end is = or_listed (next_fails d) (nat_le (2 ^ 62) end) is
+
+or_passes : (spent fails long : Bool) → spent || long ≡ false → fails ≡ false → fails || long ≡ false
+or_passes true fails long is none = absurd (true≢false is)
+or_passes false fails long is none = rw none is
+
+pub write_passes : (d : Images) (end : ℕ) → refuses_write d end ≡ false → next_fails d ≡ false → write_fails d end ≡ false
+write_passes d end is none = or_passes (nat_le (2 ^ 64 - 1) d.calls) (next_fails d) (nat_le (2 ^ 62) end) is none
+
+or_long : (spent long : Bool) → spent || long ≡ false → long ≡ false
+or_long true long is = absurd (true≢false is)
+or_long false long is = is
+
+-- a write that is not refused ends below 2^62
+pub write_short : (d : Images) (end : ℕ) → refuses_write d end ≡ false → end < 2 ^ 62
+write_short d end is = let short : nat_le (2 ^ 62) end ≡ false = or_long (nat_le (2 ^ 64 - 1) d.calls) (nat_le (2 ^ 62) end) is in grind (arith, nat_tests)

@@ -1,0 +1,263 @@
+//! A folder with one file, whose calls can be made to fail, and which knows what it was asked.
+use crate::medium::{Bytes, Medium, get, no_bytes};
+use real_outside::{Folder, Identity, RawFile};
+use std::cell::Cell;
+use std::io;
+use std::io::ErrorKind;
+use std::os::unix::fs::FileExt;
+
+/// How many calls are noted.
+const MOST_NOTED: usize = 64;
+
+/// A call of the system, and the letter that stands for it.
+#[derive(Clone, Copy, Debug, PartialEq, Eq)]
+pub(crate) enum Call {
+    Open,
+    Look,
+    Make,
+    Hold,
+    Write,
+    Sync,
+    Folder,
+}
+
+fn letter_of(call: Call) -> u8 {
+    match call {
+        Call::Open => b'o',
+        Call::Look => b'l',
+        Call::Make => b'm',
+        Call::Hold => b'h',
+        Call::Write => b'w',
+        Call::Sync => b's',
+        Call::Folder => b'f',
+    }
+}
+
+/// All that the system knows.
+#[derive(Clone, Copy)]
+pub(crate) struct System {
+    pub(crate) file: Medium,
+    /// Whether the folder has the file, in memory and on the medium.
+    pub(crate) is_there: bool,
+    pub(crate) is_listed: bool,
+    /// Which file has the name.
+    pub(crate) number: u64,
+    /// The next call of this kind fails, with this error.
+    pub(crate) failing: Option<(Call, ErrorKind)>,
+    /// After so many more calls nothing is done any more.
+    pub(crate) calls_left: u64,
+    /// Reads and writes come to two bytes at most, and every other one is interrupted.
+    pub(crate) is_short: bool,
+    pub(crate) is_interrupted: bool,
+    pub(crate) is_held: bool,
+    noted: [u8; MOST_NOTED],
+    count: usize,
+}
+
+/// The folder, without a file.
+pub(crate) fn new_system() -> System {
+    System {
+        file: Medium::of(no_bytes()),
+        is_there: false,
+        is_listed: false,
+        number: 1,
+        failing: None,
+        calls_left: u64::MAX,
+        is_short: false,
+        is_interrupted: false,
+        is_held: false,
+        noted: [0; MOST_NOTED],
+        count: 0,
+    }
+}
+
+impl System {
+    /// Takes a call, notes it, and fails where it is to fail.
+    fn take(&mut self, call: Call) -> io::Result<()> {
+        if self.calls_left == 0 {
+            return Err(io::Error::from(ErrorKind::Other));
+        }
+        self.calls_left -= 1;
+        if let Some(place) = self.noted.get_mut(self.count) {
+            *place = letter_of(call);
+            self.count = self.count.saturating_add(1);
+        }
+        let failing = self.failing;
+        if let Some((kind, error)) = failing {
+            if kind == call {
+                self.failing = None;
+                return Err(io::Error::from(error));
+            }
+        }
+        Ok(())
+    }
+
+    /// Whether these were the calls since this was asked last.
+    pub(crate) fn were(&mut self, calls: &str) -> bool {
+        let wanted = calls.as_bytes();
+        let mut same = self.count == wanted.len();
+        for index in 0..wanted.len() {
+            same = same && self.noted.get(index) == wanted.get(index);
+        }
+        self.count = 0;
+        same
+    }
+
+    /// The file has these bytes, in memory and on the medium.
+    pub(crate) fn has(&mut self, bytes: Bytes) {
+        self.file = Medium::of(bytes);
+        self.is_there = true;
+        self.is_listed = true;
+    }
+
+    /// The power goes and comes.
+    pub(crate) fn cut(&mut self) {
+        self.file.cut();
+        self.is_there = self.is_listed;
+        self.calls_left = u64::MAX;
+        self.failing = None;
+    }
+
+    /// How many bytes of so many a read or a write comes to, or that it is interrupted.
+    fn share(&mut self, count: usize) -> io::Result<usize> {
+        if !self.is_short {
+            return Ok(count);
+        }
+        self.is_interrupted = !self.is_interrupted;
+        if self.is_interrupted {
+            return Err(io::Error::from(ErrorKind::Interrupted));
+        }
+        Ok(count.min(2))
+    }
+}
+
+/// The folder, as a program has it.
+#[derive(Drop)]
+pub(crate) struct FakeFolder<'a> {
+    pub(crate) system: &'a Cell<System>,
+}
+
+/// An open file of it.
+#[derive(Drop)]
+pub(crate) struct FakeFile<'a> {
+    system: &'a Cell<System>,
+    number: u64,
+}
+
+/// Makes a call of the system.
+fn ask(cell: &Cell<System>, what: Call) -> io::Result<System> {
+    let mut system = cell.get();
+    let outcome = system.take(what);
+    cell.set(system);
+    outcome?;
+    Ok(system)
+}
+
+impl<'a> FakeFolder<'a> {
+    fn opened(&self, kind: Call) -> io::Result<FakeFile<'a>> {
+        let system = ask(self.system, kind)?;
+        if !system.is_there {
+            return Err(io::Error::from(ErrorKind::NotFound));
+        }
+        Ok(FakeFile {
+            system: self.system,
+            number: system.number,
+        })
+    }
+}
+
+impl<'a> Folder for FakeFolder<'a> {
+    type File = FakeFile<'a>;
+
+    fn open(&self, _name: &str) -> io::Result<FakeFile<'a>> {
+        self.opened(Call::Open)
+    }
+
+    fn open_to_read(&self, _name: &str) -> io::Result<FakeFile<'a>> {
+        self.opened(Call::Look)
+    }
+
+    fn make(&self, _name: &str) -> io::Result<FakeFile<'a>> {
+        let mut system = ask(self.system, Call::Make)?;
+        if system.is_there {
+            return Err(io::Error::from(ErrorKind::AlreadyExists));
+        }
+        system.file = Medium::of(no_bytes());
+        system.is_there = true;
+        self.system.set(system);
+        Ok(FakeFile {
+            system: self.system,
+            number: system.number,
+        })
+    }
+
+    fn identity(&self, _name: &str) -> io::Result<Identity> {
+        let system = self.system.get();
+        if !system.is_there {
+            return Err(io::Error::from(ErrorKind::NotFound));
+        }
+        Ok(Identity {
+            device: 1,
+            number: system.number,
+        })
+    }
+
+    fn sync(&self) -> io::Result<()> {
+        let mut system = ask(self.system, Call::Folder)?;
+        system.is_listed = system.is_there;
+        self.system.set(system);
+        Ok(())
+    }
+}
+
+impl FileExt for FakeFile<'_> {
+    fn read_at(&self, buf: &mut [u8], offset: u64) -> io::Result<usize> {
+        let mut system = self.system.get();
+        let share = system.share(buf.len());
+        self.system.set(system);
+        let at = usize::try_from(offset).unwrap_or(usize::MAX);
+        Ok(get(&system.file.memory, at, share?, buf))
+    }
+
+    fn write_at(&self, buf: &[u8], offset: u64) -> io::Result<usize> {
+        let mut system = ask(self.system, Call::Write)?;
+        let share = system.share(buf.len());
+        self.system.set(system);
+        let count = share?.min(buf.len());
+        let at = usize::try_from(offset).unwrap_or(usize::MAX);
+        system.file.write(at, &buf[..count]);
+        self.system.set(system);
+        Ok(count)
+    }
+}
+
+impl RawFile for FakeFile<'_> {
+    fn length(&self) -> io::Result<u64> {
+        Ok(self.system.get().file.memory.len as u64)
+    }
+
+    fn identity(&self) -> io::Result<Identity> {
+        Ok(Identity {
+            device: 1,
+            number: self.number,
+        })
+    }
+
+    fn hold(&self) -> io::Result<bool> {
+        let system = ask(self.system, Call::Hold)?;
+        Ok(!system.is_held)
+    }
+
+    fn sync(&self) -> io::Result<()> {
+        let outcome = ask(self.system, Call::Sync);
+        let mut system = self.system.get();
+        if outcome.is_ok() {
+            system.file.store();
+        } else if system.calls_left > 0 {
+            system.file.unmark();
+        }
+        self.system.set(system);
+        outcome?;
+        Ok(())
+    }
+}

@@ -1,0 +1,14 @@
+//! Tests of a journal on a disk: over the files of the system, and over a folder whose calls can be made to fail and whose medium has only
+//! what a sync put there; and of files of gates over a disk that keeps every image.
+#![tactic(auto)]
+
+#[cfg(test)]
+mod fake_folder;
+#[cfg(test)]
+mod image_tests;
+#[cfg(test)]
+mod medium;
+#[cfg(test)]
+mod medium_tests;
+#[cfg(test)]
+mod system_tests;

@@ -1,0 +1,129 @@
+//! A journal over the files of the system.
+use disk_model::{Disk, Failed};
+use real_outside::{Access, FileDisk, SystemFolder};
+use std::fs;
+use std::fs::File;
+use std::rt::Files;
+use std::test::Fail;
+
+const NAME: &str = "file_disk_test.journal";
+
+/// A file that two have.
+const SHARED: &str = "shared_file_disk_test.journal";
+
+/// A file that is not there yet, call for call with its answer: a read asks for four bytes.
+const LOOKED_FOR: &str = "len 0, read 0 0, sync done";
+
+/// The same file as it is made: a write has two bytes.
+const MADE: &str = "write 2 done, sync done, len 4, faults 0";
+
+/// The same file opened once more to be written, while the one that made it has it.
+const HELD: &str = "len failed, sync failed, read 1 failed, write 0 failed, faults 4";
+
+/// The same file looked at meanwhile: its first gate is shut, and no more of it counts.
+const SHOWN: &str = "sync done, len 1, read 0 1, read 1 0, faults 0";
+
+/// The same file opened after the first. No byte may stand at or past 2^62.
+const OPENED: &str = "write 4 done, len 6, write 4611686018427387903 failed, len failed, faults 2";
+
+/// What stands under the name, and the calls. A full device takes no byte, one that keeps nothing can't be synced, and a folder can't
+/// be opened to be written. After a failed write or sync a write of no byte fails too.
+const FAILING: &str = "\
+/dev/full|write 0 failed, sync failed, faults 2, len failed, read 0 failed, touch failed, sync failed, faults 6
+/dev/null|write 0 done, sync failed, faults 1, len failed, read 0 failed, touch failed, sync failed, faults 5
+/|write 0 failed, sync failed, faults 2, len failed, read 0 failed, touch failed, sync failed, faults 6";
+
+fn is_done(answer: Result<(), Failed>, wanted: &str) -> bool {
+    match answer {
+        Ok(()) => wanted == "done",
+        Err(Failed) => wanted == "failed",
+    }
+}
+
+fn is_count(answer: Result<u64, Failed>, wanted: &str) -> bool {
+    match answer {
+        Ok(count) => wanted.parse::<u64>() == Ok(count),
+        Err(Failed) => wanted == "failed",
+    }
+}
+
+/// How many of four bytes are read at this place.
+fn count_read<R: Files<File = File>>(
+    disk: &mut FileDisk<'_, SystemFolder<'_, R>>,
+    at: u64,
+) -> Result<u64, Failed> {
+    match disk.read_at(at, &mut [0u8; 4]) {
+        Ok(count) => Ok(count as u64),
+        Err(Failed) => Err(Failed),
+    }
+}
+
+/// Whether a call gets its answer: `CALL ANSWER`, or `CALL PLACE ANSWER`.
+fn holds<R: Files<File = File>>(disk: &mut FileDisk<'_, SystemFolder<'_, R>>, step: &str) -> bool {
+    let (call, wanted) = step.rsplit_once(' ').unwrap_or((step, ""));
+    let (name, place) = call.split_once(' ').unwrap_or((call, "0"));
+    let at = place.parse::<u64>().unwrap_or(0);
+    match name {
+        "len" => is_count(disk.len(), wanted),
+        "read" => is_count(count_read(disk, at), wanted),
+        "write" => is_done(disk.write_at(at, b"ab"), wanted),
+        "touch" => is_done(disk.write_at(at, b""), wanted),
+        "sync" => is_done(disk.sync(), wanted),
+        _faults => is_count(Ok(disk.faults()), wanted),
+    }
+}
+
+/// Whether all calls get their answers, one after the other.
+fn all_hold<R: Files<File = File>>(
+    disk: &mut FileDisk<'_, SystemFolder<'_, R>>,
+    steps: &str,
+) -> bool {
+    for step in steps.split(", ") {
+        if !holds(disk, step) {
+            return false;
+        }
+    }
+    true
+}
+
+#[test]
+fn a_file_is_made_by_the_first_write_and_no_sooner(rt: HostRuntime) -> Result<(), Fail> {
+    let mut disk = FileDisk::new(SystemFolder::new(&rt), NAME, Access::Write);
+    assert!(rt; all_hold(&mut disk, LOOKED_FOR));
+    assert!(rt; !fs::exists(&rt, NAME)?);
+    assert!(rt; all_hold(&mut disk, MADE));
+    drop(disk);
+    let mut again = FileDisk::new(SystemFolder::new(&rt), NAME, Access::Write);
+    let mut piece = [7u8; 4];
+    assert!(rt; again.read_at(1, &mut piece) == Ok(3));
+    assert!(rt; piece == *b"\0ab\x07");
+    fs::remove_file(&rt, NAME)?;
+    Ok(())
+}
+
+#[test]
+fn a_file_is_written_by_one_at_a_time(rt: HostRuntime) -> Result<(), Fail> {
+    let mut first = FileDisk::new(SystemFolder::new(&rt), SHARED, Access::Write);
+    assert!(rt; all_hold(&mut first, MADE));
+    let mut second = FileDisk::new(SystemFolder::new(&rt), SHARED, Access::Write);
+    assert!(rt; all_hold(&mut second, HELD));
+    let mut look = FileDisk::new(SystemFolder::new(&rt), SHARED, Access::Look);
+    assert!(rt; all_hold(&mut look, SHOWN));
+    assert!(rt; all_hold(&mut first, "write 0 done, sync done, faults 0"));
+    drop(first);
+    let mut third = FileDisk::new(SystemFolder::new(&rt), SHARED, Access::Write);
+    assert!(rt; all_hold(&mut third, OPENED));
+    assert!(rt; all_hold(&mut look, "len 1, read 0 1, write 0 failed, faults 1"));
+    fs::remove_file(&rt, SHARED)?;
+    Ok(())
+}
+
+#[test]
+fn after_a_failed_write_or_sync_each_call_fails(rt: HostRuntime) -> Result<(), Fail> {
+    for row in FAILING.lines() {
+        let (name, steps) = row.split_once('|').unwrap_or((row, ""));
+        let mut disk = FileDisk::new(SystemFolder::new(&rt), name, Access::Write);
+        assert!(rt; all_hold(&mut disk, steps), "{row}");
+    }
+    Ok(())
+}

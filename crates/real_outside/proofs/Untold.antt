@@ -1,0 +1,74 @@
+-- The calls of a disk of which nothing is told.
+use Rattle.std.proofs.Common.{◌≡◌, ◌⊎◌, inl, inr, ℕ, ◌+◌, ◌-◌, ◌^◌, ◌≤◌, ◌<◌, max, List, length, arith, refl, Result, Ok, Err, Some, None}
+use Rattle.std.proofs.lemmas.Option.{none-some}
+use Rattle.disk_model.specs.Device.{DiskState, Elapses, Looks, Tears, Torn, Rose, HasCause, Stays}
+use Rattle.disk_model.specs.Calls.{Measures, Fetches, Writes, Syncs}
+use Rattle.real_outside.specs.Untold.{untold}
+
+module _ (before now : ℕ) where
+  looks : Looks (untold before) (untold now)
+  looks = record {
+    time = record {
+      later = omega arith;
+      moves = omega arith;
+      covered = λ c here. tt;
+      inside = λ c since. (c, tt, refl);
+      before = λ t c le since. inl tt;
+    };
+    same = refl;
+    counted = λ bytes told. absurd (none-some bytes told);
+    reach = λ bytes told. absurd (none-some bytes told);
+    allows = λ calls end never. never;
+  }
+
+  unharmed : (at n : ℕ) (c : List ℕ) → Torn at n c c
+  unharmed at n c = record {
+    no_shorter = omega arith;
+    no_longer = omega arith;
+    outside = λ i within outside. refl;
+  }
+
+  tears : (at n : ℕ) → Tears at n (untold before) (untold now)
+  tears at n = record {
+    time = record {
+      later = omega arith;
+      moves = omega arith;
+      covered = λ c here. tt;
+      inside = λ c since. (c, tt, unharmed at n c);
+      before = λ t c le since. inl tt;
+    };
+    told = λ bytes told. absurd (none-some bytes told);
+    untold = λ none. none;
+    counted = λ bytes told. absurd (none-some bytes told);
+    reach = λ bytes told. absurd (none-some bytes told);
+    allows = λ calls end never. never;
+  }
+
+-- a call that failed counts it
+module _ {E : Type 0} (before now : ℕ) (fault : E) (counts : (before ≤ now) × Rose before now) where
+  cause : {T : Type 0} → HasCause {T = T} (untold before) (untold now) (Err fault)
+  cause = record { later = counts.0; failed = λ failed. counts.1; calm = λ ok. absurd cc }
+
+  pub failed_measure : Measures (untold before) (untold now) (Err fault)
+  failed_measure = record { size = tt; small = tt; looks = looks before now; cause = cause }
+
+  pub failed_fetch : (at : ℕ) (old new : List ℕ) → Fetches at old new (untold before) (untold now) (Err fault)
+  failed_fetch at old new =
+      record { within = tt; count = tt; got = tt; looks = looks before now; cause = cause }
+
+  pub failed_write : {T : Type 0} (at : ℕ) (bytes : List ℕ)
+      → Writes {T = T} at bytes (untold before) (untold now) (Err fault)
+  failed_write at bytes =
+      record { written = tt; small = tt; tears = tears before now at (length bytes); cause = cause }
+
+  pub failed_sync : {T : Type 0} → Syncs {T = T} (untold before) (untold now) (Err fault)
+  failed_sync = record { settled = tt; looks = looks before now; cause = cause }
+
+pub done_write : {T E : Type 0} (faults : ℕ) (done : T) (at : ℕ) (bytes : List ℕ) → at + length bytes < 2 ^ 62
+    → Writes {E = E} at bytes (untold faults) (untold faults) (Ok done)
+done_write faults done at bytes small = record {
+  written = λ before told. absurd (none-some before told);
+  small = small;
+  tears = tears faults faults at (length bytes);
+  cause = record { later = omega arith; failed = λ failed. absurd cc; calm = λ ok. refl };
+}

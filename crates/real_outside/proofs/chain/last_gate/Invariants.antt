@@ -1,0 +1,9 @@
+use Rattle.std.proofs.Common.{◌≡◌, ◌<◌, ◌^◌, ◌-◌, ℕ}
+use Rattle.real_outside.specs.declared.chain.Head.TheVariants.{Open}
+use Rattle.real_outside.proofs.chain.last_gate.Given as goal
+
+abbrev pub invariant-loop-head : goal.invariant-loop-head
+invariant-loop-head g l = (l.at < 2 ^ 62) × ((next : ℕ) → l.head ≡ Open next → (l.at < next) × (next < 2 ^ 62))
+
+abbrev pub decreases-loop-head : goal.decreases-loop-head
+decreases-loop-head g l = 2 ^ 62 - l.at

@@ -1,0 +1,29 @@
+-- A disk and a turret of which nothing is told.
+use Rattle.std.specs.Prelude.{◌≡◌, ℕ, ◌-◌, ◌^◌, Some, None, ⊤}
+use Rattle.disk_model.specs.Device.{DiskState, IsCoherent}
+use Rattle.nc_outside.specs.Received.{TurretState}
+
+-- Nothing is told but how often it has failed: a crash may leave any bytes, and any call may fail.
+abbrev pub untold : ℕ → DiskState
+untold faults = record {
+  reads = None;
+  image = λ bytes. ⊤;
+  image_since = λ time bytes. ⊤;
+  clock = 2 ^ 64 - 1;
+  calls = 0;
+  reach = 0;
+  faults = faults;
+  allows = λ calls end. ⊥;
+}
+
+pub untold_agrees : (faults : ℕ) → IsCoherent (untold faults)
+untold_agrees faults = record {
+  counts_now = λ t c le now. tt;
+  only_now = λ c since. tt;
+  as_read = λ bytes is. tt;
+  enough = λ bytes calls end told allows used asked. absurd allows;
+}
+
+-- A turret that never fails, and of which nothing else is told.
+abbrev pub untold_turret : TurretState
+untold_turret = record { received = None; faults = 0 }

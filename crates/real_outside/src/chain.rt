@@ -1,0 +1,77 @@
+//! How far the bytes of a journal count.
+ghost use Rattle.std.specs.Prelude.{◌≡◌, ◌<◌, ◌^◌, ℕ, IfOk};
+
+use crate::folder::RawFile;
+use crate::pieces::read_up_to;
+use std::io;
+
+/// A file ends before this.
+pub(crate) const END: u64 = 1 << 62;
+
+/// How many bytes stand beside a body: its length before it, and the gate behind it.
+const FRAME: usize = 5;
+
+/// Where the gates of a journal end.
+#[derive(Clone, Copy, Debug, PartialEq, Eq)]
+pub(crate) struct LastGate {
+    /// The place of the first gate that is shut, or at which the file is cut short.
+    pub(crate) at: u64,
+    /// Whether a shut gate stands there. What is after it counts for nothing.
+    pub(crate) is_shut: bool,
+}
+
+/// What stands at a gate.
+#[derive(Clone, Copy, Debug, PartialEq, Eq)]
+enum Head {
+    Shut,
+    /// It is open, and this is the place of the next.
+    Open(u64),
+    /// The file ends before the gate or what says the place of the next.
+    Cut,
+}
+
+/// Goes over the gates of a journal, from the first on, each of them read once, and no further than the first that is shut.
+///
+/// Who writes a journal opens a gate only where what stands after it is whole and on the medium, and never changes what stands before
+/// a gate that is shut. So this is how far the journal counted at some moment, whatever is written meanwhile.
+pub(crate) fn last_gate<F: RawFile>(file: &F) -> io::Result<LastGate>
+    ensures { IfOk result (λ gate. gate.at < 2 ^ 62) }
+{
+    let mut at = 0;
+    let mut head = head_at(file, at)?;
+    while let Head::Open(next) = head {
+        at = next;
+        head = head_at(file, at)?;
+    }
+    let is_shut = head == Head::Shut;
+    Ok(LastGate { at, is_shut })
+}
+
+/// What stands at the gate of this place.
+fn head_at<F: RawFile>(file: &F, at: u64) -> io::Result<Head>
+    requires { at < 2 ^ 62 }
+    ensures { IfOk result (λ head. (next : ℕ) → head ≡ Head.Open next → (at < next) × (next < 2 ^ 62)) }
+{
+    let mut bytes = [0u8; FRAME];
+    let count = read_up_to(file, at, &mut bytes)?;
+    Ok(head_in(at, &bytes[..count]))
+}
+
+/// What the first bytes at a gate say, five of them, or fewer where the file ends.
+fn head_in(at: u64, bytes: &[u8]) -> Head
+    requires { at < 2 ^ 62 }
+    ensures { (next : ℕ) → result ≡ Head.Open next → (at < next) × (next < 2 ^ 62) }
+{
+    match bytes {
+        [0, ..] => Head::Shut,
+        [_, a, b, c, d, ..] => {
+            let next = at + FRAME as u64 + u64::from(u32::from_be_bytes([*a, *b, *c, *d]));
+            if next < END {
+                Head::Open(next)
+            } else {
+                Head::Cut
+            }
+        }
+        _ => Head::Cut,
+    }
+}

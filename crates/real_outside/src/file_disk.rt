@@ -1,0 +1,93 @@
+//! The journal's file as the disk of a run.
+ghost use Rattle.std.specs.Prelude.{◌≡◌, ◌≤◌};
+ghost use Rattle.disk_model.specs.Device.{Rose};
+
+use crate::folder::Folder;
+use crate::journal_file::{Access, JournalFile, Trouble};
+use disk_model::{Disk, Failed};
+
+/// A journal in a folder as a disk, which tells nothing of what it holds.
+///
+/// It is looked for at the first call, and made by the first write. What it promises, as far as the calls of the system keep their
+/// word:
+///
+/// - After a sync that answered Ok all that was written is on the medium, and the folder has the journal's name there.
+/// - What is found of a journal is on the medium once the first sync has answered Ok, even where an earlier program's sync failed: it is
+///   written over itself before. A stop at any moment leaves each byte as it was.
+/// - After a write or a sync that failed each call fails.
+/// - One program at a time may write it, and it fails at a sync where it was moved, removed or replaced meanwhile.
+/// - [`Access::Look`] writes nothing and makes none. It shows the journal as it counted at the first call, and what is shown is synced
+///   before, whoever writes meanwhile. Where an earlier program's sync failed, it may show what is in the memory of the system alone.
+/// - It takes no memory.
+///
+/// It promises nothing of a medium that answers Ok and loses what was written, nor of a program that writes the file and holds no lock.
+#[derive(Drop)]
+pub struct FileDisk<'a, D: Folder + Drop> {
+    file: JournalFile<'a, D>,
+    faults: u64,
+}
+
+impl<'a, D: Folder + Drop> FileDisk<'a, D> {
+    /// The journal of this name in the folder, for a command that does this with it. It has not failed yet.
+    pub fn new(folder: D, name: &'a str, access: Access) -> Self
+        ensures { result.faults ≡ 0 }
+    {
+        FileDisk {
+            file: JournalFile::new(folder, name, access),
+            faults: 0,
+        }
+    }
+
+    /// Why the journal can't be used, where that is no fault of its disk: it is said to a person beside the fault.
+    pub fn trouble(&self) -> Option<Trouble> {
+        self.file.trouble()
+    }
+
+    /// Counts an error.
+    fn fault(&mut self) -> Failed
+        ensures { (self.old.faults ≤ self.new.faults) × Rose self.old.faults self.new.faults }
+    {
+        self.faults = self.faults.saturating_add(1);
+        Failed
+    }
+}
+
+impl<D: Folder + Drop> Disk for FileDisk<'_, D> {
+    ghost use Rattle.real_outside.specs.Untold.{untold, untold_agrees};
+
+    ghost state = { λ disk. untold disk.faults };
+
+    ghost coherent = { λ disk. untold_agrees disk.faults };
+
+    fn faults(&self) -> u64 {
+        self.faults
+    }
+
+    fn len(&mut self) -> Result<u64, Failed> {
+        match self.file.length() {
+            Ok(count) => Ok(count),
+            Err(_) => Err(self.fault()),
+        }
+    }
+
+    fn read_at(&mut self, at: u64, into: &mut [u8]) -> Result<usize, Failed> {
+        match self.file.read_at(at, into) {
+            Ok(count) => Ok(count),
+            Err(_) => Err(self.fault()),
+        }
+    }
+
+    fn write_at(&mut self, at: u64, bytes: &[u8]) -> Result<(), Failed> {
+        match self.file.write_at(at, bytes) {
+            Ok(()) => Ok(()),
+            Err(_) => Err(self.fault()),
+        }
+    }
+
+    fn sync(&mut self) -> Result<(), Failed> {
+        match self.file.sync() {
+            Ok(()) => Ok(()),
+            Err(_) => Err(self.fault()),
+        }
+    }
+}

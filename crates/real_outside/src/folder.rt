@@ -1,0 +1,50 @@
+//! What a journal on a disk needs of the system.
+use std::io;
+use std::os::unix::fs::FileExt;
+
+/// Which file it is, whatever its name.
+#[derive(Clone, Copy, Debug, PartialEq, Eq)]
+pub struct Identity {
+    /// The device that it is on.
+    pub device: u64,
+    /// Its number there.
+    pub number: u64,
+}
+
+/// The folder that a journal is in. A call that a signal interrupted is made again.
+pub trait Folder {
+    /// An open file of the folder.
+    type File: RawFile;
+
+    /// Opens a file to be read and written. `NotFound` where there is none.
+    fn open(&self, name: &str) -> io::Result<Self::File>;
+
+    /// Opens a file to be read alone. `NotFound` where there is none.
+    fn open_to_read(&self, name: &str) -> io::Result<Self::File>;
+
+    /// Makes a file that is not there, and opens it to be read and written. `AlreadyExists` where there is one.
+    fn make(&self, name: &str) -> io::Result<Self::File>;
+
+    /// Which file has this name now. `NotFound` where none has it.
+    fn identity(&self, name: &str) -> io::Result<Identity>;
+
+    /// Puts on the medium which names the folder has.
+    fn sync(&self) -> io::Result<()>;
+}
+
+/// An open file, as the system has it. `read_at` and `write_at` may come to fewer bytes than they were asked for, or be `Interrupted`;
+/// the other calls are made again where a signal interrupted them. It is closed, and its lock with it, where it is dropped.
+pub trait RawFile: FileExt + Drop {
+    /// The number of bytes.
+    fn length(&self) -> io::Result<u64>;
+
+    /// Which file it is.
+    fn identity(&self) -> io::Result<Identity>;
+
+    /// Keeps every other from holding the file, up to the end of this one. False where another holds it; it does not wait.
+    fn hold(&self) -> io::Result<bool>;
+
+    /// Puts on the medium what was written. After an error the system may take what is not there for written, so that a later Ok, of
+    /// another opening of the file too, tells nothing of it.
+    fn sync(&self) -> io::Result<()>;
+}

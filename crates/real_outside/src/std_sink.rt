@@ -1,0 +1,84 @@
+//! Standard output.
+ghost use Rattle.std.specs.Prelude.{◌≡◌, None};
+
+use nc_outside::{PutFault, Sink};
+use std::io;
+use std::io::Write;
+
+/// Standard output. It tells nothing of what was written.
+#[derive(Drop)]
+pub struct StdSink<'a, R: Print> {
+    rt: &'a R,
+    faults: u64,
+}
+
+impl<'a, R: Print> StdSink<'a, R> {
+    /// It has not failed yet.
+    pub fn new(rt: &'a R) -> Self
+        ensures { result.faults ≡ 0 }
+    {
+        StdSink { rt, faults: 0 }
+    }
+}
+
+impl<R: Print> Sink for StdSink<'_, R> {
+    ghost state = { λ sink. record { written = None; faults = sink.faults } };
+
+    fn faults(&self) -> u64 {
+        self.faults
+    }
+
+    fn put(&mut self, piece: &[u8]) -> Result<(), PutFault> {
+        if write(self.rt, piece).is_err() {
+            self.faults = self.faults.saturating_add(1);
+            return Err(PutFault::Failed);
+        }
+        Ok(())
+    }
+}
+
+fn write<R: Print>(rt: &R, piece: &[u8]) -> io::Result<()> {
+    let mut out = io::writer(rt);
+    out.write_all(piece)?;
+    out.flush()
+}
+
+#[cfg(test)]
+mod tests {
+    use super::*;
+    use std::fmt::Display;
+    use std::io::ErrorKind;
+    use std::test::Fail;
+
+    // An output that is closed.
+    #[derive(Drop)]
+    struct Closed;
+
+    impl Print for Closed {
+        fn print<D: Display + Drop>(&self, _value: D) -> io::Result<()> {
+            Err(io::Error::from(ErrorKind::BrokenPipe))
+        }
+
+        fn println<D: Display + Drop>(&self, _value: D) -> io::Result<()> {
+            Err(io::Error::from(ErrorKind::BrokenPipe))
+        }
+
+        fn write_all(&self, _bytes: &[u8]) -> io::Result<()> {
+            Err(io::Error::from(ErrorKind::BrokenPipe))
+        }
+    }
+
+    #[test]
+    fn each_failed_write_is_counted(rt: HostRuntime) -> Result<(), Fail> {
+        let closed = Closed;
+        let mut sink = StdSink::new(&closed);
+        for count in 1..4u64 {
+            assert_eq!(rt; sink.put(b"end done\n"), Err(PutFault::Failed));
+            assert_eq!(rt; sink.faults(), count);
+        }
+        let mut open = StdSink::new(&rt);
+        assert_eq!(rt; open.put(b""), Ok(()));
+        assert_eq!(rt; open.faults(), 0);
+        Ok(())
+    }
+}

@@ -1,0 +1,105 @@
+//! The folder and the files of the operating system.
+use crate::folder::{Folder, Identity, RawFile};
+use std::fs::{File, Metadata, OpenFile};
+use std::io::ErrorKind;
+use std::os::unix::fs::{FileExt, MetadataExt};
+use std::rt::Files;
+use std::{fs, io};
+
+/// The current folder, by its name.
+const CURRENT: &str = ".";
+
+/// The current folder of the program.
+#[derive(Drop)]
+pub struct SystemFolder<'a, R: Files<File = File>> {
+    rt: &'a R,
+}
+
+impl<'a, R: Files<File = File>> SystemFolder<'a, R> {
+    /// The current folder, by this handle of the system.
+    pub fn new(rt: &'a R) -> Self {
+        SystemFolder { rt }
+    }
+}
+
+impl<R: Files<File = File>> Folder for SystemFolder<'_, R> {
+    type File = SystemFile;
+
+    fn open(&self, name: &str) -> io::Result<SystemFile> {
+        apart(File::options().read(true).write(true).open(self.rt, name)?)
+    }
+
+    /// What is no file is refused: a named pipe would be waited for.
+    fn open_to_read(&self, name: &str) -> io::Result<SystemFile> {
+        if !fs::metadata(self.rt, name)?.is_file() {
+            return Err(io::Error::from(ErrorKind::InvalidInput));
+        }
+        apart(File::open(self.rt, name)?)
+    }
+
+    fn make(&self, name: &str) -> io::Result<SystemFile> {
+        apart(File::create_new(self.rt, name)?)
+    }
+
+    fn identity(&self, name: &str) -> io::Result<Identity> {
+        Ok(identity_of(&fs::metadata(self.rt, name)?))
+    }
+
+    fn sync(&self) -> io::Result<()> {
+        let folder = File::open(self.rt, CURRENT)?;
+        folder.sync_all()
+    }
+}
+
+/// An open file of the operating system.
+#[derive(Drop)]
+pub struct SystemFile {
+    file: File,
+}
+
+/// The same file by a descriptor that is none of the three of the standard streams. Where one of those is closed the
+/// system gives its number to the next file that is opened, and a report would then be written into the journal.
+fn apart(file: File) -> io::Result<SystemFile> {
+    Ok(SystemFile {
+        file: file.try_clone()?,
+    })
+}
+
+fn identity_of(found: &Metadata) -> Identity {
+    Identity {
+        device: found.dev(),
+        number: found.ino(),
+    }
+}
+
+impl FileExt for SystemFile {
+    fn read_at(&self, buf: &mut [u8], offset: u64) -> io::Result<usize> {
+        self.file.read_at(buf, offset)
+    }
+
+    fn write_at(&self, buf: &[u8], offset: u64) -> io::Result<usize> {
+        self.file.write_at(buf, offset)
+    }
+}
+
+impl RawFile for SystemFile {
+    fn length(&self) -> io::Result<u64> {
+        Ok(self.file.metadata()?.len())
+    }
+
+    fn identity(&self) -> io::Result<Identity> {
+        Ok(identity_of(&self.file.metadata()?))
+    }
+
+    fn hold(&self) -> io::Result<bool> {
+        match self.file.try_lock() {
+            Ok(()) => Ok(true),
+            Err(fs::TryLockError::WouldBlock) => Ok(false),
+            Err(fs::TryLockError::Error(error)) => Err(error),
+        }
+    }
+
+    fn sync(&self) -> io::Result<()> {
+        self.file.sync_all()
+    }
+}
