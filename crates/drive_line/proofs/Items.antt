@@ -1,11 +1,11 @@
 -- The items of a line, one after the other: what the lists of them mean.
-use Rattle.std.proofs.Common.{arith, ◌≡◌, ◌≤◌, ◌+◌, ℕ, suc, List, true, false, true≢false, [], ◌∷◌, ◌++◌, length, take, refl, append_assoc, ap, sym, ◌∙◌, subst, Option, Some, None, All, Contains}
+use Rattle.std.proofs.Common.{arith, ◌≡◌, ◌≤◌, ◌+◌, ℕ, suc, Bool, List, true, false, true≢false, [], ◌∷◌, ◌++◌, length, take, refl, append_assoc, ap, sym, ◌∙◌, subst, All, Contains}
 use Rattle.std.proofs.lemmas.List.{append-nil, take-append-le, length-append}
 use Rattle.std.proofs.lemmas.List.Elements.{All-nil, All-cons, All-append, All-weaker, All-contains, Contains-append_left, Contains-append_right, Contains-push}
-use Rattle.nc_outside.specs.declared.motion.Move.{Move as Motion}
+use Rattle.nc_outside.specs.declared.lined_move.LinedMove.{LinedMove}
 use Rattle.drive_line.specs.declared.item.Item.{Item}
 use Rattle.drive_line.specs.declared.item.Item.TheVariants.{Move, Mark, End}
-use Rattle.drive_line.specs.Line.{moves_among, has_end, EndIsLast, mark_counts, IsNext, AreTaken, IsSending, IsTaking}
+use Rattle.drive_line.specs.Line.{moves_among, has_end, EndIsLast, mark_counts, AreTaken, IsSending, IsTaking}
 
 -- one more behind what stands behind the first
 pub push_behind : {X : Type 0} (first seen was now : List X) (x : X) → was ≡ first ++ seen → now ≡ was ++ x ∷ [] → now ≡ first ++ (seen ++ x ∷ [])
@@ -61,13 +61,13 @@ pub whole_of : (sent taken rest : List Item) → sent ≡ taken ++ rest → EndI
 whole_of sent taken rest e is ended =
     let none : rest ≡ [] = rest_is_none taken rest ended (subst EndIsLast e is) in sym (e ∙ ap (λ l. taken ++ l) none ∙ append-nil taken)
 
-pub open_move : (a b : List Item) (what : Motion) → b ≡ a ++ Move what ∷ [] → has_end a ≡ false → has_end b ≡ false
+pub open_move : (a b : List Item) (what : LinedMove) → b ≡ a ++ Move what ∷ [] → has_end a ≡ false → has_end b ≡ false
 open_move a b what e open_ = ap has_end e ∙ end_of_both a (Move what ∷ []) open_
 
 pub open_mark : (a b : List Item) → b ≡ a ++ Mark ∷ [] → has_end a ≡ false → has_end b ≡ false
 open_mark a b e open_ = ap has_end e ∙ end_of_both a (Mark ∷ []) open_
 
-pub kept_move : (n m : ℕ) (a b : List Item) (what : Motion) (received : List ℕ) → m ≡ n + 1 → b ≡ a ++ Move what ∷ [] → has_end a ≡ false
+pub kept_move : (n m : ℕ) (a b : List Item) (what : LinedMove) (received : List ℕ) → m ≡ n + 1 → b ≡ a ++ Move what ∷ [] → has_end a ≡ false
     → IsSending n a received → IsSending m b received
 kept_move n m a b what received more e open_ k =
     let longer = ap (λ l. length (moves_among l)) e ∙ ap length (moves_of_both a (Move what ∷ [])) ∙ length-append (moves_among a) (what ∷ []) in
@@ -119,83 +119,35 @@ taken_of sent taken rest received others e f answered =
     (low, sym (ap (take n) m ∙ take-append-le n moves (moves_among rest) low)))
     (mark_counts 0 sent) answered
 
--- nothing but marks
-abbrev pub AreMarks : List Item → Type 0
-AreMarks [] = Unit {0}
-AreMarks (Move what ∷ items) = ⊥
-AreMarks (Mark ∷ items) = AreMarks items
-AreMarks (End ∷ items) = ⊥
+-- one item more was taken: what the end of the drive keeps
+pub took_move : (n m : ℕ) (a b : List Item) (given : List ℕ) (what : LinedMove) → m ≡ n + 1 → b ≡ a ++ Move what ∷ [] → IsTaking n false false a given
+    → IsTaking m false false b given
+took_move n m a b given what more e k =
+    let longer = ap (λ l. length (moves_among l)) e ∙ ap length (moves_of_both a (Move what ∷ [])) ∙ length-append (moves_among a) (what ∷ []) in
+    let was = k.counted in record {
+      counted = omega (arith, more, was, longer);
+      ended = sym (ap has_end e ∙ end_of_both a (Move what ∷ []) (sym k.ended));
+      given_back = k.given_back ∙ sym (ap (mark_counts 0) e ∙ counts_of_both 0 a (Move what ∷ []) ∙ append-nil (mark_counts 0 a));
+    }
 
-pub marks_more : (a : List Item) → AreMarks a → AreMarks (a ++ Mark ∷ [])
-marks_more [] are = tt
-marks_more (Move what ∷ a) are = are
-marks_more (Mark ∷ a) are = marks_more a are
-marks_more (End ∷ a) are = are
+pub took_mark : (n : ℕ) (a b : List Item) (given : List ℕ) → b ≡ a ++ Mark ∷ [] → IsTaking n false false a given → IsTaking n false true b given
+took_mark n a b given e k = record {
+  counted = k.counted ∙ sym (ap (λ l. length (moves_among l)) e ∙ ap length (moves_of_both a (Mark ∷ []) ∙ append-nil (moves_among a)));
+  ended = sym (ap has_end e ∙ end_of_both a (Mark ∷ []) (sym k.ended));
+  given_back = ap (λ l. l ++ n ∷ []) (sym (append-nil given) ∙ k.given_back) ∙ sym (ap (mark_counts 0) e ∙ counts_behind n a (Mark ∷ []) k.counted);
+}
 
-pub marks_then : (a b : List Item) (answer : Option Motion) → AreMarks a → IsNext b answer → IsNext (a ++ b) answer
-marks_then [] b answer are is = is
-marks_then (Move what ∷ a) b answer are is = absurd are
-marks_then (Mark ∷ a) b answer are is = marks_then a b answer are is
-marks_then (End ∷ a) b answer are is = absurd are
+pub took_end : (n : ℕ) (a b : List Item) (given : List ℕ) → b ≡ a ++ End ∷ [] → IsTaking n false false a given → IsTaking n true false b given
+took_end n a b given e k = record {
+  counted = k.counted ∙ sym (ap (λ l. length (moves_among l)) e ∙ ap length (moves_of_both a (End ∷ []) ∙ append-nil (moves_among a)));
+  ended = sym (ap has_end e ∙ end_of_both a (End ∷ []) (sym k.ended));
+  given_back = k.given_back ∙ sym (ap (mark_counts 0) e ∙ counts_of_both 0 a (End ∷ []) ∙ append-nil (mark_counts 0 a));
+}
 
--- the counts of marks do not change behind marks
-pub counts_of_marks : (n : ℕ) (a b : List Item) → AreMarks a → mark_counts n (a ++ b) ≡ mark_counts n a ++ mark_counts n b
-counts_of_marks n [] b are = refl
-counts_of_marks n (Move what ∷ a) b are = absurd are
-counts_of_marks n (Mark ∷ a) b are = ap (λ l. n ∷ l) (counts_of_marks n a b are)
-counts_of_marks n (End ∷ a) b are = absurd are
-
--- what is no mark adds none
-pub counts_stay : (n : ℕ) (first now : List ℕ) (seen : List Item) (x : Item) → AreMarks seen → mark_counts n (x ∷ []) ≡ []
-    → now ≡ first ++ mark_counts n seen → now ≡ first ++ mark_counts n (seen ++ x ∷ [])
-counts_stay n first now seen x are none e =
-    let same : mark_counts n (seen ++ x ∷ []) ≡ mark_counts n seen =
-    counts_of_marks n seen (x ∷ []) are ∙ ap (λ l. mark_counts n seen ++ l) none ∙ append-nil (mark_counts n seen) in
-    e ∙ ap (λ l. first ++ l) (sym same)
-
-pub next_move : (next : List Item) (what : Motion) → IsNext next (Some what) → (moves_among next ≡ what ∷ []) × (has_end next ≡ false)
-next_move [] what is = absurd is
-next_move (Move x ∷ next) what is = let same : x ≡ what = cc is.1 in (ap (λ l. x ∷ moves_among l) is.0 ∙ ap (λ m. m ∷ []) same, ap has_end is.0)
-next_move (Mark ∷ next) what is = next_move next what is
-next_move (End ∷ next) what is = absurd (cc is.1)
-
-pub next_end : (next : List Item) → IsNext next None → (moves_among next ≡ []) × (has_end next ≡ true)
-next_end [] is = absurd is
-next_end (Move x ∷ next) is = absurd (cc is.1)
-next_end (Mark ∷ next) is = next_end next is
-next_end (End ∷ next) is = (ap moves_among is.0, refl)
-
-read_more : (n : ℕ) (old new next : List Item) (before after : List ℕ) → n ≡ length (moves_among old) → before ≡ mark_counts 0 old → new ≡ old ++ next
-    → after ≡ before ++ mark_counts n next → after ≡ mark_counts 0 new
-read_more n old new next before after counted given e f =
-    f ∙ ap (λ l. l ++ mark_counts n next) given ∙ sym (counts_behind n old next counted) ∙ ap (mark_counts 0) (sym e)
-
--- marks and a move were read
-pub read_move : (n m : ℕ) (old new next : List Item) (before after : List ℕ) (what : Motion) → m ≡ n + 1 → IsTaking n false old before → new ≡ old ++ next
-    → after ≡ before ++ mark_counts n next → IsNext next (Some what) → IsTaking m false new after × (moves_among new ≡ moves_among old ++ what ∷ [])
-read_move n m old new next before after what more k e f is =
-    let one = next_move next what is in
-    let moves : moves_among new ≡ moves_among old ++ what ∷ [] = ap moves_among e ∙ moves_of_both old next ∙ ap (λ l. moves_among old ++ l) one.0 in
-    let longer = ap length moves ∙ length-append (moves_among old) (what ∷ []) in
-    let was = k.counted in (
-      record {
-        counted = omega (arith, more, was, longer);
-        ended = sym (ap has_end e ∙ end_of_both old next (sym k.ended) ∙ one.1);
-        given_back = read_more n old new next before after was k.given_back e f;
-      },
-      moves,
-    )
-
--- marks and the end were read
-pub read_end : (n : ℕ) (old new next : List Item) (before after : List ℕ) → IsTaking n false old before → new ≡ old ++ next
-    → after ≡ before ++ mark_counts n next → IsNext next None → IsTaking n true new after × (moves_among new ≡ moves_among old)
-read_end n old new next before after k e f is =
-    let one = next_end next is in
-    let moves : moves_among new ≡ moves_among old = ap moves_among e ∙ moves_of_both old next ∙ ap (λ l. moves_among old ++ l) one.0 ∙ append-nil (moves_among old) in (
-      record {
-        counted = k.counted ∙ ap length (sym moves);
-        ended = sym (ap has_end e ∙ end_of_both old next (sym k.ended) ∙ one.1);
-        given_back = read_more n old new next before after k.counted k.given_back e f;
-      },
-      moves,
-    )
+-- the mark that was taken last was answered
+pub answered : (n : ℕ) (ended : Bool) (a : List Item) (before after : List ℕ) → after ≡ before ++ n ∷ [] → IsTaking n ended true a before → IsTaking n ended false a after
+answered n ended a before after e k = record {
+  counted = k.counted;
+  ended = k.ended;
+  given_back = append-nil after ∙ e ∙ k.given_back;
+}

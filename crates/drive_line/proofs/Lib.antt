@@ -1,2 +1,4 @@
+pub mod Adding
 pub mod Items
 pub mod Orders
+pub mod Serving

@@ -1,4 +1,5 @@
 -- What callers read.
+pub mod Driving
 pub mod Line
 -- Words of the inside.
 pub mod Wire

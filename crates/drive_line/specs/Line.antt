@@ -1,6 +1,6 @@
 -- What the two ends of a drive line mean.
-use Rattle.std.specs.Prelude.{◌≡◌, ◌≤◌, ℕ, suc, Bool, true, false, MatchBool, List, [], ◌∷◌, ◌++◌, length, take, Option, Some, None, All, Contains}
-use Rattle.nc_outside.specs.declared.motion.Move.{Move as Motion}
+use Rattle.std.specs.Prelude.{◌≡◌, ◌≤◌, ℕ, ◌+◌, suc, Bool, true, false, MatchBool, List, [], ◌∷◌, ◌++◌, length, take, All, Contains, if◌then◌else◌}
+use Rattle.nc_outside.specs.declared.lined_move.LinedMove.{LinedMove}
 use Rattle.drive_line.specs.declared.item.Item.{Item}
 use Rattle.drive_line.specs.declared.item.Item.TheVariants.{Move, Mark, End}
 use Rattle.drive_line.specs.Wire.{WireId}
@@ -16,13 +16,15 @@ pub record Sending : Type 0 where
   pub items : List Item
   pub received : List ℕ
 
--- The end of the drive: the items that it took. It answered each mark among them, as `mark_counts` says.
+-- The end of the drive: the items that it took, and whether the last of them is a mark that was not answered yet. It answered each
+-- other mark among them, as `mark_counts` says.
 pub record Taking : Type 0 where
   pub line : LineId
   pub items : List Item
+  pub asked : Bool
 
 -- the moves among these items
-abbrev pub moves_among : List Item → List Motion
+abbrev pub moves_among : List Item → List LinedMove
 moves_among [] = []
 moves_among (Move what ∷ items) = what ∷ moves_among items
 moves_among (Mark ∷ items) = moves_among items
@@ -42,6 +44,11 @@ has_end (Move what ∷ items) = has_end items
 has_end (Mark ∷ items) = has_end items
 has_end (End ∷ items) = true
 
+abbrev pub is_mark : Item → Bool
+is_mark (Move what) = false
+is_mark Mark = true
+is_mark End = false
+
 -- nothing stands behind the end
 abbrev pub EndIsLast : List Item → Type 0
 EndIsLast [] = Unit {0}
@@ -55,11 +62,16 @@ pub record IsSending (n : ℕ) (items : List Item) (received : List ℕ) : Type 
   pub last : EndIsLast items
   pub answered : All (Contains received) (mark_counts 0 items)
 
--- What the end of the drive keeps, which counts n moves and knows whether it took the end: it answered each mark.
-pub record IsTaking (n : ℕ) (is_ended : Bool) (items : List Item) (given : List ℕ) : Type 0 where
+-- the answer that is still to be given
+abbrev pub owed : Bool → ℕ → List ℕ
+owed asked n = if asked then n ∷ [] else []
+
+-- What the end of the drive keeps, which counts n moves and knows whether it took the end and whether it owes an answer: it gave the
+-- others.
+pub record IsTaking (n : ℕ) (is_ended asked : Bool) (items : List Item) (given : List ℕ) : Type 0 where
   pub counted : n ≡ length (moves_among items)
   pub ended : is_ended ≡ has_end items
-  pub given_back : given ≡ mark_counts 0 items
+  pub given_back : given ++ owed asked n ≡ mark_counts 0 items
 
 -- A drain behind so many moves: it sent a mark, and received answers up to one with that number.
 pub record IsDrained (old new : Sending) (n : ℕ) : Type 0 where
@@ -68,17 +80,9 @@ pub record IsDrained (old new : Sending) (n : ℕ) : Type 0 where
   pub count : n ≡ length (moves_among old.items)
   pub received : (others : List ℕ) × (new.received ≡ old.received ++ (others ++ n ∷ []))
 
--- these are marks, and behind them the move that is answered, or the end where none is
-abbrev pub IsNext : List Item → Option Motion → Type 0
-IsNext [] answer = ⊥
-IsNext (Move what ∷ items) answer = (items ≡ []) × (answer ≡ Some what)
-IsNext (Mark ∷ items) answer = IsNext items answer
-IsNext (End ∷ items) answer = (items ≡ []) × (answer ≡ None)
-
--- one `take` reads the next items; behind the end it reads none
-abbrev pub Reads : List Item → List Item → Option Motion → Type 0
-Reads old new answer =
-    MatchBool (has_end old) ((new ≡ old) × (answer ≡ None)) ((next : List Item) × (new ≡ old ++ next) × IsNext next answer)
+-- one `take` gives the next item; behind the end it gives the end once more
+abbrev pub Takes : List Item → List Item → Item → Type 0
+Takes old new item = MatchBool (has_end old) ((new ≡ old) × (item ≡ End)) (new ≡ old ++ item ∷ [])
 
 -- the first n moves that were sent were taken
 abbrev pub AreTaken : List Item → List Item → ℕ → Type 0

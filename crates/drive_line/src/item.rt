@@ -1,12 +1,12 @@
 //! What goes along a line.
-use nc_outside::Move;
+use nc_outside::LinedMove;
 
 /// What the worker of a path sends to the drive of its turret.
 #[derive(Clone, Copy, Debug, PartialEq, Eq)]
 pub enum Item {
     /// A move for the turret.
-    Move(Move),
-    /// The drive is to answer how many moves it has taken.
+    Move(LinedMove),
+    /// The drive is to answer how many moves it has taken, once its turret stands still behind them.
     Mark,
     /// Nothing comes behind it.
     End,

@@ -1,28 +1,29 @@
 //! A line, made and put together again.
-ghost use Rattle.std.specs.Prelude.{◌≡◌, ◌<◌, ℕ, List, [], ◌++◌, All, IfOk, IsTrue};
-ghost use Rattle.nc_outside.specs.declared.motion.Move.{Move as Motion};
+ghost use Rattle.std.specs.Prelude.{◌≡◌, ◌<◌, ℕ, List, false, [], ◌++◌, All, IfOk, IsTrue};
+ghost use Rattle.nc_outside.specs.declared.lined_move.LinedMove.{LinedMove};
 ghost use Rattle.drive_line.specs.declared.item.Item.{Item as Sent};
 ghost use Rattle.drive_line.specs.Line.{moves_among, mark_counts, has_end, AreTaken};
 
 use crate::wire::{close_wire, new_wire};
 use crate::{Item, LineIn, LineOut};
 use nc_number::NoMemory;
+use nc_outside::Turret;
 use std::alloc::Global;
 
-/// A line from a worker to a drive. There is no value of it: it is made of its two ends.
+/// A line from a worker to the drive of a turret. There is no value of it: it is made of its two ends.
 pub struct Line;
 
 impl Line {
     /// The two ends of a new line, along which nothing went yet. It holds at most `bound` items.
-    pub fn new<'r, R>(
+    pub fn new<'r, R, T: Turret>(
         rt: &'r R,
         alloc: Global,
         bound: usize,
-    ) -> Result<(LineIn<'r, R>, LineOut<'r, R>), NoMemory>
+    ) -> Result<(LineIn<'r, R>, LineOut<'r, R, T>), NoMemory>
         requires { 0 < bound }
         ensures one { IfOk result (λ r. r.0.line ≡ r.1.line) }
         ensures sending { IfOk result (λ r. (r.0.items ≡ []) × (r.0.received ≡ [])) }
-        ensures taking { IfOk result (λ r. r.1.items ≡ []) }
+        ensures taking { IfOk result (λ r. (r.1.items ≡ []) × (r.1.asked ≡ false)) }
         ensures bound { IfOk result (λ r. (r.0.line.forth.bound ≡ bound) × (r.0.line.back.bound ≡ bound)) }
     {
         let (to_drive, from_worker) = new_wire::<Item>(alloc, bound)?;
@@ -35,10 +36,10 @@ impl Line {
 
 /// Puts the two ends of a line together, and answers whether the end was taken. What was taken is a beginning of what was
 /// sent, the answers received are a beginning of those given, and what was sent before a drain that returned was taken.
-pub fn close_line<R>(sending: LineIn<'_, R>, taking: LineOut<'_, R>) -> bool
+pub fn close_line<R, T: Turret>(sending: LineIn<'_, R>, taking: LineOut<'_, R, T>) -> bool
     requires { sending.line ≡ taking.line }
     ensures items { (rest : List Sent) × (sending.entry.items ≡ taking.entry.items ++ rest) }
-    ensures moves { (rest : List Motion) × (moves_among sending.entry.items ≡ moves_among taking.entry.items ++ rest) }
+    ensures moves { (rest : List LinedMove) × (moves_among sending.entry.items ≡ moves_among taking.entry.items ++ rest) }
     ensures received { (rest : List ℕ) × (mark_counts 0 taking.entry.items ≡ sending.entry.received ++ rest) }
     ensures drained { All (AreTaken sending.entry.items taking.entry.items) (mark_counts 0 sending.entry.items) }
     ensures ended { result ≡ has_end taking.entry.items }

@@ -3,10 +3,25 @@ ghost use Rattle.std.specs.Prelude.{◌≡◌, ℕ, List, false, [], ◌∷◌, 
 ghost use Rattle.drive_line.specs.Line.{has_end, mark_counts, EndIsLast, IsDrained};
 
 use crate::Item;
+use crate::counting::next_count;
 use crate::wire::{WireIn, WireOut};
-use nc_outside::{Drained, Drains, Move};
+use nc_outside::{Drain, LinedMove};
 use std::marker::Model;
 use std::sync::Wait;
+
+/// A line was drained behind so many moves. Only `LineIn::drain` makes one, and nothing makes a second of it.
+#[derive(Debug, Drop)]
+pub struct Drained {
+    count: u64,
+}
+
+impl Drain for Drained {
+    ghost count = { λ d. d.count };
+
+    fn count(&self) -> u64 {
+        self.count
+    }
+}
 
 /// The end at which a worker sends. It means its line, the items that it sent and the answers that it received. Nothing is
 /// sent behind the end, and each mark that was sent has been answered.
@@ -63,7 +78,7 @@ impl<'r, R> LineIn<'r, R> {
 
 impl<'r, R: Wait> LineIn<'r, R> {
     /// Sends a move behind those that were sent. Where the line is full it waits, and past 2^64 - 1 moves for ever.
-    pub fn send(&mut self, what: Move)
+    pub fn send(&mut self, what: LinedMove)
         requires { has_end self.old.items ≡ false }
         ensures line { self.new.line ≡ self.old.line }
         ensures items { self.new.items ≡ self.old.items ++ Item.Move what ∷ [] }
@@ -80,7 +95,9 @@ impl<'r, R: Wait> LineIn<'r, R> {
         ensures drained { IsDrained self.old self.new result.count }
         ensures open { has_end self.new.items ≡ false }
     {
-        Drained::by(self)
+        self.forth.send(self.rt, Item::Mark);
+        await_answer(self.rt, &mut self.back, self.sent);
+        Drained { count: self.sent }
     }
 
     /// Sends the end. Where the line is full it waits.
@@ -94,21 +111,6 @@ impl<'r, R: Wait> LineIn<'r, R> {
     }
 }
 
-impl<'r, R: Wait> Drains for LineIn<'r, R> {
-    ghost use Rattle.std.specs.Prelude.{◌≡◌, false};
-    ghost use Rattle.drive_line.specs.Line.{IsDrained, has_end};
-
-    ghost drains = { IsDrained };
-
-    ghost can_drain = { λ l. has_end l.items ≡ false };
-
-    fn drain_now(&mut self) -> u64 {
-        self.forth.send(self.rt, Item::Mark);
-        await_answer(self.rt, &mut self.back, self.sent);
-        self.sent
-    }
-}
-
 // Takes answers until one is this number.
 fn await_answer<R: Wait>(rt: &R, back: &mut WireOut<u64>, count: u64)
     ensures wire { back.new.wire ≡ back.old.wire }
@@ -117,18 +119,6 @@ fn await_answer<R: Wait>(rt: &R, back: &mut WireOut<u64>, count: u64)
     for _ in rt.forever() {
         if back.take(rt) == count {
             return;
-        }
-    }
-    unreachable!()
-}
-
-/// One more. Past the last number it does not return.
-pub(crate) fn next_count<R: Wait>(rt: &R, count: u64) -> u64
-    ensures { result ≡ count + 1 }
-{
-    for _ in rt.forever() {
-        if let Some(next) = count.checked_add(1) {
-            return next;
         }
     }
     unreachable!()

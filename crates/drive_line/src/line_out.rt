@@ -1,27 +1,29 @@
 //! The end of a line at which the drive of a turret takes.
-ghost use Rattle.std.specs.Prelude.{◌≡◌, ℕ, List, Option, true, false, [], ◌∷◌, ◌++◌, MatchOption};
-ghost use Rattle.drive_line.specs.declared.item.Item.{Item as Sent};
-ghost use Rattle.drive_line.specs.Line.{moves_among, mark_counts, has_end, IsNext, Reads};
+ghost use Rattle.std.specs.Prelude.{◌≡◌, ◌++◌, [], true, false, length, List, ℕ};
+ghost use Rattle.drive_line.specs.Driving.{IsAtRest};
+ghost use Rattle.drive_line.specs.Line.{moves_among, mark_counts, has_end, is_mark, Takes};
 
-use crate::Item;
-use crate::line_in::next_count;
+use crate::counting::next_count;
 use crate::wire::{WireIn, WireOut};
-use nc_outside::Move;
-use std::marker::Model;
+use crate::{Driven, Item};
+use nc_outside::Turret;
+use std::marker::{Model, PhantomData};
 use std::sync::Wait;
 
-/// The end at which a drive takes. It means its line and the items that it took, of which it answered each mark with the
-/// number of the moves that it took before.
+/// The end at which the drive of a turret takes. It means its line, the items that it took, and whether it owes an answer to the
+/// last, a mark. It answered each other mark with the number of the moves that it took before.
 #[derive(Drop)]
-pub struct LineOut<'r, R> {
+pub struct LineOut<'r, R, T: Turret> {
     rt: &'r R,
     forth: WireOut<Item>,
     back: WireIn<u64>,
     taken: u64,
     ended: bool,
+    asked: bool,
+    of: PhantomData<T>,
 }
 
-impl<'r, R> Model for LineOut<'r, R> {
+impl<'r, R, T: Turret> Model for LineOut<'r, R, T> {
     ghost use Rattle.drive_line.specs.Line.{Taking, IsTaking};
 
     ghost Value = { Taking };
@@ -29,16 +31,21 @@ impl<'r, R> Model for LineOut<'r, R> {
     ghost view = { λ l. record {
       line = record { forth = l.forth.wire; back = l.back.wire };
       items = l.forth.items;
+      asked = l.asked;
     } };
 
-    ghost invariant = { λ l. IsTaking l.taken l.ended l.forth.items l.back.items };
+    ghost invariant = { λ l. IsTaking l.taken l.ended l.asked l.forth.items l.back.items };
 }
 
-impl<'r, R> LineOut<'r, R> {
+impl<'r, R, T: Turret> LineOut<'r, R, T> {
     /// The end of a new line over these two wires.
     pub(crate) fn over(rt: &'r R, forth: WireOut<Item>, back: WireIn<u64>) -> Self
         requires { (forth.items ≡ []) × (back.items ≡ []) }
-        ensures { result ≡ record { line = record { forth = forth.wire; back = back.wire }; items = [] } }
+        ensures { result ≡ record {
+          line = record { forth = forth.wire; back = back.wire };
+          items = [];
+          asked = false;
+        } }
     {
         LineOut {
             rt,
@@ -46,6 +53,8 @@ impl<'r, R> LineOut<'r, R> {
             back,
             taken: 0,
             ended: false,
+            asked: false,
+            of: PhantomData,
         }
     }
 
@@ -53,56 +62,45 @@ impl<'r, R> LineOut<'r, R> {
     pub(crate) fn into_wires(self) -> (WireOut<Item>, WireIn<u64>, bool)
         ensures line { self.entry.line ≡ record { forth = result.0.wire; back = result.1.wire } }
         ensures items { result.0.items ≡ self.entry.items }
-        ensures given { result.1.items ≡ mark_counts 0 self.entry.items }
+        ensures given { (rest : List ℕ) × (mark_counts 0 self.entry.items ≡ result.1.items ++ rest) }
         ensures ended { result.2 ≡ has_end self.entry.items }
     {
         (self.forth, self.back, self.ended)
     }
 }
 
-impl<'r, R: Wait> LineOut<'r, R> {
-    /// The next move, or None where the end was taken. It answers each mark that it meets before with the number of the
-    /// moves that earlier calls took. Where the line is empty it waits.
-    pub fn take(&mut self) -> Option<Move>
+impl<'r, R: Wait, T: Turret> LineOut<'r, R, T> {
+    /// The next item, and the end again behind the end. Where the line is empty it waits. A mark is to be answered before the
+    /// next is taken.
+    pub fn take(&mut self) -> Item
+        requires { self.old.asked ≡ false }
         ensures line { self.new.line ≡ self.old.line }
-        ensures read { Reads self.old.items self.new.items result }
-        ensures taken { MatchOption result (moves_among self.new.items ≡ moves_among self.old.items)
-            (λ what. moves_among self.new.items ≡ moves_among self.old.items ++ what ∷ []) }
-        ensures ended { MatchOption result (has_end self.new.items ≡ true) (λ what. has_end self.new.items ≡ false) }
+        ensures taken { Takes self.old.items self.new.items result }
+        ensures asked { self.new.asked ≡ is_mark result }
     {
         if self.ended {
-            return None;
+            return Item::End;
         }
-        match next_move(self.rt, &mut self.forth, &mut self.back, self.taken) {
-            Some(what) => {
-                self.taken = next_count(self.rt, self.taken);
-                Some(what)
-            }
-            None => {
-                self.ended = true;
-                None
-            }
+        let item = self.forth.take(self.rt);
+        match item {
+            Item::Move(_) => self.taken = next_count(self.rt, self.taken),
+            Item::Mark => self.asked = true,
+            Item::End => self.ended = true,
         }
+        item
     }
-}
 
-// The next move, or None at the end. Each mark before it is answered with the count.
-fn next_move<R: Wait>(
-    rt: &R,
-    forth: &mut WireOut<Item>,
-    back: &mut WireIn<u64>,
-    count: u64,
-) -> Option<Move>
-    ensures wires { (forth.new.wire ≡ forth.old.wire) × (back.new.wire ≡ back.old.wire) }
-    ensures items { (next : List Sent) × (forth.new.items ≡ forth.old.items ++ next)
-        × (back.new.items ≡ back.old.items ++ mark_counts count next) × IsNext next result }
-{
-    for _ in rt.forever() {
-        match forth.take(rt) {
-            Item::Move(what) => return Some(what),
-            Item::Mark => back.send(rt, count),
-            Item::End => return None,
-        }
+    /// Answers a mark with the number of the moves that were taken. Its turret took all of them and stands still behind them,
+    /// or it failed and the run was halted for that.
+    pub fn answer(&mut self, driven: &Driven<T>)
+        requires asked { self.old.asked ≡ true }
+        requires rest { IsAtRest driven.now (length (moves_among self.old.items)) }
+        ensures line { self.new.line ≡ self.old.line }
+        ensures items { self.new.items ≡ self.old.items }
+        ensures answered { self.new.asked ≡ false }
+    {
+        let _ = driven;
+        self.back.send(self.rt, self.taken);
+        self.asked = false;
     }
-    unreachable!()
 }

@@ -1,4 +1,4 @@
-use Rattle.std.proofs.Common.{◌≡◌, ◌++◌, ◌∙◌, ap, sym}
+use Rattle.std.proofs.Common.{◌≡◌, ◌++◌, ◌∙◌, ap, sym, append_assoc}
 use Rattle.drive_line.specs.Line.{moves_among, mark_counts}
 use Rattle.drive_line.proofs.Items.{moves_of_both, whole_of, taken_of}
 use Rattle.drive_line.proofs.line.close_line.Goals as goal
@@ -17,10 +17,12 @@ returns-clause-drained g c =
     let taken = c.args.taking.items in
     let received = c.args.sending.received in
     let rest = c.close_wire.ensures.0 in
-    let others = c.close_wire-2.ensures.0 in
+    let given = c.into_wires-from_worker.ensures.given in
+    let others = c.close_wire-2.ensures.0 ++ given.0 in
     let e : sent ≡ taken ++ rest = sym c.into_wires-to_drive.ensures.items.0 ∙ c.close_wire.ensures.1 ∙ ap (λ l. l ++ rest) c.into_wires-from_worker.ensures.items in
     let f : mark_counts 0 taken ≡ received ++ others =
-    sym c.into_wires-from_worker.ensures.given ∙ c.close_wire-2.ensures.1 ∙ ap (λ l. l ++ others) c.into_wires-to_drive.ensures.items.1 in
+    given.1 ∙ ap (λ l. l ++ given.0) (c.close_wire-2.ensures.1 ∙ ap (λ l. l ++ c.close_wire-2.ensures.0) c.into_wires-to_drive.ensures.items.1)
+    ∙ append_assoc received c.close_wire-2.ensures.0 given.0 in
     taken_of sent taken rest received others e f c.into_wires-to_drive.ensures.answered
 
 pub returns-clause-whole : goal.returns-clause-whole
@@ -30,3 +32,12 @@ returns-clause-whole g c is =
     let rest = c.close_wire.ensures.0 in
     let e : sent ≡ taken ++ rest = sym c.into_wires-to_drive.ensures.items.0 ∙ c.close_wire.ensures.1 ∙ ap (λ l. l ++ rest) c.into_wires-from_worker.ensures.items in
     whole_of sent taken rest e c.into_wires-to_drive.ensures.last (sym c.into_wires-from_worker.ensures.ended ∙ is)
+
+pub returns-clause-received : goal.returns-clause-received
+returns-clause-received g c =
+    let given = c.into_wires-from_worker.ensures.given in
+    let received = c.args.sending.received in (
+      c.close_wire-2.ensures.0 ++ given.0,
+      given.1 ∙ ap (λ l. l ++ given.0) (c.close_wire-2.ensures.1 ∙ ap (λ l. l ++ c.close_wire-2.ensures.0) c.into_wires-to_drive.ensures.items.1)
+          ∙ append_assoc received c.close_wire-2.ensures.0 given.0,
+    )

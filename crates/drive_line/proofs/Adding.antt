@@ -1,0 +1,28 @@
+-- What a turret got in several calls, one after another.
+use Rattle.std.proofs.Common.{arith, ◌≡◌, ◌+◌, ℕ, zero, suc, List, [], ◌++◌, refl, ap, sym, ◌∙◌, append_assoc, Option, Some, None}
+use Rattle.std.proofs.lemmas.List.{append-nil}
+use Rattle.nc_outside.specs.declared.got.Got.{Got}
+use Rattle.nc_outside.specs.Faults.{next}
+use Rattle.nc_outside.specs.Received.{Received, Adds, counted_on}
+
+-- so many calls, and then so many more
+counted_both : (calls n m : ℕ) → counted_on (counted_on calls n) m ≡ counted_on calls (n + m)
+unfolding counted_on
+counted_both calls n zero = let e : n ≡ n + 0 = omega arith in ap (counted_on calls) e
+counted_both calls n (suc m) = let e : suc (n + m) ≡ n + suc m = omega arith in ap next (counted_both calls n m) ∙ ap (counted_on calls) e
+
+pub adds_none : (a : Option Received) → Adds a a [] 0 0
+unfolding counted_on
+adds_none None = refl
+adds_none (Some was) = ap (λ l. Some (record { got = l; calls = was.calls; settles = was.settles })) (sym (append-nil was.got))
+
+pub adds_both : (a b c : Option Received) (xs ys : List Got) (n m s t : ℕ) → Adds a b xs n s → Adds b c ys m t → Adds a c (xs ++ ys) (n + m) (s + t)
+adds_both None None c xs ys n m s t p q = q
+adds_both None (Some was) c xs ys n m s t p q = absurd (cc p)
+adds_both (Some was) None c xs ys n m s t p q = absurd (cc p)
+adds_both (Some was) (Some is) c xs ys n m s t p q =
+    let e : is ≡ record { got = was.got ++ xs; calls = counted_on was.calls n; settles = counted_on was.settles s } = cc p in
+    q ∙ ap (λ (r : Received). Some (record { got = r.got ++ ys; calls = counted_on r.calls m; settles = counted_on r.settles t })) e
+    ∙ ap (λ l. Some (record { got = l; calls = counted_on (counted_on was.calls n) m; settles = counted_on (counted_on was.settles s) t })) (append_assoc was.got xs ys)
+    ∙ ap (λ k. Some (record { got = was.got ++ (xs ++ ys); calls = k; settles = counted_on (counted_on was.settles s) t })) (counted_both was.calls n m)
+    ∙ ap (λ k. Some (record { got = was.got ++ (xs ++ ys); calls = counted_on was.calls (n + m); settles = k })) (counted_both was.settles s t)

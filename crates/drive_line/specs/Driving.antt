@@ -1,0 +1,59 @@
+-- What the drive of a turret knows of it.
+use Rattle.std.specs.Prelude.{◌≡◌, ◌⊎◌, ◌≤◌, ℕ, ◌+◌, Bool, true, false, IsTrue, List, [], length, map, take}
+use Rattle.nc_number.specs.declared.path.Path.{Path}
+use Rattle.nc_outside.specs.declared.got.Got.TheVariants.{Moved}
+use Rattle.nc_outside.specs.declared.lined_move.LinedMove.{LinedMove}
+use Rattle.nc_outside.specs.Faults.{CountsFault}
+use Rattle.nc_outside.specs.Received.{TurretState, Adds, Settles}
+use Rattle.drive_line.specs.declared.phase.Phase.{Phase}
+use Rattle.drive_line.specs.declared.phase.Phase.TheVariants.{Moving, Still, Failed, Halted}
+
+-- A turret as its drive has it: its state, how many moves it took, how many it missed since it failed, and how it stands.
+pub record DrivenState : Type 0 where
+  pub state : TurretState
+  pub taken : ℕ
+  pub missed : ℕ
+  pub phase : Phase
+
+-- a turret that was handed nothing
+abbrev pub fresh : TurretState → DrivenState
+fresh state = record { state = state; taken = 0; missed = 0; phase = Moving }
+
+abbrev pub has_failed : Phase → Bool
+has_failed Moving = false
+has_failed Still = false
+has_failed Failed = true
+has_failed Halted = true
+
+-- the turret took so many moves and stands still behind them, or it failed and the run was halted for that
+abbrev pub IsAtRest : DrivenState → ℕ → Type 0
+IsAtRest driven n = ((driven.phase ≡ Still) × (driven.taken ≡ n)) ⊎ (driven.phase ≡ Halted)
+
+-- a turret that was handed a move may be on its way, or has failed
+abbrev pub HasMoved : Phase → Type 0
+HasMoved phase = (phase ≡ Moving) ⊎ (phase ≡ Failed)
+
+-- what a settle does to the turret: one that may be on its way is called once, and one that stands still or has failed is not
+abbrev pub SettlesFrom : Phase → TurretState → TurretState → Type 0
+SettlesFrom Moving old new = Settles old new
+SettlesFrom Still old new = new ≡ old
+SettlesFrom Failed old new = new ≡ old
+SettlesFrom Halted old new = new ≡ old
+
+-- at most one call more, where it failed
+abbrev pub most : Bool → ℕ
+most true = 1
+most false = 0
+
+-- A turret that was to get these moves took the first of them, in order and a call each, and missed the others: none, unless it
+-- failed, at a call for the next move or at a settle. One that stands still was told to settle.
+pub record Serves (moves : List LinedMove) (old : TurretState) (driven : DrivenState) : Type 0 where
+  pub all : driven.taken + driven.missed ≡ length moves
+  pub none : has_failed driven.phase ≡ false → driven.missed ≡ 0
+  pub at_call : ℕ  -- how many calls failed
+  pub settles : ℕ
+  pub few : at_call ≤ most (has_failed driven.phase)
+  pub within : at_call ≤ driven.missed
+  pub settled : driven.phase ≡ Still → 1 ≤ settles
+  pub received : Adds old.received driven.state.received (map Moved (take driven.taken moves)) (driven.taken + at_call) settles
+  pub counted : CountsFault old.faults driven.state.faults (IsTrue (has_failed driven.phase))

@@ -1,0 +1,14 @@
+//! How a turret stands.
+
+/// How a turret stands, as its drive knows it.
+#[derive(Clone, Copy, Debug, PartialEq, Eq)]
+pub enum Phase {
+    /// Moves that it took may be on their way.
+    Moving,
+    /// It stands still behind all that it took.
+    Still,
+    /// It failed.
+    Failed,
+    /// It failed, and the run was halted for that.
+    Halted,
+}

@@ -1,0 +1,76 @@
+//! A program with a turret of its own: it runs the pair of tapes that lies beside it, and says what each turret got.
+//!
+//! A real turret drives its axes in `hand`. It may queue moves and look ahead: `settle` waits until it stands still, and is called
+//! before the path comes to a wait, and at the end. A call that fails stops the run, and is counted.
+#![tactic(auto)]
+
+use lathe_top::{Lathe, top};
+use nc_number::Point;
+use nc_outside::{Failed, LinedMove, Turret};
+use real_outside::{Access, FileDisk, FileShelf, StdSink, SystemFolder};
+
+/// A turret that counts its moves, and keeps the line of the last one.
+#[derive(Drop)]
+struct OwnTurret {
+    moves: u64,
+    line: u32,
+}
+
+impl Turret for OwnTurret {
+    ghost use Rattle.std.specs.Prelude.{None};
+
+    ghost state = { λ _. record { received = None; faults = 0 } };
+
+    fn faults(&self) -> u64 {
+        0
+    }
+
+    fn place(&mut self, _at: Point) -> Result<(), Failed> {
+        Ok(())
+    }
+
+    fn hand(&mut self, what: &LinedMove) -> Result<(), Failed> {
+        self.moves = self.moves.saturating_add(1);
+        self.line = what.line;
+        Ok(())
+    }
+
+    fn settle(&mut self) -> Result<(), Failed> {
+        Ok(())
+    }
+}
+
+impl OwnTurret {
+    fn new() -> Self {
+        OwnTurret { moves: 0, line: 0 }
+    }
+}
+
+fn main(rt: HostRuntime) -> Result<(), anyhow::Error> {
+    let alloc = rt.alloc();
+    let words = vec![in alloc;
+        String::from_str(alloc, "run")?,
+        String::from_str(alloc, "upper.nc")?,
+        String::from_str(alloc, "lower.nc")?,
+        String::from_str(alloc, "cell.txt")?,
+    ]?;
+    let lathe = Lathe {
+        disk: FileDisk::new(SystemFolder::new(&rt), "own.journal", Access::Write),
+        left: OwnTurret::new(),
+        right: OwnTurret::new(),
+    };
+    let mut shelf = FileShelf::new(&rt);
+    let mut report = StdSink::new(&rt);
+    let outcome = top(&rt, alloc, words.as_slice(), &mut shelf, lathe, &mut report);
+    println!(rt; "status {}", outcome.status())?;
+    let lathe = outcome.into_parts();
+    println!(rt;
+        "turret 1: {} moves, the last of line {}",
+        lathe.left.moves, lathe.left.line
+    )?;
+    println!(rt;
+        "turret 2: {} moves, the last of line {}",
+        lathe.right.moves, lathe.right.line
+    )?;
+    Ok(())
+}

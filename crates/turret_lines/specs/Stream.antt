@@ -1,0 +1,37 @@
+-- The lines of what a turret got, and how far a sink has them.
+use Rattle.std.specs.Prelude.{◌≡◌, ℕ, List, [], ◌++◌, take, Option, Some, None}
+use Rattle.std.specs.List.{flat_map}
+use Rattle.std.specs.Option.{ForSome}
+use Rattle.nc_outside.specs.declared.got.Got.{Got}
+use Rattle.nc_outside.specs.declared.got.Got.TheVariants.{Placed, Moved}
+use Rattle.nc_outside.specs.Received.{TurretState}
+use Rattle.move_text.specs.MoveText.{line_text, placed_text}
+
+-- the line of what a turret got
+abbrev pub got_text : Got → List ℕ
+got_text (Placed at) = placed_text at
+got_text (Moved made) = line_text made.line made.what
+
+-- a line for each thing, in order
+unfoldable pub stream_of : List Got → List ℕ
+stream_of got = flat_map got_text got
+
+-- the first bytes of a line, if there is one
+abbrev pub part_text : Option Got → ℕ → List ℕ
+part_text None size = []
+part_text (Some next) size = take size (got_text next)
+
+-- these are the lines, and after them may stand a part of another line, from its start
+pub record HasPart (bytes : List ℕ) (got : List Got) : Type 0 where
+  pub next : Option Got
+  pub size : ℕ
+  pub parted : bytes ≡ stream_of got ++ part_text next size
+
+-- what a sink tells is the lines of what the turret got, and nothing else where the turret has not failed
+pub record HasStream (written : Option (List ℕ)) (got : List Got) (faults : ℕ) : Type 0 where
+  pub whole : faults ≡ 0 → ForSome written (λ bytes. bytes ≡ stream_of got)
+  pub parted : ∥ ForSome written (λ bytes. HasPart bytes got) ∥₁
+
+-- a turret that tells what it got
+abbrev pub told_state : List Got → ℕ → ℕ → ℕ → TurretState
+told_state got calls settles faults = record { received = Some (record { got = got; calls = calls; settles = settles }); faults = faults }

@@ -1,0 +1,111 @@
+//! A turret that writes a line for each thing that it gets.
+ghost use Rattle.std.specs.Prelude.{◌≡◌, [], ◌∷◌, OnOk, OnErr, IsErr};
+ghost use Rattle.std.specs.Option.{ForSome};
+ghost use Rattle.nc_outside.specs.Faults.{CountsFault};
+ghost use Rattle.nc_outside.specs.Received.{Receives};
+ghost use Rattle.turret_lines.specs.Stream.{HasPart, HasStream, got_text, stream_of, told_state};
+
+use crate::told::Told;
+use move_text::{Piece, move_line, place_line};
+use nc_number::Point;
+use nc_outside::{Failed, Got, LinedMove, Sink, Turret};
+
+/// A turret that writes a line to a sink for its place and for each move, as the report of a run prints them.
+///
+/// It tells what it got. If the sink tells what was written, that is the lines of what the turret got, and nothing else until a
+/// call has failed; a call that failed may have left a part of its line, from its start. After that each further call fails, and
+/// writes nothing.
+#[derive(Drop)]
+pub struct LineTurret<K: Sink + Drop> {
+    sink: K,
+    told: Told,
+    calls: u64,
+    settles: u64,
+    faults: u64,
+    ghost whole: { faults ≡ 0 → ForSome (K.state sink).written (λ bytes. bytes ≡ stream_of told.got) },
+    ghost parted: { ∥ ForSome (K.state sink).written (λ bytes. HasPart bytes told.got) ∥₁ },
+}
+
+impl<K: Sink + Drop> LineTurret<K> {
+    /// A turret that got nothing yet, over a sink without bytes.
+    pub fn new(sink: K) -> Self
+        requires fresh { ForSome (K.state sink).written (λ bytes. bytes ≡ []) }
+        ensures state { told_state result.told.got result.calls result.settles result.faults ≡ told_state [] 0 0 0 }
+        ensures sink { K.state result.sink ≡ K.state sink }
+    {
+        LineTurret {
+            sink,
+            told: Told::nothing(),
+            calls: 0,
+            settles: 0,
+            faults: 0,
+        }
+    }
+
+    /// Its sink. If that tells what was written, it has the lines of what the turret got.
+    pub fn sink(&self) -> &K
+        ensures lines { HasStream (K.state result.now).written self.now.told.got self.now.faults }
+    {
+        &self.sink
+    }
+
+    // Writes the line of a thing that it got.
+    fn write(&mut self, line: &Piece, what: &Got) -> Result<(), Failed>
+        requires { line.now ≡ got_text what.now }
+        ensures ok { OnOk result (Receives (told_state self.old.told.got self.old.calls self.old.settles self.old.faults)
+            (told_state self.new.told.got self.new.calls self.new.settles self.new.faults) (what.now ∷ []) 1) }
+        ensures err { OnErr result (Receives (told_state self.old.told.got self.old.calls self.old.settles self.old.faults)
+            (told_state self.new.told.got self.new.calls self.new.settles self.new.faults) [] 1) }
+        ensures fault { CountsFault self.old.faults self.new.faults (IsErr result) }
+    {
+        let calls = self.calls.saturating_add(1);
+        let faults = self.faults.saturating_add(1);
+        if self.faults > 0 {
+            self.calls = calls;
+            self.faults = faults;
+            return Err(Failed);
+        }
+        match self.sink.put(line.as_slice()) {
+            Ok(()) => {
+                self.told = Told::with(&self.told, what);
+                self.calls = calls;
+                Ok(())
+            }
+            Err(_) => {
+                self.calls = calls;
+                self.faults = faults;
+                Err(Failed)
+            }
+        }
+    }
+}
+
+impl<K: Sink + Drop> Turret for LineTurret<K> {
+    ghost state = { λ t. told_state t.told.got t.calls t.settles t.faults };
+
+    fn faults(&self) -> u64 {
+        self.faults
+    }
+
+    fn place(&mut self, at: Point) -> Result<(), Failed> {
+        self.write(&place_line(at), &Got::Placed(at))
+    }
+
+    fn hand(&mut self, what: &LinedMove) -> Result<(), Failed> {
+        self.write(&move_line(what.line, &what.what), &Got::Moved(*what))
+    }
+
+    /// Nothing is left to write: each call wrote its line.
+    fn settle(&mut self) -> Result<(), Failed> {
+        self.settles = self.settles.saturating_add(1);
+        Ok(())
+    }
+}
+
+// What may go to another thread does.
+fn crosses<T: Send>() {}
+
+/// A law, and no code: a turret may go to another thread if its sink may.
+pub fn line_turrets_cross<K: Sink + Drop + Send>() {
+    crosses::<LineTurret<K>>();
+}
