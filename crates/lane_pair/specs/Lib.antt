@@ -1,4 +1,4 @@
 -- What callers read.
-pub mod Serving
+pub mod Draining
 -- Words of the inside.
 pub mod Seats

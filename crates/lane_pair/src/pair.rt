@@ -1,13 +1,13 @@
 //! Both paths at once.
-ghost use Rattle.std.specs.Prelude.{◌≡◌, [], IfOk, IfErr};
+ghost use Rattle.std.specs.Prelude.{◌≡◌, [], true, IfOk, IfErr, IsTrue, is_some};
 ghost use Rattle.nc_number.specs.declared.path.Path.{Path as OnePath};
 ghost use Rattle.nc_number.specs.declared.path.Path.TheVariants.{One, Two};
+ghost use Rattle.drive_line.specs.Driving.{has_failed, Serves};
+ghost use Rattle.path_worker.specs.Drive.{HasSettled};
 ghost use Rattle.seat_table.specs.Turning.{moves_in};
-ghost use Rattle.lane_pair.specs.Seats.{AreNewEnds, AreOf, AreFresh};
-ghost use Rattle.lane_pair.specs.Serving.{Serves};
+ghost use Rattle.lane_pair.specs.Seats.{AreNewEnds, AreOf, AreFresh, StopsBy};
 
-use crate::{Tooled, Tooling};
-use drive_line::{Line, LineIn, LineOut};
+use drive_line::{Driven, Line, LineIn, LineOut};
 use nc_number::Path;
 use nc_outside::Turret;
 use path_worker::{Lane, run_lane};
@@ -24,16 +24,16 @@ const BOUND: usize = 64;
 #[derive(Drop)]
 pub struct Ran<C: Turns, T: Turret> {
     pub table: C,
-    pub left: Tooled<T>,
-    pub right: Tooled<T>,
+    pub left: Driven<T>,
+    pub right: Driven<T>,
 }
 
 /// What comes back where memory was wanting for a run: all as it was.
 #[derive(Drop)]
 pub struct Unrun<C: Turns, T: Turret> {
     pub table: C,
-    pub left: Tooling<T>,
-    pub right: Tooling<T>,
+    pub left: T,
+    pub right: T,
 }
 
 // What the two threads of a path give back.
@@ -41,7 +41,7 @@ pub struct Unrun<C: Turns, T: Turret> {
 struct Seat<C, T: Turret> {
     pass: SeatPass<C>,
     halter: HaltPass<C>,
-    tool: Tooled<T>,
+    driven: Driven<T>,
 }
 
 // Runs the worker and the drive of a path, over its passes and the two ends of a new line.
@@ -49,38 +49,32 @@ fn run_seat<R, C, T>(
     rt: &R,
     table: &SeatTable<C>,
     path: Path,
-    ends: (LineIn<'_, R>, LineOut<'_, R>),
+    ends: (LineIn<'_, R>, LineOut<'_, R, T>),
     passes: (SeatPass<C>, HaltPass<C>),
-    tool: Tooling<T>,
+    turret: T,
 ) -> Seat<C, T>
 where
     R: Threads + Wait + Sync,
     C: Turns + Send,
     T: Turret + Send,
     requires line { AreNewEnds ends.0 ends.1 }
-    requires room { tool.room.list ≡ [] }
     requires passes { AreFresh table.now path passes.0 passes.1 }
     ensures passes { AreOf table.now path result.pass result.halter }
-    ensures serves { Serves (moves_in result.pass.records) tool.room (T.state tool.turret)
-        (T.state result.tool.turret) result.tool.handed result.tool.fault }
+    ensures serves { Serves (moves_in result.pass.records) (T.state turret) result.driven }
+    ensures rest { HasSettled result.driven.phase }
+    ensures halted { has_failed result.driven.phase ≡ true → IsTrue (is_some result.halter.stop) }
 {
     let (pass, halter) = passes;
-    let Tooling { turret, room } = tool;
     let lane = Lane {
         stepper: table.stepper(rt, pass),
         halter: table.halter(rt, halter),
-        turret,
-        room,
+        driven: Driven::new(turret),
     };
     let end = run_lane(rt, path, ends, lane);
     Seat {
         pass: end.stepper.into_pass(),
         halter: end.halter.into_pass(),
-        tool: Tooled {
-            turret: end.turret,
-            handed: end.handed,
-            fault: end.fault,
-        },
+        driven: end.driven,
     }
 }
 
@@ -88,23 +82,22 @@ where
 fn run_seats<R, C, T>(
     rt: &R,
     seated: Seated<C>,
-    first_ends: (LineIn<'_, R>, LineOut<'_, R>),
-    second_ends: (LineIn<'_, R>, LineOut<'_, R>),
-    left: Tooling<T>,
-    right: Tooling<T>,
+    first_ends: (LineIn<'_, R>, LineOut<'_, R, T>),
+    second_ends: (LineIn<'_, R>, LineOut<'_, R, T>),
+    left: T,
+    right: T,
 ) -> Ran<C, T>
 where
     R: Threads + Wait + Sync,
     C: Turns + Send,
     T: Turret + Send,
     requires lines { AreNewEnds first_ends.0 first_ends.1 × AreNewEnds second_ends.0 second_ends.1 }
-    requires rooms { (left.room.list ≡ []) × (right.room.list ≡ []) }
     requires passes { AreFresh seated.table One seated.first seated.first_halt
         × AreFresh seated.table Two seated.second seated.second_halt }
-    ensures left { Serves (moves_in (C.records result.table One)) left.room (T.state left.turret)
-        (T.state result.left.turret) result.left.handed result.left.fault }
-    ensures right { Serves (moves_in (C.records result.table Two)) right.room (T.state right.turret)
-        (T.state result.right.turret) result.right.handed result.right.fault }
+    ensures left { Serves (moves_in (C.records result.table One)) (T.state left) result.left }
+    ensures right { Serves (moves_in (C.records result.table Two)) (T.state right) result.right }
+    ensures rest { HasSettled result.left.phase × HasSettled result.right.phase }
+    ensures halted { StopsBy result.left.phase (C.reason result.table) × StopsBy result.right.phase (C.reason result.table) }
 {
     let Seated {
         table,
@@ -117,18 +110,18 @@ where
     let (one, two) = thread::join(
         rt,
         move || -> Seat<C, T>
-            requires { AreNewEnds first_ends.0 first_ends.1 × (left.room.list ≡ [])
-                × AreFresh both.now One first first_halt }
+            requires { AreNewEnds first_ends.0 first_ends.1 × AreFresh both.now One first first_halt }
             ensures passes { AreOf both.entry.now One result.pass result.halter }
-            ensures serves { Serves (moves_in result.pass.records) left.room (T.state left.turret)
-                (T.state result.tool.turret) result.tool.handed result.tool.fault }
+            ensures serves { Serves (moves_in result.pass.records) (T.state left) result.driven }
+            ensures rest { HasSettled result.driven.phase }
+            ensures halted { has_failed result.driven.phase ≡ true → IsTrue (is_some result.halter.stop) }
         { run_seat(rt, both, Path::One, first_ends, (first, first_halt), left) },
         move || -> Seat<C, T>
-            requires { AreNewEnds second_ends.0 second_ends.1 × (right.room.list ≡ [])
-                × AreFresh both.now Two second second_halt }
+            requires { AreNewEnds second_ends.0 second_ends.1 × AreFresh both.now Two second second_halt }
             ensures passes { AreOf both.entry.now Two result.pass result.halter }
-            ensures serves { Serves (moves_in result.pass.records) right.room (T.state right.turret)
-                (T.state result.tool.turret) result.tool.handed result.tool.fault }
+            ensures serves { Serves (moves_in result.pass.records) (T.state right) result.driven }
+            ensures rest { HasSettled result.driven.phase }
+            ensures halted { has_failed result.driven.phase ≡ true → IsTrue (is_some result.halter.stop) }
         {
             run_seat(
                 rt,
@@ -143,33 +136,32 @@ where
     let table = table.close(one.pass, two.pass, one.halter, two.halter);
     Ran {
         table,
-        left: one.tool,
-        right: two.tool,
+        left: one.driven,
+        right: two.driven,
     }
 }
 
 /// Runs both paths of a table that has made no record since it was opened, until each path has ended or the run has stopped:
 /// a worker and a drive for each, in four threads. Behind it each turret has taken the moves of its path's records,
-/// of which the table gives those since it was opened.
+/// of which the table gives those since it was opened, and stands still; or it failed, and then the table has halted.
 ///
 /// Where memory is wanting nothing is done, and all comes back. Where no thread can be made it may not return.
 pub fn run_pair<R, C, T>(
     rt: &R,
     alloc: Global,
     table: C,
-    left: Tooling<T>,
-    right: Tooling<T>,
+    left: T,
+    right: T,
 ) -> Result<Ran<C, T>, Unrun<C, T>>
 where
     R: Threads + Wait + Sync,
     C: Turns + Send,
     T: Turret + Send,
     requires fresh { (p : OnePath) → C.records table p ≡ [] }
-    requires rooms { (left.room.list ≡ []) × (right.room.list ≡ []) }
-    ensures left { IfOk result (λ r. Serves (moves_in (C.records r.table One)) left.room (T.state left.turret)
-        (T.state r.left.turret) r.left.handed r.left.fault) }
-    ensures right { IfOk result (λ r. Serves (moves_in (C.records r.table Two)) right.room (T.state right.turret)
-        (T.state r.right.turret) r.right.handed r.right.fault) }
+    ensures left { IfOk result (λ r. Serves (moves_in (C.records r.table One)) (T.state left) r.left) }
+    ensures right { IfOk result (λ r. Serves (moves_in (C.records r.table Two)) (T.state right) r.right) }
+    ensures rest { IfOk result (λ r. HasSettled r.left.phase × HasSettled r.right.phase) }
+    ensures halted { IfOk result (λ r. StopsBy r.left.phase (C.reason r.table) × StopsBy r.right.phase (C.reason r.table)) }
     ensures err { IfErr result (λ u. (u.table ≡ table) × (u.left ≡ left) × (u.right ≡ right)) }
 {
     let Ok(first_ends) = Line::new(rt, alloc, BOUND) else {

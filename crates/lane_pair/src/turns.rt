@@ -1,54 +1,79 @@
 //! Single turns of a path.
-ghost use Rattle.std.specs.Prelude.{◌≡◌, ◌≢◌, ◌++◌, [], ◌∷◌, List};
+ghost use Rattle.std.specs.Prelude.{◌≡◌, ◌≢◌, ◌++◌, true, false, List};
+ghost use Rattle.drive_line.specs.declared.phase.Phase.TheVariants.{Still};
+ghost use Rattle.drive_line.specs.Driving.{Serves};
+ghost use Rattle.lane_pair.specs.Draining.{IsDrained};
 ghost use Rattle.nc_number.specs.declared.path.Path.{Path as OnePath};
-ghost use Rattle.nc_outside.specs.declared.motion.Move.{Move as Motion};
+ghost use Rattle.nc_outside.specs.declared.lined_move.LinedMove.{LinedMove as Lined};
+ghost use Rattle.nc_outside.specs.Lined.{lined};
 ghost use Rattle.nc_outside.specs.Received.{TurretState};
-ghost use Rattle.path_worker.specs.Drive.{Filled};
 ghost use Rattle.seat_table.specs.Turning.{moves_in};
-ghost use Rattle.lane_pair.specs.Serving.{Serves};
 
-use crate::Tooled;
+use drive_line::{Driven, Phase};
+use nc_moves::Moves;
 use nc_number::Path;
-use nc_outside::{Move, Moves, Next, Turret};
+use nc_outside::{LinedMove, Next, Turret};
 use seat_table::Turns;
-
-// Hands a move on, where there is room for it and the turret has not failed.
-fn hand_one<T: Turret>(what: &Move, tool: &mut Tooled<T>)
-    ensures { (moves : List Motion) (room : Filled) (start : TurretState)
-        → Serves moves room start (T.state tool.old.turret) tool.old.handed tool.old.fault
-        → Serves (moves ++ what.now ∷ []) room start (T.state tool.new.turret) tool.new.handed tool.new.fault }
-{
-    if tool.fault || tool.handed.is_full() {
-        return;
-    }
-    match tool.handed.hand_on(what, &mut tool.turret) {
-        Ok(()) => {}
-        Err(_) => tool.fault = true,
-    }
-}
+use std::sync::Wait;
 
 // Hands the moves of a block on, in order.
-fn hand_all<T: Turret>(block: &Moves, tool: &mut Tooled<T>)
-    ensures { (moves : List Motion) (room : Filled) (start : TurretState)
-        → Serves moves room start (T.state tool.old.turret) tool.old.handed tool.old.fault
-        → Serves (moves ++ block.now.list) room start (T.state tool.new.turret) tool.new.handed tool.new.fault }
+fn hand_all<R: Wait, T: Turret>(rt: &R, block: &Moves, driven: &mut Driven<T>)
+    ensures { (moves : List Lined) (start : TurretState)
+        → Serves moves start driven.old → Serves (moves ++ lined block.now) start driven.new }
 {
     for what in block.list.as_slice() {
-        hand_one(what, tool);
+        let what = LinedMove {
+            line: block.line,
+            what: *what,
+        };
+        driven.hand(rt, &what);
     }
 }
 
-/// Gives a path one turn, and hands the moves that it answers to the turret before anything else is done, while there is
-/// room for them, until it fails. Where the path has to be drained it tells the table that it is: nothing is on its way.
-pub fn give_turn<C: Turns, T: Turret>(table: &mut C, path: Path, tool: &mut Tooled<T>)
-    ensures serves { (room : Filled) (start : TurretState)
-        → Serves (moves_in (C.records table.old path)) room start (T.state tool.old.turret) tool.old.handed tool.old.fault
-        → Serves (moves_in (C.records table.new path)) room start (T.state tool.new.turret) tool.new.handed tool.new.fault }
+// Tells the table that the path is drained: its turret stands still, and nothing is on its way.
+fn tell_drained<C: Turns, T: Turret>(table: &mut C, path: Path, driven: &Driven<T>)
+    requires { driven.now.phase ≡ Still }
+    ensures records { (p : OnePath) → C.records table.new p ≡ C.records table.old p }
+    ensures drained { C.drains table.new path ≡ false }
+{
+    let _ = driven;
+    table.drained(path);
+}
+
+// Waits until the turret stands still, and then tells the table that the path is drained. Where the turret fails it
+// is told nothing.
+fn drain<C: Turns, T: Turret>(table: &mut C, path: Path, driven: &mut Driven<T>)
+    ensures serves { (moves : List Lined) (start : TurretState)
+        → Serves moves start driven.old → Serves moves start driven.new }
+    ensures records { (p : OnePath) → C.records table.new p ≡ C.records table.old p }
+    ensures drained { C.drains table.old path ≡ true → IsDrained driven.new.phase (C.drains table.new path) }
+{
+    driven.settle();
+    match driven.phase() {
+        Phase::Still => tell_drained(table, path, driven),
+        Phase::Moving => {}
+        Phase::Failed => {}
+        Phase::Halted => {}
+    }
+}
+
+/// Gives a path one turn, and hands the moves that it answers to the turret before anything else is done, until it fails. Where
+/// the path is to be drained it tells the table that it is, once the turret stands still. If the turret fails in that, the table is
+/// told nothing.
+pub fn give_turn<R: Wait, C: Turns, T: Turret>(
+    rt: &R,
+    table: &mut C,
+    path: Path,
+    driven: &mut Driven<T>,
+)
+    ensures serves { (start : TurretState) → Serves (moves_in (C.records table.old path)) start driven.old
+        → Serves (moves_in (C.records table.new path)) start driven.new }
+    ensures drained { C.drains table.old path ≡ true → IsDrained driven.new.phase (C.drains table.new path) }
     ensures others { (p : OnePath) → p ≢ path → C.records table.new p ≡ C.records table.old p }
 {
     match table.turn_step(path) {
-        Some(Next::Moves(block)) => hand_all(&block, tool),
-        Some(Next::Drain) => table.drained(path),
+        Some(Next::Moves(block)) => hand_all(rt, &block, driven),
+        Some(Next::Drain) => drain(table, path, driven),
         Some(Next::Silent) => {}
         Some(Next::Finished) => {}
         Some(Next::Halted(_)) => {}

@@ -1,9 +1,10 @@
-//! A turret that is slow, and a stepper that sees at each drain whether the turret has had every move before it.
+//! A turret that queues its moves, and a stepper that sees at each drain whether the turret has made every move before it.
 use crate::workers::block;
-use drive_line::Line;
+use drive_line::{Drained, Driven, Line};
+use nc_moves::Move;
 use nc_number::{NoMemory, Path, Point};
-use nc_outside::{Drained, Failed, Halt, Move, Next, Stepper, Turret};
-use path_worker::{Handed, Lane, run_lane};
+use nc_outside::{Drain, Drainable, Failed, Halt, LinedMove, Next, Stepper, Turret};
+use path_worker::{Lane, run_lane};
 use std::alloc::Global;
 use std::sync::Wait;
 use std::sync::atomic::AtomicU64;
@@ -12,13 +13,15 @@ use std::test::Fail;
 use std::thread;
 use std::thread::Threads;
 
-/// Counts the moves that it was handed, where another thread sees them. It is slow.
+/// Queues the moves that it is handed, and makes them only where it is to settle. It counts those that it has made, where another
+/// thread sees them. It is slow.
 #[derive(Drop)]
-struct Counter<'a> {
-    count: &'a AtomicU64,
+struct Queue<'a> {
+    made: &'a AtomicU64,
+    queued: u64,
 }
 
-impl<'a> Turret for Counter<'a> {
+impl<'a> Turret for Queue<'a> {
     ghost use Rattle.std.specs.Prelude.{None};
 
     ghost state = { λ _. record { received = None; faults = 0 } };
@@ -31,27 +34,33 @@ impl<'a> Turret for Counter<'a> {
         Ok(())
     }
 
-    fn hand(&mut self, _what: &Move) -> Result<(), Failed> {
+    fn hand(&mut self, _what: &LinedMove) -> Result<(), Failed> {
+        self.queued = self.queued.saturating_add(1);
+        Ok(())
+    }
+
+    fn settle(&mut self) -> Result<(), Failed> {
         for _ in 0..50u8 {
             thread::yield_now();
         }
-        self.count.fetch_add(1, SeqCst);
+        self.made.fetch_add(self.queued, SeqCst);
+        self.queued = 0;
         Ok(())
     }
 }
 
-/// Asks for a drain behind each move, and notes whether it came before the turret had the move.
+/// Asks for a drain behind each block but the last, and notes whether it came before the turret had made the moves before it.
 #[derive(Drop)]
 struct Watcher<'a> {
-    count: &'a AtomicU64,
+    made: &'a AtomicU64,
     steps: u64,
     early: bool,
 }
 
 impl<'a> Watcher<'a> {
-    fn new(count: &'a AtomicU64) -> Watcher<'a> {
+    fn new(made: &'a AtomicU64) -> Watcher<'a> {
         Watcher {
-            count,
+            made,
             steps: 0,
             early: false,
         }
@@ -71,43 +80,43 @@ impl<'a> Stepper for Watcher<'a> {
         let step = self.steps;
         self.steps = step.wrapping_add(1);
         match step {
-            200.. => Next::Finished,
-            _ if step % 2 == 0 => block(&[Move::Aux { m: 1 }, Move::Aux { m: 2 }]),
+            201.. => Next::Finished,
+            _ if step % 2 == 0 => block(1, &[Move::Aux { m: 1 }, Move::Aux { m: 2 }]),
             _ => Next::Drain,
-        }
-    }
-
-    fn drained(&mut self, _path: Path, proof: Drained) {
-        if self.count.load(SeqCst) < proof.count() {
-            self.early = true;
         }
     }
 
     fn halt(&mut self, _why: Halt) {}
 }
 
+impl<'a> Drainable<Drained> for Watcher<'a> {
+    fn drained(&mut self, _path: Path, proof: Drained) {
+        if self.made.load(SeqCst) != proof.count() {
+            self.early = true;
+        }
+    }
+}
+
 /// Runs path 2 with such a turret and such a stepper, and answers whether a drain came early.
 fn watch<R: Threads + Wait + Sync>(
     rt: &R,
     alloc: Global,
-    count: &AtomicU64,
+    made: &AtomicU64,
 ) -> Result<bool, NoMemory> {
-    let room = Handed::with_room(alloc, 200)?;
     let ends = Line::new(rt, alloc, 64)?;
     let lane = Lane {
-        stepper: Watcher::new(count),
-        halter: Watcher::new(count),
-        turret: Counter { count },
-        room,
+        stepper: Watcher::new(made),
+        halter: Watcher::new(made),
+        driven: Driven::new(Queue { made, queued: 0 }),
     };
     let end = run_lane(rt, Path::Two, ends, lane);
     Ok(end.stepper.early)
 }
 
 #[test]
-fn a_turret_has_had_every_move_before_a_drain(rt: HostRuntime) -> Result<(), Fail> {
-    let count = AtomicU64::new(0);
-    let early = watch(&rt, rt.alloc(), &count)?;
-    assert_eq!(rt; (early, count.load(SeqCst)), (false, 200));
+fn a_turret_has_made_every_move_before_a_drain_and_at_the_end(rt: HostRuntime) -> Result<(), Fail> {
+    let made = AtomicU64::new(0);
+    let early = watch(&rt, rt.alloc(), &made)?;
+    assert_eq!(rt; (early, made.load(SeqCst)), (false, 202));
     Ok(())
 }

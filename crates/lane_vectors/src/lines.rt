@@ -1,32 +1,35 @@
 //! Rests that cross a line, a drain among them, and the end behind them.
-ghost use Rattle.std.specs.Prelude.{◌≡◌, ◌<◌, false};
+ghost use Rattle.std.specs.Prelude.{◌≡◌, ◌<◌, false, []};
 ghost use Rattle.drive_line.specs.Line.{has_end};
 
-use drive_line::{Line, LineIn, LineOut, close_line};
-use nc_number::NoMemory;
-use nc_outside::Move;
+use drive_line::{Driven, Line, LineIn, LineOut, close_line};
+use nc_moves::Move;
+use nc_number::{NoMemory, Path};
+use nc_outside::{Drain, Got, LinedMove, ListStepper, MemoryTurret};
+use path_worker::run_drive;
 use std::alloc::Global;
 use std::sync::Wait;
 use std::test::Fail;
 use std::thread;
 use std::thread::Threads;
 
-/// Sends the rests from `first` to `last` milliseconds, with a drain behind one of them, and the end. It answers what the drain
-/// told.
+/// Sends the rests from `first` to `last` milliseconds, each with its number as its line, with a drain behind one of them, and the
+/// end. It answers what the drain told.
 fn send_rests<R: Wait>(
     line: LineIn<'_, R>,
-    first: u64,
-    drained: u64,
-    last: u64,
+    first: u32,
+    drained: u32,
+    last: u32,
 ) -> (u64, LineIn<'_, R>)
     requires { has_end line.items ≡ false }
     ensures { result.1.line ≡ line.entry.line }
 {
     let mut line = line;
     let mut told = 0u64;
-    for ms in first..=last {
-        line.send(Move::Dwell { ms });
-        if ms == drained {
+    for number in first..=last {
+        let what = Move::Dwell { ms: number as u64 };
+        line.send(LinedMove { line: number, what });
+        if number == drained {
             told = line.drain().count();
         }
     }
@@ -34,54 +37,74 @@ fn send_rests<R: Wait>(
     (told, line)
 }
 
-/// Takes the rests from `first` milliseconds on, up to what is not the next one. It answers the next one, and whether there
-/// came nothing in its place, nor behind that.
-fn take_rests<'r, R: Wait>(rt: &R, line: LineOut<'r, R>, first: u64) -> (u64, bool, LineOut<'r, R>)
-    ensures { result.2.line ≡ line.entry.line }
+/// Takes all with a turret, and gives that back.
+fn take_rests<'r, R: Wait>(
+    rt: &R,
+    alloc: Global,
+    line: LineOut<'r, R, MemoryTurret>,
+    turret: MemoryTurret,
+) -> (MemoryTurret, LineOut<'r, R, MemoryTurret>)
+    requires { (line.items ≡ []) × (line.asked ≡ false) }
+    ensures { result.1.line ≡ line.entry.line }
 {
     let mut line = line;
-    let mut next = first;
-    let mut taken = line.take();
-    for _ in rt.forever() {
-        if taken != Some(Move::Dwell { ms: next }) {
-            break;
-        }
-        next = next.wrapping_add(1);
-        taken = line.take();
-    }
-    let is_end = taken.is_none() && line.take().is_none();
-    (next, is_end, line)
+    let mut driven = Driven::new(turret);
+    let mut halter = ListStepper::new(rt, alloc, Vec::new(alloc));
+    run_drive(rt, Path::One, &mut line, &mut halter, &mut driven);
+    (driven.into_turret(), line)
 }
 
-/// What the drain told, the rest behind the last that was taken, whether nothing came behind it, and whether the end was taken.
-type Crossed = (u64, u64, bool, bool);
+/// The number behind those of the rests that were got in order, from the first on.
+fn next_of(got: &[Got], first: u32) -> u32 {
+    let mut next = first;
+    for what in got {
+        let due = LinedMove {
+            line: next,
+            what: Move::Dwell { ms: next as u64 },
+        };
+        if *what == Got::Moved(due) {
+            next = next.wrapping_add(1);
+        }
+    }
+    next
+}
+
+/// What the drain told, the number behind the last rest that the turret got in order, how many it got, and whether the end was taken.
+type Crossed = (u64, u32, usize, bool);
 
 /// Rests cross a line of that bound: the first, the one with a drain behind it, and the last.
 fn cross<R: Threads + Wait + Sync>(
     rt: &R,
     alloc: Global,
     bound: usize,
-    rests: [u64; 3],
+    rests: [u32; 3],
 ) -> Result<Crossed, NoMemory>
     requires { 0 < bound }
 {
     let [first, drained, last] = rests;
+    let turret = MemoryTurret::new(alloc, 1000, &[])?;
     let (line_in, line_out) = Line::new(rt, alloc, bound)?;
-    let ((told, line_in), (next, is_end, line_out)) = thread::join(
+    let ((told, line_in), (turret, line_out)) = thread::join(
         rt,
         move || send_rests(line_in, first, drained, last),
-        move || take_rests(rt, line_out, first),
+        move || take_rests(rt, alloc, line_out, turret),
     );
-    Ok((told, next, is_end, close_line(line_in, line_out)))
+    let next = next_of(turret.got(), first);
+    Ok((
+        told,
+        next,
+        turret.got().len(),
+        close_line(line_in, line_out),
+    ))
 }
 
 #[test]
 fn rests_and_the_end_cross_a_line_in_order(rt: HostRuntime) -> Result<(), Fail> {
     for (times, bound, rests, due) in [
-        (200, 2, [1, 2, 3], (2, 4, true, true)),
-        (1, 1, [0, 999, 999], (1000, 1000, true, true)),
-        (1, 2, [0, 999, 999], (1000, 1000, true, true)),
-        (1, 64, [0, 999, 999], (1000, 1000, true, true)),
+        (200, 2, [1, 2, 3], (2, 4, 3, true)),
+        (1, 1, [0, 999, 999], (1000, 1000, 1000, true)),
+        (1, 2, [0, 999, 999], (1000, 1000, 1000, true)),
+        (1, 64, [0, 999, 999], (1000, 1000, 1000, true)),
     ] {
         for _ in 0..times {
             let crossed = cross(&rt, rt.alloc(), bound, rests)?;

@@ -1,10 +1,12 @@
 //! A worker and the drive beside it, over a stepper that answers a list and a turret in memory.
-ghost use Rattle.std.specs.Prelude.{◌≡◌, ◌<◌, ◌≤◌, [], length, IfOk};
+ghost use Rattle.std.specs.Prelude.{◌≡◌, ◌<◌, ◌≤◌, length, IfOk};
+ghost use Rattle.drive_line.specs.Driving.{fresh};
 
-use drive_line::Line;
+use drive_line::{Driven, Line};
+use nc_moves::{Move, MoveList, Moves};
 use nc_number::{NoMemory, Path};
-use nc_outside::{Call, Halt, ListStepper, MemoryTurret, Move, MoveList, Moves, Next};
-use path_worker::{Handed, Lane, LaneEnd, Why, run_lane};
+use nc_outside::{Call, Got, Halt, LinedMove, ListStepper, MemoryTurret, Next};
+use path_worker::{Lane, LaneEnd, Why, run_lane};
 use std::alloc::{AllocError, Global};
 use std::sync::Wait;
 use std::test::Fail;
@@ -14,24 +16,21 @@ type ListLane<'r, R> = Lane<ListStepper<'r, R>, ListStepper<'r, R>, MemoryTurret
 
 type End<'r, R> = LaneEnd<ListStepper<'r, R>, ListStepper<'r, R>, MemoryTurret>;
 
-/// What path 1 runs with: a stepper of these answers, room for the moves of so many steps, and a turret with room for so many
-/// moves, which fails at the call of that number.
+/// What path 1 runs with: a stepper of these answers, and a turret that fails at the call and at the settle of these numbers.
 fn lane_of<'r, R>(
     rt: &'r R,
     alloc: Global,
     answers: Vec<Next>,
-    steps: u32,
     failing: u64,
+    unsettled: u64,
 ) -> Result<ListLane<'r, R>, NoMemory>
-    ensures { IfOk result (λ lane. lane.room.list ≡ []) }
+    ensures { IfOk result (λ lane. lane.driven ≡ fresh lane.driven.state) }
 {
-    let room = Handed::with_room(alloc, steps)?;
-    let turret = MemoryTurret::new(alloc, 2000, &[failing])?;
+    let turret = MemoryTurret::with_plans(alloc, 2000, &[failing], &[unsettled])?;
     Ok(Lane {
         stepper: ListStepper::new(rt, alloc, answers),
         halter: ListStepper::new(rt, alloc, Vec::new(alloc)),
-        turret,
-        room,
+        driven: Driven::new(turret),
     })
 }
 
@@ -42,7 +41,7 @@ fn run<'r, R: Threads + Wait + Sync>(
     bound: usize,
     lane: ListLane<'r, R>,
 ) -> Result<End<'r, R>, NoMemory>
-    requires { (0 < bound) × (lane.room.list ≡ []) }
+    requires { (0 < bound) × (lane.driven ≡ fresh lane.driven.state) }
 {
     match Line::new(rt, alloc, bound) {
         Ok(ends) => Ok(run_lane(rt, Path::One, ends, lane)),
@@ -50,23 +49,23 @@ fn run<'r, R: Threads + Wait + Sync>(
     }
 }
 
-/// A block of these moves.
-pub(crate) fn block(moves: &[Move]) -> Next
+/// A block of these moves at a line.
+pub(crate) fn block(line: u32, moves: &[Move]) -> Next
     requires { length moves.now ≤ 8 }
 {
     let mut list = MoveList::empty();
     list.append(moves);
-    Next::Moves(Moves { line: 1, list })
+    Next::Moves(Moves { line, list })
 }
 
 /// The answer of a word.
 fn answer_of(word: &str) -> Next {
     match word {
         "silent" => Next::Silent,
-        "M1" => block(&[Move::Aux { m: 1 }]),
-        "M2M3" => block(&[Move::Aux { m: 2 }, Move::Aux { m: 3 }]),
-        "M4" => block(&[Move::Aux { m: 4 }]),
-        "empty" => block(&[]),
+        "M1" => block(3, &[Move::Aux { m: 1 }]),
+        "M2M3" => block(5, &[Move::Aux { m: 2 }, Move::Aux { m: 3 }]),
+        "M4" => block(8, &[Move::Aux { m: 4 }]),
+        "empty" => block(6, &[]),
         "drain" => Next::Drain,
         "halted" => Next::Halted(Halt::Budget),
         _ => Next::Finished,
@@ -109,10 +108,15 @@ fn put_calls(out: &mut String, calls: &[Call]) -> Result<(), AllocError> {
     Ok(())
 }
 
-fn put_moves(out: &mut String, moves: &[Move]) -> Result<(), AllocError> {
-    for what in moves {
+fn put_got(out: &mut String, got: &[Got]) -> Result<(), AllocError> {
+    for what in got {
         match *what {
-            Move::Aux { m } => write!(out, " M{m}")?,
+            Got::Moved(
+                LinedMove {
+                    line,
+                    what: Move::Aux { m },
+                },
+            ) => write!(out, " {line}:M{m}")?,
             _ => out.push_str(" another")?,
         }
     }
@@ -127,13 +131,18 @@ fn reason_of(why: Why) -> &'static str {
     }
 }
 
-/// What is left of a run: why the worker ended, the moves that were kept and how many the turret got, whether it
+/// What is left of a run: why the worker ended, the moves that the turret got and how many it missed, whether it
 /// failed, the drive's calls, and the worker's calls.
-fn told<R>(alloc: Global, end: &End<'_, R>) -> Result<String, AllocError> {
+fn told<R>(alloc: Global, end: End<'_, R>) -> Result<String, AllocError> {
     let mut out = String::from_str(alloc, reason_of(end.why))?;
-    put_moves(&mut out, end.handed.as_slice())?;
-    let fault = if end.fault { "failed" } else { "whole" };
-    write!(&mut out, " got {} {fault}", end.turret.got().len())?;
+    let missed = end.driven.missed();
+    let fault = if end.driven.has_failed() {
+        "failed"
+    } else {
+        "whole"
+    };
+    put_got(&mut out, end.driven.into_turret().got())?;
+    write!(&mut out, " missed {missed} {fault}")?;
     put_calls(&mut out, end.halter.calls())?;
     out.push_str(" of")?;
     put_calls(&mut out, end.stepper.calls())?;
@@ -145,16 +154,16 @@ fn outcome<R: Threads + Wait + Sync>(
     rt: &R,
     alloc: Global,
     bound: usize,
-    steps: u32,
     failing: u64,
+    unsettled: u64,
     last: &str,
 ) -> Result<String, NoMemory>
     requires { 0 < bound }
 {
     let answers = every_answer(alloc, last)?;
-    let lane = lane_of(rt, alloc, answers, steps, failing)?;
+    let lane = lane_of(rt, alloc, answers, failing, unsettled)?;
     let end = run(rt, alloc, bound, lane)?;
-    Ok(told(alloc, &end)?)
+    Ok(told(alloc, end)?)
 }
 
 /// The calls of a worker whose stepper gives every answer, but for the last.
@@ -163,19 +172,46 @@ const CALLS: &str = "silent moves drain drained 1 moves moves drain drained 3 mo
 #[test]
 fn a_worker_steps_sends_and_drains_until_the_turret_fails(rt: HostRuntime) -> Result<(), Fail> {
     let alloc = rt.alloc();
-    for (bound, steps, failing, last, left) in [
-        (1, 9, 0, "halted", "M1 M2 M3 M4 got 4 whole"),
-        (2, 9, 0, "halted", "M1 M2 M3 M4 got 4 whole"),
-        (64, 9, 0, "halted", "M1 M2 M3 M4 got 4 whole"),
-        (2, 9, 1, "finished", "got 0 failed halt of path 1"),
-        (2, 9, 2, "finished", "M1 got 1 failed halt of path 1"),
-        (2, 9, 3, "finished", "M1 M2 got 2 failed halt of path 1"),
-        (2, 9, 4, "finished", "M1 M2 M3 got 3 failed halt of path 1"),
-        (2, 9, 5, "finished", "M1 M2 M3 M4 got 4 whole"),
-        (2, 0, 0, "finished", "got 0 whole"),
+    for (bound, failing, unsettled, last, left) in [
+        (1, 0, 0, "halted", "3:M1 5:M2 5:M3 8:M4 missed 0 whole"),
+        (2, 0, 0, "halted", "3:M1 5:M2 5:M3 8:M4 missed 0 whole"),
+        (64, 0, 0, "halted", "3:M1 5:M2 5:M3 8:M4 missed 0 whole"),
+        (2, 1, 0, "finished", "missed 4 failed halt of path 1"),
+        (2, 2, 0, "finished", "3:M1 missed 3 failed halt of path 1"),
+        (
+            2,
+            3,
+            0,
+            "finished",
+            "3:M1 5:M2 missed 2 failed halt of path 1",
+        ),
+        (
+            2,
+            4,
+            0,
+            "finished",
+            "3:M1 5:M2 5:M3 missed 1 failed halt of path 1",
+        ),
+        (2, 5, 0, "finished", "3:M1 5:M2 5:M3 8:M4 missed 0 whole"),
+        (2, 0, 1, "finished", "3:M1 missed 3 failed halt of path 1"),
+        (
+            2,
+            0,
+            2,
+            "finished",
+            "3:M1 5:M2 5:M3 missed 1 failed halt of path 1",
+        ),
+        (
+            2,
+            0,
+            3,
+            "finished",
+            "3:M1 5:M2 5:M3 8:M4 missed 0 failed halt of path 1",
+        ),
+        (2, 0, 4, "finished", "3:M1 5:M2 5:M3 8:M4 missed 0 whole"),
     ] {
         let due = format!(in alloc; "{last} {left} of {CALLS} {last}")?;
-        let told = outcome(&rt, alloc, bound, steps, failing, last)?;
+        let told = outcome(&rt, alloc, bound, failing, unsettled, last)?;
         assert_eq!(rt; told.as_str(), due.as_str());
     }
     Ok(())
@@ -185,7 +221,7 @@ fn a_worker_steps_sends_and_drains_until_the_turret_fails(rt: HostRuntime) -> Re
 fn many_blocks(alloc: Global, count: u64) -> Result<Vec<Next>, NoMemory> {
     let mut answers = Vec::new(alloc);
     for ms in 0..count {
-        answers.push(block(&[Move::Dwell { ms }]))?;
+        answers.push(block(1, &[Move::Dwell { ms }]))?;
         if ms % 10 == 9 {
             answers.push(Next::Drain)?;
         }
@@ -194,19 +230,23 @@ fn many_blocks(alloc: Global, count: u64) -> Result<Vec<Next>, NoMemory> {
 }
 
 /// How many of them are the rests of those blocks, from the first on.
-fn in_order(moves: &[Move]) -> u64 {
+fn in_order(got: &[Got]) -> u64 {
     let mut count = 0u64;
-    for what in moves {
-        if *what == (Move::Dwell { ms: count }) {
+    for what in got {
+        let due = LinedMove {
+            line: 1,
+            what: Move::Dwell { ms: count },
+        };
+        if *what == Got::Moved(due) {
             count = count.wrapping_add(1);
         }
     }
     count
 }
 
-/// Whether the path finished and whether the turret failed, the moves that were kept and those of them in order, the moves that
-/// the turret got, and the worker's calls.
-type Rested = (bool, bool, usize, u64, usize, usize);
+/// Whether the path finished and whether the turret failed, how many it missed, the moves that it got and those of them in
+/// order, and the worker's calls.
+type Rested = (bool, bool, u64, usize, u64, usize);
 
 /// What a worker of so many blocks of a rest each does.
 fn rested<R: Threads + Wait + Sync>(
@@ -214,34 +254,33 @@ fn rested<R: Threads + Wait + Sync>(
     alloc: Global,
     count: u64,
     bound: usize,
-    steps: u32,
 ) -> Result<Rested, NoMemory>
     requires { 0 < bound }
 {
     let answers = many_blocks(alloc, count)?;
-    let lane = lane_of(rt, alloc, answers, steps, 0)?;
+    let lane = lane_of(rt, alloc, answers, 0, 0)?;
     let end = run(rt, alloc, bound, lane)?;
+    let (failed, missed) = (end.driven.has_failed(), end.driven.missed());
+    let turret = end.driven.into_turret();
     Ok((
         matches!(end.why, Why::Finished),
-        end.fault,
-        end.handed.as_slice().len(),
-        in_order(end.handed.as_slice()),
-        end.turret.got().len(),
+        failed,
+        missed,
+        turret.got().len(),
+        in_order(turret.got()),
         end.stepper.calls().len(),
     ))
 }
 
 #[test]
-fn rests_reach_the_turret_in_order_and_a_full_room_takes_no_more(
-    rt: HostRuntime,
-) -> Result<(), Fail> {
-    for (count, bound, steps, due) in [
-        (12, 2, 1, (true, false, 8, 8, 8, 15)),
-        (1000, 1, 125, (true, false, 1000, 1000, 1000, 1201)),
-        (1000, 2, 125, (true, false, 1000, 1000, 1000, 1201)),
-        (1000, 64, 125, (true, false, 1000, 1000, 1000, 1201)),
+fn rests_reach_the_turret_in_order(rt: HostRuntime) -> Result<(), Fail> {
+    for (count, bound, due) in [
+        (12, 2, (true, false, 0, 12, 12, 15)),
+        (1000, 1, (true, false, 0, 1000, 1000, 1201)),
+        (1000, 2, (true, false, 0, 1000, 1000, 1201)),
+        (1000, 64, (true, false, 0, 1000, 1000, 1201)),
     ] {
-        let got = rested(&rt, rt.alloc(), count, bound, steps)?;
+        let got = rested(&rt, rt.alloc(), count, bound)?;
         assert_eq!(rt; got, due);
     }
     Ok(())

@@ -3,7 +3,8 @@ use Rattle.std.proofs.Common.{arith, ◌≡◌, ◌+◌, ℕ, List, [], ◌∷�
 use Rattle.std.proofs.lemmas.List.{length-append}
 use Rattle.std.proofs.lemmas.Grind.{flat_map-append}
 use Rattle.nc_number.specs.declared.path.Path.{Path}
-use Rattle.nc_outside.specs.declared.motion.Move.{Move as Motion}
+use Rattle.nc_outside.specs.declared.lined_move.LinedMove.{LinedMove}
+use Rattle.nc_outside.specs.Lined.{lined}
 use Rattle.nc_outside.specs.declared.halt.Next.{Next}
 use Rattle.nc_outside.specs.declared.halt.Next.TheVariants.{Silent, Moves, Drain, Finished, Halted}
 use Rattle.nc_outside.specs.declared.stepper.Call.{Call}
@@ -15,21 +16,21 @@ use Rattle.drive_line.specs.Line.{moves_among}
 use Rattle.drive_line.proofs.Items.{moves_of_both}
 use Rattle.path_worker.specs.Work.{items_at, drained_at, calls_made, Works}
 
-called_more : (a b c : Option (List Call)) (xs ys : List Call) → IsCalled a b xs → IsCalled b c ys → IsCalled a c (xs ++ ys)
+pub called_more : (a b c : Option (List Call)) (xs ys : List Call) → IsCalled a b xs → IsCalled b c ys → IsCalled a c (xs ++ ys)
 called_more None None c xs ys p q = q
 called_more None (Some was) c xs ys p q = absurd (cc p)
 called_more (Some was) None c xs ys p q = absurd (cc p)
 called_more (Some was) (Some is) c xs ys p q =
     let e : is ≡ was ++ xs = cc p in q ∙ ap Some (ap (λ l. l ++ ys) e ∙ append_assoc was xs ys)
 
-moves_then : (moves : List Motion) (items : List Item) → moves_among (map Move moves ++ items) ≡ moves ++ moves_among items
+moves_then : (moves : List LinedMove) (items : List Item) → moves_among (map Move moves ++ items) ≡ moves ++ moves_among items
 moves_then [] items = refl
 moves_then (what ∷ moves) items = ap (λ l. what ∷ l) (moves_then moves items)
 
 -- the moves that are sent at an answer are those that it gives
 sent_at : (answer : Next) (items : List Item) → moves_among (items_at answer ++ items) ≡ moves_of answer ++ moves_among items
 sent_at Silent items = refl
-sent_at (Moves moves) items = moves_then moves.list items
+sent_at (Moves moves) items = moves_then (lined moves) items
 sent_at Drain items = refl
 sent_at Finished items = refl
 sent_at (Halted why) items = refl

@@ -6,6 +6,7 @@ use Rattle.nc_outside.specs.declared.halt.Next.TheVariants.{Silent, Moves, Drain
 use Rattle.nc_outside.specs.declared.stepper.Call.{Call}
 use Rattle.nc_outside.specs.declared.stepper.Call.TheVariants.{Step, Drained}
 use Rattle.nc_outside.specs.Calls.{IsCalled, moves_of}
+use Rattle.nc_outside.specs.Lined.{lined}
 use Rattle.drive_line.specs.declared.item.Item.{Item}
 use Rattle.drive_line.specs.declared.item.Item.TheVariants.{Move, Mark, End}
 use Rattle.drive_line.specs.Line.{moves_among}
@@ -14,7 +15,7 @@ use Rattle.path_worker.specs.declared.worker.Why.{Why}
 -- what a worker sends at an answer: its moves, a mark at Drain, and the end where it is the last
 abbrev pub items_at : Next → List Item
 items_at Silent = []
-items_at (Moves moves) = map Move moves.list
+items_at (Moves moves) = map Move (lined moves)
 items_at Drain = Mark ∷ []
 items_at Finished = End ∷ []
 items_at (Halted why) = End ∷ []

@@ -1,92 +1,74 @@
 //! The drive of a turret.
-ghost use Rattle.std.specs.Prelude.{◌≡◌, ◌++◌, [], ◌∷◌, List, true, MatchOption, ⊤};
+ghost use Rattle.std.specs.Prelude.{◌≡◌, ◌++◌, [], ◌∷◌, List, true, false, length};
 ghost use Rattle.nc_outside.specs.Calls.{IsCalled};
-ghost use Rattle.nc_outside.specs.declared.motion.Move.{Move as Motion};
+ghost use Rattle.nc_outside.specs.declared.lined_move.LinedMove.{LinedMove};
+ghost use Rattle.nc_outside.specs.Received.{TurretState};
+ghost use Rattle.drive_line.specs.declared.item.Item.{Item as Sent};
+ghost use Rattle.drive_line.specs.Driving.{fresh, has_failed, IsAtRest, Serves};
 ghost use Rattle.drive_line.specs.Line.{moves_among, has_end};
-ghost use Rattle.path_worker.specs.Drive.{Hands, Takes, halts_at};
+ghost use Rattle.path_worker.specs.Drive.{halts_at, halts_for, once_halted, StandsAt};
 
-use crate::Handed;
-use crate::leave::Leave;
-use drive_line::LineOut;
+use drive_line::{Driven, Item, LineOut, Phase};
 use nc_number::Path;
-use nc_outside::{Move, Stepper, Turret};
+use nc_outside::{Stepper, Turret};
 use std::sync::Wait;
 
-/// What a drive leaves: the moves that the turret took, and whether it failed at the next.
-#[derive(Drop)]
-pub struct DriveEnd {
-    pub handed: Handed,
-    pub fault: bool,
-}
-
-// The next move, where all that were taken were handed. So a mark is answered only behind moves that were handed.
-fn take_next<R: Wait>(line: &mut LineOut<'_, R>, handed: &Handed) -> Option<Move>
-    requires { handed.now.list ≡ moves_among line.old.items }
-    ensures line { line.new.line ≡ line.old.line }
-    ensures taken { MatchOption result (moves_among line.new.items ≡ moves_among line.old.items)
-        (λ what. moves_among line.new.items ≡ moves_among line.old.items ++ what ∷ []) }
-    ensures ended { MatchOption result (has_end line.new.items ≡ true) (λ what. ⊤) }
+// Serves an item: hands a move to the turret, and waits until it stands still at a mark and at the end.
+fn serve<R: Wait, T: Turret>(rt: &R, item: &Item, driven: &mut Driven<T>)
+    ensures serves { (items : List Sent) (start : TurretState) → Serves (moves_among items) start driven.old
+        → Serves (moves_among (items ++ item.now ∷ [])) start driven.new }
+    ensures stands { has_failed driven.old.phase ≡ false → StandsAt item.now driven.new.phase }
+    ensures failed { has_failed driven.old.phase ≡ true → driven.new.phase ≡ driven.old.phase }
 {
-    let _ = handed;
-    line.take()
-}
-
-// Takes what is left of a line, and hands nothing on.
-fn take_rest<R: Wait>(rt: &R, line: &mut LineOut<'_, R>, leave: Leave)
-    ensures line { line.new.line ≡ line.old.line }
-    ensures ended { has_end line.new.items ≡ true }
-    ensures taken { (rest : List Motion) × (moves_among line.new.items ≡ moves_among line.old.items ++ rest) }
-{
-    let _used = leave;
-    for _ in rt.forever() {
-        if line.take().is_none() {
-            return;
-        }
+    match item {
+        Item::Move(what) => driven.hand(rt, what),
+        Item::Mark => driven.settle(),
+        Item::End => driven.settle(),
     }
-    unreachable!()
 }
 
-/// Hands each move that it takes to the turret, until the end was taken. Where the room is full it hands no more. Where the
-/// turret fails it halts the run of the path, and hands no more.
+// Halts the run, where the turret has failed.
+fn halt_at_fault<H: Stepper, T: Turret>(path: Path, halter: &mut H, driven: &mut Driven<T>)
+    ensures serves { (moves : List LinedMove) (start : TurretState)
+        → Serves moves start driven.old → Serves moves start driven.new }
+    ensures phase { driven.new.phase ≡ once_halted driven.old.phase }
+    ensures halted { IsCalled (H.calls halter.old) (H.calls halter.new) (halts_for path driven.old.phase) }
+    ensures origin { H.origin halter.new ≡ H.origin halter.old }
+{
+    match driven.phase() {
+        Phase::Failed => driven.halt_by(halter, path),
+        Phase::Moving => {}
+        Phase::Still => {}
+        Phase::Halted => {}
+    }
+}
+
+/// Takes the items of the line until the end, and hands each move to the turret. A mark is answered once the turret stands still
+/// behind every move before it, and at the end it stands still too. Where the turret fails the run of the path is halted, and it is
+/// handed no more; marks are answered then all the same.
 pub fn run_drive<R: Wait, H: Stepper, T: Turret>(
     rt: &R,
     path: Path,
-    room: Handed,
-    line: &mut LineOut<'_, R>,
+    line: &mut LineOut<'_, R, T>,
     halter: &mut H,
-    turret: &mut T,
-) -> DriveEnd
-    requires { (room.list ≡ []) × (moves_among line.old.items ≡ []) }
+    driven: &mut Driven<T>,
+)
+    requires line { (line.old.items ≡ []) × (line.old.asked ≡ false) }
+    requires driven { driven.old ≡ fresh driven.old.state }
     ensures line { (line.new.line ≡ line.old.line) × (has_end line.new.items ≡ true) }
-    ensures handed { Hands (moves_among line.new.items) room result.handed result.fault }
-    ensures turret { Takes (T.state turret.old) (T.state turret.new) result.handed.list result.fault }
-    ensures halted { IsCalled (H.calls halter.old) (H.calls halter.new) (halts_at path result.fault) }
+    ensures serves { Serves (moves_among line.new.items) driven.old.state driven.new }
+    ensures rest { IsAtRest driven.new (length (moves_among line.new.items)) }
+    ensures halted { IsCalled (H.calls halter.old) (H.calls halter.new) (halts_at path (has_failed driven.new.phase)) }
     ensures origin { H.origin halter.new ≡ H.origin halter.old }
 {
-    let mut handed = room;
     for _ in rt.forever() {
-        let Some(what) = take_next(line, &handed) else {
-            return DriveEnd {
-                handed,
-                fault: false,
-            };
-        };
-        if handed.is_full() {
-            take_rest(rt, line, Leave::when_full(&handed));
-            return DriveEnd {
-                handed,
-                fault: false,
-            };
-        }
-        match handed.hand_on(&what, turret) {
-            Ok(()) => {}
-            Err(_) => {
-                take_rest(rt, line, Leave::by_halting(halter, path));
-                return DriveEnd {
-                    handed,
-                    fault: true,
-                };
-            }
+        let item = line.take();
+        serve(rt, &item, driven);
+        halt_at_fault(path, halter, driven);
+        match item {
+            Item::Move(_) => {}
+            Item::Mark => line.answer(driven),
+            Item::End => return,
         }
     }
     unreachable!()

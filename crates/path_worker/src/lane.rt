@@ -1,37 +1,35 @@
 //! The two threads of a path, joined.
-ghost use Rattle.std.specs.Prelude.{◌≡◌, [], List, false, true};
+ghost use Rattle.std.specs.Prelude.{◌≡◌, [], List, false, true, length};
 ghost use Rattle.nc_outside.specs.Calls.{IsCalled, moves_answered};
 ghost use Rattle.nc_outside.specs.declared.halt.Next.{Next as Answer};
+ghost use Rattle.drive_line.specs.Driving.{fresh, has_failed, IsAtRest, Serves};
 ghost use Rattle.drive_line.specs.Line.{moves_among, has_end};
-ghost use Rattle.path_worker.specs.Drive.{Hands, Takes, halts_at};
+ghost use Rattle.path_worker.specs.Drive.{halts_at, HasSettled};
 ghost use Rattle.path_worker.specs.Work.{Works, IsWhole, calls_made};
 
-use crate::{Handed, Why, run_drive, run_path};
-use drive_line::{LineIn, LineOut, close_line};
+use crate::{Why, run_drive, run_path};
+use drive_line::{Drained, Driven, LineIn, LineOut, close_line};
 use nc_number::Path;
-use nc_outside::{Stepper, Turret};
+use nc_outside::{Drainable, Stepper, Turret};
 use std::sync::Wait;
 use std::thread;
 use std::thread::Threads;
 
-/// What a path runs with: what gives it its steps, what halts its run, its turret, and room for the moves that it hands.
+/// What a path runs with: what gives it its steps, what halts its run, and its turret.
 #[derive(Drop)]
-pub struct Lane<S: Drop, H: Drop, T: Drop> {
+pub struct Lane<S: Drop, H: Drop, T: Turret> {
     pub stepper: S,
     pub halter: H,
-    pub turret: T,
-    pub room: Handed,
+    pub driven: Driven<T>,
 }
 
-/// What is left of a path: why its worker ended, the moves that its turret took, and whether that failed at the next.
+/// What is left of a path: why its worker ended, and its turret, with how many moves it took and missed.
 #[derive(Drop)]
-pub struct LaneEnd<S: Drop, H: Drop, T: Drop> {
+pub struct LaneEnd<S: Drop, H: Drop, T: Turret> {
     pub why: Why,
-    pub handed: Handed,
-    pub fault: bool,
     pub stepper: S,
     pub halter: H,
-    pub turret: T,
+    pub driven: Driven<T>,
 }
 
 // What the worker's thread gives back.
@@ -44,16 +42,14 @@ struct Worked<'r, S: Drop, R> {
 
 // What the drive's thread gives back.
 #[derive(Drop)]
-struct Driven<'r, H: Drop, T: Drop, R> {
-    handed: Handed,
-    fault: bool,
+struct Drove<'r, H: Drop, T: Turret, R> {
     halter: H,
-    turret: T,
-    line: LineOut<'r, R>,
+    driven: Driven<T>,
+    line: LineOut<'r, R, T>,
 }
 
 // The worker's thread.
-fn work<'r, R: Wait, S: Stepper + Drop>(
+fn work<'r, R: Wait, S: Stepper + Drainable<Drained> + Drop>(
     rt: &R,
     path: Path,
     stepper: S,
@@ -73,30 +69,28 @@ fn work<'r, R: Wait, S: Stepper + Drop>(
 }
 
 // The drive's thread.
-fn drive<'r, R: Wait, H: Stepper + Drop, T: Turret + Drop>(
+fn drive<'r, R: Wait, H: Stepper + Drop, T: Turret>(
     rt: &R,
     path: Path,
-    room: Handed,
     halter: H,
-    turret: T,
-    line: LineOut<'r, R>,
-) -> Driven<'r, H, T, R>
-    requires { (room.list ≡ []) × (moves_among line.items ≡ []) }
+    driven: Driven<T>,
+    line: LineOut<'r, R, T>,
+) -> Drove<'r, H, T, R>
+    requires line { (line.items ≡ []) × (line.asked ≡ false) }
+    requires driven { driven ≡ fresh driven.state }
     ensures line { (result.line.line ≡ line.entry.line) × (has_end result.line.items ≡ true) }
-    ensures handed { Hands (moves_among result.line.items) room result.handed result.fault }
-    ensures turret { Takes (T.state turret) (T.state result.turret) result.handed.list result.fault }
-    ensures halted { IsCalled (H.calls halter) (H.calls result.halter) (halts_at path result.fault) }
+    ensures serves { Serves (moves_among result.line.items) driven.state result.driven }
+    ensures rest { IsAtRest result.driven (length (moves_among result.line.items)) }
+    ensures halted { IsCalled (H.calls halter) (H.calls result.halter) (halts_at path (has_failed result.driven.phase)) }
     ensures origin { H.origin result.halter ≡ H.origin halter }
 {
     let mut halter = halter;
-    let mut turret = turret;
+    let mut driven = driven;
     let mut line = line;
-    let end = run_drive(rt, path, room, &mut line, &mut halter, &mut turret);
-    Driven {
-        handed: end.handed,
-        fault: end.fault,
+    run_drive(rt, path, &mut line, &mut halter, &mut driven);
+    Drove {
         halter,
-        turret,
+        driven,
         line,
     }
 }
@@ -106,32 +100,31 @@ fn drive<'r, R: Wait, H: Stepper + Drop, T: Turret + Drop>(
 pub fn run_lane<R, S, H, T>(
     rt: &R,
     path: Path,
-    ends: (LineIn<'_, R>, LineOut<'_, R>),
+    ends: (LineIn<'_, R>, LineOut<'_, R, T>),
     lane: Lane<S, H, T>,
 ) -> LaneEnd<S, H, T>
 where
     R: Threads + Wait + Sync,
-    S: Stepper + Drop + Send,
+    S: Stepper + Drainable<Drained> + Drop + Send,
     H: Stepper + Drop + Send,
     T: Turret + Send,
-    requires line { (ends.0.line ≡ ends.1.line) × (ends.0.items ≡ []) × (ends.1.items ≡ []) }
-    requires room { lane.room.list ≡ [] }
+    requires line { (ends.0.line ≡ ends.1.line) × (ends.0.items ≡ []) × (ends.1.items ≡ []) × (ends.1.asked ≡ false) }
+    requires driven { lane.driven ≡ fresh lane.driven.state }
     ensures moves { (answers : List Answer)
         × IsCalled (S.calls lane.stepper) (S.calls result.stepper) (calls_made path 0 answers)
         × IsWhole answers result.why
-        × Hands (moves_answered (calls_made path 0 answers)) lane.room result.handed result.fault }
-    ensures turret { Takes (T.state lane.turret) (T.state result.turret) result.handed.list result.fault }
-    ensures halted { IsCalled (H.calls lane.halter) (H.calls result.halter) (halts_at path result.fault) }
+        × Serves (moves_answered (calls_made path 0 answers)) lane.driven.state result.driven }
+    ensures rest { HasSettled result.driven.phase }
+    ensures halted { IsCalled (H.calls lane.halter) (H.calls result.halter) (halts_at path (has_failed result.driven.phase)) }
     ensures origins { (S.origin result.stepper ≡ S.origin lane.stepper) × (H.origin result.halter ≡ H.origin lane.halter) }
 {
     let Lane {
         stepper,
         halter,
-        turret,
-        room,
+        driven,
     } = lane;
     let (line_in, line_out) = ends;
-    let (worked, driven) = thread::join(
+    let (worked, drove) = thread::join(
         rt,
         move || -> Worked<'_, S, R>
             requires { has_end line_in.items ≡ false }
@@ -141,30 +134,26 @@ where
                 × IsWhole answers result.why }
             ensures origin { S.origin result.stepper ≡ S.origin stepper }
         { work(rt, path, stepper, line_in) },
-        move || -> Driven<'_, H, T, R>
-            requires { (room.list ≡ []) × (moves_among line_out.items ≡ []) }
+        move || -> Drove<'_, H, T, R>
+            requires { (line_out.items ≡ []) × (line_out.asked ≡ false) × (driven ≡ fresh driven.state) }
             ensures line { (result.line.line ≡ line_out.entry.line) × (has_end result.line.items ≡ true) }
-            ensures handed { Hands (moves_among result.line.items) room result.handed result.fault }
-            ensures turret { Takes (T.state turret) (T.state result.turret) result.handed.list result.fault }
-            ensures halted { IsCalled (H.calls halter) (H.calls result.halter) (halts_at path result.fault) }
+            ensures serves { Serves (moves_among result.line.items) driven.state result.driven }
+            ensures rest { IsAtRest result.driven (length (moves_among result.line.items)) }
+            ensures halted { IsCalled (H.calls halter) (H.calls result.halter) (halts_at path (has_failed result.driven.phase)) }
             ensures origin { H.origin result.halter ≡ H.origin halter }
-        { drive(rt, path, room, halter, turret, line_out) },
+        { drive(rt, path, halter, driven, line_out) },
     );
     let Worked { why, stepper, line } = worked;
-    let Driven {
-        handed,
-        fault,
+    let Drove {
         halter,
-        turret,
+        driven,
         line: taking,
-    } = driven;
+    } = drove;
     close_line(line, taking);
     LaneEnd {
         why,
-        handed,
-        fault,
         stepper,
         halter,
-        turret,
+        driven,
     }
 }

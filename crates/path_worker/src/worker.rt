@@ -1,13 +1,15 @@
 //! The worker of a path.
 ghost use Rattle.std.specs.Prelude.{◌≡◌, ◌++◌, [], ◌∷◌, List, false, map, MatchOption, ⊤};
 ghost use Rattle.nc_outside.specs.declared.halt.Next.{Next as Answer};
+ghost use Rattle.nc_outside.specs.Lined.{lined};
 ghost use Rattle.drive_line.specs.Line.{has_end};
 ghost use Rattle.drive_line.specs.declared.item.Item.TheVariants.{Move as Sent};
 ghost use Rattle.path_worker.specs.Work.{Works, GoesOn, IsAnswerOf, IsWhole};
 
-use drive_line::LineIn;
+use drive_line::{Drained, LineIn};
+use nc_moves::Moves;
 use nc_number::Path;
-use nc_outside::{Halt, Moves, Next, Stepper};
+use nc_outside::{Drainable, Halt, LinedMove, Next, Stepper};
 use std::sync::Wait;
 
 /// Why a worker ended.
@@ -23,16 +25,19 @@ pub enum Why {
 fn send_all<R: Wait>(line: &mut LineIn<'_, R>, moves: &Moves)
     requires { has_end line.old.items ≡ false }
     ensures line { line.new.line ≡ line.old.line }
-    ensures items { line.new.items ≡ line.old.items ++ map Sent moves.now.list }
+    ensures items { line.new.items ≡ line.old.items ++ map Sent (lined moves.now) }
     ensures open { has_end line.new.items ≡ false }
 {
     for what in moves.list.as_slice() {
-        line.send(*what);
+        line.send(LinedMove {
+            line: moves.line,
+            what: *what,
+        });
     }
 }
 
 // One step of the path, and what follows its answer. It says why the worker ends, where it does.
-fn work_once<R: Wait, S: Stepper>(
+fn work_once<R: Wait, S: Stepper + Drainable<Drained>>(
     path: Path,
     stepper: &mut S,
     line: &mut LineIn<'_, R>,
@@ -69,7 +74,7 @@ fn work_once<R: Wait, S: Stepper>(
 
 /// Works a path until its stepper answers that it has ended or stopped, and answers which. It sends the moves of each step
 /// in order, and at the end the end; where a step answers Drain it drains the line and tells the stepper.
-pub fn run_path<R: Wait, S: Stepper>(
+pub fn run_path<R: Wait, S: Stepper + Drainable<Drained>>(
     rt: &R,
     path: Path,
     stepper: &mut S,

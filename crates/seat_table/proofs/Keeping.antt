@@ -9,12 +9,15 @@ use Rattle.atomic_table.specs.Table.{State, Me, step, Act, keeps, takes, gives, 
 use Rattle.atomic_table.proofs.Lists.{at_set, set_here, set_else, set_again, at_longer, exchanged}
 use Rattle.nc_number.specs.declared.path.Path.{Path}
 use Rattle.nc_number.specs.declared.path.Path.TheVariants.{One, Two}
+use Rattle.nc_outside.specs.declared.halt.Halt.{Halt}
 use Rattle.nc_outside.specs.declared.stepper.Call.{Call}
 use Rattle.seat_table.specs.Turning.{Records}
 use Rattle.seat_table.specs.declared.knowing.Lists.{Lists}
 use Rattle.seat_table.specs.declared.knowing.Rights.{Rights}
 use Rattle.seat_table.specs.declared.knowing.Knows.{Knows}
-use Rattle.seat_table.specs.Knowing.{Right, steps, halts, has, list_of, Fits, Kept, no_lists, idle, opened, lists_of, holding, took, gave, plus, minus, without, only, joined, picked, spent, called, no_rights, right_of}
+use Rattle.seat_table.specs.declared.knowing.Stop.{Stop}
+use Rattle.seat_table.specs.Knowing.{Right, steps, halts, has, list_of, Fits, Kept, no_lists, idle, opened, lists_of, stop_by, stop_of, AreStops, listed, first_stop, holding, took, gave, plus, minus, without, only, joined, picked, spent, called, no_rights, right_of}
+use Rattle.seat_table.specs.Passes.{HasStopped, IsStill}
 
 at_bound : {A : Type 0} (l : List A) (i : ℕ) (a : A) → get_elem? l i ≡ some a → i < length l
 at_bound [] i a e = absurd (some-ne-none a (sym e))
@@ -39,7 +42,24 @@ bool_cases false y n = n refl
 same_view : (vs : List Knows) (i : ℕ) (v w : Knows) → get_elem? vs i ≡ some v → get_elem? vs i ≡ some w → v ≡ w
 same_view vs i v w e f = some-injective v w (sym e ∙ f)
 
-module _ {C : Type 0} (records : C → Path → Records) where
+-- who knows a stop knows it of what the table has come to
+stops_on : (stop stop' : Option Stop) → ((s : Stop) → stop ≡ Some s → stop' ≡ Some s) → (stops : List Stop) → AreStops stop stops → AreStops stop' stops
+stops_on stop stop' on [] are = tt
+stops_on stop stop' on (s ∷ stops) are = (on s are.0, stops_on stop stop' on stops are.1)
+
+stops_both : (stop : Option Stop) (first second : List Stop) → AreStops stop first → AreStops stop second → AreStops stop (first ++ second)
+stops_both stop [] second are others = others
+stops_both stop (s ∷ first) second are others = (are.0, stops_both stop first second are.1 others)
+
+stops_first : (stop : Option Stop) (first second : List Stop) → AreStops stop (first ++ second) → AreStops stop first × AreStops stop second
+stops_first stop [] second are = (tt, are)
+stops_first stop (s ∷ first) second are = let t = stops_first stop first second are.1 in ((are.0, t.0), t.1)
+
+stops_listed : (stop : Option Stop) → AreStops stop (listed stop)
+stops_listed None = tt
+stops_listed (Some s) = (refl, tt)
+
+module _ {C : Type 0} (records : C → Path → Records) (reason : C → Option Halt) where
   abbrev St : Type 0
   St = State (Option C) Knows
 
@@ -47,23 +67,24 @@ module _ {C : Type 0} (records : C → Path → Records) where
   Sat = Me (Option C) Knows
 
   abbrev Rule : St → Type 0
-  Rule = Kept records
+  Rule = Kept records reason
 
-  abbrev Home : List (maybe.Option (Option C)) → Lists → Type 0
-  Home homes now = (c : C) × (get_elem? homes 0 ≡ some (some (Some c))) × ((p : Path) → records c p ≡ list_of p now)
+  abbrev Home : List (maybe.Option (Option C)) → Lists → Option Stop → Type 0
+  Home homes now stop = (c : C) × (get_elem? homes 0 ≡ some (some (Some c))) × ((p : Path) → records c p ≡ list_of p now) × (stop_of records reason c ≡ stop)
 
   abbrev Away : List Knows → ℕ → Type 0
   Away views holder = (v : Knows) × (get_elem? views holder ≡ some v) × (v.busy ≡ true)
 
-  rule_of : (s : St) (n : ℕ) → get_or s.words 0 0 ≡ n → (now : Lists) (owner : Right → ℕ) (holder : ℕ) → 0 < length s.words → 0 < length s.homes
-      → ((id : ℕ) (v : Knows) → get_elem? s.views id ≡ some v → Fits now owner holder n id v) → (n ≡ 0 → Home s.homes now) → (0 < n → Away s.views holder) → Rule s
-  rule_of s n e now owner holder wide deep each home away = record {
+  rule_of : (s : St) (n : ℕ) → get_or s.words 0 0 ≡ n → (now : Lists) (stop : Option Stop) (owner : Right → ℕ) (holder : ℕ) → 0 < length s.words → 0 < length s.homes
+      → ((id : ℕ) (v : Knows) → get_elem? s.views id ≡ some v → Fits now stop owner holder n id v) → (n ≡ 0 → Home s.homes now stop) → (0 < n → Away s.views holder) → Rule s
+  rule_of s n e now stop owner holder wide deep each home away = record {
     now = now;
+    stop = stop;
     owner = owner;
     holder = holder;
     wide = wide;
     deep = deep;
-    each = λ id v at. subst (λ (k : ℕ). Fits now owner holder k id v) (sym e) (each id v at);
+    each = λ id v at. subst (λ (k : ℕ). Fits now stop owner holder k id v) (sym e) (each id v at);
     home = λ z. home (sym e ∙ z);
     away = λ z. away (subst (λ (k : ℕ). 0 < k) e z);
   }
@@ -76,25 +97,25 @@ module _ {C : Type 0} (records : C → Path → Records) where
   same_lists c now e = λ i. record { first = e One i; second = e Two i }
 
   pub takes_turn : (slots id : ℕ) (m : Sat) → m.0.busy ≡ false → (r : Right) → has r m.0.rights ≡ true
-      → Allows Rule slots id m 0 (λ n. either (eqb n 0) 1 n) (took records (step slots 0 0 1 maybe.none) m)
+      → Allows Rule slots id m 0 (λ n. either (eqb n 0) 1 n) (took records reason (step slots 0 0 1 maybe.none) m)
   takes_turn slots id m rests r may s k long at small = exchanged (get_or s.words 0 0) 0 1 Goal hit miss
     where
       Goal : ℕ → Type 0
-      Goal n = (w : Knows) × (a : Act (Option C)) × Valid s.homes m.1 a × Rule (stepped s 0 n id m.1 w a) × took records (step slots 0 0 1 maybe.none) m (get_or s.words 0 0) (w, carried_after m.1 a)
+      Goal n = (w : Knows) × (a : Act (Option C)) × Valid s.homes m.1 a × Rule (stepped s 0 n id m.1 w a) × took records reason (step slots 0 0 1 maybe.none) m (get_or s.words 0 0) (w, carried_after m.1 a)
 
       hit : get_or s.words 0 0 ≡ 0 → Goal 1
-      hit e = let h = k.home e in let c : C = h.0 in let l : Lists = lists_of records c in let same : l ≡ k.now = same_lists c k.now h.2 in let w : Knows = holding records m.0 l in
+      hit e = let h = k.home e in let c : C = h.0 in let l : Lists = lists_of records c in let same : l ≡ k.now = same_lists c k.now h.2 in let w : Knows = holding m.0 l (stop_of records reason c) in
           let mine = k.each id m.0 at in (
             w,
             takes 0 (Some c),
             h.1,
-            rule_of (stepped s 0 1 id m.1 w (takes 0 (Some c))) 1 (get_or-set_same s.words 0 1 0 k.wide) k.now k.owner id (subst (λ (n : ℕ). 0 < n) (sym (length-set s.words 0 1)) k.wide)
+            rule_of (stepped s 0 1 id m.1 w (takes 0 (Some c))) 1 (get_or-set_same s.words 0 1 0 k.wide) k.now k.stop k.owner id (subst (λ (n : ℕ). 0 < n) (sym (length-set s.words 0 1)) k.wide)
                 (subst (λ (n : ℕ). 0 < n) (sym (length-set s.homes 0 maybe.none)) k.deep)
-                (each_set (Fits k.now k.owner id 1) s.views id w (record { owns = mine.owns; lists = mine.lists; busy = λ _. (refl, same, (omega arith), r, may) })
-                (λ j v other there. let f = k.each j v there in record { owns = f.owns; lists = f.lists; busy = λ z. let b = (f.busy z).2 in absurd (omega arith) }))
+                (each_set (Fits k.now k.stop k.owner id 1) s.views id w (record { owns = mine.owns; lists = mine.lists; stops = mine.stops; busy = λ _. (refl, same, (omega arith), r, may); busy_stop = λ _. h.3 })
+                (λ j v other there. let f = k.each j v there in record { owns = f.owns; lists = f.lists; stops = f.stops; busy = λ z. let b = (f.busy z).2 in absurd (omega arith); busy_stop = f.busy_stop }))
                 (λ z. absurd (omega arith)) (λ _. (w, set_here s.views id w (at_bound s.views id m.0 at), refl)),
             (
-              (λ _. record { table = c; view = refl; slot = refl; lists = λ p h'. mine.lists p h' ∙ sym (h.2 p) }),
+              (λ _. record { table = c; view = refl; slot = refl; lists = λ p h'. mine.lists p h' ∙ sym (h.2 p); stops = subst (λ (o : Option Stop). AreStops o m.0.stops) (sym h.3) mine.stops }),
               λ ne. absurd (ne e),
             ),
           )
@@ -109,58 +130,67 @@ module _ {C : Type 0} (records : C → Path → Records) where
       )
 
   pub gives_turn : (slots id : ℕ) (m : Sat) (v : Knows) (c : C) → m ≡ (v, (0, Some c) ∷ []) → v.busy ≡ true → ((p : Path) → has (steps p) v.rights ≡ false → records c p ≡ list_of p v.found)
-      → Allows Rule slots id m 0 (λ _. 0) (gave records (step slots 0 0 0 maybe.none) m)
-  gives_turn slots id m v c is busy others = subst (λ (x : Sat). Allows Rule slots id x 0 (λ _. 0) (gave records (step slots 0 0 0 maybe.none) x)) (sym is) gives_here
+      → ((s : Stop) → v.found_stop ≡ Some s → stop_of records reason c ≡ Some s) → Allows Rule slots id m 0 (λ _. 0) (gave records reason (step slots 0 0 0 maybe.none) m)
+  gives_turn slots id m v c is busy others on = subst (λ (x : Sat). Allows Rule slots id x 0 (λ _. 0) (gave records reason (step slots 0 0 0 maybe.none) x)) (sym is) gives_here
     where
-      gives_here : Allows Rule slots id (v, (0, Some c) ∷ []) 0 (λ _. 0) (gave records (step slots 0 0 0 maybe.none) (v, (0, Some c) ∷ []))
-      gives_here s k long at small = let l : Lists = lists_of records c in let w : Knows = idle v.rights l v.calls in let mine = k.each id v at in let had = mine.busy busy in
-          let fits : (j : ℕ) (u : Knows) → j ≢ id → get_elem? s.views j ≡ some u → Fits l k.owner 0 0 j u =
+      gives_here : Allows Rule slots id (v, (0, Some c) ∷ []) 0 (λ _. 0) (gave records reason (step slots 0 0 0 maybe.none) (v, (0, Some c) ∷ []))
+      gives_here s k long at small = let l : Lists = lists_of records c in let stop : Option Stop = stop_of records reason c in let w : Knows = idle v.rights l (listed stop) v.calls in let mine = k.each id v at in let had = mine.busy busy in
+          let fits : (j : ℕ) (u : Knows) → j ≢ id → get_elem? s.views j ≡ some u → Fits l stop k.owner 0 0 j u =
           λ j u other there. let f = k.each j u there in record {
             owns = f.owns;
             lists = λ p h. f.lists p h ∙ (bool_cases (has (steps p) v.rights)
                 (λ both. absurd (other (f.owns (steps p) h ∙ sym (mine.owns (steps p) both))))
                 (λ not_mine. sym (ap (list_of p) had.1) ∙ (sym (others p not_mine) ∙ sym (list_is c p))));
+            stops = stops_on k.stop stop (λ x e. on x (mine.busy_stop busy ∙ e)) u.stops f.stops;
             busy = λ z. absurd (other ((f.busy z).0 ∙ sym had.0));
+            busy_stop = λ z. absurd (other ((f.busy z).0 ∙ sym had.0));
           } in (
             w,
             gives,
             tt,
-            rule_of (stepped s 0 0 id ((0, Some c) ∷ []) w gives) 0 (get_or-set_same s.words 0 0 0 k.wide) l k.owner 0 (subst (λ (n : ℕ). 0 < n) (sym (length-set s.words 0 0)) k.wide)
+            rule_of (stepped s 0 0 id ((0, Some c) ∷ []) w gives) 0 (get_or-set_same s.words 0 0 0 k.wide) l stop k.owner 0 (subst (λ (n : ℕ). 0 < n) (sym (length-set s.words 0 0)) k.wide)
                 (subst (λ (n : ℕ). 0 < n) (sym (length-set s.homes 0 (some (Some c)))) k.deep)
-                (each_set (Fits l k.owner 0 0) s.views id w (record { owns = mine.owns; lists = λ p _. refl; busy = λ z. absurd (true≢false (sym z)) }) fits)
-                (λ _. (c, set_here s.homes 0 (some (Some c)) k.deep, λ p. sym (list_is c p))) (λ z. absurd (omega arith)),
+                (each_set (Fits l stop k.owner 0 0) s.views id w (record { owns = mine.owns; lists = λ p _. refl; stops = stops_listed stop; busy = λ z. absurd (true≢false (sym z)); busy_stop = λ z. absurd (true≢false (sym z)) }) fits)
+                (λ _. (c, set_here s.homes 0 (some (Some c)) k.deep, (λ p. sym (list_is c p)), refl)) (λ z. absurd (omega arith)),
             (refl, refl),
           )
 
-  pub splits : (id : ℕ) (v left right : Knows) → v.busy ≡ false → left.busy ≡ false → right.busy ≡ false → left.lists ≡ v.lists → right.lists ≡ v.lists
+  pub splits : (id : ℕ) (v left right : Knows) → v.busy ≡ false → left.busy ≡ false → right.busy ≡ false → left.lists ≡ v.lists → right.lists ≡ v.lists → left.stops ≡ v.stops → right.stops ≡ []
       → ((r : Right) → has r left.rights ≡ true → has r v.rights ≡ true) → ((r : Right) → has r right.rights ≡ true → (has r v.rights ≡ true) × (has r left.rights ≡ false))
       → Splits Rule id v left right
-  splits id v left right rests lrests rrests llists rlists lhas rhas s k at = let mine = k.each id v at in let word : ℕ = get_or s.words 0 0 in
+  splits id v left right rests lrests rrests llists rlists lstops rstops lhas rhas s k at = let mine = k.each id v at in let word : ℕ = get_or s.words 0 0 in
       let owner : Right → ℕ = λ r. either (has r right.rights) (length s.views) (k.owner r) in
       let kept_owner : (r : Right) → has r right.rights ≡ false → owner r ≡ k.owner r = λ r e. ap (λ (b : Bool). either b (length s.views) (k.owner r)) e in
       let new_owner : (r : Right) → has r right.rights ≡ true → owner r ≡ length s.views = λ r e. ap (λ (b : Bool). either b (length s.views) (k.owner r)) e in
-      let fits_left : Fits k.now owner k.holder word id left = record {
+      let fits_left : Fits k.now k.stop owner k.holder word id left = record {
         owns = λ r h. mine.owns r (lhas r h) ∙ sym (kept_owner r (bool_cases (has r right.rights) (λ z. absurd (true≢false (sym h ∙ (rhas r z).1))) (λ z. z)));
         lists = λ p h. ap (list_of p) llists ∙ mine.lists p (lhas (steps p) h);
+        stops = subst (AreStops k.stop) (sym lstops) mine.stops;
         busy = λ z. absurd (true≢false (sym z ∙ lrests));
+        busy_stop = λ z. absurd (true≢false (sym z ∙ lrests));
       } in
-      let fits_others : (j : ℕ) (u : Knows) → j ≢ id → get_elem? s.views j ≡ some u → Fits k.now owner k.holder word j u = λ j u other there. let f = k.each j u there in record {
+      let fits_others : (j : ℕ) (u : Knows) → j ≢ id → get_elem? s.views j ≡ some u → Fits k.now k.stop owner k.holder word j u = λ j u other there. let f = k.each j u there in record {
         owns = λ r h. f.owns r h ∙ sym (kept_owner r (bool_cases (has r right.rights) (λ z. absurd (other (f.owns r h ∙ sym (mine.owns r (rhas r z).0)))) (λ z. z)));
         lists = f.lists;
+        stops = f.stops;
         busy = f.busy;
+        busy_stop = f.busy_stop;
       } in
-      let fits_right : Fits k.now owner k.holder word (length s.views) right = record {
+      let fits_right : Fits k.now k.stop owner k.holder word (length s.views) right = record {
         owns = λ r h. sym (new_owner r h);
         lists = λ p h. ap (list_of p) rlists ∙ mine.lists p (rhas (steps p) h).0;
+        stops = subst (AreStops k.stop) (sym rstops) tt;
         busy = λ z. absurd (true≢false (sym z ∙ rrests));
+        busy_stop = λ z. absurd (true≢false (sym z ∙ rrests));
       } in record {
         now = k.now;
+        stop = k.stop;
         owner = owner;
         holder = k.holder;
         wide = k.wide;
         deep = k.deep;
-        each = λ j u e. ⊎_elim (each_set (Fits k.now owner k.holder word) s.views id left fits_left fits_others j u)
-            (λ (t : (j ≡ length (set s.views id left)) × (right ≡ u)). subst (λ (x : ℕ × Knows). Fits k.now owner k.holder word x.0 x.1) (λ i. (sym (t.0 ∙ length-set s.views id left) i, t.1 i)) fits_right)
+        each = λ j u e. ⊎_elim (each_set (Fits k.now k.stop owner k.holder word) s.views id left fits_left fits_others j u)
+            (λ (t : (j ≡ length (set s.views id left)) × (right ≡ u)). subst (λ (x : ℕ × Knows). Fits k.now k.stop owner k.holder word x.0 x.1) (λ i. (sym (t.0 ∙ length-set s.views id left) i, t.1 i)) fits_right)
             (at_end (set s.views id left) right u j e);
         home = k.home;
         away = λ z. let a = k.away z in (
@@ -174,38 +204,45 @@ module _ {C : Type 0} (records : C → Path → Records) where
   pub joins : (id : ℕ) (v : Knows) (other : ℕ) (w both spent : Knows) → v.busy ≡ false → w.busy ≡ false → both.busy ≡ false → spent.busy ≡ false
       → ((r : Right) → has r spent.rights ≡ false) → ((r : Right) → has r both.rights ≡ true → (has r v.rights ≡ true) ⊎ (has r w.rights ≡ true))
       → ((p : Path) → has (steps p) both.rights ≡ true → ((has (steps p) v.rights ≡ true) × (list_of p both.lists ≡ list_of p v.lists)) ⊎ ((has (steps p) w.rights ≡ true) × (list_of p both.lists ≡ list_of p w.lists)))
-      → Joins Rule id v other w both spent
-  joins id v other w both spent rests wrests brests srests nothing which lists s k at apart there = let word : ℕ = get_or s.words 0 0 in let mine = k.each id v at in
+      → both.stops ≡ v.stops ++ w.stops → spent.stops ≡ [] → Joins Rule id v other w both spent
+  joins id v other w both spent rests wrests brests srests nothing which lists bstops sstops s k at apart there = let word : ℕ = get_or s.words 0 0 in let mine = k.each id v at in
       let at_w : get_elem? s.views other ≡ some w = sym (set_else s.views id other both apart) ∙ there in let its = k.each other w at_w in
       let owner : Right → ℕ = λ r. either (has r w.rights) id (k.owner r) in
       let kept_owner : (r : Right) → has r w.rights ≡ false → owner r ≡ k.owner r = λ r e. ap (λ (b : Bool). either b id (k.owner r)) e in
       let new_owner : (r : Right) → has r w.rights ≡ true → owner r ≡ id = λ r e. ap (λ (b : Bool). either b id (k.owner r)) e in
-      let fits_both : Fits k.now owner k.holder word id both = record {
+      let fits_both : Fits k.now k.stop owner k.holder word id both = record {
         owns = λ r h. bool_cases (has r w.rights) (λ z. sym (new_owner r z))
             (λ z. ⊎_elim (λ (x : has r v.rights ≡ true). mine.owns r x ∙ sym (kept_owner r z)) (λ (x : has r w.rights ≡ true). absurd (true≢false (sym x ∙ z))) (which r h));
         lists = λ p h. ⊎_elim (λ (x : (has (steps p) v.rights ≡ true) × (list_of p both.lists ≡ list_of p v.lists)). x.1 ∙ mine.lists p x.0)
             (λ (x : (has (steps p) w.rights ≡ true) × (list_of p both.lists ≡ list_of p w.lists)). x.1 ∙ its.lists p x.0) (lists p h);
+        stops = subst (AreStops k.stop) (sym bstops) (stops_both k.stop v.stops w.stops mine.stops its.stops);
         busy = λ z. absurd (true≢false (sym z ∙ brests));
+        busy_stop = λ z. absurd (true≢false (sym z ∙ brests));
       } in
-      let fits_spent : Fits k.now owner k.holder word other spent = record {
+      let fits_spent : Fits k.now k.stop owner k.holder word other spent = record {
         owns = λ r h. absurd (true≢false (sym h ∙ nothing r));
         lists = λ p h. absurd (true≢false (sym h ∙ nothing (steps p)));
+        stops = subst (AreStops k.stop) (sym sstops) tt;
         busy = λ z. absurd (true≢false (sym z ∙ srests));
+        busy_stop = λ z. absurd (true≢false (sym z ∙ srests));
       } in
-      let fits_others : (j : ℕ) (u : Knows) → j ≢ other → get_elem? s.views j ≡ some u → Fits k.now owner k.holder word j u = λ j u other' at'. let f = k.each j u at' in record {
+      let fits_others : (j : ℕ) (u : Knows) → j ≢ other → get_elem? s.views j ≡ some u → Fits k.now k.stop owner k.holder word j u = λ j u other' at'. let f = k.each j u at' in record {
         owns = λ r h. f.owns r h ∙ sym (kept_owner r (bool_cases (has r w.rights) (λ z. absurd (other' (f.owns r h ∙ sym (its.owns r z)))) (λ z. z)));
         lists = f.lists;
+        stops = f.stops;
         busy = f.busy;
+        busy_stop = f.busy_stop;
       } in
       let not_holder : (i : ℕ) (x y : Knows) → get_elem? s.views i ≡ some x → x.busy ≡ false → get_elem? s.views k.holder ≡ some y → y.busy ≡ true → k.holder ≢ i =
       λ i x y e quiet f loud same. true≢false (sym loud ∙ (ap (λ (q : Knows). q.busy) (same_view s.views i y x (subst (λ (n : ℕ). get_elem? s.views n ≡ some y) same f) e) ∙ quiet)) in record {
         now = k.now;
+        stop = k.stop;
         owner = owner;
         holder = k.holder;
         wide = k.wide;
         deep = k.deep;
-        each = each_set (Fits k.now owner k.holder word) (set s.views id both) other spent fits_spent
-            (λ j u ne e. ⊎_elim (λ (t : (j ≡ id) × (both ≡ u)). subst (λ (x : ℕ × Knows). Fits k.now owner k.holder word x.0 x.1) (λ i. (sym t.0 i, t.1 i)) fits_both)
+        each = each_set (Fits k.now k.stop owner k.holder word) (set s.views id both) other spent fits_spent
+            (λ j u ne e. ⊎_elim (λ (t : (j ≡ id) × (both ≡ u)). subst (λ (x : ℕ × Knows). Fits k.now k.stop owner k.holder word x.0 x.1) (λ i. (sym t.0 i, t.1 i)) fits_both)
             (λ (t : (j ≢ id) × (get_elem? s.views j ≡ some u)). fits_others j u ne t.1) (at_set s.views id j both u e));
         home = k.home;
         away = λ z. let a = k.away z in (a.0, set_else (set s.views id both) other k.holder spent (not_holder other w a.0 at_w wrests a.1 a.2) ∙ (set_else s.views id k.holder both (not_holder id v a.0 at rests a.1 a.2) ∙ a.1), a.2);
@@ -214,12 +251,13 @@ module _ {C : Type 0} (records : C → Path → Records) where
   pub starts : (c : C) → ((p : Path) → records c p ≡ []) → Rule (opening (0 ∷ 0 ∷ 0 ∷ []) (Some c ∷ []) opened)
   starts c none = record {
     now = no_lists;
+    stop = stop_of records reason c;
     owner = λ _. 0;
     holder = 0;
     wide = omega arith;
     deep = omega arith;
     each = first_alone;
-    home = λ _. (c, refl, λ p. none p ∙ no_list p);
+    home = λ _. (c, refl, (λ p. none p ∙ no_list p), refl);
     away = λ z. absurd (omega arith);
   }
     where
@@ -227,11 +265,11 @@ module _ {C : Type 0} (records : C → Path → Records) where
       no_list One = refl
       no_list Two = refl
 
-      fits : Fits no_lists (λ _. 0) 0 0 0 opened
-      fits = record { owns = λ r h. refl; lists = λ p h. refl; busy = λ z. absurd (true≢false (sym z)) }
+      fits : Fits no_lists (stop_of records reason c) (λ _. 0) 0 0 0 opened
+      fits = record { owns = λ r h. refl; lists = λ p h. refl; stops = tt; busy = λ z. absurd (true≢false (sym z)); busy_stop = λ z. absurd (true≢false (sym z)) }
 
-      first_alone : (j : ℕ) (u : Knows) → get_elem? (opened ∷ []) j ≡ some u → Fits no_lists (λ _. 0) 0 0 j u
-      first_alone zero u e = subst (Fits no_lists (λ _. 0) 0 0 0) (some-injective opened u e) fits
+      first_alone : (j : ℕ) (u : Knows) → get_elem? (opened ∷ []) j ≡ some u → Fits no_lists (stop_of records reason c) (λ _. 0) 0 0 j u
+      first_alone zero u e = subst (Fits no_lists (stop_of records reason c) (λ _. 0) 0 0 0) (some-injective opened u e) fits
       first_alone (suc j) u e = absurd (some-ne-none u (sym e))
 
   -- a change of a word behind the first
@@ -242,7 +280,7 @@ module _ {C : Type 0} (records : C → Path → Records) where
     tt,
     subst (λ (vs : List Knows). Rule record { words = set s.words word (f (get_or s.words word 0)); homes = s.homes; views = vs }) (sym (set_again s.views id m.0 at))
         (rule_of record { words = set s.words word (f (get_or s.words word 0)); homes = s.homes; views = s.views } (get_or s.words 0 0) (get_or-set_other s.words word 0 (f (get_or s.words word 0)) 0 (λ e. omega (arith, e, positive)))
-        k.now k.owner k.holder (subst (λ (n : ℕ). 0 < n) (sym (length-set s.words word (f (get_or s.words word 0)))) k.wide) k.deep k.each k.home k.away),
+        k.now k.stop k.owner k.holder (subst (λ (n : ℕ). 0 < n) (sym (length-set s.words word (f (get_or s.words word 0)))) k.wide) k.deep k.each k.home k.away),
     refl,
   )
 
@@ -259,9 +297,9 @@ module _ {C : Type 0} (records : C → Path → Records) where
         keeps,
         tt,
         subst (λ (vs : List Knows). Rule record { words = set s.words 0 2; homes = s.homes; views = vs }) (sym (set_again s.views id m.0 at))
-            (rule_of record { words = set s.words 0 2; homes = s.homes; views = s.views } 2 (get_or-set_same s.words 0 2 0 k.wide) k.now k.owner k.holder
+            (rule_of record { words = set s.words 0 2; homes = s.homes; views = s.views } 2 (get_or-set_same s.words 0 2 0 k.wide) k.now k.stop k.owner k.holder
             (subst (λ (n : ℕ). 0 < n) (sym (length-set s.words 0 2)) k.wide) k.deep
-            (λ j v there. let f = k.each j v there in record { owns = f.owns; lists = f.lists; busy = λ z. let b = f.busy z in (b.0, b.1, (omega arith), b.3, b.4) })
+            (λ j v there. let f = k.each j v there in record { owns = f.owns; lists = f.lists; stops = f.stops; busy = λ z. let b = f.busy z in (b.0, b.1, (omega arith), b.3, b.4); busy_stop = f.busy_stop })
             (λ z. absurd (omega arith)) (λ _. k.away (subst (λ (n : ℕ). 0 < n) (sym e) (omega arith)))),
         refl,
       )
@@ -282,8 +320,8 @@ module _ {C : Type 0} (records : C → Path → Records) where
     keeps,
     tt,
     subst (λ (ws : List ℕ). Rule record { words = ws; homes = s.homes; views = set s.views id w }) (sym (set-get_or s.words 1 0))
-        (rule_of record { words = s.words; homes = s.homes; views = set s.views id w } (get_or s.words 0 0) refl k.now k.owner k.holder k.wide k.deep
-        (each_set (Fits k.now k.owner k.holder (get_or s.words 0 0)) s.views id w (record { owns = mine.owns; lists = mine.lists; busy = mine.busy }) (λ j v other there. k.each j v there))
+        (rule_of record { words = s.words; homes = s.homes; views = set s.views id w } (get_or s.words 0 0) refl k.now k.stop k.owner k.holder k.wide k.deep
+        (each_set (Fits k.now k.stop k.owner k.holder (get_or s.words 0 0)) s.views id w (record { owns = mine.owns; lists = mine.lists; stops = mine.stops; busy = mine.busy; busy_stop = mine.busy_stop }) (λ j v other there. k.each j v there))
         k.home (λ z. let a = k.away z in (
           a.0,
           set_else s.views id k.holder w (λ e. true≢false (sym a.2 ∙ (ap (λ (x : Knows). x.busy) (same_view s.views id a.0 m.0 (subst (λ (i : ℕ). get_elem? s.views i ≡ some a.0) e a.1) at) ∙ rests))) ∙ a.1,
@@ -294,10 +332,10 @@ module _ {C : Type 0} (records : C → Path → Records) where
 
   -- at the end, in a state with a seat that has every right
   pub ends : (id : ℕ) (v : Knows) (ws : List ℕ) (xs : List (Option C)) → v.busy ≡ false → ((r : Right) → has r v.rights ≡ true) → Final (Seen Rule id v) ws xs
-      → (c : C) × (get_elem? xs 0 ≡ some (Some c)) × ((p : Path) → records c p ≡ list_of p v.lists)
+      → (c : C) × (get_elem? xs 0 ≡ some (Some c)) × ((p : Path) → records c p ≡ list_of p v.lists) × AreStops (stop_of records reason c) v.stops
   ends id v ws xs rests all end = let s : St = end.0 in let k = end.1.0 in let at = end.1.1 in let mine = k.each id v at in
       let quiet : get_or s.words 0 0 ≡ 0 = nobody s k at (get_or s.words 0 0) refl in let h = k.home quiet in
-      (h.0, end.4 0 (Some h.0) h.1, λ p. h.2 p ∙ sym (mine.lists p (all (steps p))))
+      (h.0, end.4 0 (Some h.0) h.1, (λ p. h.2 p ∙ sym (mine.lists p (all (steps p)))), subst (λ (o : Option Stop). AreStops o v.stops) (sym h.3) mine.stops)
     where
       nobody : (s : St) (k : Rule s) → get_elem? s.views id ≡ some v → (n : ℕ) → get_or s.words 0 0 ≡ n → n ≡ 0
       nobody s k at zero e = refl
@@ -356,26 +394,27 @@ of_either : (a b : Bool) (x y : Records) → (a || b) ≡ true → ((a ≡ true)
 of_either true b x y e = inl (refl, refl)
 of_either false b x y e = inr (e, refl)
 
-module _ {C : Type 0} (records : C → Path → Records) where
-  pub glues : (id : ℕ) (v : Knows) (other : ℕ) (w : Knows) → v.busy ≡ false → w.busy ≡ false → Joins (Kept records) id v other w (joined v w) spent
-  glues id v other w rests wrests = joins records id v other w (joined v w) spent rests wrests refl refl lacks_all (λ r. has_plus r v.rights w.rights) lists
+module _ {C : Type 0} (records : C → Path → Records) (reason : C → Option Halt) where
+  pub glues : (id : ℕ) (v : Knows) (other : ℕ) (w : Knows) → v.busy ≡ false → w.busy ≡ false → Joins (Kept records reason) id v other w (joined v w) spent
+  glues id v other w rests wrests = joins records reason id v other w (joined v w) spent rests wrests refl refl lacks_all (λ r. has_plus r v.rights w.rights) lists refl refl
     where
       lists : (p : Path) → has (steps p) (plus v.rights w.rights) ≡ true
           → ((has (steps p) v.rights ≡ true) × (list_of p (picked v w) ≡ list_of p v.lists)) ⊎ ((has (steps p) w.rights ≡ true) × (list_of p (picked v w) ≡ list_of p w.lists))
       lists One e = of_either v.rights.first_steps w.rights.first_steps v.lists.first w.lists.first e
       lists Two e = of_either v.rights.second_steps w.rights.second_steps v.lists.second w.lists.second e
 
-  pub cuts : (id : ℕ) (u v : Knows) (m : Rights) → u ≡ v → v.busy ≡ false → ((r : Right) → has r m ≡ true → has r v.rights ≡ true) → Splits (Kept records) id u (without m u) (only m u)
-  cuts id u v m e rests had = subst (λ (x : Knows). Splits (Kept records) id x (without m x) (only m x)) (sym e)
-      (splits records id v (without m v) (only m v) rests refl refl refl refl (λ r. has_minus r v.rights m) (λ r h. (had r h, minus_lacks r v.rights m h)))
+  pub cuts : (id : ℕ) (u v : Knows) (m : Rights) → u ≡ v → v.busy ≡ false → ((r : Right) → has r m ≡ true → has r v.rights ≡ true) → Splits (Kept records reason) id u (without m u) (only m u)
+  cuts id u v m e rests had = subst (λ (x : Knows). Splits (Kept records reason) id x (without m x) (only m x)) (sym e)
+      (splits records reason id v (without m v) (only m v) rests refl refl refl refl refl refl (λ r. has_minus r v.rights m) (λ r h. (had r h, minus_lacks r v.rights m h)))
 
   -- the seat that took in all others
   pub ends_joined : (id : ℕ) (u a b c d : Knows) (ws : List ℕ) (xs : List (Option C)) → u ≡ joined (joined (joined a b) c) d → a.rights ≡ right_of (steps One) → b.rights ≡ right_of (steps Two)
-      → c.rights ≡ right_of (halts One) → d.rights ≡ right_of (halts Two) → Final (Seen (Kept records) id u) ws xs
+      → c.rights ≡ right_of (halts One) → d.rights ≡ right_of (halts Two) → Final (Seen (Kept records reason) id u) ws xs
       → (t : C) × (get_elem? xs 0 ≡ some (Some t)) × (records t One ≡ a.lists.first) × (records t Two ≡ b.lists.second)
+      × AreStops (stop_of records reason t) (((a.stops ++ b.stops) ++ c.stops) ++ d.stops)
   ends_joined id u a b c d ws xs is ea eb ec ed end = let v : Knows = joined (joined (joined a b) c) d in
-      let t = ends records id v ws xs refl all (subst (λ (x : Knows). Final (Seen (Kept records) id x) ws xs) is end) in
-      (t.0, t.1, t.2 One ∙ first_is, t.2 Two ∙ second_is)
+      let t = ends records reason id v ws xs refl all (subst (λ (x : Knows). Final (Seen (Kept records reason) id x) ws xs) is end) in
+      (t.0, t.1, t.2 One ∙ first_is, t.2 Two ∙ second_is, t.3)
     where
       all : (r : Right) → has r (joined (joined (joined a b) c) d).rights ≡ true
       all (steps One) = λ i. has (steps One) (plus (plus (plus (ea i) (eb i)) (ec i)) (ed i))
@@ -389,7 +428,7 @@ module _ {C : Type 0} (records : C → Path → Records) where
       second_is : (joined (joined (joined a b) c) d).lists.second ≡ b.lists.second
       second_is = subst (λ (x : Rights × Rights). (joined (joined (joined (record a { rights = x.0 }) (record b { rights = x.1 })) c) d).lists.second ≡ b.lists.second) (λ i. (sym ea i, sym eb i)) refl
 
-  pub cuts_two : (id : ℕ) (u : Knows) → u ≡ opened → Splits (Kept records) id u (without (right_of (steps Two)) u) (only (right_of (steps Two)) u)
+  pub cuts_two : (id : ℕ) (u : Knows) → u ≡ opened → Splits (Kept records reason) id u (without (right_of (steps Two)) u) (only (right_of (steps Two)) u)
   cuts_two id u e = cuts id u opened (right_of (steps Two)) e refl all_had
     where
       all_had : (r : Right) → has r (right_of (steps Two)) ≡ true → has r opened.rights ≡ true
@@ -398,7 +437,7 @@ module _ {C : Type 0} (records : C → Path → Records) where
       all_had (halts One) h = refl
       all_had (halts Two) h = refl
 
-  pub cuts_three : (id : ℕ) (u : Knows) → u ≡ without (right_of (steps Two)) opened → Splits (Kept records) id u (without (right_of (halts One)) u) (only (right_of (halts One)) u)
+  pub cuts_three : (id : ℕ) (u : Knows) → u ≡ without (right_of (steps Two)) opened → Splits (Kept records reason) id u (without (right_of (halts One)) u) (only (right_of (halts One)) u)
   cuts_three id u e = cuts id u (without (right_of (steps Two)) opened) (right_of (halts One)) e refl all_had
     where
       all_had : (r : Right) → has r (right_of (halts One)) ≡ true → has r (without (right_of (steps Two)) opened).rights ≡ true
@@ -407,7 +446,7 @@ module _ {C : Type 0} (records : C → Path → Records) where
       all_had (halts One) h = refl
       all_had (halts Two) h = refl
 
-  pub cuts_four : (id : ℕ) (u : Knows) → u ≡ without (right_of (halts One)) (without (right_of (steps Two)) opened) → Splits (Kept records) id u (without (right_of (halts Two)) u) (only (right_of (halts Two)) u)
+  pub cuts_four : (id : ℕ) (u : Knows) → u ≡ without (right_of (halts One)) (without (right_of (steps Two)) opened) → Splits (Kept records reason) id u (without (right_of (halts Two)) u) (only (right_of (halts Two)) u)
   cuts_four id u e = cuts id u (without (right_of (halts One)) (without (right_of (steps Two)) opened)) (right_of (halts Two)) e refl all_had
     where
       all_had : (r : Right) → has r (right_of (halts Two)) ≡ true → has r (without (right_of (halts One)) (without (right_of (steps Two)) opened)).rights ≡ true
@@ -423,3 +462,55 @@ or_else c (Some d) = d
 pub same_held : {C : Type 0} (x y : C) → ◌≡◌ {A = Option C} (Some x) (Some y) → x ≡ y
 unfolding or_else
 same_held x y e = ap (or_else x) e
+
+-- what a seat knows of a stop, of a table that has come to this
+module _ {C : Type 0} (records : C → Path → Records) (reason : C → Option Halt) where
+  none_some : {X : Type 0} (s : Stop) → None ≡ Some s → X
+  none_some s is = absurd (let clash : ◌≡◌ {A = Option Stop} None (Some s) = is in cc)
+
+  reason_of_stop : (why : Option Halt) (l : Lists) (s : Stop) → stop_by why l ≡ Some s → (why ≡ Some s.why) × (l ≡ s.records)
+  reason_of_stop None l s is = none_some s is
+  reason_of_stop (Some why) l s is = let e : record { why = why; records = l } ≡ s = cc in (ap (λ (x : Stop). Some x.why) e, ap (λ (x : Stop). x.records) e)
+
+  -- a table that has halted stays so
+  pub stop_stays : (c c' : C) → ((why : Halt) → reason c ≡ Some why → (reason c' ≡ Some why) × ((p : Path) → records c' p ≡ records c p))
+      → (s : Stop) → stop_of records reason c ≡ Some s → stop_of records reason c' ≡ Some s
+  stop_stays c c' stays s is =
+      let r = reason_of_stop (reason c) (lists_of records c) s is in
+      let t = stays s.why r.0 in
+      let same : lists_of records c' ≡ lists_of records c = λ i. record { first = t.1 One i; second = t.1 Two i } in
+      (λ i. stop_by (t.0 i) (lists_of records c')) ∙ ap (λ (l : Lists). stop_by (Some s.why) l) (same ∙ r.1)
+
+  -- what a stop says of the table
+  has_stopped : (c : C) (s : Stop) → stop_of records reason c ≡ Some s → HasStopped records reason c s
+  has_stopped c s is =
+      let r = reason_of_stop (reason c) (lists_of records c) s is in
+      record { why = r.0; records_are = λ p. sym (list_is c p) ∙ ap (list_of p) r.1 }
+    where
+      list_is : (c : C) (p : Path) → list_of p (lists_of records c) ≡ records c p
+      list_is c One = refl
+      list_is c Two = refl
+
+  still : (c : C) (stops : List Stop) → AreStops (stop_of records reason c) stops → IsStill records reason c (first_stop stops)
+  still c [] are = tt
+  still c (s ∷ stops) are = has_stopped c s are.0
+
+  -- what each of four seats knew is so of the table that was taken out
+  pub stills : (c held : C) → c ≡ held → (first second third fourth : List Stop) → AreStops (stop_of records reason c) (((first ++ second) ++ third) ++ fourth)
+      → IsStill records reason held (first_stop first) × IsStill records reason held (first_stop second) × IsStill records reason held (first_stop third)
+      × IsStill records reason held (first_stop fourth)
+  stills c held same first second third fourth are =
+      let a = stops_first (stop_of records reason c) ((first ++ second) ++ third) fourth are in
+      let b = stops_first (stop_of records reason c) (first ++ second) third a.0 in
+      let d = stops_first (stop_of records reason c) first second b.0 in
+      subst (λ (x : C). IsStill records reason x (first_stop first) × IsStill records reason x (first_stop second) × IsStill records reason x (first_stop third)
+      × IsStill records reason x (first_stop fourth)) same (still c first d.0, still c second d.1, still c third b.1, still c fourth a.1)
+
+  -- a seat that gives the table back knows what it knew before, where the table kept it
+  pub first_known : (stop : Option Stop) (stops : List Stop) (s : Stop) → AreStops stop stops → first_stop stops ≡ Some s → stop ≡ Some s
+  first_known stop [] s are is = none_some s is
+  first_known stop (x ∷ stops) s are is = are.0 ∙ is
+
+  pub first_listed : (stop : Option Stop) → first_stop (listed stop) ≡ stop
+  first_listed None = refl
+  first_listed (Some s) = refl

@@ -1,5 +1,5 @@
 -- What the seats of a table know, the rule of the table, and what each step on its words tells.
-use Rattle.std.specs.Prelude.{◌≡◌, ◌≢◌, ℕ, ◌<◌, Bool, true, false, ◌||◌, ◌&&◌, not, if◌then◌else◌}
+use Rattle.std.specs.Prelude.{◌≡◌, ◌≢◌, ⊤, ℕ, ◌<◌, Bool, true, false, ◌||◌, ◌&&◌, not, if◌then◌else◌}
 use Rattle.std.specs.Prelude.{List, [], ◌∷◌, ◌++◌, length, slice_index, Option, Some, None}
 use mathlib.Core.Option.{some}
 use lib.ListN.{get_elem?}
@@ -7,10 +7,12 @@ use Rattle.atomic_table.specs.Table.{State, Me, Step}
 use Rattle.atomic_table.specs.Seated.{TableId}
 use Rattle.nc_number.specs.declared.path.Path.{Path}
 use Rattle.nc_number.specs.declared.path.Path.TheVariants.{One, Two}
+use Rattle.nc_outside.specs.declared.halt.Halt.{Halt}
 use Rattle.nc_outside.specs.declared.stepper.Call.{Call}
 use Rattle.seat_table.specs.Turning.{Records}
 use Rattle.seat_table.specs.declared.knowing.Lists.{Lists}
 use Rattle.seat_table.specs.declared.knowing.Rights.{Rights}
+use Rattle.seat_table.specs.declared.knowing.Stop.{Stop}
 use Rattle.seat_table.specs.declared.knowing.Knows.{Knows}
 
 -- what a seat may do: step a path, or halt the run for the turret of a path
@@ -30,32 +32,70 @@ abbrev pub list_of : Path → Lists → Records
 list_of One l = l.first
 list_of Two l = l.second
 
-module _ (now : Lists) (owner : Right → ℕ) (holder word : ℕ) (id : ℕ) where
-  -- A right is that of one seat. Who may step a path has its records, and who has the turn has found all of them.
+-- the records of both paths
+abbrev pub lists_of : {C : Type 0} → (C → Path → Records) → C → Lists
+lists_of records c = record { first = records c One; second = records c Two }
+
+-- that a table with these records has halted, where it has a reason
+abbrev pub stop_by : Option Halt → Lists → Option Stop
+stop_by None l = None
+stop_by (Some why) l = Some (record { why = why; records = l })
+
+abbrev pub stop_of : {C : Type 0} → (C → Path → Records) → (C → Option Halt) → C → Option Stop
+stop_of records reason c = stop_by (reason c) (lists_of records c)
+
+-- each of them is that stop
+abbrev pub AreStops : Option Stop → List Stop → Type 0
+AreStops stop [] = ⊤
+AreStops stop (s ∷ stops) = (stop ≡ Some s) × AreStops stop stops
+
+abbrev pub listed : Option Stop → List Stop
+listed None = []
+listed (Some stop) = stop ∷ []
+
+abbrev pub first_stop : List Stop → Option Stop
+first_stop [] = None
+first_stop (stop ∷ stops) = Some stop
+
+module _ (now : Lists) (stop : Option Stop) (owner : Right → ℕ) (holder word : ℕ) (id : ℕ) where
+  -- A right is that of one seat. Who may step a path has its records, and who has the turn has found all of them. Who knows that the
+  -- table has halted knows its records.
   pub record Fits (v : Knows) : Type 0 where
     pub owns : (r : Right) → has r v.rights ≡ true → id ≡ owner r
     pub lists : (p : Path) → has (steps p) v.rights ≡ true → list_of p v.lists ≡ list_of p now
+    pub stops : AreStops stop v.stops
     pub busy : v.busy ≡ true → (id ≡ holder) × (v.found ≡ now) × (0 < word) × (r : Right) × (has r v.rights ≡ true)
+    pub busy_stop : v.busy ≡ true → v.found_stop ≡ stop
 
--- The rule. While nobody has the turn, the table is in its place, with these records. While it is taken, one seat has it.
-pub record Kept {C : Type 0} (records : C → Path → Records) (s : State (Option C) Knows) : Type 0 where
+-- The rule. While nobody has the turn, the table is in its place, with these records, and has halted or not. While it is taken, one
+-- seat has it.
+pub record Kept {C : Type 0} (records : C → Path → Records) (reason : C → Option Halt) (s : State (Option C) Knows) : Type 0 where
   pub now : Lists
+  pub stop : Option Stop
   pub owner : Right → ℕ
   pub holder : ℕ
   pub wide : 0 < length s.words
   pub deep : 0 < length s.homes
   pub each : (id : ℕ) (v : Knows) → get_elem? s.views id ≡ some v
-      → Fits now owner holder (slice_index s.words 0) id v
+      → Fits now stop owner holder (slice_index s.words 0) id v
   pub home : slice_index s.words 0 ≡ 0 → (c : C) × (get_elem? s.homes 0 ≡ some (some (Some c)))
-      × ((p : Path) → records c p ≡ list_of p now)
+      × ((p : Path) → records c p ≡ list_of p now) × (stop_of records reason c ≡ stop)
   pub away : 0 < slice_index s.words 0 → (v : Knows) × (get_elem? s.views holder ≡ some v) × (v.busy ≡ true)
 
 abbrev pub no_lists : Lists
 no_lists = record { first = []; second = [] }
 
 -- what a seat knows that has not the turn
-abbrev pub idle : Rights → Lists → List Call → Knows
-idle r l calls = record { rights = r; lists = l; busy = false; found = no_lists; calls = calls }
+abbrev pub idle : Rights → Lists → List Stop → List Call → Knows
+idle r l stops calls = record {
+  rights = r;
+  lists = l;
+  stops = stops;
+  busy = false;
+  found = no_lists;
+  found_stop = None;
+  calls = calls;
+}
 
 abbrev pub all_rights : Rights
 all_rights = record { first_steps = true; second_steps = true; first_halts = true; second_halts = true }
@@ -71,10 +111,10 @@ right_of (halts One) = record { first_steps = false; second_steps = false; first
 right_of (halts Two) = record { first_steps = false; second_steps = false; first_halts = false; second_halts = true }
 
 abbrev pub opened : Knows
-opened = idle all_rights no_lists []
+opened = idle all_rights no_lists [] []
 
 abbrev pub spent : Knows
-spent = idle no_rights no_lists []
+spent = idle no_rights no_lists [] []
 
 abbrev pub minus : Rights → Rights → Rights
 minus r m = record {
@@ -94,10 +134,10 @@ plus r m = record {
 
 -- a seat is cut in two: one with these rights alone, and one without them
 abbrev pub only : Rights → Knows → Knows
-only m v = idle m v.lists []
+only m v = idle m v.lists [] []
 
 abbrev pub without : Rights → Knows → Knows
-without m v = idle (minus v.rights m) v.lists v.calls
+without m v = idle (minus v.rights m) v.lists v.stops v.calls
 
 -- of each path the records that the one has which may step it
 abbrev pub picked : Knows → Knows → Lists
@@ -107,42 +147,53 @@ picked v w = record {
 }
 
 abbrev pub joined : Knows → Knows → Knows
-joined v w = idle (plus v.rights w.rights) (picked v w) v.calls
+joined v w = idle (plus v.rights w.rights) (picked v w) (v.stops ++ w.stops) v.calls
 
 -- it had these calls besides
 abbrev pub called : List Call → Knows → Knows
 called calls v = record v { calls = v.calls ++ calls }
 
-module _ {C : Type 0} (records : C → Path → Records) where
-  abbrev pub lists_of : C → Lists
-  lists_of c = record { first = records c One; second = records c Two }
+-- it has the turn, and found these records, and this stop
+abbrev pub holding : Knows → Lists → Option Stop → Knows
+holding v l stop = record {
+  rights = v.rights;
+  lists = v.lists;
+  stops = v.stops;
+  busy = true;
+  found = l;
+  found_stop = stop;
+  calls = v.calls;
+}
 
+module _ {C : Type 0} (records : C → Path → Records) (reason : C → Option Halt) where
   abbrev Sat : Type 0
   Sat = Me (Option C) Knows
-
-  -- it has the turn, and found these records
-  abbrev pub holding : Knows → Lists → Knows
-  holding v l = record { rights = v.rights; lists = v.lists; busy = true; found = l; calls = v.calls }
 
   -- it got the turn where it found 0, and then it has the table, with these records
   pub record Got (m : Sat) (m' : Sat) : Type 0 where
     pub table : C
-    pub view : m'.0 ≡ holding m.0 (lists_of table)
+    pub view : m'.0 ≡ holding m.0 (lists_of records table) (stop_of records reason table)
     pub slot : m'.1 ≡ (0, Some table) ∷ m.1
     pub lists : (p : Path) → has (steps p) m.0.rights ≡ true → list_of p m.0.lists ≡ records table p
+    pub stops : AreStops (stop_of records reason table) m.0.stops
 
   abbrev pub took : Step (Option C) → Sat → ℕ → Sat → Type 0
   took st m n m' = (n ≡ 0 → Got m m') × (n ≢ 0 → m' ≡ m)
 
-  -- the records of the table in hand
+  -- the records of the table in hand, and whether it has halted
   abbrev pub lists_at : List (ℕ × Option C) → Lists
   lists_at [] = no_lists
-  lists_at ((k, Some c) ∷ xs) = lists_of c
+  lists_at ((k, Some c) ∷ xs) = lists_of records c
   lists_at ((k, None) ∷ xs) = no_lists
+
+  abbrev pub stops_at : List (ℕ × Option C) → List Stop
+  stops_at [] = []
+  stops_at ((k, Some c) ∷ xs) = listed (stop_of records reason c)
+  stops_at ((k, None) ∷ xs) = []
 
   -- it gave the table back, and has its records
   abbrev pub gave : Step (Option C) → Sat → ℕ → Sat → Type 0
-  gave st m n m' = (m'.0 ≡ idle m.0.rights (lists_at m.1) m.0.calls) × (m'.1 ≡ [])
+  gave st m n m' = (m'.0 ≡ idle m.0.rights (lists_at m.1) (stops_at m.1) m.0.calls) × (m'.1 ≡ [])
 
 -- the seat is one of this table, which has three words and a slot
 abbrev pub IsAt : TableId → TableId → Type 0
@@ -153,15 +204,20 @@ abbrev pub Idle : {C : Type 0} → Me (Option C) Knows → Type 0
 Idle m = (m.0.busy ≡ false) × (m.1 ≡ [])
 
 -- it has the turn, took the table out, and found all records
-pub record Took {C : Type 0} (records : C → Path → Records) (m : Me (Option C) Knows) (table : C)
+pub record Took {C : Type 0} (records : C → Path → Records) (reason : C → Option Halt) (m : Me (Option C) Knows) (table : C)
     (m' : Me (Option C) Knows) : Type 0 where
-  pub view : m'.0 ≡ holding records m.0 (lists_of records table)
+  pub view : m'.0 ≡ holding m.0 (lists_of records table) (stop_of records reason table)
   pub slot : m'.1 ≡ (0, None) ∷ []
   pub lists : (p : Path) → has (steps p) m.0.rights ≡ true → list_of p m.0.lists ≡ records table p
+  pub stops : AreStops (stop_of records reason table) m.0.stops
 
 -- the records of a path that a seat lists
 abbrev pub list_at : {C : Type 0} → Path → Me (Option C) Knows → Records
 list_at p m = list_of p m.0.lists
+
+-- that the table has halted, as the seat knows
+abbrev pub stop_at : {C : Type 0} → Me (Option C) Knows → Option Stop
+stop_at m = first_stop m.0.stops
 
 -- an idle seat with this right alone
 abbrev pub IsOf : {C : Type 0} → Right → Me (Option C) Knows → Type 0
@@ -170,3 +226,7 @@ IsOf r m = (m.0.busy ≡ false) × (m.1 ≡ []) × (m.0.rights ≡ right_of r)
 -- the seat keeps its rights and its calls
 abbrev pub Keeps : {C : Type 0} → Me (Option C) Knows → Me (Option C) Knows → Type 0
 Keeps m m' = (m'.0.rights ≡ m.0.rights) × (m'.0.calls ≡ m.0.calls)
+
+-- who knew that the table has halted knows the same
+abbrev pub KeepsStop : Option Stop → Option Stop → Type 0
+KeepsStop before after = (s : Stop) → before ≡ Some s → after ≡ Some s

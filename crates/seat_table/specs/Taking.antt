@@ -1,7 +1,9 @@
 -- What one try of a seat comes to, and what it may tell the table.
 use Rattle.std.specs.Prelude.{◌≡◌, ⊤}
 use Rattle.nc_outside.specs.Calls.{IsOfTurret}
+use Rattle.nc_outside.specs.declared.halt.Next.TheVariants.{Halted}
 use Rattle.seat_table.specs.Turning.{Records, Answers}
+use Rattle.seat_table.specs.declared.knowing.Stop.{Stop}
 use Rattle.seat_table.specs.declared.taking.Tried.{Tried}
 use Rattle.seat_table.specs.declared.taking.Tried.TheVariants.{Busy, Waits, Stepped}
 use Rattle.seat_table.specs.declared.taking.Notice.{Notice}
@@ -13,7 +15,17 @@ Tries before Busy after = after ≡ before
 Tries before Waits after = after ≡ before
 Tries before (Stepped next) after = Answers before next after
 
+-- a step of a table that has halted answers why
+abbrev pub AnswersWhy : Stop → Tried → Type 0
+AnswersWhy stop Busy = ⊤
+AnswersWhy stop Waits = ⊥
+AnswersWhy stop (Stepped next) = next ≡ Halted stop.why
+
 -- the notice may be given: a halt is that of a turret
 abbrev pub IsGiven : Notice → Type 0
 IsGiven (Drained path) = ⊤
 IsGiven (Halt why) = IsOfTurret why
+
+abbrev pub IsHalt : Notice → Type 0
+IsHalt (Drained path) = ⊥
+IsHalt (Halt why) = ⊤

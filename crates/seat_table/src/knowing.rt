@@ -6,14 +6,20 @@ ghost use Rattle.seat_table.specs.Knowing.{Kept, steps, halts, right_of, opened,
 
 use crate::turning::Turns;
 use atomic_table::{Join, Play, Split, TableRule};
-use nc_outside::{Call, MoveList};
+use nc_outside::{Call, Halt, LinedMove};
 use std::collections::LinkedList;
 use std::marker::{Brand, PhantomData};
 
-/// The records of both paths: of each its moves.
+/// The records of both paths: of each its moves, with the line of their block.
 pub struct Lists {
-    pub first: LinkedList<MoveList>,
-    pub second: LinkedList<MoveList>,
+    pub first: LinkedList<LinkedList<LinedMove>>,
+    pub second: LinkedList<LinkedList<LinedMove>>,
+}
+
+/// That the table has halted: why, and its records.
+pub struct Stop {
+    pub why: Halt,
+    pub records: Lists,
 }
 
 /// What a seat may do: step path 1, step path 2, halt for the turret of path 1, halt for that of path 2.
@@ -28,18 +34,22 @@ pub struct Rights {
 pub struct Knows {
     pub rights: Rights,
     pub lists: Lists,
-    /// It has the turn, and `found` is what it found.
+    /// That the table has halted, as it was when it gave the turn back. Who took others in has theirs too.
+    pub stops: LinkedList<Stop>,
+    /// It has the turn, and found these records, and that the table has halted, where it has.
     pub busy: bool,
     pub found: Lists,
+    pub found_stop: Option<Stop>,
     /// The calls that a stepper over it had.
     pub calls: LinkedList<Call>,
 }
 
-/// The rule: while nobody has the turn, each seat that may step a path lists that path's records of the table.
+/// The rule: while nobody has the turn, each seat that may step a path lists that path's records of the table. Where a seat
+/// knows that the table has halted, the table is what it was then.
 pub struct Law;
 
 impl<C: Turns> TableRule<Option<C>, Knows, ()> for Law {
-    ghost holds = { λ _. Kept C.records };
+    ghost holds = { λ _. Kept C.records C.reason };
 
     ghost first = { λ _. opened };
 }
@@ -48,14 +58,14 @@ impl<C: Turns> TableRule<Option<C>, Knows, ()> for Law {
 pub struct Take;
 
 impl<C: Turns> Play<Option<C>, Knows> for Take {
-    ghost then = { took C.records };
+    ghost then = { took C.records C.reason };
 }
 
 /// Gives the turn back.
 pub struct Give;
 
 impl<C: Turns> Play<Option<C>, Knows> for Give {
-    ghost then = { gave C.records };
+    ghost then = { gave C.records C.reason };
 }
 
 /// Counts a change.

@@ -1,8 +1,10 @@
 //! The table with its seats.
-ghost use Rattle.std.specs.Prelude.{◌≡◌, ◌++◌, [], ◌∷◌, IfOk, IfErr};
+ghost use Rattle.std.specs.Prelude.{◌≡◌, ◌++◌, [], ◌∷◌, IfOk, IfErr, IfSome, IsTrue, is_some};
 ghost use Rattle.nc_number.specs.declared.path.Path.TheVariants.{One, Two};
 ghost use Rattle.nc_outside.specs.Calls.{IsOfTurret};
-ghost use Rattle.seat_table.specs.Passes.{fresh};
+ghost use Rattle.nc_outside.specs.declared.halt.Next.TheVariants.{Halted};
+ghost use Rattle.seat_table.specs.Knowing.{KeepsStop};
+ghost use Rattle.seat_table.specs.Passes.{fresh, fresh_halter, IsStill};
 ghost use Rattle.seat_table.specs.Turning.{Answers};
 
 use crate::knowing::{CutFirstHalt, CutSecond, CutSecondHalt, Knows, Law, Noted};
@@ -11,7 +13,7 @@ use crate::taking::{Notice, Place, close_all, note, step_until, tell_until};
 use crate::turning::Turns;
 use atomic_table::{Refused, Table};
 use nc_number::Path;
-use nc_outside::{Call, Drained, Halt, Next};
+use nc_outside::{Call, Drain, Halt, Next};
 use std::alloc::Global;
 use std::marker::Model;
 use std::sync::Wait;
@@ -33,7 +35,8 @@ impl<C: Turns> Model for SeatTable<C> {
     ghost invariant = { λ t. (t.table.shared.table_id.words ≡ 3) × (t.table.shared.table_id.slots ≡ 1) };
 }
 
-/// The right to step a path. It lists the records of the path that its steps made.
+/// The right to step a path. It lists the records of the path that its steps made, and has what the table was
+/// where it found it halted.
 #[derive(Drop)]
 pub struct SeatPass<C> {
     place: Place<Box<C>>,
@@ -41,7 +44,7 @@ pub struct SeatPass<C> {
 }
 
 impl<C> Model for SeatPass<C> {
-    ghost use Rattle.seat_table.specs.Knowing.{IsOf, steps, list_at};
+    ghost use Rattle.seat_table.specs.Knowing.{IsOf, steps, list_at, stop_at};
     ghost use Rattle.seat_table.specs.Passes.{Pass};
 
     ghost Value = { Pass };
@@ -50,13 +53,14 @@ impl<C> Model for SeatPass<C> {
       table = p.place.table_id;
       path = p.path;
       records = list_at p.path p.place.me;
+      stop = stop_at p.place.me;
       calls = p.place.me.0.calls;
     } };
 
     ghost invariant = { λ p. IsOf (steps p.path) p.place.me };
 }
 
-/// The right to halt the run for the turret of a path.
+/// The right to halt the run for the turret of a path. It has what the table was when it halted it.
 #[derive(Drop)]
 pub struct HaltPass<C> {
     place: Place<Box<C>>,
@@ -64,12 +68,17 @@ pub struct HaltPass<C> {
 }
 
 impl<C> Model for HaltPass<C> {
-    ghost use Rattle.seat_table.specs.Knowing.{IsOf, halts};
+    ghost use Rattle.seat_table.specs.Knowing.{IsOf, halts, stop_at};
     ghost use Rattle.seat_table.specs.Passes.{Halter};
 
     ghost Value = { Halter };
 
-    ghost view = { λ p. record { table = p.place.table_id; path = p.path } };
+    ghost view = { λ p. record {
+      table = p.place.table_id;
+      path = p.path;
+      stop = stop_at p.place.me;
+      calls = p.place.me.0.calls;
+    } };
 
     ghost invariant = { λ p. IsOf (halts p.path) p.place.me };
 }
@@ -98,8 +107,8 @@ impl<C: Turns> SeatTable<C> {
     pub fn new(alloc: Global, table: C) -> Result<Seated<C>, C>
         requires { (p : Path) → C.records table p ≡ [] }
         ensures passes { IfOk result (λ s. (s.first ≡ fresh s.table One) × (s.second ≡ fresh s.table Two)) }
-        ensures halters { IfOk result (λ s. (s.first_halt ≡ record { table = s.table; path = One })
-            × (s.second_halt ≡ record { table = s.table; path = Two })) }
+        ensures halters { IfOk result (λ s. (s.first_halt ≡ fresh_halter s.table One)
+            × (s.second_halt ≡ fresh_halter s.table Two)) }
         ensures err { IfErr result (λ t. t ≡ table) }
     {
         match SeatTable::over(alloc, lift(alloc, table)?) {
@@ -112,8 +121,8 @@ impl<C: Turns> SeatTable<C> {
     fn over(alloc: Global, table: Box<C>) -> Result<Seated<C>, Box<C>>
         requires { (p : Path) → C.records table.value p ≡ [] }
         ensures passes { IfOk result (λ s. (s.first ≡ fresh s.table One) × (s.second ≡ fresh s.table Two)) }
-        ensures halters { IfOk result (λ s. (s.first_halt ≡ record { table = s.table; path = One })
-            × (s.second_halt ≡ record { table = s.table; path = Two })) }
+        ensures halters { IfOk result (λ s. (s.first_halt ≡ fresh_halter s.table One)
+            × (s.second_halt ≡ fresh_halter s.table Two)) }
         ensures err { IfErr result (λ t. t ≡ table) }
     {
         let slots = put_in(alloc, table)?;
@@ -150,40 +159,48 @@ impl<C: Turns> SeatTable<C> {
     }
 
     /// One step of the path of the pass, once it has the turn and the path does not wait. A path that waits
-    /// sleeps until the table has changed.
+    /// sleeps until its wait is over. Once the pass has found the table halted each step answers why.
     pub fn step<R: Wait>(&self, rt: &R, pass: &mut SeatPass<C>) -> Next
         requires { pass.old.table ≡ self.now }
-        ensures same { pass.new ≡ record pass.old { records = pass.new.records } }
+        ensures same { pass.new ≡ record pass.old { records = pass.new.records; stop = pass.new.stop } }
         ensures records { Answers pass.old.records result pass.new.records }
+        ensures stop { KeepsStop pass.old.stop pass.new.stop }
+        ensures halted { IfSome pass.old.stop (λ s. result ≡ Halted s.why) }
     {
         step_until(rt, &self.table.shared, &mut pass.place, pass.path)
     }
 
     /// The line of the path was drained behind the last moves that were answered to it. It tells the table once
     /// it has the turn.
-    pub fn drained<R: Wait>(&self, rt: &R, pass: &mut SeatPass<C>, proof: &Drained)
+    pub fn drained<R: Wait, P: Drain>(&self, rt: &R, pass: &mut SeatPass<C>, proof: &P)
         requires { pass.old.table ≡ self.now }
-        ensures { pass.new ≡ pass.old }
+        ensures same { pass.new ≡ record pass.old { stop = pass.new.stop } }
+        ensures stop { KeepsStop pass.old.stop pass.new.stop }
     {
         let _ = proof;
         let notice = Notice::Drained(pass.path);
         tell_until(rt, &self.table.shared, &mut pass.place, notice);
     }
 
-    /// Halts the run by the pass of a path, once it has the turn.
+    /// Halts the run by the pass of a path, once it has the turn. From then on the table makes no record.
     pub fn halt_path<R: Wait>(&self, rt: &R, pass: &mut SeatPass<C>, why: Halt)
         requires { (pass.old.table ≡ self.now) × IsOfTurret why }
-        ensures { pass.new ≡ pass.old }
+        ensures same { pass.new ≡ record pass.old { stop = pass.new.stop } }
+        ensures stop { KeepsStop pass.old.stop pass.new.stop }
+        ensures halted { IsTrue (is_some pass.new.stop) }
     {
         tell_until(rt, &self.table.shared, &mut pass.place, Notice::Halt(why));
     }
 
-    /// Halts the run for the turret of a path, once it has the turn.
+    /// Halts the run for the turret of a path, once it has the turn. From then on the table makes no record.
     pub fn halt<R: Wait>(&self, rt: &R, pass: &mut HaltPass<C>, why: Halt)
         requires { (pass.old.table ≡ self.now) × IsOfTurret why }
-        ensures { pass.new ≡ pass.old }
+        ensures same { pass.new ≡ record pass.old { stop = pass.new.stop } }
+        ensures stop { KeepsStop pass.old.stop pass.new.stop }
+        ensures halted { IsTrue (is_some pass.new.stop) }
     {
-        tell_until(rt, &self.table.shared, &mut pass.place, Notice::Halt(why));
+        let notice = Notice::Halt(why);
+        tell_until(rt, &self.table.shared, &mut pass.place, notice);
     }
 
     // Notes a call that a stepper over the pass had.
@@ -194,8 +211,17 @@ impl<C: Turns> SeatTable<C> {
         note::<Box<C>, N>(&self.table.shared, &mut pass.place, call);
     }
 
-    /// The table, whose records of each path are just those that the pass of the path lists. It takes no turn,
-    /// and waits for nobody.
+    // The same of a stepper over the pass of a drive.
+    pub(crate) fn note_halter<N: Noted>(&self, pass: &mut HaltPass<C>, call: Call)
+        requires { (pass.old.table ≡ self.now) × (N.calls ≡ call ∷ []) }
+        ensures { pass.new ≡ record pass.old { calls = pass.old.calls ++ call ∷ [] } }
+    {
+        note::<Box<C>, N>(&self.table.shared, &mut pass.place, call);
+    }
+
+    /// The table, whose records of each path are just those that the pass of the path lists. Where a pass found
+    /// it halted, or halted it, it is halted for that reason, and its records are those that it had then. It
+    /// takes no turn, and waits for nobody.
     pub fn close(
         self,
         first: SeatPass<C>,
@@ -209,6 +235,9 @@ impl<C: Turns> SeatTable<C> {
             × (first_halt.path ≡ One) × (second_halt.path ≡ Two) }
         ensures first { C.records result One ≡ first.records }
         ensures second { C.records result Two ≡ second.records }
+        ensures stops { IsStill C.records C.reason result first.stop × IsStill C.records C.reason result second.stop }
+        ensures halts { IsStill C.records C.reason result first_halt.stop
+            × IsStill C.records C.reason result second_halt.stop }
     {
         let SeatTable { table } = self;
         let SeatPass { place: one, .. } = first;

@@ -1,15 +1,16 @@
 //! Steppers over the passes of a table: one for the worker of a path, and one for the drive of its turret.
-ghost use Rattle.std.specs.Prelude.{◌≡◌, [], ◌∷◌, ◌++◌};
+ghost use Rattle.std.specs.Prelude.{◌≡◌, [], ◌∷◌, ◌++◌, IsTrue, is_some};
 ghost use Rattle.nc_outside.specs.Calls.{moves_answered, IsOfTurret};
 ghost use Rattle.nc_outside.specs.declared.halt.Next.TheVariants.{Silent};
 ghost use Rattle.nc_outside.specs.declared.stepper.Call.TheVariants as Called;
+ghost use Rattle.seat_table.specs.Passes.{has_halt};
 ghost use Rattle.seat_table.specs.Turning.{moves_in};
 
 use crate::seats::{HaltPass, SeatPass, SeatTable};
 use crate::turning::Turns;
 use atomic_table::Badge;
 use nc_number::Path;
-use nc_outside::{Call, Drained, Halt, Next, Stepper};
+use nc_outside::{Call, Drain, Drainable, Halt, Next, Stepper};
 use std::marker::{Brand, Model};
 use std::sync::Wait;
 
@@ -35,7 +36,8 @@ impl<'a, C: Turns, R> Model for SeatStepper<'a, C, R> {
     ghost invariant = { λ s. (s.pass.table ≡ s.table.now) × (moves_answered s.pass.calls ≡ moves_in s.pass.records) };
 }
 
-/// A stepper over the pass of a drive, which is for halts alone: its steps are silent, and make no turn.
+/// A stepper over the pass of a drive, which is for halts alone: its steps are silent, and make no turn. It tells
+/// its calls, and where a halt is among them the pass has what the table was then.
 #[derive(Drop)]
 pub struct HaltStepper<'a, C: Turns, R> {
     table: &'a SeatTable<C>,
@@ -44,14 +46,15 @@ pub struct HaltStepper<'a, C: Turns, R> {
 }
 
 impl<'a, C: Turns, R> Model for HaltStepper<'a, C, R> {
-    ghost use Rattle.std.specs.Prelude.{◌≡◌};
-    ghost use Rattle.seat_table.specs.Passes.{Halter};
+    ghost use Rattle.std.specs.Prelude.{◌≡◌, IsTrue, is_some};
+    ghost use Rattle.seat_table.specs.Passes.{Halter, has_halt};
 
     ghost Value = { Halter };
 
     ghost view = { λ s. s.pass };
 
-    ghost invariant = { λ s. s.pass.table ≡ s.table.now };
+    ghost invariant = { λ s. (s.pass.table ≡ s.table.now)
+        × (IsTrue (has_halt s.pass.calls) → IsTrue (is_some s.pass.stop)) };
 }
 
 impl<C: Turns> SeatTable<C> {
@@ -70,7 +73,8 @@ impl<C: Turns> SeatTable<C> {
 
     /// A stepper over the pass of a drive.
     pub fn halter<'a, R>(&'a self, rt: &'a R, pass: HaltPass<C>) -> HaltStepper<'a, C, R>
-        requires { pass.table ≡ self.now }
+        requires table { pass.table ≡ self.now }
+        requires told { IsTrue (has_halt pass.calls) → IsTrue (is_some pass.stop) }
         ensures { result ≡ pass }
     {
         HaltStepper {
@@ -93,9 +97,10 @@ impl<'a, C: Turns, R> SeatStepper<'a, C, R> {
 }
 
 impl<'a, C: Turns, R> HaltStepper<'a, C, R> {
-    /// The pass.
+    /// The pass. Where the stepper had a halt the table has halted, and the pass has what it was then.
     pub fn into_pass(self) -> HaltPass<C>
-        ensures { result ≡ self.entry }
+        ensures pass { result ≡ self.entry }
+        ensures told { IsTrue (has_halt result.calls) → IsTrue (is_some result.stop) }
     {
         let HaltStepper { pass, .. } = self;
         pass
@@ -125,17 +130,17 @@ fn step_noted<C: Turns, R: Wait>(
 
 // A drain, which the pass notes.
 #[tactic(auto, using(crate::proofs::Telling::drain_told))]
-fn drained_noted<C: Turns, R: Wait>(
+fn drained_noted<C: Turns, R: Wait, P: Drain>(
     table: &SeatTable<C>,
     rt: &R,
     pass: &mut SeatPass<C>,
     path: Path,
-    proof: Drained,
+    proof: P,
 )
     requires table { pass.old.table ≡ table.now }
     requires told { moves_answered pass.old.calls ≡ moves_in pass.old.records }
     ensures same { (pass.new.table ≡ pass.old.table) × (pass.new.path ≡ pass.old.path) }
-    ensures calls { pass.new.calls ≡ pass.old.calls ++ Called.Drained path proof.count ∷ [] }
+    ensures calls { pass.new.calls ≡ pass.old.calls ++ Called.Drained path (P.count proof) ∷ [] }
     ensures told { moves_answered pass.new.calls ≡ moves_in pass.new.records }
 {
     table.drained(rt, pass, &proof);
@@ -158,6 +163,28 @@ fn halt_noted<C: Turns, R: Wait>(table: &SeatTable<C>, rt: &R, pass: &mut SeatPa
     table.note::<Brand>(pass, call);
 }
 
+// A call of a stepper over the pass of a drive, which the pass notes.
+fn call_noted<C: Turns>(table: &SeatTable<C>, pass: &mut HaltPass<C>, call: Call)
+    requires table { pass.old.table ≡ table.now }
+    requires told { IsTrue (has_halt pass.old.calls) → IsTrue (is_some pass.old.stop) }
+    requires halted { IsTrue (has_halt (call ∷ [])) → IsTrue (is_some pass.old.stop) }
+    ensures noted { pass.new ≡ record pass.old { calls = pass.old.calls ++ call ∷ [] } }
+    ensures told { IsTrue (has_halt pass.new.calls) → IsTrue (is_some pass.new.stop) }
+{
+    table.note_halter::<Brand>(pass, call);
+}
+
+// A halt by a stepper over the pass of a drive, which the pass notes.
+fn halter_noted<C: Turns, R: Wait>(table: &SeatTable<C>, rt: &R, pass: &mut HaltPass<C>, why: &Halt)
+    requires table { (pass.old.table ≡ table.now) × IsOfTurret why.now }
+    ensures same { (pass.new.table ≡ pass.old.table) × (pass.new.path ≡ pass.old.path) }
+    ensures calls { pass.new.calls ≡ pass.old.calls ++ Called.Halt why.now ∷ [] }
+    ensures halted { IsTrue (is_some pass.new.stop) }
+{
+    table.halt(rt, pass, *why);
+    call_noted(table, pass, Call::Halt(*why));
+}
+
 impl<'a, C: Turns, R: Wait> Stepper for SeatStepper<'a, C, R> {
     ghost use Rattle.std.specs.Prelude.{Some};
     ghost use Rattle.seat_table.specs.Passes.{origin_of};
@@ -172,40 +199,43 @@ impl<'a, C: Turns, R: Wait> Stepper for SeatStepper<'a, C, R> {
         step_noted(self.table, self.rt, &mut self.pass, path)
     }
 
-    fn drained(&mut self, path: Path, proof: Drained) {
-        drained_noted(self.table, self.rt, &mut self.pass, path, proof);
-    }
-
     fn halt(&mut self, why: Halt) {
         halt_noted(self.table, self.rt, &mut self.pass, &why);
     }
 }
 
+impl<'a, C: Turns, R: Wait, P: Drain> Drainable<P> for SeatStepper<'a, C, R> {
+    fn drained(&mut self, path: Path, proof: P) {
+        drained_noted(self.table, self.rt, &mut self.pass, path, proof);
+    }
+}
+
 impl<'a, C: Turns, R: Wait> Stepper for HaltStepper<'a, C, R> {
-    ghost use Rattle.std.specs.Prelude.{None};
+    ghost use Rattle.std.specs.Prelude.{Some};
     ghost use Rattle.seat_table.specs.Passes.{origin_of};
 
     type Origin = (Badge<()>, Path);
 
-    ghost calls = { λ _. None };
+    ghost calls = { λ s. Some s.calls };
 
     ghost origin = { λ s. origin_of s.table s.path };
 
-    fn step(&mut self, _path: Path) -> Next
+    fn step(&mut self, path: Path) -> Next
+        ensures calls { self.new.calls ≡ self.old.calls ++ Called.Step path Silent ∷ [] }
         ensures silent { result ≡ Silent }
-        ensures same { self.new ≡ self.old }
+        ensures same { (self.new.table ≡ self.old.table) × (self.new.path ≡ self.old.path) }
     {
+        let answer = Next::Silent;
+        call_noted(self.table, &mut self.pass, Call::Step { path, answer });
         Next::Silent
     }
 
-    fn drained(&mut self, _path: Path, _proof: Drained)
-        ensures { self.new ≡ self.old }
-    {}
-
     fn halt(&mut self, why: Halt)
         requires { IsOfTurret why }
-        ensures { self.new ≡ self.old }
+        ensures calls { self.new.calls ≡ self.old.calls ++ Called.Halt why ∷ [] }
+        ensures same { (self.new.table ≡ self.old.table) × (self.new.path ≡ self.old.path) }
+        ensures halted { IsTrue (is_some self.new.stop) }
     {
-        self.table.halt(self.rt, &mut self.pass, why);
+        halter_noted(self.table, self.rt, &mut self.pass, &why);
     }
 }

@@ -1,9 +1,12 @@
 //! One turn: the table is taken out of its place, does one thing, and is put back.
-ghost use Rattle.std.specs.Prelude.{◌≡◌, ◌≢◌, true, false, [], ◌∷◌, MatchOption, Some, None};
+ghost use Rattle.std.specs.Prelude.{◌≡◌, ◌≢◌, ◌&&◌, ◌||◌, not, true, false, [], ◌∷◌, MatchOption, IsTrue, is_some, Some, None};
 ghost use Rattle.nc_number.specs.declared.path.Path.TheVariants.{One, Two};
-ghost use Rattle.seat_table.specs.Taking.{Tries, IsGiven};
+ghost use Rattle.nc_outside.specs.declared.halt.Next.TheVariants.{Halted};
+ghost use Rattle.seat_table.specs.Passes.{IsStill};
+ghost use Rattle.seat_table.specs.Taking.{Tries, AnswersWhy, IsGiven, IsHalt};
 ghost use Rattle.seat_table.specs.Turning.{Answers};
-ghost use Rattle.seat_table.specs.Knowing.{Right, steps, halts, has, list_of, lists_of, idle, called, Idle, IsAt, IsOf, Took, Keeps, list_at};
+ghost use Rattle.seat_table.specs.Knowing.{Right, steps, halts, has, list_of, lists_of, stop_of, listed, idle, called, Idle, IsAt, IsOf, Took, Keeps, KeepsStop, list_at, stop_at};
+ghost use Rattle.seat_table.specs.declared.knowing.Stop.{Stop};
 
 use crate::knowing::{Ask, Count, Give, Glue, Knows, Law, Note, Noted, Take};
 use crate::turning::Turns;
@@ -48,7 +51,7 @@ fn take<C: Turns>(shared: &Shared<Option<C>, Knows, (), Law>, place: &mut Place<
     requires right { (r : Right) × (has r place.old.me.0.rights ≡ true) }
     ensures same { (place.new.table_id ≡ place.old.table_id) × (place.new.id ≡ place.old.id) }
     ensures took { MatchOption result (place.new.me ≡ place.old.me)
-        (λ c. Took C.records place.old.me c place.new.me) }
+        (λ c. Took C.records C.reason place.old.me c place.new.me) }
 {
     if shared.compare_exchange::<Take>(place, 0, 0, 1) != 0 {
         return None;
@@ -65,9 +68,13 @@ fn give<C: Turns>(shared: &Shared<Option<C>, Knows, (), Law>, place: &mut Place<
     requires busy { (place.old.me.0.busy ≡ true) × (place.old.me.1 ≡ (0, None) ∷ []) }
     requires others { (p : Path) → has (steps p) place.old.me.0.rights ≡ false
         → C.records table p ≡ list_of p place.old.me.0.found }
+    requires stop { KeepsStop place.old.me.0.found_stop (stop_of C.records C.reason table) }
     ensures same { (place.new.table_id ≡ place.old.table_id) × (place.new.id ≡ place.old.id) }
-    ensures gave { place.new.me
-        ≡ (idle place.old.me.0.rights (lists_of C.records table) place.old.me.0.calls, []) }
+    ensures gave { place.new.me ≡ (
+      idle place.old.me.0.rights (lists_of C.records table)
+          (listed (stop_of C.records C.reason table)) place.old.me.0.calls,
+      [],
+    ) }
 {
     let before = shared.exchange(place, 0, Some(table));
     let None = before else { unreachable!() };
@@ -94,8 +101,8 @@ fn stand_by<C: Turns, R: Wait>(
     }
 }
 
-// Counts a change of the table, and wakes those that sleep until one comes. Most often nobody does, and a wake is a call of
-// the system.
+// Counts that a wait is over, and wakes those that sleep until then. Most often nobody does, and a wake is a call of the
+// system.
 fn count_change<C: Turns>(shared: &Shared<Option<C>, Knows, (), Law>, place: &mut Place<C>)
     requires { IsAt place.old.table_id shared.now.table_id }
     ensures { (place.new.table_id ≡ place.old.table_id) × (place.new.id ≡ place.old.id)
@@ -107,8 +114,9 @@ fn count_change<C: Turns>(shared: &Shared<Option<C>, Knows, (), Law>, place: &mu
     }
 }
 
-// Sleeps until the table has changed, unless the count of its changes is another already. Who counts a change looks behind
-// that for sleepers, and a sleeper is counted before it looks at the count: so one of the two sees the other.
+// Sleeps until a wait is over, unless the count of those is another already than before the turn in which the path waited.
+// Who counts one looks behind that for sleepers, and a sleeper is counted before it looks at the count: so one of the two
+// sees the other.
 fn await_change<C: Turns, R: Wait>(
     rt: &R,
     shared: &Shared<Option<C>, Knows, (), Law>,
@@ -124,21 +132,43 @@ fn await_change<C: Turns, R: Wait>(
     shared.fetch_sub::<Count>(place, 2, 1);
 }
 
-// Counts the change that a step made. A drain that is asked for changes nothing.
-fn count_step<C: Turns>(
+// Which paths wait.
+#[derive(Clone, Copy)]
+struct Waiting {
+    first: bool,
+    second: bool,
+}
+
+fn who_waits<C: Turns>(table: &C) -> Waiting
+    ensures { (result.first ≡ C.waits table.now One) × (result.second ≡ C.waits table.now Two) }
+{
+    Waiting {
+        first: table.waits(Path::One),
+        second: table.waits(Path::Two),
+    }
+}
+
+// Whether a path that waited before does not wait any more.
+fn is_freed(before: Waiting, after: Waiting) -> bool
+    ensures { result ≡ ((before.first && not after.first) || (before.second && not after.second)) }
+{
+    (before.first && !after.first) || (before.second && !after.second)
+}
+
+// Counts a change where a path that waited does not wait any more. A path sleeps only behind a turn in which it waited, and
+// nothing but the end of that wait is worth its while.
+fn count_freed<C: Turns>(
     shared: &Shared<Option<C>, Knows, (), Law>,
     place: &mut Place<C>,
-    next: &Next,
+    before: Waiting,
+    after: Waiting,
 )
     requires { IsAt place.old.table_id shared.now.table_id }
     ensures { (place.new.table_id ≡ place.old.table_id) × (place.new.id ≡ place.old.id)
         × (place.new.me ≡ place.old.me) }
 {
-    match next {
-        Next::Drain => {}
-        Next::Silent | Next::Moves(_) | Next::Finished | Next::Halted(_) => {
-            count_change(shared, place)
-        }
+    if is_freed(before, after) {
+        count_change(shared, place);
     }
 }
 
@@ -170,23 +200,29 @@ fn turn<C: Turns>(
     ensures same { (place.new.table_id ≡ place.old.table_id) × Idle place.new.me
         × Keeps place.old.me place.new.me }
     ensures list { Tries (list_at path place.old.me) result (list_at path place.new.me) }
+    ensures stop { KeepsStop (stop_at place.old.me) (stop_at place.new.me) }
+    ensures halted { (s : Stop) → stop_at place.old.me ≡ Some s → AnswersWhy s result }
 {
     let Some(mut table) = take(shared, place) else {
         return Tried::Busy;
     };
+    let before = who_waits(&table);
     let next = table.turn_step(path);
+    let after = who_waits(&table);
     give(shared, place, table);
     let Some(next) = next else {
         return Tried::Waits;
     };
-    count_step(shared, place, &next);
+    count_freed(shared, place, before, after);
     Tried::Stepped(next)
 }
 
 // Tells the table.
 fn tell<C: Turns>(table: &mut C, notice: &Notice)
     requires { IsGiven notice.now }
-    ensures { (p : Path) → C.records table.new p ≡ C.records table.old p }
+    ensures records { (p : Path) → C.records table.new p ≡ C.records table.old p }
+    ensures stop { KeepsStop (stop_of C.records C.reason table.old) (stop_of C.records C.reason table.new) }
+    ensures halt { IsHalt notice.now → IsTrue (is_some (stop_of C.records C.reason table.new)) }
 {
     match notice {
         Notice::Drained(path) => table.drained(*path),
@@ -207,18 +243,22 @@ fn tell_turn<C: Turns>(
         × Keeps place.old.me place.new.me }
     ensures list { (p : Path) → has (steps p) place.old.me.0.rights ≡ true
         → list_at p place.new.me ≡ list_at p place.old.me }
+    ensures stop { KeepsStop (stop_at place.old.me) (stop_at place.new.me) }
+    ensures halt { IsTrue result → IsHalt notice.now → IsTrue (is_some (stop_at place.new.me)) }
 {
     let Some(mut table) = take(shared, place) else {
         return false;
     };
+    let before = who_waits(&table);
     tell(&mut table, notice);
+    let after = who_waits(&table);
     give(shared, place, table);
-    count_change(shared, place);
+    count_freed(shared, place, before, after);
     true
 }
 
 /// A step of the path, once the seat has the turn and the path does not wait. A path that waits sleeps until
-/// the table has changed.
+/// its wait is over.
 pub(crate) fn step_until<C: Turns, R: Wait>(
     rt: &R,
     shared: &Shared<Option<C>, Knows, (), Law>,
@@ -230,6 +270,8 @@ pub(crate) fn step_until<C: Turns, R: Wait>(
     ensures same { (place.new.table_id ≡ place.old.table_id) × IsOf (steps path) place.new.me }
     ensures calls { place.new.me.0.calls ≡ place.old.me.0.calls }
     ensures list { Answers (list_at path place.old.me) result (list_at path place.new.me) }
+    ensures stop { KeepsStop (stop_at place.old.me) (stop_at place.new.me) }
+    ensures halted { (s : Stop) → stop_at place.old.me ≡ Some s → result ≡ Halted s.why }
 {
     let mut looks = 0u32;
     for _ in rt.forever() {
@@ -258,6 +300,8 @@ pub(crate) fn tell_until<C: Turns, R: Wait>(
         × Keeps place.old.me place.new.me }
     ensures list { (p : Path) → has (steps p) place.old.me.0.rights ≡ true
         → list_at p place.new.me ≡ list_at p place.old.me }
+    ensures stop { KeepsStop (stop_at place.old.me) (stop_at place.new.me) }
+    ensures halt { IsHalt notice → IsTrue (is_some (stop_at place.new.me)) }
 {
     let mut looks = 0u32;
     for _ in rt.forever() {
@@ -287,6 +331,10 @@ pub(crate) fn close_all<C: Turns>(
     requires halts { IsOf (halts One) first_halt.me × IsOf (halts Two) second_halt.me }
     ensures first { C.records result One ≡ list_at One first.me }
     ensures second { C.records result Two ≡ list_at Two second.me }
+    ensures stops { IsStill C.records C.reason result (stop_at first.me)
+        × IsStill C.records C.reason result (stop_at second.me) }
+    ensures halts { IsStill C.records C.reason result (stop_at first_halt.me)
+        × IsStill C.records C.reason result (stop_at second_halt.me) }
 {
     let mut place = first;
     table.shared.join_seat::<Glue>(&mut place, second);

@@ -1,39 +1,73 @@
 //! What a table does in one turn of a path.
-ghost use Rattle.std.specs.Prelude.{◌≡◌, ◌≢◌, List, MatchOption};
+ghost use Rattle.std.specs.Prelude.{◌≡◌, ◌≢◌, true, false, List, Some, MatchOption};
 ghost use Rattle.nc_outside.specs.Calls.{IsOfTurret};
-ghost use Rattle.seat_table.specs.Turning.{Answers};
+ghost use Rattle.nc_outside.specs.declared.halt.Halt.{Halt as Reason};
+ghost use Rattle.nc_outside.specs.declared.halt.Next.TheVariants.{Halted};
+ghost use Rattle.seat_table.specs.Turning.{Answers, AsksDrain, first_reason};
 
 use nc_number::Path;
 use nc_outside::{Halt, Next};
 
 /// A table of which two paths take turns.
 pub trait Turns {
+    ghost use Rattle.std.specs.Prelude.{Bool, Option};
     ghost use Rattle.nc_number.specs.declared.path.Path.{Path};
-    ghost use Rattle.nc_outside.specs.declared.motion.Move.{Move};
+    ghost use Rattle.nc_outside.specs.declared.lined_move.LinedMove.{LinedMove};
+    ghost use Rattle.nc_outside.specs.declared.halt.Halt.{Halt};
 
-    /// For each path its records since the table was opened: of each the moves that its step answered. A record
-    /// that did not get to the disk stands there without a move.
-    ghost records: { Self → Path → List (List Move) };
+    /// For each path its records since the table was opened: of each the moves that its step answered, with the
+    /// line of their block. A record that did not get to the disk stands there without a move.
+    ghost records: { Self → Path → List (List LinedMove) };
 
-    /// One step of the path. None comes exactly where the path waits and no halt is to be answered, and changes
-    /// nothing.
+    /// Why the table has halted, where it has. It makes no record then.
+    ghost reason: { Self → Option Halt };
+
+    /// Whether the path waits. A step of the other path may end that, and a halt does.
+    ghost waits: { Self → Path → Bool };
+
+    /// Whether the path is to be drained before its next step.
+    ghost drains: { Self → Path → Bool };
+
+    /// Whether the path waits.
+    fn waits(&self, path: Path) -> bool
+        ensures { result ≡ waits self.now path };
+
+    /// One step of the path. None comes exactly where the path waits, and changes nothing. Drain comes exactly where the
+    /// path is to be drained. A table that has halted answers why, and makes no record.
     fn turn_step(&mut self, path: Path) -> Option<Next>
         ensures answer { MatchOption result (self.new ≡ self.old)
             (λ next. Answers (records self.old path) next (records self.new path)) }
-        ensures others { (p : Path) → p ≢ path → records self.new p ≡ records self.old p };
+        ensures others { (p : Path) → p ≢ path → records self.new p ≡ records self.old p }
+        ensures waits { MatchOption result (waits self.old path ≡ true) (λ _. waits self.old path ≡ false) }
+        ensures drains { AsksDrain (drains self.old path) result (drains self.new path) }
+        ensures halted { (why : Reason) → reason self.old ≡ Some why → (result ≡ Some (Halted why))
+            × (reason self.new ≡ Some why) × ((p : Path) → records self.new p ≡ records self.old p) };
 
-    /// The turret of the path has what was answered to it before, so that the path may come to a wait.
+    /// The turret of the path has made what was answered to it before, and stands still, so that the path may come to a wait.
     fn drained(&mut self, path: Path)
-        ensures { (p : Path) → records self.new p ≡ records self.old p };
+        ensures drained { drains self.new path ≡ false }
+        ensures records { (p : Path) → records self.new p ≡ records self.old p }
+        ensures reason { reason self.new ≡ reason self.old };
 
-    /// Halts the run since a turret failed.
+    /// Halts the run since a turret failed. The first reason stays.
     fn halt(&mut self, why: Halt)
         requires { IsOfTurret why }
-        ensures { (p : Path) → records self.new p ≡ records self.old p };
+        ensures records { (p : Path) → records self.new p ≡ records self.old p }
+        ensures reason { reason self.new ≡ first_reason (reason self.old) why };
 }
 
 impl<C: Turns> Turns for Box<C> {
     ghost records = { λ b. C.records b.value };
+
+    ghost reason = { λ b. C.reason b.value };
+
+    ghost waits = { λ b. C.waits b.value };
+
+    ghost drains = { λ b. C.drains b.value };
+
+    fn waits(&self, path: Path) -> bool {
+        self.as_ref().waits(path)
+    }
 
     fn turn_step(&mut self, path: Path) -> Option<Next> {
         self.as_mut().turn_step(path)

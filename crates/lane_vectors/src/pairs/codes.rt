@@ -1,10 +1,13 @@
 // A table in memory, whose paths make records of an auxiliary code each, and wait for nobody.
-ghost use Rattle.std.specs.Prelude.{◌≡◌, map, [], ◌∷◌};
-ghost use Rattle.nc_outside.specs.declared.motion.Move.TheVariants.{Aux};
+ghost use Rattle.std.specs.Prelude.{◌≡◌, ◌≢◌, map, [], ◌∷◌};
+ghost use Rattle.nc_outside.specs.declared.halt.Next.TheVariants.{Drain};
+ghost use Rattle.nc_moves.specs.declared.motion.Move.TheVariants.{Aux};
+ghost use Rattle.nc_outside.specs.Lined.{lined, lined_move};
 ghost use Rattle.seat_table.specs.Turning.{Answers};
 
+use nc_moves::{Move, MoveList, Moves};
 use nc_number::Path;
-use nc_outside::{Halt, Move, MoveList, Moves, Next};
+use nc_outside::{Halt, Next};
 use seat_table::Turns;
 use std::alloc::Global;
 use std::sync::atomic::AtomicU64;
@@ -24,7 +27,7 @@ pub struct CodeTable<'a> {
     pub owed: bool,
     // How many drains it was told.
     pub drained: u64,
-    pub halt: Option<Path>,
+    pub halt: Option<Halt>,
 }
 
 impl<'a> CodeTable<'a> {
@@ -51,7 +54,7 @@ impl<'a> CodeTable<'a> {
 
 // The moves of a block with an auxiliary code.
 fn block(m: u16) -> Moves
-    ensures { result.list ≡ Aux m ∷ [] }
+    ensures { lined result ≡ lined_move 1 (Aux m) ∷ [] }
 {
     let mut list = MoveList::empty();
     list.push(Move::Aux { m });
@@ -60,7 +63,9 @@ fn block(m: u16) -> Moves
 
 // One record more of a path, up to so many.
 fn make(records: &mut Vec<u16>, goal: usize) -> Next
-    ensures { Answers (map (λ m. Aux m ∷ []) records.old.items) result (map (λ m. Aux m ∷ []) records.new.items) }
+    ensures undrained { result ≢ Drain }
+    ensures made { Answers (map (λ m. lined_move 1 (Aux m) ∷ []) records.old.items) result
+        (map (λ m. lined_move 1 (Aux m) ∷ []) records.new.items) }
 {
     if records.len() >= goal {
         return Next::Finished;
@@ -73,17 +78,30 @@ fn make(records: &mut Vec<u16>, goal: usize) -> Next
 }
 
 impl<'a> Turns for CodeTable<'a> {
-    ghost use Rattle.std.specs.Prelude.{map, [], ◌∷◌};
-    ghost use Rattle.nc_number.specs.declared.path.Path.TheVariants.{One};
-    ghost use Rattle.nc_outside.specs.declared.motion.Move.TheVariants.{Aux};
-    ghost use Rattle.lane_pair.specs.Seats.{of_path};
+    ghost use Rattle.std.specs.Prelude.{map, false, ◌&&◌, is_none, [], ◌∷◌};
+    ghost use Rattle.nc_moves.specs.declared.motion.Move.TheVariants.{Aux};
+    ghost use Rattle.nc_outside.specs.Lined.{lined_move};
+    ghost use Rattle.seat_table.specs.Knowing.{list_of};
 
-    ghost records = { λ t path. of_path path (map (λ m. Aux m ∷ []) t.first.items) (map (λ m. Aux m ∷ []) t.second.items) };
+    ghost records = { λ t path. list_of path (record {
+      first = map (λ m. lined_move 1 (Aux m) ∷ []) t.first.items;
+      second = map (λ m. lined_move 1 (Aux m) ∷ []) t.second.items;
+    }) };
+
+    ghost reason = { λ t. t.halt };
+
+    ghost waits = { λ _ _. false };
+
+    ghost drains = { λ t _. is_none t.halt && (t.owed && t.drains) };
+
+    fn waits(&self, _path: Path) -> bool {
+        false
+    }
 
     fn turn_step(&mut self, path: Path) -> Option<Next> {
         self.steps.fetch_add(1, SeqCst);
-        if let Some(path) = self.halt {
-            return Some(Next::Halted(Halt::Turret(path)));
+        if let Some(why) = self.halt {
+            return Some(Next::Halted(why));
         }
         if self.owed && self.drains {
             return Some(Next::Drain);
@@ -101,8 +119,8 @@ impl<'a> Turns for CodeTable<'a> {
     }
 
     fn halt(&mut self, why: Halt) {
-        if let Halt::Turret(path) = why {
-            self.halt = Some(path);
+        if self.halt.is_none() {
+            self.halt = Some(why);
         }
     }
 }

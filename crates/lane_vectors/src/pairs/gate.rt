@@ -1,6 +1,6 @@
 // A turret that answers a move only once a word has come so far, and fails where that takes too long.
 use nc_number::Point;
-use nc_outside::{Failed, Move, Turret};
+use nc_outside::{Failed, LinedMove, Turret};
 use std::sync::atomic::AtomicU64;
 use std::sync::atomic::Ordering::SeqCst;
 use std::thread;
@@ -30,7 +30,7 @@ impl<'a> Turret for GateTurret<'a> {
         Ok(())
     }
 
-    fn hand(&mut self, _what: &Move) -> Result<(), Failed> {
+    fn hand(&mut self, _what: &LinedMove) -> Result<(), Failed> {
         self.mine.fetch_add(1, SeqCst);
         for _ in 0..LOOKS {
             if self.other.load(SeqCst) >= self.least {
@@ -40,5 +40,9 @@ impl<'a> Turret for GateTurret<'a> {
         }
         self.faults = self.faults.saturating_add(1);
         Err(Failed)
+    }
+
+    fn settle(&mut self) -> Result<(), Failed> {
+        Ok(())
     }
 }

@@ -1,10 +1,13 @@
 // A table in memory, of which the paths take strict turns, path 1 first.
-ghost use Rattle.std.specs.Prelude.{◌≡◌, map, [], ◌∷◌};
-ghost use Rattle.nc_outside.specs.declared.motion.Move.TheVariants.{Aux};
+ghost use Rattle.std.specs.Prelude.{◌≡◌, ◌≢◌, map, [], ◌∷◌};
+ghost use Rattle.nc_outside.specs.declared.halt.Next.TheVariants.{Drain};
+ghost use Rattle.nc_moves.specs.declared.motion.Move.TheVariants.{Aux};
+ghost use Rattle.nc_outside.specs.Lined.{lined, lined_move};
 ghost use Rattle.seat_table.specs.Turning.{Answers};
 
+use nc_moves::{Move, MoveList, Moves};
 use nc_number::Path;
-use nc_outside::{Halt, Move, MoveList, Moves, Next};
+use nc_outside::{Halt, Next};
 use seat_table::Turns;
 use std::alloc::Global;
 use std::sync::atomic::AtomicU64;
@@ -23,7 +26,7 @@ pub struct MemoryTable {
     pub looks: AtomicU64,
     // How many drains it was told.
     pub drains: u64,
-    pub halt: Option<Path>,
+    pub halt: Option<Halt>,
 }
 
 impl MemoryTable {
@@ -51,7 +54,7 @@ pub fn yield_often(times: u32) {
 
 // The moves of a block with an auxiliary code.
 fn block(m: u16) -> Moves
-    ensures { result.list ≡ Aux m ∷ [] }
+    ensures { lined result ≡ lined_move 1 (Aux m) ∷ [] }
 {
     let mut list = MoveList::empty();
     list.push(Move::Aux { m });
@@ -60,7 +63,9 @@ fn block(m: u16) -> Moves
 
 // One record more of a path.
 fn make(records: &mut Vec<u16>) -> Next
-    ensures { Answers (map (λ m. Aux m ∷ []) records.old.items) result (map (λ m. Aux m ∷ []) records.new.items) }
+    ensures undrained { result ≢ Drain }
+    ensures made { Answers (map (λ m. lined_move 1 (Aux m) ∷ []) records.old.items) result
+        (map (λ m. lined_move 1 (Aux m) ∷ []) records.new.items) }
 {
     let m = (records.len() % 1000) as u16;
     if records.push(m).is_err() {
@@ -70,19 +75,37 @@ fn make(records: &mut Vec<u16>) -> Next
 }
 
 impl Turns for MemoryTable {
-    ghost use Rattle.std.specs.Prelude.{map, [], ◌∷◌};
-    ghost use Rattle.nc_outside.specs.declared.motion.Move.TheVariants.{Aux};
+    ghost use Rattle.std.specs.Prelude.{map, false, is_none, length, [], ◌∷◌};
+    ghost use Rattle.nc_moves.specs.declared.motion.Move.TheVariants.{Aux};
+    ghost use Rattle.nc_outside.specs.Lined.{lined_move};
     ghost use Rattle.seat_table.specs.Knowing.{list_of};
+    ghost use Rattle.lane_vectors.specs.Waiting.{waits_at};
 
     ghost records = { λ t path. list_of path (record {
-      first = map (λ m. Aux m ∷ []) t.first.items;
-      second = map (λ m. Aux m ∷ []) t.second.items;
+      first = map (λ m. lined_move 1 (Aux m) ∷ []) t.first.items;
+      second = map (λ m. lined_move 1 (Aux m) ∷ []) t.second.items;
     }) };
+
+    ghost reason = { λ t. t.halt };
+
+    ghost waits = { λ t path. waits_at path (is_none t.halt) (length t.first.items) (length t.second.items) t.goal };
+
+    ghost drains = { λ _ _. false };
+
+    fn waits(&self, path: Path) -> bool {
+        if self.halt.is_some() {
+            return false;
+        }
+        match path {
+            Path::One => self.second.len() < self.first.len(),
+            Path::Two => self.second.len() < self.goal && self.first.len() <= self.second.len(),
+        }
+    }
 
     fn turn_step(&mut self, path: Path) -> Option<Next> {
         yield_often(self.lasts);
-        if let Some(path) = self.halt {
-            return Some(Next::Halted(Halt::Turret(path)));
+        if let Some(why) = self.halt {
+            return Some(Next::Halted(why));
         }
         match path {
             Path::One => {
@@ -113,8 +136,8 @@ impl Turns for MemoryTable {
     }
 
     fn halt(&mut self, why: Halt) {
-        if let Halt::Turret(path) = why {
-            self.halt = Some(path);
+        if self.halt.is_none() {
+            self.halt = Some(why);
         }
     }
 }

@@ -1,10 +1,13 @@
 ghost use Rattle.std.specs.Prelude.{◌≡◌};
 ghost use Rattle.nc_outside.specs.Calls.{moves_answered};
+ghost use Rattle.nc_number.specs.declared.path.Path.TheVariants.{One};
+ghost use Rattle.seat_table.specs.Passes.{fresh_halter};
 ghost use Rattle.seat_table.specs.Turning.{moves_in};
 
 use super::memory::{MemoryTable, yield_often};
+use nc_moves::{Move, Moves};
 use nc_number::{NoMemory, Path};
-use nc_outside::{Drained, Drains, Halt, Move, Moves, Next, Stepper};
+use nc_outside::{Drain, Drainable, Halt, Next, Stepper};
 use seat_table::{HaltPass, SeatPass, SeatTable, Seated};
 use std::alloc::Global;
 use std::sync::Wait;
@@ -19,14 +22,10 @@ struct Sent {
     count: u64,
 }
 
-impl Drains for Sent {
-    ghost use Rattle.std.specs.Prelude.{◌≡◌, ⊤};
+impl Drain for Sent {
+    ghost count = { λ s. s.count };
 
-    ghost drains = { λ old _ count. count ≡ old.count };
-
-    ghost can_drain = { λ _. ⊤ };
-
-    fn drain_now(&mut self) -> u64 {
+    fn count(&self) -> u64 {
         self.count
     }
 }
@@ -44,7 +43,7 @@ fn keep(codes: &mut Vec<u16>, moves: &Moves) -> Result<(), NoMemory> {
 }
 
 // One step, and a drain behind it. None where the path goes on no further.
-fn walk_once<S: Stepper>(
+fn walk_once<S: Stepper + Drainable<Sent>>(
     path: Path,
     stepper: &mut S,
     codes: &mut Vec<u16>,
@@ -54,12 +53,17 @@ fn walk_once<S: Stepper>(
     let Next::Moves(moves) = stepper.step(path) else {
         return None;
     };
-    stepper.drained(path, Drained::by(&mut Sent { count: 1 }));
+    stepper.drained(path, Sent { count: 1 });
     Some(keep(codes, &moves))
 }
 
 // Steps until the path goes on no further, and keeps its codes.
-fn walk<R: Wait, S: Stepper>(rt: &R, alloc: Global, path: Path, stepper: &mut S) -> Codes
+fn walk<R: Wait, S: Stepper + Drainable<Sent>>(
+    rt: &R,
+    alloc: Global,
+    path: Path,
+    stepper: &mut S,
+) -> Codes
     ensures origin { S.origin stepper.new ≡ S.origin stepper.old }
 {
     let mut codes = Vec::new(alloc);
@@ -99,8 +103,8 @@ fn look_on<R: Wait + Sync>(
     table: &SeatTable<MemoryTable>,
     pass: HaltPass<MemoryTable>,
 ) -> HaltPass<MemoryTable>
-    requires { pass.table ≡ table.now }
-    ensures { result ≡ pass }
+    requires { pass ≡ fresh_halter table.now One }
+    ensures { (result.table ≡ pass.table) × (result.path ≡ pass.path) }
 {
     yield_often(20_000);
     let mut halter = table.halter(rt, pass);
@@ -172,8 +176,8 @@ fn run_second<R: Threads + Wait + Sync>(
     let (first_halt, (second, codes)) = thread::join(
         rt,
         move || -> HaltPass<MemoryTable>
-            requires { first_halt.table ≡ both.now }
-            ensures { result ≡ first_halt }
+            requires { first_halt ≡ fresh_halter both.now One }
+            ensures { (result.table ≡ first_halt.table) × (result.path ≡ first_halt.path) }
         { look_on(rt, both, first_halt) },
         move || -> (SeatPass<MemoryTable>, Codes)
             requires { (second.table ≡ both.now) × (moves_answered second.calls ≡ moves_in second.records) }
@@ -230,7 +234,7 @@ fn halt_first<R: Wait>(rt: &R, alloc: Global) -> Result<(MemoryTable, Next), NoM
 #[test]
 fn a_path_halts_the_run(rt: HostRuntime) -> Result<(), Fail> {
     let (table, next) = halt_first(&rt, rt.alloc())?;
-    assert_eq!(rt; table.halt, Some(Path::One));
+    assert_eq!(rt; table.halt, Some(Halt::Turret(Path::One)));
     assert!(rt; matches!(next, Next::Halted(Halt::Turret(Path::One))));
     Ok(())
 }
@@ -239,7 +243,7 @@ fn a_path_halts_the_run(rt: HostRuntime) -> Result<(), Fail> {
 fn a_path_that_waits_sleeps_until_the_table_has_changed(rt: HostRuntime) -> Result<(), Fail> {
     let (table, codes) = run_second(&rt, rt.alloc())?;
     assert_eq!(rt; codes.len(), 0);
-    assert_eq!(rt; table.halt, Some(Path::One));
+    assert_eq!(rt; table.halt, Some(Halt::Turret(Path::One)));
     assert!(rt; table.looks.load(SeqCst) < 50);
     Ok(())
 }

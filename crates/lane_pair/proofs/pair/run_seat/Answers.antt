@@ -7,10 +7,9 @@ returns-clause-passes g c =
     let fresh = c.requires.passes in
     let first = c.stepper.ensures ∙ fresh.pass_is in
     let halter = c.halter.ensures ∙ fresh.halter_is in
-    let table = ap (λ o. o.0.table_id) origins.1 ∙ ap (λ h. h.table) halter in
-    let path = ap (λ o. o.1) origins.1 ∙ ap (λ h. h.path) halter in
     record {
       table_is = ap (λ p. p.table) c.into_pass.ensures.pass ∙ (ap (λ o. o.0.table_id) origins.0 ∙ ap (λ p. p.table) first);
       path_is = ap (λ p. p.path) c.into_pass.ensures.pass ∙ (ap (λ o. o.1) origins.0 ∙ ap (λ p. p.path) first);
-      halter_is = c.into_pass-2.ensures ∙ (λ i. record { table = table i; path = path i });
+      halter_table = ap (λ p. p.table) c.into_pass-2.ensures.pass ∙ (ap (λ o. o.0.table_id) origins.1 ∙ ap (λ h. h.table) halter);
+      halter_path = ap (λ p. p.path) c.into_pass-2.ensures.pass ∙ (ap (λ o. o.1) origins.1 ∙ ap (λ h. h.path) halter);
     }

@@ -1,12 +1,11 @@
--- Whatever moves the turret had taken, it has taken those of the block so far besides.
-use Rattle.std.proofs.Common.{List, ◌++◌, take}
-use Rattle.nc_outside.specs.declared.motion.Move.{Move}
+-- Whatever moves the turret had served, it has served those of the block so far besides.
+use Rattle.std.proofs.Common.{List, ◌++◌, map, take}
+use Rattle.drive_line.specs.Driving.{Serves}
+use Rattle.nc_outside.specs.declared.lined_move.LinedMove.{LinedMove}
+use Rattle.nc_outside.specs.Lined.{lined_move}
 use Rattle.nc_outside.specs.Received.{TurretState}
-use Rattle.path_worker.specs.Drive.{Filled}
-use Rattle.lane_pair.specs.Serving.{Serves}
 use Rattle.lane_pair.proofs.turns.hand_all.Given as goal
 
 abbrev pub invariant-loop-what : goal.invariant-loop-what
-invariant-loop-what g l = (moves : List Move) (room : Filled) (start : TurretState)
-    → Serves moves room start (g.T.Turret.state l.initial.tool.turret) l.initial.tool.handed l.initial.tool.fault
-    → Serves (moves ++ take l.what-index l.block.list) room start (g.T.Turret.state l.tool.turret) l.tool.handed l.tool.fault
+invariant-loop-what g l = (moves : List LinedMove) (start : TurretState) → Serves moves start l.initial.driven
+    → Serves (moves ++ map (lined_move l.block.line) (take l.what-index l.block.list)) start l.driven

@@ -2,5 +2,5 @@ use Rattle.std.proofs.Common.{◌≡◌, false}
 use Rattle.drive_line.specs.Line.{has_end}
 use Rattle.lane_vectors.proofs.lines.send_rests.Given as goal
 
-abbrev pub invariant-loop-ms : goal.invariant-loop-ms
-invariant-loop-ms g l = (l.line.line ≡ l.initial.line.line) × (has_end l.line.items ≡ false)
+abbrev pub invariant-loop-number : goal.invariant-loop-number
+invariant-loop-number g l = (l.line.line ≡ l.initial.line.line) × (has_end l.line.items ≡ false)

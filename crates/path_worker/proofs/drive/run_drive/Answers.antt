@@ -1,38 +1,124 @@
-use Rattle.std.proofs.Common.{arith, ◌≡◌, sym, ◌∙◌, refl}
-use Rattle.path_worker.proofs.Handing.{takes_none, takes_more, takes_fault, handed_more, fits_more}
+use Rattle.std.proofs.Common.{◌≡◌, ◌⊎◌, true, false, ◌++◌, ◌∷◌, [], refl, ap, sym, ◌∙◌, subst}
+use Rattle.nc_outside.specs.Calls.{IsCalled}
+use Rattle.drive_line.specs.declared.item.Item.{Item}
+use Rattle.drive_line.specs.declared.item.Item.TheVariants.{Move, Mark, End}
+use Rattle.drive_line.specs.declared.phase.Phase.TheVariants.{Still, Failed}
+use Rattle.drive_line.specs.Driving.{DrivenState, fresh, has_failed, Serves}
+use Rattle.drive_line.specs.Line.{moves_among, has_end, is_mark, Taking}
+use Rattle.drive_line.proofs.Items.{end_of_both}
+use Rattle.drive_line.proofs.Serving.{serves_none}
+use Rattle.path_worker.specs.Drive.{halts_at, once_halted, StandsAt}
+use Rattle.path_worker.proofs.Driving.{called_none, taken_open, halted_once, at_rest, halts_on, rests}
 use Rattle.path_worker.proofs.drive.run_drive.Goals as goal
 
 pub loop-init : goal.loop-init
 loop-init g c =
-    let none = c.requires.0 in
-    let room = c.args.room.room in
-    rw none (tt, tt, refl, sym c.requires.1, refl, omega arith, takes_none (g.T.Turret.state c.args.turret.now), refl, refl)
+    let none = c.requires.line.0 in
+    let new = c.requires.driven in
+    let start = c.args.driven.now.state in (
+      tt,
+      tt,
+      refl,
+      ap has_end none,
+      c.requires.line.1,
+      subst (λ l. Serves (moves_among l) start c.args.driven.now) (sym none) (subst (λ (d : DrivenState). Serves [] start d) (sym new) (serves_none start)),
+      ap (λ (d : DrivenState). once_halted d.phase) new ∙ ap (λ (d : DrivenState). d.phase) (sym new),
+      subst (λ (d : DrivenState). IsCalled (g.H.Stepper.calls c.args.halter.now) (g.H.Stepper.calls c.args.halter.now) (halts_at c.args.path (has_failed d.phase)))
+          (sym new) (called_none (g.H.Stepper.calls c.args.halter.now)),
+      refl,
+    )
+
+pub loop-preserved-in-Move : goal.loop-preserved-in-Move
+loop-preserved-in-Move g c =
+    let i = c.loop.invariant in
+    let calls = g.H.Stepper.calls in
+    let start = c.args.driven.now.state in
+    let first = c.loop.driven.phase in
+    let then = c.serve.new.driven.phase in
+    let last = c.halt_at_fault.new.driven.phase in
+    let item = c.take-item.result in
+    let e = taken_open c.loop.line.items c.take-item.new.self.items item i.3 c.take-item.ensures.taken in
+    let moved = ap (λ (x : Item). c.loop.line.items ++ x ∷ []) c.in-Move.is in (
+      tt,
+      tt,
+      c.take-item.ensures.line ∙ i.2,
+      ap has_end (e ∙ moved) ∙ end_of_both c.loop.line.items (Move c.in-Move.field-0 ∷ []) i.3,
+      c.take-item.ensures.asked ∙ ap is_mark c.in-Move.is,
+      c.halt_at_fault.ensures.serves _ start (subst (λ l. Serves (moves_among l) start c.serve.new.driven) (sym e) (c.serve.ensures.serves c.loop.line.items start i.5)),
+      halted_once then last c.halt_at_fault.ensures.phase,
+      halts_on c.args.path item (calls c.args.halter.now) (calls c.loop.halter) (calls c.halt_at_fault.new.halter) first then last i.6 c.halt_at_fault.ensures.phase c.serve.ensures.failed
+          c.serve.ensures.stands i.7 c.halt_at_fault.ensures.halted,
+      c.halt_at_fault.ensures.origin ∙ i.8,
+    )
+
+pub answer-requires-clause-rest : goal.answer-requires-clause-rest
+answer-requires-clause-rest g c =
+    let i = c.loop.invariant in
+    let start = c.args.driven.now.state in
+    let first = c.loop.driven.phase in
+    let then = c.serve.new.driven.phase in
+    let last = c.halt_at_fault.new.driven.phase in
+    let e = taken_open c.loop.line.items c.take-item.new.self.items c.take-item.result i.3 c.take-item.ensures.taken in
+    let stands = subst (λ (x : Item). has_failed first ≡ false → StandsAt x then) c.in-Mark.is c.serve.ensures.stands in
+    rests (moves_among c.take-item.new.self.items) start c.halt_at_fault.new.driven
+    (c.halt_at_fault.ensures.serves _ start (subst (λ l. Serves (moves_among l) start c.serve.new.driven) (sym e) (c.serve.ensures.serves c.loop.line.items start i.5)))
+    (at_rest first then last i.6 c.halt_at_fault.ensures.phase c.serve.ensures.failed stands)
 
 pub loop-preserved : goal.loop-preserved
 loop-preserved g c =
-    let state = g.T.Turret.state in
     let i = c.loop.invariant in
-    let ok = c.in-Ok.ensures.ok in
-    let what = c.in-Some-take_next.what in
-    let was = c.loop.handed.list in
-    let now = c.hand_on.new.self.list in
-    let same : c.hand_on.new.self.room ≡ c.loop.handed.room = c.in-Ok.ensures.room in (
+    let calls = g.H.Stepper.calls in
+    let start = c.args.driven.now.state in
+    let first = c.loop.driven.phase in
+    let then = c.serve.new.driven.phase in
+    let last = c.halt_at_fault.new.driven.phase in
+    let item = c.take-item.result in
+    let e = taken_open c.loop.line.items c.take-item.new.self.items item i.3 c.take-item.ensures.taken in
+    let marked = ap (λ (x : Item). c.loop.line.items ++ x ∷ []) c.in-Mark.is in
+    let same = c.answer.ensures.items in (
       tt,
       tt,
-      c.in-Some-take_next.ensures.line ∙ i.2,
-      handed_more was now _ _ what ok.0 i.3 c.in-Some-take_next.ensures.taken,
-      same ∙ i.4,
-      rw same (fits_more was now what c.loop.handed.room ok.0 (let short = c.if-is_full.ensures in grind arith)),
-      takes_more (state c.args.turret.now) (state c.loop.turret) (state c.hand_on.new.turret) was now what ok.0 i.6 ok.1 c.in-Ok.ensures.fault.later,
-      i.7,
-      i.8,
+      c.answer.ensures.line ∙ c.take-item.ensures.line ∙ i.2,
+      ap has_end (same ∙ e ∙ marked) ∙ end_of_both c.loop.line.items (Mark ∷ []) i.3,
+      c.answer.ensures.answered,
+      subst (λ l. Serves (moves_among l) start c.halt_at_fault.new.driven) (sym same)
+          (c.halt_at_fault.ensures.serves _ start (subst (λ l. Serves (moves_among l) start c.serve.new.driven) (sym e) (c.serve.ensures.serves c.loop.line.items start i.5))),
+      halted_once then last c.halt_at_fault.ensures.phase,
+      halts_on c.args.path item (calls c.args.halter.now) (calls c.loop.halter) (calls c.halt_at_fault.new.halter) first then last i.6 c.halt_at_fault.ensures.phase c.serve.ensures.failed
+          c.serve.ensures.stands i.7 c.halt_at_fault.ensures.halted,
+      c.halt_at_fault.ensures.origin ∙ i.8,
     )
 
--- the move that the turret did not take was a call all the same
-pub returns-in-Err-clause-turret : goal.returns-in-Err-clause-turret
-returns-in-Err-clause-turret g c =
-    let state = g.T.Turret.state in
-    let err = c.in-Err.ensures.err in
-    let fault = c.in-Err.ensures.fault in
-    takes_fault (state c.args.turret.now) (state c.loop.turret) (state c.hand_on.new.turret) c.loop.handed.list c.hand_on.new.self.list err.0 c.loop.invariant.6 err.1 fault.later
-    (fault.rose refl)
+pub returns-in-End-clause-line : goal.returns-in-End-clause-line
+returns-in-End-clause-line g c =
+    let i = c.loop.invariant in
+    let e = taken_open c.loop.line.items c.take-item.new.self.items c.take-item.result i.3 c.take-item.ensures.taken in
+    let ended = ap (λ (x : Item). c.loop.line.items ++ x ∷ []) c.in-End.is in
+    (c.take-item.ensures.line ∙ i.2, ap has_end (e ∙ ended) ∙ end_of_both c.loop.line.items (End ∷ []) i.3)
+
+pub returns-in-End-clause-serves : goal.returns-in-End-clause-serves
+returns-in-End-clause-serves g c =
+    let i = c.loop.invariant in
+    let start = c.args.driven.now.state in
+    let e = taken_open c.loop.line.items c.take-item.new.self.items c.take-item.result i.3 c.take-item.ensures.taken in
+    c.halt_at_fault.ensures.serves _ start (subst (λ l. Serves (moves_among l) start c.serve.new.driven) (sym e) (c.serve.ensures.serves c.loop.line.items start i.5))
+
+pub returns-in-End-clause-rest : goal.returns-in-End-clause-rest
+returns-in-End-clause-rest g c =
+    let i = c.loop.invariant in
+    let start = c.args.driven.now.state in
+    let first = c.loop.driven.phase in
+    let then = c.serve.new.driven.phase in
+    let last = c.halt_at_fault.new.driven.phase in
+    let e = taken_open c.loop.line.items c.take-item.new.self.items c.take-item.result i.3 c.take-item.ensures.taken in
+    let stands = subst (λ (x : Item). has_failed first ≡ false → StandsAt x then) c.in-End.is c.serve.ensures.stands in
+    rests (moves_among c.take-item.new.self.items) start c.halt_at_fault.new.driven
+    (c.halt_at_fault.ensures.serves _ start (subst (λ l. Serves (moves_among l) start c.serve.new.driven) (sym e) (c.serve.ensures.serves c.loop.line.items start i.5)))
+    (at_rest first then last i.6 c.halt_at_fault.ensures.phase c.serve.ensures.failed stands)
+
+pub returns-in-End-clause-halted : goal.returns-in-End-clause-halted
+returns-in-End-clause-halted g c =
+    let i = c.loop.invariant in
+    let calls = g.H.Stepper.calls in
+    halts_on c.args.path c.take-item.result (calls c.args.halter.now) (calls c.loop.halter) (calls c.halt_at_fault.new.halter) c.loop.driven.phase c.serve.new.driven.phase
+    c.halt_at_fault.new.driven.phase i.6 c.halt_at_fault.ensures.phase c.serve.ensures.failed c.serve.ensures.stands i.7 c.halt_at_fault.ensures.halted

@@ -1,16 +1,18 @@
--- All moves that were taken were handed.
-use Rattle.std.proofs.Common.{◌≡◌, ◌≤◌, length, false}
-use Rattle.drive_line.specs.Line.{moves_among}
-use Rattle.path_worker.specs.Drive.{Takes}
+-- The turret served all items that were taken, and a fault has halted the run.
+use Rattle.std.proofs.Common.{◌≡◌, false}
+use Rattle.nc_outside.specs.Calls.{IsCalled}
+use Rattle.drive_line.specs.Driving.{has_failed, Serves}
+use Rattle.drive_line.specs.Line.{moves_among, has_end}
+use Rattle.path_worker.specs.Drive.{halts_at, once_halted}
 use Rattle.path_worker.proofs.drive.run_drive.Given as goal
 
 abbrev pub invariant-loop : goal.invariant-loop
 invariant-loop g l =
     (goal.iterator-loop g).can_next l.iterator' × (goal.iterator-loop g).is_finite l.iterator'
     × (l.line.line ≡ l.initial.line.line)
-    × (l.handed.list ≡ moves_among l.line.items)
-    × (l.handed.room ≡ l.fn.room.room)
-    × (length l.handed.list ≤ l.handed.room)
-    × Takes (g.T.Turret.state l.initial.turret) (g.T.Turret.state l.turret) l.handed.list false
-    × (g.H.Stepper.calls l.halter ≡ g.H.Stepper.calls l.initial.halter)
+    × (has_end l.line.items ≡ false)
+    × (l.line.asked ≡ false)
+    × Serves (moves_among l.line.items) l.initial.driven.state l.driven
+    × (once_halted l.driven.phase ≡ l.driven.phase)
+    × IsCalled (g.H.Stepper.calls l.initial.halter) (g.H.Stepper.calls l.halter) (halts_at l.path (has_failed l.driven.phase))
     × (g.H.Stepper.origin l.halter ≡ g.H.Stepper.origin l.initial.halter)

@@ -1,8 +1,8 @@
-use Rattle.std.proofs.Common.{◌≡◌, List, ◌++◌, ◌∙◌, ap, sym, subst, IsTrue, length, refl, flat_map}
-use Rattle.nc_outside.specs.declared.motion.Move.{Move}
+use Rattle.std.proofs.Common.{◌≡◌, List, ◌++◌, ◌∙◌, ap, sym, subst, IsTrue, length, refl, flat_map, inl, inr, ⊎_elim}
+use Rattle.nc_outside.specs.declared.lined_move.LinedMove.{LinedMove}
 use Rattle.nc_outside.specs.Calls.{IsCalled, moves_answered}
+use Rattle.drive_line.specs.Driving.{Serves}
 use Rattle.drive_line.specs.Line.{moves_among}
-use Rattle.path_worker.specs.Drive.{Hands}
 use Rattle.path_worker.specs.Work.{items_at, calls_made}
 use Rattle.path_worker.proofs.Working.{sent_is_answered}
 use Rattle.path_worker.proofs.lane.run_lane.Goals as goal
@@ -10,17 +10,17 @@ use Rattle.path_worker.proofs.lane.run_lane.Goals as goal
 pub returns-clause-moves : goal.returns-clause-moves
 returns-clause-moves g c =
     let worked = c.join-worked.ensures.first.1.0 in
-    let driven = c.join-worked.ensures.second in
+    let drove = c.join-worked.ensures.second in
     let answers = worked.0 in
     let path = c.args.path in
     let calls = g.S.Stepper.calls in
     let end = c.join-worked.result.1 in
     let none = c.requires.line.1 in
-    let ended = subst IsTrue (sym (c.close_line.ensures.ended ∙ driven.0.1)) refl in
+    let ended = subst IsTrue (sym (c.close_line.ensures.ended ∙ drove.0.1)) refl in
     let all : moves_among end.line.items ≡ moves_answered (calls_made path 0 answers) =
     ap moves_among (c.close_line.ensures.whole ended ∙ worked.1.items ∙ ap (λ l. l ++ flat_map items_at answers) none) ∙ sent_is_answered path 0 answers in (
       answers,
       subst (λ k. IsCalled (calls c.args.lane.stepper) (calls c.join-worked.result.0.stepper) (calls_made path k answers)) (ap (λ l. length (moves_among l)) none) worked.1.calls,
       worked.2,
-      subst (λ (l : List Move). Hands l c.args.lane.room end.handed end.fault) all driven.1.0,
+      subst (λ (l : List LinedMove). Serves l c.args.lane.driven.state end.driven) all drove.1.0,
     )

@@ -1,0 +1,2 @@
+-- Words of the tests.
+pub mod Waiting

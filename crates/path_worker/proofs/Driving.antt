@@ -1,0 +1,106 @@
+-- Invariant of a drive: its turret served the items that were taken, and a fault has halted the run.
+use Rattle.std.proofs.Common.{arith, ◌≡◌, ◌⊎◌, ◌+◌, true, false, true≢false, List, [], ◌∷◌, ◌++◌, length, refl, ap, sym, ◌∙◌, subst, append-nil, inl, inr, ⊎_elim, Option, Some, None, MatchBool}
+use Rattle.nc_number.specs.declared.path.Path.{Path}
+use Rattle.nc_outside.specs.Calls.{IsCalled}
+use Rattle.nc_outside.specs.declared.lined_move.LinedMove.{LinedMove}
+use Rattle.nc_outside.specs.declared.halt.Halt.TheVariants.{Turret}
+use Rattle.nc_outside.specs.declared.stepper.Call.{Call}
+use Rattle.nc_outside.specs.declared.stepper.Call.TheVariants.{Halt}
+use Rattle.nc_outside.specs.Received.{TurretState}
+use Rattle.drive_line.specs.declared.item.Item.{Item}
+use Rattle.drive_line.specs.declared.item.Item.TheVariants.{Move, Mark, End}
+use Rattle.drive_line.specs.declared.phase.Phase.{Phase}
+use Rattle.drive_line.specs.declared.phase.Phase.TheVariants.{Moving, Still, Failed, Halted}
+use Rattle.drive_line.specs.Driving.{DrivenState, has_failed, IsAtRest, Serves}
+use Rattle.drive_line.specs.Line.{moves_among, has_end, Takes}
+use Rattle.drive_line.proofs.Items.{moves_of_both}
+use Rattle.path_worker.specs.Drive.{halts_at, halts_for, once_halted, StandsAt, HasSettled}
+use Rattle.path_worker.proofs.Working.{called_more}
+
+pub called_none : (a : Option (List Call)) → IsCalled a a []
+called_none None = refl
+called_none (Some was) = ap Some (sym (append-nil was))
+
+pub move_behind : (items : List Item) (what : LinedMove) → moves_among (items ++ Move what ∷ []) ≡ moves_among items ++ what ∷ []
+move_behind items what = moves_of_both items (Move what ∷ [])
+
+pub mark_behind : (items : List Item) → moves_among (items ++ Mark ∷ []) ≡ moves_among items
+mark_behind items = moves_of_both items (Mark ∷ []) ∙ append-nil (moves_among items)
+
+pub end_behind : (items : List Item) → moves_among (items ++ End ∷ []) ≡ moves_among items
+end_behind items = moves_of_both items (End ∷ []) ∙ append-nil (moves_among items)
+
+-- what was taken before the end
+pub taken_open : (old new : List Item) (item : Item) → has_end old ≡ false → Takes old new item → new ≡ old ++ item ∷ []
+taken_open old new item open_ taken = subst (λ b. MatchBool b ((new ≡ old) × (item ≡ End)) (new ≡ old ++ item ∷ [])) open_ taken
+
+-- behind a fault that has halted the run nothing is left to be halted
+pub halted_once : (was is : Phase) → is ≡ once_halted was → once_halted is ≡ is
+halted_once Moving is e = ap once_halted e ∙ sym e
+halted_once Still is e = ap once_halted e ∙ sym e
+halted_once Failed is e = ap once_halted e ∙ sym e
+halted_once Halted is e = ap once_halted e ∙ sym e
+
+-- The steps of a drive at an item: how the turret stood, how it stands when it has served the item, and how behind the halt.
+module _ (first then last : Phase) (steady : once_halted first ≡ first) (halted : last ≡ once_halted then)
+    (failed : has_failed first ≡ true → then ≡ first) where
+  settled : (then ≡ Still) ⊎ (then ≡ Failed) → HasSettled last
+  settled stands = ⊎_elim (λ (e : then ≡ Still). inl (halted ∙ ap once_halted e)) (λ (e : then ≡ Failed). inr (halted ∙ ap once_halted e)) stands
+
+  -- at a mark and at the end
+  pub at_rest : (has_failed first ≡ false → (then ≡ Still) ⊎ (then ≡ Failed)) → HasSettled last
+  at_rest stands = go first refl steady
+    where
+      go : (p : Phase) → first ≡ p → once_halted first ≡ first → HasSettled last
+      go Moving e s = settled (stands (ap has_failed e))
+      go Still e s = settled (stands (ap has_failed e))
+      go Failed e s = let clash : Halted ≡ Failed = sym (ap once_halted e) ∙ s ∙ e in absurd (cc clash)
+      go Halted e s = inr (halted ∙ ap once_halted (failed (ap has_failed e) ∙ e))
+
+not_halted : (item : Item) (p : Phase) → StandsAt item p → p ≡ Halted → ⊥
+not_halted (Move what) p stands e = ⊎_elim (λ (f : p ≡ Moving). absurd (one (sym f ∙ e))) (λ (f : p ≡ Failed). absurd (two (sym f ∙ e))) stands
+  where
+    one : Moving ≡ Halted → ⊥
+    one x = cc
+
+    two : Failed ≡ Halted → ⊥
+    two x = cc
+not_halted Mark p stands e = ⊎_elim (λ (f : p ≡ Still). absurd (one (sym f ∙ e))) (λ (f : p ≡ Failed). absurd (two (sym f ∙ e))) stands
+  where
+    one : Still ≡ Halted → ⊥
+    one x = cc
+
+    two : Failed ≡ Halted → ⊥
+    two x = cc
+not_halted End p stands e = ⊎_elim (λ (f : p ≡ Still). absurd (one (sym f ∙ e))) (λ (f : p ≡ Failed). absurd (two (sym f ∙ e))) stands
+  where
+    one : Still ≡ Halted → ⊥
+    one x = cc
+
+    two : Failed ≡ Halted → ⊥
+    two x = cc
+
+-- the calls of a halter whose turret had not failed before
+calm_on : (path : Path) (a b c : Option (List Call)) (then last : Phase) → last ≡ once_halted then → (then ≡ Halted → ⊥) → IsCalled a b [] → IsCalled b c (halts_for path then)
+    → IsCalled a c (halts_at path (has_failed last))
+calm_on path a b c Moving last h n p q = subst (λ x. IsCalled a c (halts_at path (has_failed x))) (sym h) (called_more a b c [] [] p q)
+calm_on path a b c Still last h n p q = subst (λ x. IsCalled a c (halts_at path (has_failed x))) (sym h) (called_more a b c [] [] p q)
+calm_on path a b c Failed last h n p q = subst (λ x. IsCalled a c (halts_at path (has_failed x))) (sym h) (called_more a b c [] (Halt (Turret path) ∷ []) p q)
+calm_on path a b c Halted last h n p q = absurd (n refl)
+
+-- the calls of the halter: how the turret stood, how it stands when it has served the item, and how behind the halt
+pub halts_on : (path : Path) (item : Item) (a b c : Option (List Call)) (first then last : Phase) → once_halted first ≡ first → last ≡ once_halted then
+    → (has_failed first ≡ true → then ≡ first) → (has_failed first ≡ false → StandsAt item then)
+    → IsCalled a b (halts_at path (has_failed first)) → IsCalled b c (halts_for path then) → IsCalled a c (halts_at path (has_failed last))
+halts_on path item a b c Moving then last s h f stands p q = calm_on path a b c then last h (not_halted item then (stands refl)) p q
+halts_on path item a b c Still then last s h f stands p q = calm_on path a b c then last h (not_halted item then (stands refl)) p q
+halts_on path item a b c Failed then last s h f stands p q = absurd (cc s)
+halts_on path item a b c Halted then last s h f stands p q =
+    let e : then ≡ Halted = f refl in
+    subst (λ x. IsCalled a c (halts_at path (has_failed x))) (sym (h ∙ ap once_halted e))
+    (called_more a b c (Halt (Turret path) ∷ []) [] p (subst (λ x. IsCalled b c (halts_for path x)) e q))
+
+-- the turret took every move and stands still behind it, or the run was halted
+pub rests : (moves : List LinedMove) (start : TurretState) (d : DrivenState) → Serves moves start d → HasSettled d.phase → IsAtRest d (length moves)
+rests moves start d s settled = ⊎_elim
+    (λ (e : d.phase ≡ Still). let all = s.all in let none = s.none (ap has_failed e) in inl (e, omega (arith, all, none))) (λ (e : d.phase ≡ Halted). inr e) settled
