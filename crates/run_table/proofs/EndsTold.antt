@@ -4,7 +4,7 @@ use Rattle.std.specs.Prelude.{IsTrue, nat_lt, IfSome, IfNone, if◌then◌else�
 use Rattle.disk_model.specs.Device.{DiskState}
 use Rattle.gate_file.specs.Gate.{Gate}
 use Rattle.nc_number.specs.declared.path.Path.{Path}
-use Rattle.nc_outside.specs.declared.halt.Alarm.{Alarm}
+use Rattle.nc_moves.specs.declared.alarm.Alarm.{Alarm}
 use Rattle.nc_outside.specs.declared.halt.Halt.{Halt}
 use Rattle.nc_outside.specs.declared.halt.Halt.TheVariants as halt
 use Rattle.nc_verify.specs.declared.verified.Verified.{Verified}

@@ -9,8 +9,8 @@ use Rattle.nc_number.specs.declared.path.Path.{Path}
 use Rattle.nc_number.specs.declared.path.Path.TheVariants.{One, Two}
 use Rattle.nc_outside.specs.declared.halt.Halt.{Halt}
 use Rattle.nc_outside.specs.declared.halt.Halt.TheVariants as halt
-use Rattle.nc_outside.specs.declared.motion.Move.{Move}
-use Rattle.nc_outside.specs.declared.motion.Moves.{Moves}
+use Rattle.nc_outside.specs.declared.lined_move.LinedMove.{LinedMove}
+use Rattle.nc_moves.specs.declared.motion.Moves.{Moves}
 use Rattle.nc_verify.specs.declared.verified.Verified.{Verified}
 use Rattle.run_records.specs.declared.entry.Entry.{Entry}
 use Rattle.seat_table.specs.Turning.{moves_in, MayRecord, Answers as Adds}
@@ -31,16 +31,16 @@ use Rattle.run_table.proofs.HeldSteps.{comes}
 use Rattle.run_table.proofs.Then.{since_none, since_more}
 
 -- the moves of one record more
-moves_more : (records : List (List Move)) (moves : List Move) → moves_in (records ++ moves ∷ []) ≡ moves_in records ++ moves
+moves_more : (records : List (List LinedMove)) (moves : List LinedMove) → moves_in (records ++ moves ∷ []) ≡ moves_in records ++ moves
 moves_more [] moves = append-nil moves
-moves_more (first ∷ records) moves = ap (λ (l : List Move). first ++ l) (moves_more records moves) ∙ sym (append_assoc first (moves_in records) moves)
+moves_more (first ∷ records) moves = ap (λ (l : List LinedMove). first ++ l) (moves_more records moves) ∙ sym (append_assoc first (moves_in records) moves)
 
-may_same : (before after : List (List Move)) → MayRecord before after → moves_in after ≡ moves_in before
+may_same : (before after : List (List LinedMove)) → MayRecord before after → moves_in after ≡ moves_in before
 may_same before after (inl is) = ap moves_in is
 may_same before after (inr is) = ap moves_in is ∙ moves_more before [] ∙ append-nil (moves_in before)
 
 -- an answer that shows nothing adds no moves
-module _ {H : Type 0} (old new : H) (before after : List (List Move)) (same : new ≡ old → after ≡ before) where
+module _ {H : Type 0} (old new : H) (before after : List (List LinedMove)) (same : new ≡ old → after ≡ before) where
   quiet_handed : (moves : Moves) (b : Bool) → (length moves.list == 0) ≡ b → not b ≡ false → Adds before (handed moves) after → moves_in after ≡ moves_in before
   quiet_handed moves true none quiet adds = may_same before after (rw none at adds)
   quiet_handed moves false some quiet adds = absurd cc
@@ -57,7 +57,7 @@ module _ {H : Type 0} (old new : H) (before after : List (List Move)) (same : ne
   quiet_turn (turn.Halted alarm) quiet adds = may_same before after adds
 
 -- each path is the one that stepped, or the other
-by_path : (path p : Path) {before after : Path → List (List Move)} → moves_in (after path) ≡ moves_in (before path) → ((q : Path) → q ≢ path → after q ≡ before q)
+by_path : (path p : Path) {before after : Path → List (List LinedMove)} → moves_in (after path) ≡ moves_in (before path) → ((q : Path) → q ≢ path → after q ≡ before q)
     → moves_in (after p) ≡ moves_in (before p)
 by_path One One own others = own
 by_path One Two own others = ap moves_in (others Two (λ clash. cc))
@@ -128,10 +128,10 @@ module _ {D : Type 0} (state : D → DiskState) (path : Path) (start t t' : Tabl
     (within : t.recording.flushed ≤ length t.recording.history) (shows : ShowsFlushed (Some start) (held_of t shown) t)
     (step : IsStep state (step_of t path) t t' result) (then : Since state t t') (owed : t'.owed ≡ owed_behind path result t.owed)
     (shown_is : shown' ≡ (shown && not (is_lost result (length t.recording.history) (length t'.recording.history)))) where
-  abbrev before : Path → List (List Move)
+  abbrev before : Path → List (List LinedMove)
   before p = records_since (Some start) (held_of t shown) p
 
-  abbrev after : Path → List (List Move)
+  abbrev after : Path → List (List LinedMove)
   after p = records_since (Some start) (held_of t' shown') p
 
   abbrev Comes : TableStep → Type 0

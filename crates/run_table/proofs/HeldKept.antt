@@ -5,17 +5,17 @@ use Rattle.disk_model.specs.Device.{DiskState}
 use Rattle.nc_number.specs.declared.path.Path.{Path}
 use Rattle.nc_outside.specs.declared.halt.Halt.{Halt}
 use Rattle.nc_outside.specs.declared.halt.Halt.TheVariants as halt
+use Rattle.nc_outside.specs.declared.halt.Next.TheVariants as next
 use Rattle.nc_outside.specs.Calls.{IsOfTurret}
-use Rattle.seat_table.specs.Turning.{Answers as Adds}
+use Rattle.seat_table.specs.Turning.{Answers as Adds, first_reason}
 use Rattle.run_table.specs.declared.answer.TableStep.{TableStep}
 use Rattle.run_table.specs.declared.draining.Owed.{Owed}
 use Rattle.run_table.specs.Draining.{owed_behind}
 use Rattle.run_table.specs.Kept.{TableView, IsTable}
 use Rattle.run_table.specs.Since.{Since}
 use Rattle.run_table.specs.Stepping.{step_of, IsStep}
-use Rattle.run_table.specs.Begun.{first_reason}
 use Rattle.run_table.specs.Holding.{HeldView, held_of, IsOf, ShowsFlushed, MayHold, IsHeld, MayHoldAgain, without_turret, records_since, next_of, is_lost}
-use Rattle.run_table.proofs.HeldSteps.{comes, still_lost}
+use Rattle.run_table.proofs.HeldSteps.{comes, halted_told, still_lost}
 use Rattle.run_table.proofs.FlushedShown.{shows_on, shown_unless}
 use Rattle.run_table.proofs.Then.{since_more}
 
@@ -57,6 +57,15 @@ module _ {D : Type 0} (state : D → DiskState) (opened : Option (TableView D)) 
       go : (o : Option (TableView D)) → IsOf state o t → (p : Path) → p ≢ path → records_since o (held_of t' shown') p ≡ records_since o (held_of t shown) p
       go None of = absurd of
       go (Some start) of = (comes state path start t t' result shown shown' table of held.lost step owed shown_is).1
+
+  pub held_halted : (why : Halt) → t.halt ≡ Some why
+      → (next_of result ≡ Some (next.Halted why)) × (t'.halt ≡ Some why) × ((p : Path) → records_since opened (held_of t' shown') p ≡ records_since opened (held_of t shown) p)
+  held_halted = go opened held.of
+    where
+      go : (o : Option (TableView D)) → IsOf state o t → (why : Halt) → t.halt ≡ Some why
+          → (next_of result ≡ Some (next.Halted why)) × (t'.halt ≡ Some why) × ((p : Path) → records_since o (held_of t' shown') p ≡ records_since o (held_of t shown) p)
+      go None of = absurd of
+      go (Some start) of = halted_told state path start t t' result shown shown' table of held.lost step owed shown_is
 
 -- what is no record changes nothing of it
 pub of_owed : {D : Type 0} (state : D → DiskState) (opened : Option (TableView D)) (t : TableView D) (owed : Owed) → IsOf state opened t → IsOf state opened (record t { owed = owed })

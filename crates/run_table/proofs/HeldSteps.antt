@@ -6,7 +6,8 @@ use Rattle.disk_model.specs.Device.{DiskState}
 use Rattle.nc_number.specs.declared.path.Path.{Path}
 use Rattle.nc_outside.specs.declared.halt.Halt.{Halt}
 use Rattle.nc_outside.specs.declared.halt.Halt.TheVariants as halt
-use Rattle.nc_outside.specs.declared.motion.Move.{Move}
+use Rattle.nc_outside.specs.declared.halt.Next.TheVariants as next
+use Rattle.nc_outside.specs.declared.lined_move.LinedMove.{LinedMove}
 use Rattle.nc_verify.specs.declared.verified.Verified.{Verified}
 use Rattle.run_records.specs.declared.entry.Entry.{Entry}
 use Rattle.run_records.specs.declared.entry.EntryKind.{EntryKind}
@@ -40,7 +41,7 @@ none_lost (Halted why) n n' same = refl
 one_lost : (n n' : ℕ) → n' ≡ n + 1 → is_lost DiskFault n n' ≡ true
 one_lost n n' more = let is : (n == n') ≡ false = grind arith in ap not is
 
-not_full : (written n m : ℕ) → m ≡ n → n < written + 64 → (written + 64 == m) ≡ false
+pub not_full : (written n m : ℕ) → m ≡ n → n < written + 64 → (written + 64 == m) ≡ false
 not_full written n m same few = grind arith
 
 still : (b : Bool) → (b && true) ≡ b
@@ -61,10 +62,10 @@ module _ {D : Type 0} (state : D → DiskState) (path : Path) (start t t' : Tabl
   abbrev first : MachineView
   first = fold (tapes_in start.verified) (opening_of start.verified) start.recording.history
 
-  abbrev before : Path → List (List Move)
+  abbrev before : Path → List (List LinedMove)
   before p = records_since (Some start) (held_of t shown) p
 
-  abbrev after : Path → List (List Move)
+  abbrev after : Path → List (List LinedMove)
   after p = records_since (Some start) (held_of t' shown') p
 
   -- what each path's list comes to
@@ -238,6 +239,17 @@ module _ {D : Type 0} (state : D → DiskState) (path : Path) (start t t' : Tabl
       go None (Some why) drain is s = halted_comes why (nat_lt t.recording.flushed (length t.recording.history)) s.records.follows.history s.answer
       go None None true is s = drain_comes s.records.follows.history s.answer
       go None None false is s = turn_comes is s s.answer
+
+  -- a table that has halted answers why, and makes no record
+  pub halted_told : (why : Halt) → t.halt ≡ Some why → (next_of result ≡ Some (next.Halted why)) × (t'.halt ≡ Some why) × ((p : Path) → after p ≡ before p)
+  halted_told why is =
+      let s = subst (λ (h : Option Halt). IsStep state (step_by t path h (bound_of t) (drains t path)) t t' result) is step in
+      (ap next_of (answered s.answer), step.halt ∙ ap (λ (h : Option Halt). reason_behind h result) is, stays s.records.follows.history)
+    where
+      answered : Answers state false (Halted why) t.recording t'.recording result → result ≡ Halted why
+      answered (at_once now same file even) = same
+      answered (flushed was same live all) = absurd (let clash : false ≡ true = was in cc)
+      answered (failed was same dead stay rose) = absurd (let clash : false ≡ true = was in cc)
 
   -- a record is lost only as the disk fails
   pub still_lost : shown' ≡ false → t'.halt ≡ Some halt.Disk

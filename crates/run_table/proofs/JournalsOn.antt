@@ -125,12 +125,13 @@ module _ {D : Type 0} (state : D → DiskState) (history : List Entry) (room flu
   lasts dead = let clash : IsTrue false = subst IsTrue dead live in absurd cc
 
   pub done : (now : ℕ) → now ≡ length history → log'.file.live ≡ true
+      → (state log'.file.disk).faults ≡ (state log.file.disk).faults
       → (1 ≤ pending_in log.batch → log'.file.end ≡ log.file.end + 5 + length log.batch)
       → ((disk : D) (header : Header) (entries : List Entry) (end : ℕ) → Holds header entries (state disk) end → (c : List ℕ) → (state disk).image c → Stands header entries c)
       → ((header : Header) (entries pending : List Entry) → Pends pending log.batch → Holds header entries (state log.file.disk) log.file.end
       → Holds header (entries ++ pending) (state log'.file.disk) log'.file.end)
       → Records state [] (record { history = history; room = room; flushed = flushed; log = log }) (record { history = history; room = room; flushed = now; log = log' })
-  done now all still moved law acknowledged = record {
+  done now all still calm moved law acknowledged = record {
     follows = record {
       history = sym (append-nil history);
       flushed = omega (arith, all, within);
@@ -140,6 +141,7 @@ module _ {D : Type 0} (state : D → DiskState) (history : List Entry) (room flu
       told = uses.told;
       rests = lasts;
       later = later;
+      calm = λ lives. calm;
     };
     room = refl;
     uses = reaches;
@@ -156,6 +158,7 @@ module _ {D : Type 0} (state : D → DiskState) (history : List Entry) (room flu
       told = uses.told;
       rests = lasts;
       later = later;
+      calm = λ lives. absurd (let clash : IsTrue false = subst IsTrue dead lives in cc);
     };
     room = refl;
     uses = reaches;

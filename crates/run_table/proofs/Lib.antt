@@ -1,4 +1,5 @@
 mod AlarmsKept
+mod DrainsTold
 mod EndsTold
 mod FlushedShown
 mod HeldKept
@@ -16,3 +17,4 @@ mod TablesKept
 pub mod Then
 mod TurnsGiven
 mod WaitsAhead
+mod WaitsTold

@@ -1,12 +1,13 @@
 -- The lists of a table that is held grow by what each step answers.
-use Rattle.std.proofs.Common.{◌≡◌, ◌≢◌, inl, inr, ℕ, ◌==◌, Bool, true, false, List, [], ◌∷◌, ◌++◌, length, refl, sym, ◌∙◌, ap, arith, append-nil, append_assoc, Some, None}
+use Rattle.std.proofs.Common.{◌≡◌, ◌≢◌, inl, inr, ℕ, ◌==◌, Bool, true, false, List, [], ◌∷◌, ◌++◌, length, map, refl, sym, ◌∙◌, ap, arith, append-nil, append_assoc, Some, None}
 use Rattle.std.specs.Prelude.{if◌then◌else◌, MatchOption}
 use Rattle.std.proofs.lemmas.List.{nil_from_length}
 use Rattle.nc_number.specs.declared.path.Path.{Path}
 use Rattle.nc_number.specs.declared.path.Path.TheVariants.{One, Two}
 use Rattle.nc_outside.specs.declared.halt.Next.TheVariants as next
-use Rattle.nc_outside.specs.declared.motion.Move.{Move}
-use Rattle.nc_outside.specs.declared.motion.Moves.{Moves}
+use Rattle.nc_outside.specs.declared.lined_move.LinedMove.{LinedMove}
+use Rattle.nc_outside.specs.Lined.{lined, lined_move}
+use Rattle.nc_moves.specs.declared.motion.Moves.{Moves}
 use Rattle.run_records.specs.declared.entry.Entry.{Entry}
 use Rattle.run_records.specs.declared.entry.EntryKind.{EntryKind}
 use Rattle.run_records.specs.declared.entry.EntryKind.TheVariants as kind
@@ -25,7 +26,7 @@ shown_more : (tapes : Tapes) (m : MachineView) (path : Path) (entries : List Ent
     → shown_from tapes m path (entries ++ e ∷ []) ≡ shown_from tapes m path entries ++ if_of path e (moves_of (turn_of_entry tapes e (fold tapes m entries)))
 shown_more tapes m path [] e = append-nil (if_of path e (moves_of (turn_of_entry tapes e m)))
 shown_more tapes m path (f ∷ entries) e =
-    ap (λ (l : List (List Move)). if_of path f (moves_of (turn_of_entry tapes f m)) ++ l) (shown_more tapes (behind_entry tapes f m) path entries e)
+    ap (λ (l : List (List LinedMove)). if_of path f (moves_of (turn_of_entry tapes f m)) ++ l) (shown_more tapes (behind_entry tapes f m) path entries e)
     ∙ sym (append_assoc (if_of path f (moves_of (turn_of_entry tapes f m))) (shown_from tapes (behind_entry tapes f m) path entries)
     (if_of path e (moves_of (turn_of_entry tapes e (fold tapes m (f ∷ entries))))))
 
@@ -33,9 +34,9 @@ lost_more : (tapes : Tapes) (m : MachineView) (path : Path) (entries : List Entr
     → lost_from tapes m path (entries ++ e ∷ []) ≡ shown_from tapes m path entries ++ if_of path e []
 lost_more tapes m path [] e = refl
 lost_more tapes m path (f ∷ []) e =
-    ap (λ (l : List (List Move)). l ++ if_of path e []) (sym (append-nil (if_of path f (moves_of (turn_of_entry tapes f m)))))
+    ap (λ (l : List (List LinedMove)). l ++ if_of path e []) (sym (append-nil (if_of path f (moves_of (turn_of_entry tapes f m)))))
 lost_more tapes m path (f ∷ g ∷ entries) e =
-    ap (λ (l : List (List Move)). if_of path f (moves_of (turn_of_entry tapes f m)) ++ l) (lost_more tapes (behind_entry tapes f m) path (g ∷ entries) e)
+    ap (λ (l : List (List LinedMove)). if_of path f (moves_of (turn_of_entry tapes f m)) ++ l) (lost_more tapes (behind_entry tapes f m) path (g ∷ entries) e)
     ∙ sym (append_assoc (if_of path f (moves_of (turn_of_entry tapes f m))) (shown_from tapes (behind_entry tapes f m) path (g ∷ entries)) (if_of path e []))
 
 -- the machine behind a history in two parts
@@ -43,14 +44,14 @@ pub fold_parts : (tapes : Tapes) (m : MachineView) (first second : List Entry) �
 fold_parts tapes m [] second = refl
 fold_parts tapes m (e ∷ first) second = fold_parts tapes (behind_entry tapes e m) first second
 
-mine : (path : Path) (e : Entry) (moves : List Move) → e.path ≡ path → if_of path e moves ≡ moves ∷ []
+mine : (path : Path) (e : Entry) (moves : List LinedMove) → e.path ≡ path → if_of path e moves ≡ moves ∷ []
 mine path e moves is = ap (λ (p : Path). if is_same path p then moves ∷ [] else []) is ∙ own path
   where
     own : (path : Path) → (if is_same path path then moves ∷ [] else []) ≡ moves ∷ []
     own One = refl
     own Two = refl
 
-other : (path p : Path) (e : Entry) (moves : List Move) → e.path ≡ path → p ≢ path → if_of p e moves ≡ []
+other : (path p : Path) (e : Entry) (moves : List LinedMove) → e.path ≡ path → p ≢ path → if_of p e moves ≡ []
 other path p e moves is differ = ap (λ (q : Path). if is_same p q then moves ∷ [] else []) is ∙ go p path differ
   where
     go : (p path : Path) → p ≢ path → (if is_same p path then moves ∷ [] else []) ≡ []
@@ -60,38 +61,38 @@ other path p e moves is differ = ap (λ (q : Path). if is_same p q then moves �
     go Two Two differ = absurd (differ refl)
 
 -- with a record more of a path, its list has its moves more, and the other's stays
-pub record GrowsBy (path : Path) (moves : List Move) (before after : Path → List (List Move)) : Type 0 where
+pub record GrowsBy (path : Path) (moves : List LinedMove) (before after : Path → List (List LinedMove)) : Type 0 where
   pub own : after path ≡ before path ++ moves ∷ []
   pub others : (p : Path) → p ≢ path → after p ≡ before p
 
 module _ (tapes : Tapes) (m : MachineView) (path : Path) (entries : List Entry) (e : Entry) (is : e.path ≡ path) where
-  by_moves : (moves : List Move) (after : Path → List (List Move))
+  by_moves : (moves : List LinedMove) (after : Path → List (List LinedMove))
       → ((p : Path) → after p ≡ shown_from tapes m p entries ++ if_of p e moves) → GrowsBy path moves (λ p. shown_from tapes m p entries) after
   by_moves moves after more = record {
-    own = more path ∙ ap (λ (l : List (List Move)). shown_from tapes m path entries ++ l) (mine path e moves is);
-    others = λ p differ. more p ∙ ap (λ (l : List (List Move)). shown_from tapes m p entries ++ l) (other path p e moves is differ) ∙ append-nil (shown_from tapes m p entries);
+    own = more path ∙ ap (λ (l : List (List LinedMove)). shown_from tapes m path entries ++ l) (mine path e moves is);
+    others = λ p differ. more p ∙ ap (λ (l : List (List LinedMove)). shown_from tapes m p entries ++ l) (other path p e moves is differ) ∙ append-nil (shown_from tapes m p entries);
   }
 
-  pub shown_grows : (moves : List Move) → moves_of (turn_of_entry tapes e (fold tapes m entries)) ≡ moves
+  pub shown_grows : (moves : List LinedMove) → moves_of (turn_of_entry tapes e (fold tapes m entries)) ≡ moves
       → GrowsBy path moves (λ p. answered_from tapes m p true entries) (λ p. answered_from tapes m p true (entries ++ e ∷ []))
   shown_grows moves same =
       by_moves moves (λ p. shown_from tapes m p (entries ++ e ∷ []))
-      (λ p. shown_more tapes m p entries e ∙ ap (λ (l : List Move). shown_from tapes m p entries ++ if_of p e l) same)
+      (λ p. shown_more tapes m p entries e ∙ ap (λ (l : List LinedMove). shown_from tapes m p entries ++ if_of p e l) same)
 
   pub lost_grows : GrowsBy path [] (λ p. answered_from tapes m p true entries) (λ p. answered_from tapes m p false (entries ++ e ∷ []))
   lost_grows = by_moves [] (λ p. lost_from tapes m p (entries ++ e ∷ [])) (λ p. lost_more tapes m p entries e)
 
 -- what a step comes to without a record
-no_moves : (moves : Moves) (before after : List (List Move)) → after ≡ before ++ moves.list ∷ [] → Adds before (handed moves) after
+no_moves : (moves : Moves) (before after : List (List LinedMove)) → after ≡ before ++ lined moves ∷ [] → Adds before (handed moves) after
 no_moves moves before after is = go (length moves.list == 0) refl
   where
     go : (b : Bool) → (length moves.list == 0) ≡ b → Adds before (if b then next.Silent else next.Moves moves) after
     go true none =
         let empty : moves.list ≡ [] = nil_from_length moves.list (grind arith) in
-        inr (is ∙ ap (λ (l : List Move). before ++ l ∷ []) empty)
+        inr (is ∙ ap (λ (l : List LinedMove). before ++ l ∷ []) (ap (map (lined_move moves.line)) empty))
     go false some = is
 
-module _ {H : Type 0} (old new : H) (before after : List (List Move)) where
+module _ {H : Type 0} (old new : H) (before after : List (List LinedMove)) where
   -- a turn with a record
   pub turn_adds : (t : Turn) (k : EntryKind) → kind_of t ≡ Some k → after ≡ before ++ moves_of t ∷ []
       → MatchOption (next_of_turn t) (new ≡ old) (λ next. Adds before next after)

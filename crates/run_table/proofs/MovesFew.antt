@@ -1,7 +1,7 @@
 -- A block has seven moves at most, and so has a record.
-use Rattle.std.proofs.Common.{◌≡◌, ℕ, ◌*◌, ◌-◌, ◌≤◌, ◌==◌, Bool, true, false, List, [], ◌∷◌, ◌++◌, length, take, drop, refl, arith, length-append, Option, Some, None, Result, Ok, Err, ℤ}
+use Rattle.std.proofs.Common.{◌≡◌, ℕ, ◌*◌, ◌-◌, ◌≤◌, ◌==◌, Bool, true, false, List, [], ◌∷◌, ◌++◌, length, map, take, drop, refl, arith, length-append, Option, Some, None, Result, Ok, Err, ℤ}
 use Rattle.std.specs.Prelude.{if◌then◌else◌}
-use Rattle.std.proofs.lemmas.List.{length-take, length-drop}
+use Rattle.std.proofs.lemmas.List.{length-take, length-drop, length-map}
 use Rattle.nc_number.specs.declared.cause.Cause.{Cause}
 use Rattle.nc_number.specs.declared.cause.Cause.TheVariants.{FeedZero}
 use Rattle.nc_number.specs.declared.path.Path.{Path}
@@ -11,9 +11,11 @@ use Rattle.nc_number.specs.declared.value.Var.{Var}
 use Rattle.nc_number.specs.declared.value.Var.TheVariants.{Vacant, Is}
 use Rattle.nc_number.specs.Arithmetic.{is_zero}
 use Rattle.nc_number.specs.Results.{◌>>=◌}
-use Rattle.nc_outside.specs.declared.halt.Alarm.{Alarm}
-use Rattle.nc_outside.specs.declared.motion.Move.{Move}
-use Rattle.nc_outside.specs.declared.motion.Move.TheVariants as move
+use Rattle.nc_moves.specs.declared.alarm.Alarm.{Alarm}
+use Rattle.nc_moves.specs.declared.motion.Move.{Move}
+use Rattle.nc_outside.specs.declared.lined_move.LinedMove.{LinedMove}
+use Rattle.nc_outside.specs.Lined.{lined_move}
+use Rattle.nc_moves.specs.declared.motion.Move.TheVariants as move
 use Rattle.nc_verify.specs.declared.verified.Verified.{Verified}
 use Rattle.code_tables.specs.declared.kind.CodeKind.{CodeKind}
 use Rattle.code_tables.specs.declared.kind.CodeKind.TheVariants as kind
@@ -252,6 +254,9 @@ block_few : (flow : Flow) (path : PathView) (reads : List Var) → FewMoves (eff
 block_few flow path reads = found_few flow.order path (block_at flow.programs path.place) reads
 
 -- what its turn has
+lined_few : (line : ℕ) (moves : List Move) → length moves ≤ 7 → length (map (lined_move line) moves) ≤ 7
+lined_few line moves few = omega (arith, few, length-map moves (lined_move line))
+
 wait_few : (path : Path) (line : ℕ) (m : MachineView) (code : ℕ) (there : Option ℕ) → length (moves_of (result_at_wait path line m code there).turn) ≤ 7
 wait_few path line m code None = omega arith
 wait_few path line m code (Some there) = go (code == there) refl
@@ -262,9 +267,9 @@ wait_few path line m code (Some there) = go (code == there) refl
 
 result_few : (path : Path) (line : ℕ) (m : MachineView) (e : Effect) → FewMoves e → length (moves_of (result_by path line m e).turn) ≤ 7
 result_few path line m (Need variable) few = omega arith
-result_few path line m (Done after write moves) few = few
+result_few path line m (Done after write moves) few = lined_few line moves few
 result_few path line m (AtWait code) few = wait_few path line m code m.second.waiting
-result_few path line m (AtEnd after moves) few = few
+result_few path line m (AtEnd after moves) few = lined_few line moves few
 result_few path line m (effect.Alarm number value) few = omega arith
 
 unless_few : (m : MachineView) (a : Option Alarm) (f : Bool) (w : Option ℕ) (rest : TurnResult) → length (moves_of rest.turn) ≤ 7 → length (moves_of (unless_idle m a f w rest).turn) ≤ 7
@@ -290,7 +295,7 @@ records_few left right path (e ∷ entries) m =
     (either_few left right e.path e.path (with_reads (tape_of (tapes_of left right) e.path) e.stamps (own_first e.path m)))
     (records_few left right path entries (behind_entry (tapes_of left right) e m))
   where
-    go : (b : Bool) (moves : List Move) → length moves ≤ 7 → length (moves_in (shown_from (tapes_of left right) (behind_entry (tapes_of left right) e m) path entries)) ≤ 7 * length entries
+    go : (b : Bool) (moves : List LinedMove) → length moves ≤ 7 → length (moves_in (shown_from (tapes_of left right) (behind_entry (tapes_of left right) e m) path entries)) ≤ 7 * length entries
         → length (moves_in ((if b then moves ∷ [] else []) ++ shown_from (tapes_of left right) (behind_entry (tapes_of left right) e m) path entries)) ≤ 7 * length (e ∷ entries)
     go true moves few rest = omega (arith, few, rest, length-append moves (moves_in (shown_from (tapes_of left right) (behind_entry (tapes_of left right) e m) path entries)))
     go false moves few rest = omega (arith, rest)

@@ -3,7 +3,7 @@ use Rattle.std.proofs.Common.{◌≡◌, inl, inr, ℕ, ◌==◌, ◌||◌, Bool
 use Rattle.nc_number.specs.declared.path.Path.{Path}
 use Rattle.nc_number.specs.declared.path.Path.TheVariants.{One, Two}
 use Rattle.nc_number.specs.Path.{other_of}
-use Rattle.nc_outside.specs.declared.halt.Alarm.{Alarm}
+use Rattle.nc_moves.specs.declared.alarm.Alarm.{Alarm}
 use Rattle.path_state.specs.Effect.{Effect, Need, Done, AtWait, AtEnd}
 use Rattle.path_state.specs.Effect as effect
 use Rattle.two_path.specs.declared.turn.Turn.{Turn}
@@ -15,9 +15,9 @@ use Rattle.two_path.specs.Stuck.{IsStuck}
 use Rattle.run_table.specs.Stepping.{GoesOn}
 
 -- the turn is that of a block
-record IsOfBlock (t : Turn) : Type 0 where
-  waits : (code : ℕ) → t ≡ turn.Waiting code → ⊥
-  ended : t ≡ turn.Finished → ⊥
+pub record IsOfBlock (t : Turn) : Type 0 where
+  pub waits : (code : ℕ) → t ≡ turn.Waiting code → ⊥
+  pub ended : t ≡ turn.Finished → ⊥
 
 wait_goes : (path : Path) (line : ℕ) (m : MachineView) (code : ℕ) (o : Option ℕ) → IsOfBlock (result_at_wait path line m code o).turn
 wait_goes path line m code None = record { waits = λ c e. absurd cc; ended = λ e. absurd cc }
@@ -34,7 +34,7 @@ by_goes path line m (AtWait code) = wait_goes path line m code m.second.waiting
 by_goes path line m (AtEnd after moves) = record { waits = λ c is. absurd cc; ended = λ is. absurd cc }
 by_goes path line m (effect.Alarm number value) = record { waits = λ c is. absurd cc; ended = λ is. absurd cc }
 
-block_goes : (blocks : Blocks) (path : Path) (m : MachineView) → IsOfBlock (block_turn blocks path m).turn
+pub block_goes : (blocks : Blocks) (path : Path) (m : MachineView) → IsOfBlock (block_turn blocks path m).turn
 block_goes blocks path m = by_goes path (blocks.line m.first.path.place) m (blocks.effect m.first.path m.first.values)
 
 -- a path waits whose turn says so

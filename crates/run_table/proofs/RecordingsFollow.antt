@@ -127,6 +127,20 @@ module _ {D : Type 0} (state : D → DiskState) (first second : List Entry) (a b
       joined (StandsForPrefix header a.flushed b.history) (StandsForPrefix header b.flushed c.history) (StandsForPrefix header a.flushed c.history)
       (state a.log.file.disk) (state b.log.file.disk) (state c.log.file.disk) f s (from_first header) (from_second header less)
 
+-- no call has failed, if the journal may be written at the end
+calm_more : {D : Type 0} (state : D → DiskState) (a b c : RecordingView D)
+    → (IsTrue b.log.file.live → (state b.log.file.disk).faults ≡ (state a.log.file.disk).faults)
+    → (IsTrue c.log.file.live → (state c.log.file.disk).faults ≡ (state b.log.file.disk).faults)
+    → (b.log.file.live ≡ false → c.log.file ≡ b.log.file) → IsTrue c.log.file.live
+    → (state c.log.file.disk).faults ≡ (state a.log.file.disk).faults
+calm_more state a b c first second rests still = go b.log.file.live refl
+  where
+    go : (live : Bool) → b.log.file.live ≡ live → (state c.log.file.disk).faults ≡ (state a.log.file.disk).faults
+    go true is = second still ∙ first is
+    go false is =
+        let clash : IsTrue false = subst IsTrue (ap (λ (f : Gate _). f.live) (rests is) ∙ is) still in
+        absurd cc
+
 pub follows_more : {D : Type 0} (state : D → DiskState) (first second : List Entry) (a b c : RecordingView D)
     → Follows state first a b → Follows state second b c → Follows state (first ++ second) a c
 follows_more state first second a b c f s = record {
@@ -147,6 +161,7 @@ follows_more state first second a b c f s = record {
   told = λ bytes reads. let told = f.told bytes reads in s.told told.0 told.1;
   rests = λ dead. s.rests (ap (λ (g : Gate _). g.live) (f.rests dead) ∙ dead) ∙ f.rests dead;
   later = omega (arith, f.later, s.later);
+  calm = calm_more state a b c f.calm s.calm s.rests;
 }
 
 -- a flush: of what pends, if some does

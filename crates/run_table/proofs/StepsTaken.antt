@@ -41,6 +41,7 @@ noted_only state made old new coherent noted = record {
     told = λ bytes reads. (bytes, subst (λ (f : Gate _). Reads (state f.disk) bytes) (sym noted.file) reads);
     rests = λ dead. noted.file;
     later = subst (λ (f : Gate _). (state old.log.file.disk).faults ≤ (state f.disk).faults) (sym noted.file) (omega arith);
+    calm = λ live. ap (λ (f : Gate _). (state f.disk).faults) noted.file;
   };
   room = noted.room;
   uses = subst (λ (f : Gate _). Uses 4 (old.log.file.end + length (batch_bytes (drop old.flushed new.history)) + 6) (state old.log.file.disk) (state f.disk)) (sym noted.file)

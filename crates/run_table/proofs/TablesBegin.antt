@@ -8,7 +8,7 @@ use Rattle.gate_file.specs.declared.fault.GateFault.{GateFault}
 use Rattle.gate_file.specs.declared.fault.GateFault.TheVariants.{NoMemory}
 use Rattle.nc_number.specs.declared.path.Path.{Path}
 use Rattle.nc_number.specs.declared.path.Path.TheVariants.{One, Two}
-use Rattle.nc_outside.specs.declared.halt.Alarm.{Alarm}
+use Rattle.nc_moves.specs.declared.alarm.Alarm.{Alarm}
 use Rattle.nc_verify.specs.declared.verified.Verified.{Verified}
 use Rattle.block_order.specs.declared.program.ControlProgram.{ControlProgram}
 use Rattle.run_records.specs.declared.entry.Entry.{Entry}
@@ -118,11 +118,11 @@ nothing_found state v machine entries log header machine_is empty fresh verdict 
 module _ {A B : Type 0} (header : Header) (old new : DiskState) where
   pub begun : (a : A) (b : B) → BeginsRun header old new (Ok a) → BeginsRun header old new (Ok b)
   begun a b call =
-      record { held = call.held; vacant = call.vacant; spares = call.spares; refused = tt; later = call.later; any_moment = call.any_moment; uses = call.uses }
+      record { held = call.held; vacant = call.vacant; spares = call.spares; refused = tt; later = call.later; calm = call.calm; any_moment = call.any_moment; uses = call.uses }
 
   pub not_begun : (fault : GateFault) → BeginsRun {A = A} header old new (Err fault) → BeginsRun {A = B} header old new (Err fault)
   not_begun fault call =
-      record { held = tt; vacant = tt; spares = call.spares; refused = call.refused; later = call.later; any_moment = call.any_moment; uses = call.uses }
+      record { held = tt; vacant = tt; spares = call.spares; refused = call.refused; later = call.later; calm = call.calm; any_moment = call.any_moment; uses = call.uses }
 
 -- the disk was not touched
 pub untouched : {A : Type 0} (header : Header) (disk : DiskState) → IsCoherent disk → BeginsRun {A = A} header disk disk (Err NoMemory)
@@ -132,6 +132,7 @@ untouched header disk coherent = record {
   spares = λ bytes reads there. unwritten_none disk coherent;
   refused = unwritten_none disk coherent;
   later = omega arith;
+  calm = λ other. refl;
   any_moment = λ bytes reads. no_call (IsRunBeginning disk.image header) disk coherent (λ c here. inl here);
   uses = uses_none 12 _ disk;
 }

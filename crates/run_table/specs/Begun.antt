@@ -1,6 +1,6 @@
 -- How a table begins, anew or behind a recovery.
 use Rattle.std.specs.Prelude.{◌≡◌, ℕ, [], length, Option, Some, None, Result, Ok, Err, OnOk, OnErr}
-use Rattle.nc_outside.specs.declared.halt.Alarm.{Alarm}
+use Rattle.nc_moves.specs.declared.alarm.Alarm.{Alarm}
 use Rattle.nc_outside.specs.declared.halt.Halt.{Halt}
 use Rattle.nc_outside.specs.declared.halt.Halt.TheVariants as halt
 use Rattle.gate_file.specs.declared.fault.GateFault.{GateFault}
@@ -54,11 +54,6 @@ pub record IsPrepared {D T E : Type 0} (n : ℕ) (old new : TableView D) (result
   pub log : new.recording.log ≡ old.recording.log
   pub halt : new.halt ≡ old.halt
   pub owed : new.owed ≡ old.owed
-
--- the first reason stays
-abbrev pub first_reason : Option Halt → Halt → Option Halt
-first_reason None why = Some why
-first_reason (Some first) why = Some first
 
 -- what is left of a table
 pub record IsLeft {D : Type 0} (t : TableView D) (verified : Verified) (m : RoomyMachine) (entries : Entries) (halt : Option Halt) (disk : D) : Type 0 where

@@ -1,5 +1,5 @@
 -- A table that keeps what it began with, and the moves that were answered since.
-use Rattle.std.specs.Prelude.{◌≡◌, ℕ, ◌==◌, not, Bool, true, false, List, [], ◌∷◌, ◌++◌, length, drop, Option, Some, None, if◌then◌else◌}
+use Rattle.std.specs.Prelude.{◌≡◌, ℕ, ◌==◌, ◌&&◌, not, is_none, Bool, true, false, List, [], ◌∷◌, ◌++◌, length, drop, Option, Some, None, if◌then◌else◌}
 use Rattle.disk_model.specs.Device.{DiskState}
 use Rattle.gate_file.specs.Gate.{Gate}
 use Rattle.nc_number.specs.declared.path.Path.{Path}
@@ -7,24 +7,25 @@ use Rattle.nc_outside.specs.declared.halt.Halt.{Halt}
 use Rattle.nc_outside.specs.declared.halt.Halt.TheVariants as halt
 use Rattle.nc_outside.specs.declared.halt.Next.{Next}
 use Rattle.nc_outside.specs.declared.halt.Next.TheVariants as next
-use Rattle.nc_outside.specs.declared.motion.Move.{Move}
-use Rattle.nc_outside.specs.declared.motion.Moves.{Moves}
+use Rattle.nc_outside.specs.declared.lined_move.LinedMove.{LinedMove}
+use Rattle.nc_moves.specs.declared.motion.Moves.{Moves}
 use Rattle.nc_verify.specs.declared.verified.Verified.{Verified}
 use Rattle.run_records.specs.declared.entry.Entry.{Entry}
 use Rattle.seat_table.specs.Turning.{moves_in}
 use Rattle.two_path.specs.declared.turn.Turn.{Turn}
 use Rattle.two_path.specs.declared.turn.Turn.TheVariants as turn
 use Rattle.two_path.specs.Machine.{MachineView}
-use Rattle.two_path.specs.Turns.{Tapes}
+use Rattle.two_path.specs.Turns.{Tapes, turn_of}
 use Rattle.two_path.specs.Histories.{behind_entry, fold}
 use Rattle.two_path.specs.Again.{turn_of_entry}
 use Rattle.run_table.specs.declared.answer.TableStep.{TableStep}
 use Rattle.run_table.specs.declared.answer.TableStep.TheVariants as step
 use Rattle.run_table.specs.declared.draining.Owed.{Owed}
+use Rattle.run_table.specs.Draining.{owes, is_wait}
 use Rattle.run_table.specs.Kept.{TableView, tapes_in, opening_of}
 use Rattle.run_table.specs.Made.{moves_of, if_of, shown_from, moves_made}
 use Rattle.run_table.specs.Since.{Since}
-use Rattle.run_table.specs.Stepping.{step_of, IsStep}
+use Rattle.run_table.specs.Stepping.{bound_by, is_waiting, step_of, IsStep}
 
 -- what callers see of a table that is held, and whether the moves of its last record were answered
 pub record HeldView (D : Type 0) : Type 0 where
@@ -51,24 +52,37 @@ held_of t shown = record {
   shown = shown;
 }
 
+-- why no turn comes though nothing stopped the table
+abbrev pub bound_at : {D : Type 0} → HeldView D → Option Halt
+bound_at h = bound_by (length h.history) h.verified.settings.records h.budget
+
+-- the path waits, and nothing has stopped the table
+abbrev pub waits_at : {D : Type 0} → HeldView D → Path → Bool
+waits_at h path = (is_none h.halt && is_none (bound_at h)) && is_waiting path h.machine
+
+-- the path is to be drained, and nothing has stopped the table
+abbrev pub drains_at : {D : Type 0} → HeldView D → Path → Bool
+drains_at h path =
+    (is_none h.halt && is_none (bound_at h)) && (owes path h.owed && is_wait (turn_of (tapes_in h.verified) path h.machine).turn)
+
 -- the table is what has come of this one
 abbrev pub IsOf : {D : Type 0} → (D → DiskState) → Option (TableView D) → TableView D → Type 0
 IsOf state None t = ⊥
 IsOf state (Some start) t = Since state start t
 
 -- of each record of the path its moves, but that the last record of all stands there without a move
-abbrev pub lost_from : Tapes → MachineView → Path → List Entry → List (List Move)
+abbrev pub lost_from : Tapes → MachineView → Path → List Entry → List (List LinedMove)
 lost_from tapes m path [] = []
 lost_from tapes m path (e ∷ []) = if_of path e []
 lost_from tapes m path (e ∷ f ∷ entries) =
     if_of path e (moves_of (turn_of_entry tapes e m)) ++ lost_from tapes (behind_entry tapes e m) path (f ∷ entries)
 
-abbrev pub answered_from : Tapes → MachineView → Path → Bool → List Entry → List (List Move)
+abbrev pub answered_from : Tapes → MachineView → Path → Bool → List Entry → List (List LinedMove)
 answered_from tapes m path true entries = shown_from tapes m path entries
 answered_from tapes m path false entries = lost_from tapes m path entries
 
 -- the path's records since the opening, of each the moves that its step answered
-abbrev pub records_since : {D : Type 0} → Option (TableView D) → HeldView D → Path → List (List Move)
+abbrev pub records_since : {D : Type 0} → Option (TableView D) → HeldView D → Path → List (List LinedMove)
 records_since None h path = []
 records_since (Some start) h path =
     answered_from (tapes_in start.verified) (fold (tapes_in start.verified) (opening_of start.verified) start.recording.history)

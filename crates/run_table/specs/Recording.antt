@@ -70,6 +70,8 @@ pub record Follows {D : Type 0} (state : D → DiskState) (made : List Entry) (o
   -- no call is made once the disk has failed
   pub rests : old.log.file.live ≡ false → new.log.file ≡ old.log.file
   pub later : (state old.log.file.disk).faults ≤ (state new.log.file.disk).faults
+  -- while the journal may be written no call has failed
+  pub calm : IsTrue new.log.file.live → (state new.log.file.disk).faults ≡ (state old.log.file.disk).faults
 
 -- What a call does that adds these records to the history, and may flush.
 pub record Records {D : Type 0} (state : D → DiskState) (made : List Entry) (old new : RecordingView D) : Type 0 where

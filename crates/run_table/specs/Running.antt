@@ -2,7 +2,7 @@
 use Rattle.std.specs.Prelude.{◌≡◌, ◌≢◌, ℕ, ◌+◌, ◌-◌, ◌*◌, ◌≤◌, ◌&&◌, Bool, true, false, length, Option, Some, None, IsTrue, if◌then◌else◌}
 use Rattle.disk_model.specs.Device.{DiskState, Rose}
 use Rattle.nc_number.specs.declared.path.Path.{Path}
-use Rattle.nc_outside.specs.declared.halt.Alarm.{Alarm}
+use Rattle.nc_moves.specs.declared.alarm.Alarm.{Alarm}
 use Rattle.nc_outside.specs.declared.halt.Halt.{Halt}
 use Rattle.nc_outside.specs.declared.halt.Halt.TheVariants as halt
 use Rattle.two_path.specs.Machine.{MachineView, own_first}

@@ -1,5 +1,5 @@
 -- What a step of a table comes to.
-use Rattle.std.specs.Prelude.{◌≡◌, ℕ, ◌+◌, ◌==◌, ◌||◌, ◌&&◌, not, nat_lt, Bool, true, false, List, [], ◌++◌, length, Option, Some, None, IsTrue, if◌then◌else◌}
+use Rattle.std.specs.Prelude.{◌≡◌, ℕ, ◌+◌, ◌==◌, ◌||◌, ◌&&◌, not, nat_lt, is_some, is_none, Bool, true, false, List, [], ◌++◌, length, Option, Some, None, IsTrue, if◌then◌else◌}
 use Rattle.disk_model.specs.Device.{DiskState, Rose}
 use Rattle.nc_number.specs.declared.path.Path.{Path}
 use Rattle.nc_outside.specs.declared.halt.Halt.{Halt}
@@ -7,7 +7,7 @@ use Rattle.nc_outside.specs.declared.halt.Halt.TheVariants as halt
 use Rattle.run_records.specs.declared.entry.Entry.{Entry}
 use Rattle.two_path.specs.declared.turn.Turn.{Turn}
 use Rattle.two_path.specs.declared.turn.Turn.TheVariants as turn
-use Rattle.two_path.specs.Machine.{MachineView}
+use Rattle.two_path.specs.Machine.{MachineView, own_first}
 use Rattle.two_path.specs.Turns.{Tapes, TurnResult, turn_of, entry_of}
 use Rattle.two_path.specs.Histories.{list_of}
 use Rattle.run_table.specs.declared.answer.TableStep.{TableStep}
@@ -29,11 +29,19 @@ is_shown (turn.Alarm alarm) = true
 is_shown (turn.Halted alarm) = false
 
 -- why no turn comes though nothing stopped the table: it has as many records as it may have, or no budget is left
+abbrev pub bound_by : ℕ → ℕ → ℕ → Option Halt
+bound_by count most budget = if count == most then Some halt.Full else if budget == 0 then Some halt.Budget else None
+
 abbrev pub bound_of : {D : Type 0} → TableView D → Option Halt
-bound_of t =
-    if length t.recording.history == t.verified.settings.records then Some halt.Full
-    else if t.budget == 0 then Some halt.Budget
-    else None
+bound_of t = bound_by (length t.recording.history) t.verified.settings.records t.budget
+
+-- the path is at a wait, and no alarm came
+abbrev pub is_waiting : Path → MachineView → Bool
+is_waiting path m = (is_none m.alarm && not (own_first path m).first.finished) && is_some (own_first path m).first.waiting
+
+-- the path waits, and nothing has stopped the table
+abbrev pub waits_in : {D : Type 0} → TableView D → Path → Bool
+waits_in t path = (is_none t.halt && is_none (bound_of t)) && is_waiting path t.machine
 
 -- what a step comes to where the disk does not fail: its answer, the machine and the records that it makes, and whether all
 -- records are to be on the disk before the answer

@@ -3,7 +3,8 @@ ghost use Rattle.std.specs.Prelude.{◌≡◌, ◌&&◌, not};
 ghost use Rattle.run_table.specs.Holding.{handed, next_of_turn, next_of, is_lost};
 
 use crate::answer::TableStep;
-use nc_outside::{Halt, Moves, Next};
+use nc_moves::Moves;
+use nc_outside::{Halt, Next};
 use two_path::Turn;
 
 /// Moves are handed on, and a block without any is silent.

@@ -1,12 +1,13 @@
 //! A table that keeps what it began with.
 ghost use Rattle.std.specs.Prelude.{◌≡◌, ◌≢◌, true, false, Some, IfSome, IfNone, MatchOption};
 ghost use Rattle.nc_outside.specs.Calls.{IsOfTurret};
+ghost use Rattle.nc_outside.specs.declared.halt.Halt.{Halt as Reason};
 ghost use Rattle.nc_outside.specs.declared.halt.Halt.TheVariants as halt;
-ghost use Rattle.seat_table.specs.Turning.{Answers};
+ghost use Rattle.nc_outside.specs.declared.halt.Next.TheVariants as next;
+ghost use Rattle.seat_table.specs.Turning.{Answers, AsksDrain, first_reason};
 ghost use Rattle.run_table.specs.Draining.{with_owed};
-ghost use Rattle.run_table.specs.Begun.{first_reason};
 ghost use Rattle.run_table.specs.Ending.{HasEnded, HasNotEnded, KeepsRest};
-ghost use Rattle.run_table.specs.Holding.{held_of, IsOf, ShowsFlushed, MayHold, MayHoldAgain, HasStepped, IsTaken, records_since};
+ghost use Rattle.run_table.specs.Holding.{held_of, waits_at, drains_at, IsOf, ShowsFlushed, MayHold, MayHoldAgain, HasStepped, IsTaken, records_since};
 
 use crate::handing::{is_still_shown, next_of};
 use crate::running::RunEnd;
@@ -101,9 +102,21 @@ impl<D: Disk, O: Opening<D>> Held<D, O> {
 }
 
 impl<D: Disk, O: Opening<D>> Turns for Held<D, O> {
-    ghost use Rattle.run_table.specs.Holding.{records_since};
+    ghost use Rattle.run_table.specs.Holding.{records_since, waits_at, drains_at};
 
     ghost records = { λ h path. records_since O.opened h path };
+
+    ghost reason = { λ h. h.halt };
+
+    ghost waits = { λ h path. waits_at h path };
+
+    ghost drains = { λ h path. drains_at h path };
+
+    fn waits(&self, path: Path) -> bool
+        ensures { result ≡ waits_at self.now path }
+    {
+        self.table.waits(path)
+    }
 
     fn turn_step(&mut self, path: Path) -> Option<Next>
         ensures step { HasStepped D.state path self.old self.new result }
@@ -111,6 +124,11 @@ impl<D: Disk, O: Opening<D>> Turns for Held<D, O> {
             (records_since O.opened self.old path) next (records_since O.opened self.new path)) }
         ensures others { (p : Path) → p ≢ path
             → records_since O.opened self.new p ≡ records_since O.opened self.old p }
+        ensures waits { MatchOption result (waits_at self.old path ≡ true) (λ _. waits_at self.old path ≡ false) }
+        ensures drains { AsksDrain (drains_at self.old path) result (drains_at self.new path) }
+        ensures halted { (why : Reason) → self.old.halt ≡ Some why → (result ≡ Some (next.Halted why))
+            × (self.new.halt ≡ Some why)
+            × ((p : Path) → records_since O.opened self.new p ≡ records_since O.opened self.old p) }
     {
         let before = self.table.count();
         let step = self.table.step(path);
@@ -122,7 +140,9 @@ impl<D: Disk, O: Opening<D>> Turns for Held<D, O> {
 
     fn drained(&mut self, path: Path)
         ensures new { self.new ≡ record self.old { owed = with_owed path false self.old.owed } }
+        ensures drained { drains_at self.new path ≡ false }
         ensures records { (p : Path) → records_since O.opened self.new p ≡ records_since O.opened self.old p }
+        ensures reason { self.new.halt ≡ self.old.halt }
     {
         self.table.drained(path);
     }
@@ -131,6 +151,7 @@ impl<D: Disk, O: Opening<D>> Turns for Held<D, O> {
         requires { IsOfTurret why }
         ensures new { self.new ≡ record self.old { halt = first_reason self.old.halt why } }
         ensures records { (p : Path) → records_since O.opened self.new p ≡ records_since O.opened self.old p }
+        ensures reason { self.new.halt ≡ first_reason self.old.halt why }
     {
         self.table.halt(why);
     }

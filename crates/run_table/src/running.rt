@@ -8,8 +8,9 @@ use crate::answer::TableStep;
 use crate::laws::kept_paths_are_not_stuck;
 use crate::table::Table;
 use disk_model::Disk;
+use nc_moves::Alarm;
 use nc_number::Path;
-use nc_outside::{Alarm, Halt};
+use nc_outside::Halt;
 use path_state::a_block_asks_for_each_variable_once_at_most;
 
 /// Why a run ended. Of several causes it is the first of: a fault of the disk, an alarm, the ends of

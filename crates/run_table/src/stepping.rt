@@ -3,14 +3,15 @@ ghost use Rattle.std.specs.Prelude.{◌≡◌, ◌+◌, ◌<◌, [], true, lengt
 ghost use Rattle.two_path.specs.Histories.{list_of};
 ghost use Rattle.run_table.specs.declared.answer.TableStep.TheVariants.{Turned as Shown};
 ghost use Rattle.run_table.specs.Recording.{MayNote, IsNoted, Records};
-ghost use Rattle.run_table.specs.Stepping.{is_shown, is_due, Answers, reason_of};
+ghost use Rattle.run_table.specs.Stepping.{is_shown, is_waiting, is_due, Answers, reason_of};
 
 use crate::answer::TableStep;
 use crate::recording::{MOST_PENDING, Recording};
 use disk_model::Disk;
+use nc_number::Path;
 use nc_outside::Halt;
 use run_records::Entry;
-use two_path::{Turn, Turned};
+use two_path::{Machine, Turn, Turned};
 
 /// Whether a turn shows something to the outside. A block without moves shows nothing.
 pub(crate) fn is_shown(turn: &Turn) -> bool
@@ -21,6 +22,13 @@ pub(crate) fn is_shown(turn: &Turn) -> bool
         Turn::Arrived { .. } | Turn::Met { .. } | Turn::Ended { .. } | Turn::Alarm { .. } => true,
         Turn::Read { .. } | Turn::Waiting { .. } | Turn::Finished | Turn::Halted { .. } => false,
     }
+}
+
+/// Whether the path is at a wait, and no alarm came.
+pub(crate) fn is_waiting(machine: &Machine, path: Path) -> bool
+    ensures { result ≡ is_waiting path machine.now.machine }
+{
+    machine.alarm().is_none() && !machine.finished(path) && machine.waiting(path).is_some()
 }
 
 /// The reason that a table keeps of an answer.

@@ -7,15 +7,16 @@ ghost use Rattle.nc_outside.specs.declared.halt.Halt.TheVariants as halt;
 ghost use Rattle.run_records.specs.declared.header.Header.{Header};
 ghost use Rattle.run_records.specs.Headers.{IsShort};
 ghost use Rattle.run_journal.specs.Beginning.{BeginsRun};
+ghost use Rattle.seat_table.specs.Turning.{first_reason};
 ghost use Rattle.two_path.specs.declared.turn.Turn.TheVariants as turn;
 ghost use Rattle.two_path.specs.Histories.{IsKept};
 ghost use Rattle.two_path.specs.Machine.{own_first};
 ghost use Rattle.run_table.specs.declared.answer.TableStep.TheVariants as step;
 ghost use Rattle.run_table.specs.Recording.{IsJournaled};
 ghost use Rattle.run_table.specs.Kept.{tapes_in, opening_of, IsVerdictOf, IsTable};
-ghost use Rattle.run_table.specs.Stepping.{bound_of, drains, step_of, drained_step_of, IsStep, GoesOn};
+ghost use Rattle.run_table.specs.Stepping.{bound_of, waits_in, drains, step_of, drained_step_of, IsStep, GoesOn};
 ghost use Rattle.run_table.specs.Draining.{with_owed, owed_behind};
-ghost use Rattle.run_table.specs.Begun.{IsBegun, disk_in, recovered_table, IsPrepared, first_reason, IsLeft};
+ghost use Rattle.run_table.specs.Begun.{IsBegun, disk_in, recovered_table, IsPrepared, IsLeft};
 ghost use Rattle.run_table.specs.Recovered.{IsRecovered, HoldsAll};
 ghost use Rattle.run_table.specs.Ending.{end_ahead, Asks};
 ghost use Rattle.run_table.specs.Holding.{without_turret};
@@ -27,7 +28,7 @@ use crate::draining::{Owed, comes_to_wait, flow_of};
 use crate::laws::who_is_waited_for_goes_on;
 use crate::recording::Recording;
 use crate::running::{RunEnd, end_at};
-use crate::stepping::{flush_before, reason_of, take};
+use crate::stepping::{flush_before, is_waiting, reason_of, take};
 use disk_model::Disk;
 use gate_file::GateFault;
 use nc_number::{NoMemory, Path, Point};
@@ -181,6 +182,14 @@ impl<D: Disk> Table<D> {
         control_goes_as_the_flow_orders();
         waits_and_ends_stop_a_path();
         self.owed.has(path) && comes_to_wait(&self.machine, flow_of(&self.verified, path), path)
+    }
+
+    /// Whether the path waits, and nothing has stopped the table: it has no reason, its journal is not
+    /// full, and there is budget left.
+    pub fn waits(&self, path: Path) -> bool
+        ensures { result ≡ waits_in self.now path }
+    {
+        self.halt.is_none() && self.bound().is_none() && is_waiting(&self.machine, path)
     }
 
     /// One turn of the path, unless the table has stopped, its journal is full, or its budget

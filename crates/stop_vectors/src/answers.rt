@@ -3,7 +3,8 @@ use crate::command::{Done, Failing, HONEST, Outside, devices_of, done_by, failin
 use crate::line_ends::row_of;
 use crate::shelf::shelf_of;
 use disk_model::MemoryDisk;
-use nc_outside::{Got, MemoryShelf, Move};
+use nc_moves::Move;
+use nc_outside::{Got, MemoryShelf};
 use std::alloc::{AllocError, Global};
 use std::process::Abort;
 use std::sync::Wait;
@@ -34,7 +35,7 @@ fn put_got(text: &mut String, got: &[Got]) -> Result<(), AllocError> {
     for what in got {
         match *what {
             Got::Placed(at) => write!(text, " place {} {}", at.x, at.z)?,
-            Got::Moved(what) => put_move(text, what)?,
+            Got::Moved(moved) => put_move(text, moved.what)?,
         }
     }
     text.push(':')
@@ -64,10 +65,15 @@ fn answered<R: Threads + Wait + Sync + Abort>(
     failing: Failing<'_>,
 ) -> (String, MemoryDisk) {
     let devices = devices_of(rt, alloc, 100, failing);
-    let Done { outcome, sink } = done_by(rt, alloc, line, shelf, disk, devices);
-    let turrets = (outcome.left.got(), outcome.right.got());
-    let text = answer_text(alloc, outcome.status, turrets, sink.bytes()).expect(rt, "a text");
-    (text, outcome.disk)
+    let Done {
+        status,
+        lathe,
+        sink,
+        ..
+    } = done_by(rt, alloc, line, shelf, disk, devices);
+    let turrets = (lathe.left.got(), lathe.right.got());
+    let text = answer_text(alloc, status, turrets, sink.bytes()).expect(rt, "a text");
+    (text, lathe.disk)
 }
 
 /// Commands one behind the other over one disk, and the answer of each.

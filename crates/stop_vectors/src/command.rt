@@ -1,6 +1,7 @@
 //! A command over objects in memory.
 use disk_model::{Disk, MemoryDisk};
-use lathe_top::{Outcome, top};
+use lathe_top::{Lathe, top};
+use nc_number::Path;
 use nc_outside::{MemoryShelf, MemoryTurret, Turret, VecSink};
 use std::alloc::{AllocError, Global};
 use std::process::Abort;
@@ -71,10 +72,12 @@ pub(crate) fn devices_of<R: Abort>(
     }
 }
 
-/// What a command comes to, with its output.
+/// What a command comes to, with its output, and how many moves the turrets of path 1 and path 2 missed.
 #[derive(Drop)]
 pub(crate) struct Done<D: Disk + Drop, T: Turret + Drop> {
-    pub(crate) outcome: Outcome<D, T>,
+    pub(crate) status: u8,
+    pub(crate) missed: (u64, u64),
+    pub(crate) lathe: Lathe<D, T>,
     pub(crate) sink: VecSink,
 }
 
@@ -115,15 +118,12 @@ where
     let words = words_of(alloc, line).expect(rt, "words");
     let Devices { left, right, sink } = devices;
     let mut sink = sink;
-    let outcome = top(
-        rt,
-        alloc,
-        words.as_slice(),
-        shelf,
-        disk,
-        left,
-        right,
-        &mut sink,
-    );
-    Done { outcome, sink }
+    let lathe = Lathe { disk, left, right };
+    let outcome = top(rt, alloc, words.as_slice(), shelf, lathe, &mut sink);
+    Done {
+        status: outcome.status(),
+        missed: (outcome.missed(Path::One), outcome.missed(Path::Two)),
+        lathe: outcome.into_parts(),
+        sink,
+    }
 }

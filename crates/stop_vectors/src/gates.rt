@@ -3,7 +3,7 @@ use crate::command::{Devices, done_by};
 use crate::shelf::shelf_of;
 use disk_model::MemoryDisk;
 use nc_number::Point;
-use nc_outside::{Failed, Move, Turret, VecSink};
+use nc_outside::{Failed, LinedMove, Turret, VecSink};
 use std::alloc::Global;
 use std::process::Abort;
 use std::sync::Wait;
@@ -43,7 +43,7 @@ impl<'a> Turret for GateTurret<'a> {
         Ok(())
     }
 
-    fn hand(&mut self, _what: &Move) -> Result<(), Failed> {
+    fn hand(&mut self, _what: &LinedMove) -> Result<(), Failed> {
         self.mine.fetch_add(1, SeqCst);
         for _ in 0..LOOKS {
             if self.other.load(SeqCst) > 0 {
@@ -53,6 +53,10 @@ impl<'a> Turret for GateTurret<'a> {
         }
         self.faults = self.faults.saturating_add(1);
         Err(Failed)
+    }
+
+    fn settle(&mut self) -> Result<(), Failed> {
+        Ok(())
     }
 }
 
@@ -65,9 +69,7 @@ fn status_of<R: Threads + Wait + Sync + Abort>(
     let mut shelf = shelf_of(rt, alloc, FILES, &[]);
     let disk = MemoryDisk::new(alloc, 10_000, 1_000, &[]).expect(rt, "a disk");
     let line = "run left right cell";
-    done_by(rt, alloc, line, &mut shelf, disk, devices)
-        .outcome
-        .status
+    done_by(rt, alloc, line, &mut shelf, disk, devices).status
 }
 
 /// The status of a run whose turrets wait for each other.

@@ -2,7 +2,7 @@
 //! of its shelf, its output, its disk and its turrets fails once, and then the run goes on to the report of one that met no fault.
 //!
 //! And a run calls both turrets at the same time: each of two that wait for each other's move gets to answer it. Each turret has its
-//! place and then the moves of its path's records, neither more nor fewer.
+//! place and then the moves of its path's records, neither more nor fewer, and what it missed when it failed is counted.
 //!
 //! What is expected stems from the rules of the commands, and never from what a run answered.
 #![tactic(auto)]
@@ -18,7 +18,11 @@ mod gates;
 #[cfg(test)]
 mod line_ends;
 #[cfg(test)]
+mod missed;
+#[cfg(test)]
 mod opened_pairs;
+#[cfg(test)]
+mod order;
 #[cfg(test)]
 mod pair;
 #[cfg(test)]

@@ -46,9 +46,14 @@ fn said_by<R: Abort, D: Disk + Drop>(
     alloc: Global,
     done: Done<D, MemoryTurret>,
 ) -> (String, D) {
-    let Done { outcome, sink } = done;
-    let said = status_and_gist(alloc, outcome.status, sink.bytes()).expect(rt, "what it said");
-    (said, outcome.disk)
+    let Done {
+        status,
+        lathe,
+        sink,
+        ..
+    } = done;
+    let said = status_and_gist(alloc, status, sink.bytes()).expect(rt, "what it said");
+    (said, lathe.disk)
 }
 
 /// What a command over the pair says with this disk, and the disk that it leaves.

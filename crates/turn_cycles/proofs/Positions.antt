@@ -4,9 +4,9 @@ use Rattle.std.proofs.lemmas.List.Elements.{All-nil, All-cons}
 use Rattle.nc_number.specs.declared.point.Point.{Point}
 use Rattle.nc_number.specs.Arithmetic.{is_zero}
 use Rattle.nc_number.specs.Position.{IsPosition}
-use Rattle.nc_outside.specs.declared.motion.Move.{Move}
-use Rattle.nc_outside.specs.declared.motion.Move.TheVariants.{Rapid, Feed, Thread}
-use Rattle.nc_outside.specs.Motion.{end_of}
+use Rattle.nc_moves.specs.declared.motion.Move.{Move}
+use Rattle.nc_moves.specs.declared.motion.Move.TheVariants.{Rapid, Feed, Thread}
+use Rattle.nc_moves.specs.Motion.{end_of}
 use Rattle.motion_track.specs.declared.fault.MotionFault.{MotionFault}
 use Rattle.motion_track.specs.Block.{AllEnd}
 use Rattle.turn_cycles.specs.declared.rectangle.CycleKind.{CycleKind}

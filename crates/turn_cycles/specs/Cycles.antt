@@ -1,7 +1,7 @@
 use Rattle.std.specs.Prelude.{Bool, List, [], ◌∷◌, ℤ, Result}
 use Rattle.nc_number.specs.declared.point.Point.{Point}
-use Rattle.nc_outside.specs.declared.motion.Move.{Move}
-use Rattle.nc_outside.specs.declared.motion.Move.TheVariants.{Rapid, Feed, Thread}
+use Rattle.nc_moves.specs.declared.motion.Move.{Move}
+use Rattle.nc_moves.specs.declared.motion.Move.TheVariants.{Rapid, Feed, Thread}
 use Rattle.motion_track.specs.declared.fault.MotionFault.{MotionFault}
 use Rattle.motion_track.specs.Cut.{at_feed}
 use Rattle.turn_cycles.specs.declared.rectangle.CycleKind.{CycleKind}

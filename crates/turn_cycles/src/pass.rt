@@ -6,8 +6,8 @@ ghost use Rattle.turn_cycles.specs.Pass.{pass_of};
 use crate::end::cycle_end;
 use crate::rectangle::{CycleKind, cycle};
 use motion_track::{BlockMotion, LONGEST, MotionFault};
+use nc_moves::MoveList;
 use nc_number::Point;
-use nc_outside::MoveList;
 
 /// What a block with a cycle does.
 #[derive(Debug, Drop)]

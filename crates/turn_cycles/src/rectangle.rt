@@ -5,8 +5,8 @@ ghost use Rattle.turn_cycles.specs.Cycles.{cycle_of};
 
 use code_tables::CodeKind;
 use motion_track::{MotionFault, is_feed_zero};
+use nc_moves::Move;
 use nc_number::{Cause, Point, Value};
-use nc_outside::Move;
 
 /// Which cycle, by its code in system A.
 #[derive(Clone, Copy, Debug, PartialEq, Eq)]

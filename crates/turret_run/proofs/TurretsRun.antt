@@ -1,5 +1,6 @@
 -- How a run with turrets ends, from what its threads and the turns behind them left.
 use Rattle.std.proofs.Common.{arith, ◌≡◌, ◌≢◌, ◌*◌, ◌≤◌, ℕ, Bool, true, false, true≢false, List, [], ◌-◌, length, map, refl, ap, sym, ◌∙◌, subst, length-append, Option, Some, None, ⊎_elim, inl, inr}
+use Rattle.std.specs.Prelude.{IsTrue}
 use Rattle.std.proofs.lemmas.List.{drop_all}
 use Rattle.disk_model.specs.Device.{DiskState, Rose}
 use Rattle.gate_file.specs.Gate.{Gate}
@@ -8,16 +9,15 @@ use Rattle.nc_number.specs.declared.path.Path.TheVariants.{One, Two}
 use Rattle.nc_number.specs.Path.{other_of}
 use Rattle.nc_outside.specs.declared.halt.Halt.{Halt}
 use Rattle.nc_outside.specs.declared.halt.Halt.TheVariants as halt
-use Rattle.nc_outside.specs.declared.motion.Got.{Got}
-use Rattle.nc_outside.specs.declared.motion.Got.TheVariants.{Moved}
+use Rattle.nc_outside.specs.declared.got.Got.{Got}
+use Rattle.nc_outside.specs.declared.got.Got.TheVariants.{Moved}
 use Rattle.nc_outside.specs.Received.{TurretState}
 use Rattle.nc_verify.specs.declared.verified.Verified.{Verified}
 use Rattle.run_records.specs.declared.entry.Entry.{Entry}
 use Rattle.two_path.specs.Machine.{MachineView}
 use Rattle.two_path.specs.Histories.{fold}
-use Rattle.path_worker.specs.Drive.{Filled}
+use Rattle.drive_line.specs.Driving.{DrivenState, has_failed, Serves}
 use Rattle.seat_table.specs.Turning.{moves_in}
-use Rattle.lane_pair.specs.Serving.{Serves}
 use Rattle.run_table.specs.declared.running.RunEnd.{RunEnd}
 use Rattle.run_table.specs.declared.running.RunEnd.TheVariants as run
 use Rattle.run_table.specs.Ending.{HasEnded as Ends}
@@ -29,10 +29,10 @@ use Rattle.run_table.specs.Running.{EndsBy, IsNoneOrAlarm}
 use Rattle.run_table.specs.Since.{Since}
 use Rattle.turret_run.specs.declared.ending.TurretEnd.{TurretEnd}
 use Rattle.turret_run.specs.declared.ending.TurretEnd.TheVariants.{Ended, TurretFault, NoMemory}
-use Rattle.turret_run.specs.Served.{told, GetsFirst, GetsAll, GetsPart, FailsAmong, GetsSome}
-use Rattle.turret_run.specs.Runs.{Turrets, turret_for, place_of, due, GetsAt, GetsBeside, Stays, HasFailed, RunsWith}
+use Rattle.turret_run.specs.Served.{told, GetsAll, GetsPart, FailsAmong, GetsSome, Misses}
+use Rattle.turret_run.specs.Runs.{Turrets, turret_for, place_of, due, GetsAt, GetsBeside, StandsBeside, Missed, missed_by, none_missed, Stays, IsNotPlaced, RunsWith}
 use Rattle.turret_run.specs.Rests.{ArePlaced, FailsAtPlace, first_failed, HasCause}
-use Rattle.turret_run.proofs.TurretsGet.{GotBy, of_longer, served}
+use Rattle.turret_run.proofs.TurretsGet.{GotBy, served, all_of, fails_of, some_of, misses_of, either_of}
 
 -- a recording with these records, so many of which are flushed, and with this file
 abbrev with_file : {D : Type 0} → RecordingView D → List Entry → ℕ → Gate D → RecordingView D
@@ -50,6 +50,7 @@ follows_with state made a b new p = record {
   told = p.told;
   rests = p.rests;
   later = p.later;
+  calm = p.calm;
 }
 
 -- What comes of a recording follows any other with the same records, as many of them flushed, and the same file.
@@ -85,46 +86,50 @@ module _ {D : Type 0} (state : D → DiskState) (limit : ℕ) (old ready : Table
       ap (λ (m : MachineView). due path (record ready { machine = m }) new) stays.machine
       ∙ ap (λ (n : ℕ). told (place_of path old.machine) (moves_made new.verified path n new.recording.flushed new.recording.history)) (ap length stays.history)
 
+  stays_ready : (new : TableView D) → Stays ready new → Stays old new
+  stays_ready new same = record {
+    verified = same.verified ∙ stays.verified;
+    machine = same.machine ∙ stays.machine;
+    history = same.history ∙ stays.history;
+    flushed = same.flushed ∙ stays.flushed;
+    file = same.file ∙ stays.file;
+    halt = same.halt ∙ stays.halt;
+  }
+
+  stands_ready : (path other : Path) (a b : TurretState) → StandsBeside path (told (place_of other ready.machine) []) a b → StandsBeside path (told (place_of other old.machine) []) a b
+  stands_ready One other a b same = same
+  stands_ready Two other a b place = subst (λ (m : MachineView). GetsAll (told (place_of other m) []) a b) stays.machine place
+
   -- the run of a table that was made ready is one of the table before
-  pub runs_ready : (new : TableView D) (before after : Turrets) (end : TurretEnd) → RunsWith state ready.budget ready new before after end → RunsWith state limit old new before after end
-  runs_ready new before after (Ended end) r = record {
+  pub runs_ready : (new : TableView D) (before after : Turrets) (missed : Missed) (end : TurretEnd) → RunsWith state ready.budget ready new before after missed end
+      → RunsWith state limit old new before after missed end
+  runs_ready new before after missed (Ended end) r = record {
     since = since_ready new r.since;
     ends = ends_ready new end r.ends;
     turrets = λ path. subst (λ what. GetsAt end what (turret_for path before) (turret_for path after)) (due_ready path new) (r.turrets path);
+    misses = λ path. subst (λ what. Misses what (missed_by path missed) (turret_for path before) (turret_for path after)) (due_ready path new) (r.misses path);
   }
-  runs_ready new before after (TurretFault path) r = record {
+  runs_ready new before after missed (TurretFault path) (inl r) = inl (record {
     since = since_ready new r.since;
     disk = r.disk;
+    calm = r.calm ∙ ap (λ (file : Gate D). (state file.disk).faults) stays.file;
     failed = subst (λ what. FailsAmong what (turret_for path before) (turret_for path after)) (due_ready path new) r.failed;
     other = subst (λ what. GetsBeside path what (turret_for (other_of path) before) (turret_for (other_of path) after)) (due_ready (other_of path) new) r.other;
-  }
-  runs_ready new before after NoMemory r = record {
-    same = record {
-      verified = r.same.verified ∙ stays.verified;
-      machine = r.same.machine ∙ stays.machine;
-      history = r.same.history ∙ stays.history;
-      flushed = r.same.flushed ∙ stays.flushed;
-      file = r.same.file ∙ stays.file;
-      halt = r.same.halt ∙ stays.halt;
-    };
+    misses = λ p. subst (λ what. Misses what (missed_by p missed) (turret_for p before) (turret_for p after)) (due_ready p new) (r.misses p);
+  })
+  runs_ready new before after missed (TurretFault path) (inr r) = inr (record {
+    since = since_ready new r.since;
+    same = stays_ready new r.same;
+    disk = r.disk;
+    failed = subst (λ (m : MachineView). FailsAmong (told (place_of path m) []) (turret_for path before) (turret_for path after)) stays.machine r.failed;
+    other = stands_ready path (other_of path) (turret_for (other_of path) before) (turret_for (other_of path) after) r.other;
+    none = r.none;
+  })
+  runs_ready new before after missed NoMemory r = record {
+    same = stays_ready new r.same;
     turrets = λ path. subst (λ (m : MachineView). GetsPart (told (place_of path m) []) (turret_for path before) (turret_for path after)) stays.machine (r.turrets path);
+    none = r.none;
   }
-
--- all of these are a first part of them
-part_of_all : (what : List Got) (a b : TurretState) → GetsAll what a b → GetsPart what a b
-part_of_all what a b g = (length what, g)
-
-some_of : (failed : Bool) (what : List Got) (a b : TurretState) → GotBy failed what a b → GetsSome what a b
-some_of true what a b g = (g.0, true, g.1)
-some_of false what a b g = (length what, false, g)
-
-all_of : (failed : Bool) (what : List Got) (a b : TurretState) → failed ≡ false → GotBy failed what a b → GetsAll what a b
-all_of true what a b is g = absurd (true≢false is)
-all_of false what a b is g = g
-
-fails_of : (failed : Bool) (what : List Got) (a b : TurretState) → failed ≡ true → GotBy failed what a b → FailsAmong what a b
-fails_of true what a b is g = g
-fails_of false what a b is g = absurd (true≢false (sym is))
 
 none_failed : (left right : Bool) → first_failed left right ≡ None → (left ≡ false) × (right ≡ false)
 none_failed true right is = absurd cc
@@ -163,29 +168,17 @@ none_since opened t held is held_is path = subst (λ o. records_since o held pat
 
 -- What each turret got by a run, of which the table was taken out.
 module _ {D : Type 0} (state : D → DiskState) (opened : Option (TableView D)) (start taken : TableView D) (held : HeldView D) (is : opened ≡ Some start)
-    (of : IsOf state opened taken) (shown : ShowsFlushed opened held taken) (all : start.recording.flushed ≡ length start.recording.history)
-    (law : (pair : Verified) (path : Path) (from upto : ℕ) (history : List Entry) → length (moves_made pair path from upto history) ≤ 7 * (upto - from)) where
+    (of : IsOf state opened taken) (shown : ShowsFlushed opened held taken) where
   pub taken_since : Since state start taken
   taken_since = subst (λ o. IsOf state o taken) is of
 
-  -- the records that were made since are within the leave, so there was room for the moves of those that are on the disk
-  fits : (count : ℕ) → count ≤ 7 * (taken.recording.flushed - length start.recording.history) → count ≤ 8 * start.budget
-  fits count less =
-      let within = (taken_since.recording.sends (omega (arith, all))).within in
-      let long = ap length taken_since.recording.history ∙ length-append start.recording.history taken_since.made in
-      let budget = taken_since.budget in
-      omega (arith, less, within, long, budget)
-
-  pub got : (path : Path) (room handed : Filled) (failed : Bool) (before now after : TurretState) → room ≡ record { list = []; room = 8 * start.budget }
-      → GetsAll (told (place_of path start.machine) []) before now → Serves (moves_in (records_since opened held path)) room now after handed failed
-      → GotBy failed (due path start taken) before after
-  got path room handed failed before now after room_is place s =
-      let at : Serves (moves_in (records_since (Some start) held path)) room now after handed failed =
-      subst (λ o. Serves (moves_in (records_since o held path)) room now after handed failed) is s in
+  pub got : (path : Path) (before now : TurretState) (d : DrivenState) → GetsAll (told (place_of path start.machine) []) before now
+      → Serves (moves_in (records_since opened held path)) now d → GotBy (has_failed d.phase) d.missed (due path start taken) before d.state
+  got path before now d place s =
+      let at : Serves (moves_in (records_since (Some start) held path)) now d = subst (λ o. Serves (moves_in (records_since o held path)) now d) is s in
       let moves = moves_made taken.verified path (length start.recording.history) taken.recording.flushed taken.recording.history in
       let told_of = subst (λ o. ShowsFlushed o held taken) is shown path in
-      served (place_of path start.machine) moves room handed failed before now after
-      (subst (λ (r : Filled). length moves ≤ r.room) (sym room_is) (fits (length moves) (law taken.verified path (length start.recording.history) taken.recording.flushed taken.recording.history))) place (subst (λ ms. Serves ms room now after handed failed) told_of at)
+      served (place_of path start.machine) moves before now d place (subst (λ ms. Serves ms now d) told_of at)
 
 -- each turret got no more than its place
 pub placed_only : (m : MachineView) (before now after : Turrets) → ArePlaced m before now → now.left ≡ after.left → now.right ≡ after.right
@@ -196,43 +189,42 @@ placed_only m before now after placed left right Two = (1, subst (λ s. GetsAll 
 -- a turret failed at its place, and nothing else was done
 module _ {D : Type 0} (state : D → DiskState) (limit : ℕ) (old ready : TableView D) (stays : Stays old ready) (leave : ready.budget ≡ limit)
     (itself : Since state ready ready) (may : IsNoneOrAlarm old.halt) (before after : Turrets) where
-  more : (path : Path) (n : ℕ) (failed : Bool) (a b : TurretState) → GetsFirst (told (place_of path ready.machine) []) n failed a b → GetsFirst (due path old ready) n failed a b
-  more path n failed a b g = of_longer (told (place_of path old.machine) [])
-      (map Moved (moves_made ready.verified path (length old.recording.history) ready.recording.flushed ready.recording.history)) n failed a b
-      (subst (λ (m : MachineView). GetsFirst (told (place_of path m) []) n failed a b) stays.machine g)
-
-  beside : (path : Path) (a b : TurretState) → GetsBeside path (told (place_of (other_of path) ready.machine) []) a b → GetsBeside path (due (other_of path) old ready) a b
-  beside One a b g = (g.0, g.1, more Two g.0 g.1 a b g.2)
-  beside Two a b g = (g.0, more One g.0 false a b g.1)
-
-  pub place_failed : (path : Path) → FailsAtPlace ready.machine before after path → HasFailed state limit old ready before after path
+  pub place_failed : (path : Path) → FailsAtPlace ready.machine before after path → IsNotPlaced state limit old ready before after none_missed path
   place_failed path f = record {
     since = since_ready state limit old ready stays leave ready itself;
+    same = stays;
     disk = subst (λ h. h ≢ Some halt.Disk) (sym stays.halt) (calm_is_no_disk old.halt may);
-    failed = (f.0.0, more path f.0.0 true (turret_for path before) (turret_for path after) f.0.1);
-    other = beside path (turret_for (other_of path) before) (turret_for (other_of path) after) f.1;
+    failed = subst (λ (m : MachineView). FailsAmong (told (place_of path m) []) (turret_for path before) (turret_for path after)) stays.machine f.0;
+    other = stands_ready state limit old ready stays leave path (other_of path) (turret_for (other_of path) before) (turret_for (other_of path) after) f.1;
+    none = refl;
   }
 
 -- The end of a run: the turns that were left found this cause.
-module _ {D : Type 0} (state : D → DiskState) (start taken : TableView D) (since : Since state start taken) (held : HeldView D) (before after : Turrets) (left right : Bool)
-    (ends : (end : RunEnd) → Ends held end → EndsBy state start taken end) (halt_is : taken.halt ≡ without_turret held.halt)
-    (first : GotBy left (due One start taken) before.left after.left) (second : GotBy right (due Two start taken) before.right after.right) where
-  ended_all : (end : RunEnd) → (first_failed left right ≡ None) → (path : Path) → GetsAll (due path start taken) (turret_for path before) (turret_for path after)
-  ended_all end none One = all_of left (due One start taken) before.left after.left (none_failed left right none).0 first
-  ended_all end none Two = all_of right (due Two start taken) before.right after.right (none_failed left right none).1 second
+module _ {D : Type 0} (state : D → DiskState) (start taken : TableView D) (since : Since state start taken) (held : HeldView D) (before after : Turrets) (left right : Bool) (missed : Missed)
+    (ends : (end : RunEnd) → Ends held end → EndsBy state start taken end) (halt_is : taken.halt ≡ without_turret held.halt) (file_is : taken.recording.log.file ≡ held.file)
+    (first : GotBy left missed.left (due One start taken) before.left after.left) (second : GotBy right missed.right (due Two start taken) before.right after.right) where
+  misses : (path : Path) → Misses (due path start taken) (missed_by path missed) (turret_for path before) (turret_for path after)
+  misses One = misses_of left missed.left (due One start taken) before.left after.left first
+  misses Two = misses_of right missed.right (due Two start taken) before.right after.right second
+
+  ended_all : (first_failed left right ≡ None) → (path : Path) → GetsAll (due path start taken) (turret_for path before) (turret_for path after)
+  ended_all none One = all_of left missed.left (due One start taken) before.left after.left first (none_failed left right none).0
+  ended_all none Two = all_of right missed.right (due Two start taken) before.right after.right second (none_failed left right none).1
 
   ended_at : (end : RunEnd) → (end ≢ run.DiskFault → first_failed left right ≡ None) → (path : Path) → GetsAt end (due path start taken) (turret_for path before) (turret_for path after)
-  ended_at (run.Alarm alarm) none path = ended_all (run.Alarm alarm) (none (λ is. absurd cc)) path
-  ended_at run.Done none path = ended_all run.Done (none (λ is. absurd cc)) path
-  ended_at run.Full none path = ended_all run.Full (none (λ is. absurd cc)) path
-  ended_at run.Stopped none path = ended_all run.Stopped (none (λ is. absurd cc)) path
-  ended_at run.DiskFault none One = some_of left (due One start taken) before.left after.left first
-  ended_at run.DiskFault none Two = some_of right (due Two start taken) before.right after.right second
+  ended_at (run.Alarm alarm) none path = ended_all (none (λ is. absurd cc)) path
+  ended_at run.Done none path = ended_all (none (λ is. absurd cc)) path
+  ended_at run.Full none path = ended_all (none (λ is. absurd cc)) path
+  ended_at run.Stopped none path = ended_all (none (λ is. absurd cc)) path
+  ended_at run.DiskFault none One = some_of left missed.left (due One start taken) before.left after.left first
+  ended_at run.DiskFault none Two = some_of right missed.right (due Two start taken) before.right after.right second
 
   failed_at : (path : Path) → first_failed left right ≡ Some path → FailsAmong (due path start taken) (turret_for path before) (turret_for path after)
       × GetsBeside path (due (other_of path) start taken) (turret_for (other_of path) before) (turret_for (other_of path) after)
-  failed_at One is =
-      (fails_of left (due One start taken) before.left after.left (one_failed left right is) first, some_of right (due Two start taken) before.right after.right second)
+  failed_at One is = (
+    fails_of left missed.left (due One start taken) before.left after.left first (one_failed left right is),
+    either_of right missed.right (due Two start taken) before.right after.right second,
+  )
     where
       one_failed : (l r : Bool) → first_failed l r ≡ Some One → l ≡ true
       one_failed true r e = refl
@@ -240,8 +232,8 @@ module _ {D : Type 0} (state : D → DiskState) (start taken : TableView D) (sin
       one_failed false false e = absurd cc
   failed_at Two is =
       let b = two_failed left right is in (
-        fails_of right (due Two start taken) before.right after.right b.1 second,
-        part_of_all (due One start taken) before.left after.left (all_of left (due One start taken) before.left after.left b.0 first),
+        fails_of right missed.right (due Two start taken) before.right after.right second b.1,
+        all_of left missed.left (due One start taken) before.left after.left first b.0,
       )
     where
       two_failed : (l r : Bool) → first_failed l r ≡ Some Two → (l ≡ false) × (r ≡ true)
@@ -249,9 +241,17 @@ module _ {D : Type 0} (state : D → DiskState) (start taken : TableView D) (sin
       two_failed false true e = (refl, refl)
       two_failed false false e = absurd cc
 
-  pub run_ends : (end : TurretEnd) → HasCause held (first_failed left right) end → RunsWith state start.budget start taken before after end
-  run_ends (Ended end) cause = record { since = since; ends = ends end cause.0; turrets = ended_at end cause.1 }
+  pub run_ends : (end : TurretEnd) → HasCause held (first_failed left right) end → RunsWith state start.budget start taken before after missed end
+  run_ends (Ended end) cause = record { since = since; ends = ends end cause.0; turrets = ended_at end cause.1; misses = misses }
   run_ends (TurretFault path) cause =
-      let failed = failed_at path cause.1 in
-      record { since = since; disk = subst (λ h. h ≢ Some halt.Disk) (sym halt_is) (not_disk held.halt cause.0); failed = failed.0; other = failed.1 }
+      let failed = failed_at path cause.2 in
+      let live = subst (λ (file : Gate D). IsTrue file.live) (sym file_is) cause.1 in
+      inl (record {
+        since = since;
+        disk = subst (λ h. h ≢ Some halt.Disk) (sym halt_is) (not_disk held.halt cause.0);
+        calm = since.recording.calm live;
+        failed = failed.0;
+        other = failed.1;
+        misses = misses;
+      })
   run_ends NoMemory cause = absurd cause

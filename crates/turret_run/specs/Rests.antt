@@ -1,13 +1,14 @@
 -- How both turrets are placed, and how the turns that are left behind the threads are given.
-use Rattle.std.specs.Prelude.{◌≡◌, ◌≢◌, Bool, true, false, [], Option, Some, None}
+use Rattle.std.specs.Prelude.{◌≡◌, ◌≢◌, ◌⊎◌, Bool, true, false, IsTrue, [], Option, Some, None}
 use Rattle.nc_number.specs.declared.path.Path.{Path}
 use Rattle.nc_number.specs.declared.path.Path.TheVariants.{One, Two}
 use Rattle.nc_number.specs.Path.{other_of}
 use Rattle.nc_outside.specs.declared.halt.Halt.TheVariants.{Disk}
 use Rattle.nc_outside.specs.Received.{TurretState}
-use Rattle.path_worker.specs.Drive.{Filled}
+use Rattle.drive_line.specs.declared.phase.Phase.{Phase}
+use Rattle.drive_line.specs.declared.phase.Phase.TheVariants.{Still}
+use Rattle.drive_line.specs.Driving.{DrivenState, has_failed, Serves}
 use Rattle.seat_table.specs.Turning.{Records, moves_in}
-use Rattle.lane_pair.specs.Serving.{Serves}
 use Rattle.two_path.specs.Machine.{MachineView}
 use Rattle.run_table.specs.declared.running.RunEnd.TheVariants as run
 use Rattle.run_table.specs.Ending.{HasEnded}
@@ -15,7 +16,7 @@ use Rattle.run_table.specs.Holding.{HeldView}
 use Rattle.turret_run.specs.declared.ending.TurretEnd.{TurretEnd}
 use Rattle.turret_run.specs.declared.ending.TurretEnd.TheVariants.{Ended, TurretFault, NoMemory}
 use Rattle.turret_run.specs.Served.{told, GetsAll, FailsAmong}
-use Rattle.turret_run.specs.Runs.{Turrets, turret_for, place_of, GetsBeside}
+use Rattle.turret_run.specs.Runs.{Turrets, turret_for, place_of, StandsBeside}
 
 -- each turret got its place
 abbrev pub ArePlaced : MachineView → Turrets → Turrets → Type 0
@@ -25,12 +26,15 @@ ArePlaced m before after = (path : Path) → GetsAll (told (place_of path m) [])
 abbrev pub FailsAtPlace : MachineView → Turrets → Turrets → Path → Type 0
 FailsAtPlace m before after path =
     FailsAmong (told (place_of path m) []) (turret_for path before) (turret_for path after)
-    × GetsBeside path (told (place_of (other_of path) m) []) (turret_for (other_of path) before) (turret_for (other_of path) after)
+    × StandsBeside path (told (place_of (other_of path) m) []) (turret_for (other_of path) before) (turret_for (other_of path) after)
 
 -- a turret that had served the old records serves the new ones
-abbrev pub ServesOn : Records → TurretState → Filled → Bool → Records → TurretState → Filled → Bool → Type 0
-ServesOn old was taken had_failed new is handed failed = (room : Filled) (start : TurretState)
-    → Serves (moves_in old) room start was taken had_failed → Serves (moves_in new) room start is handed failed
+abbrev pub ServesOn : Records → DrivenState → Records → DrivenState → Type 0
+ServesOn old was new is = (start : TurretState) → Serves (moves_in old) start was → Serves (moves_in new) start is
+
+-- it stands still, or it failed
+abbrev pub IsStillOrFailed : Phase → Type 0
+IsStillOrFailed phase = (phase ≡ Still) ⊎ (has_failed phase ≡ true)
 
 -- the path whose turret failed, that of path 1 first
 abbrev pub first_failed : Bool → Bool → Option Path
@@ -41,5 +45,5 @@ first_failed false false = None
 -- Why no turn is given any more: a fault of the disk, the turret that failed, or another end of the run.
 abbrev pub HasCause : {D : Type 0} → HeldView D → Option Path → TurretEnd → Type 0
 HasCause held failed (Ended end) = HasEnded held end × (end ≢ run.DiskFault → failed ≡ None)
-HasCause held failed (TurretFault path) = (held.halt ≢ Some Disk) × (failed ≡ Some path)
+HasCause held failed (TurretFault path) = (held.halt ≢ Some Disk) × IsTrue held.file.live × (failed ≡ Some path)
 HasCause held failed NoMemory = ⊥

@@ -1,20 +1,25 @@
 -- What a turret gets in a run: its place, and then moves.
-use Rattle.std.specs.Prelude.{ℕ, ◌+◌, ◌≤◌, Bool, true, false, IsTrue, List, ◌∷◌, length, map, take, if◌then◌else◌}
+use Rattle.std.specs.Prelude.{◌≡◌, ℕ, ◌+◌, ◌≤◌, Bool, true, false, IsTrue, List, ◌∷◌, length, map, take}
 use Rattle.nc_number.specs.declared.point.Point.{Point}
-use Rattle.nc_outside.specs.declared.motion.Got.{Got}
-use Rattle.nc_outside.specs.declared.motion.Got.TheVariants.{Placed, Moved}
-use Rattle.nc_outside.specs.declared.motion.Move.{Move}
+use Rattle.nc_outside.specs.declared.got.Got.{Got}
+use Rattle.nc_outside.specs.declared.got.Got.TheVariants.{Placed, Moved}
+use Rattle.nc_outside.specs.declared.lined_move.LinedMove.{LinedMove}
 use Rattle.nc_outside.specs.Faults.{CountsFault}
-use Rattle.nc_outside.specs.Received.{TurretState, Receives}
+use Rattle.nc_outside.specs.Received.{TurretState, Adds}
+use Rattle.drive_line.specs.Driving.{most}
 
 -- a place and then these moves, as a turret gets them
-abbrev pub told : Point → List Move → List Got
+abbrev pub told : Point → List LinedMove → List Got
 told at moves = Placed at ∷ map Moved moves
 
--- A turret got the first n of these, a call each, and where it failed, that was at one call more, for the next of them.
+-- A turret got the first n of these, a call each. Where it failed, that was at one call more, for the next of them, or at a settle. Only
+-- then its count of faults rose.
 pub record GetsFirst (what : List Got) (n : ℕ) (failed : Bool) (old new : TurretState) : Type 0 where
-  pub within : n + (if failed then 1 else 0) ≤ length what
-  pub received : Receives old new (take n what) (n + (if failed then 1 else 0))
+  pub at_call : ℕ  -- how many calls failed
+  pub settles : ℕ
+  pub few : at_call ≤ most failed
+  pub within : n + at_call ≤ length what
+  pub received : Adds old.received new.received (take n what) (n + at_call) settles
   pub counted : CountsFault old.faults new.faults (IsTrue failed)
 
 -- it got all of these
@@ -25,10 +30,15 @@ GetsAll what old new = GetsFirst what (length what) false old new
 abbrev pub GetsPart : List Got → TurretState → TurretState → Type 0
 GetsPart what old new = (n : ℕ) × GetsFirst what n false old new
 
--- it got the first of these, and failed at the next
+-- it got the first of these, and failed then
 abbrev pub FailsAmong : List Got → TurretState → TurretState → Type 0
 FailsAmong what old new = (n : ℕ) × GetsFirst what n true old new
 
--- it got the first of these, and may have failed at the next
+-- it got the first of these, and may have failed then
 abbrev pub GetsSome : List Got → TurretState → TurretState → Type 0
 GetsSome what old new = (n : ℕ) × (failed : Bool) × GetsFirst what n failed old new
+
+-- it got all of these but so many, the last ones: it failed then, or they are none
+abbrev pub Misses : List Got → ℕ → TurretState → TurretState → Type 0
+Misses what missed old new =
+    (n : ℕ) × (failed : Bool) × (n + missed ≡ length what) × (failed ≡ false → missed ≡ 0) × GetsFirst what n failed old new

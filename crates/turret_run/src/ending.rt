@@ -12,7 +12,7 @@ pub enum TurretEnd {
     Ended(RunEnd),
     /// The turret of this path failed.
     TurretFault(Path),
-    /// Memory was wanting before the first step.
+    /// Memory was wanting before the first step, or a thread was refused.
     NoMemory,
 }
 
@@ -23,4 +23,8 @@ pub struct TurretRun<D: Disk, T: Turret> {
     pub left: T,
     pub right: T,
     pub end: TurretEnd,
+    /// How many moves of records that are on the disk the turret of path 1 did not get.
+    pub left_missed: u64,
+    /// The same of path 2.
+    pub right_missed: u64,
 }

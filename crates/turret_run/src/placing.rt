@@ -1,30 +1,19 @@
-//! What comes before a run: room for it, and the places of both turrets.
-ghost use Rattle.std.specs.Prelude.{◌≡◌, ◌*◌, [], IfOk, IfErr, OnOk};
+//! What comes before a run: leave for its records, and the places of both turrets.
+ghost use Rattle.std.specs.Prelude.{◌≡◌, [], IfErr, OnOk};
 ghost use Rattle.turret_run.specs.Runs.{Stays};
 ghost use Rattle.turret_run.specs.Rests.{ArePlaced, FailsAtPlace};
 
 use disk_model::Disk;
 use nc_number::{NoMemory, Path};
 use nc_outside::Turret;
-use path_worker::Handed;
 use run_table::Table;
-use std::alloc::Global;
 
-/// Leave for so many records, and room for their moves, for each path apart.
-pub(crate) fn make_room<D: Disk>(
-    alloc: Global,
-    table: &mut Table<D>,
-    limit: u32,
-) -> Result<(Handed, Handed), NoMemory>
-    ensures left { IfOk result (λ r. r.0 ≡ record { list = []; room = 8 * limit }) }
-    ensures right { IfOk result (λ r. r.1 ≡ record { list = []; room = 8 * limit }) }
+/// Leave for so many records, and room for them.
+pub(crate) fn make_ready<D: Disk>(table: &mut Table<D>, limit: u32) -> Result<(), NoMemory>
     ensures budget { OnOk result (table.new.budget ≡ limit) }
     ensures same { Stays table.old table.new }
 {
-    let left = Handed::with_room(alloc, limit)?;
-    let right = Handed::with_room(alloc, limit)?;
-    table.prepare(limit)?;
-    Ok((left, right))
+    table.prepare(limit)
 }
 
 /// Places both turrets where their paths stand, that of path 1 first. It answers the path whose turret failed.

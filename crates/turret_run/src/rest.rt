@@ -1,13 +1,17 @@
 //! The turns that are left behind the threads.
-ghost use Rattle.std.specs.Prelude.{◌≡◌, IfSome};
+ghost use Rattle.std.specs.Prelude.{◌≡◌, List, IfSome};
+ghost use Rattle.drive_line.specs.Driving.{has_failed, Serves};
+ghost use Rattle.nc_outside.specs.declared.lined_move.LinedMove.{LinedMove as Lined};
+ghost use Rattle.nc_outside.specs.Received.{TurretState};
 ghost use Rattle.nc_number.specs.declared.path.Path.{Path as OnePath};
 ghost use Rattle.nc_number.specs.declared.path.Path.TheVariants.{One, Two};
 ghost use Rattle.run_table.specs.Holding.{records_since};
-ghost use Rattle.turret_run.specs.Rests.{ServesOn, HasCause, first_failed};
+ghost use Rattle.turret_run.specs.Rests.{ServesOn, IsStillOrFailed, HasCause, first_failed};
 
 use crate::TurretEnd;
 use disk_model::Disk;
-use lane_pair::{Tooled, give_turn};
+use drive_line::Driven;
+use lane_pair::give_turn;
 use nc_number::Path;
 use nc_outside::Turret;
 use run_table::{Held, Opening, RunEnd};
@@ -47,44 +51,54 @@ fn end_of_run<D: Disk, O: Opening<D>>(
     }
 }
 
+// Waits until the turret stands still, unless it has failed.
+fn settle<T: Turret>(driven: &mut Driven<T>)
+    ensures serves { (moves : List Lined) (start : TurretState)
+        → Serves moves start driven.old → Serves moves start driven.new }
+    ensures still { IsStillOrFailed driven.new.phase }
+{
+    driven.settle();
+}
+
 // A turn of the path, whose moves go to its turret.
-fn give_turn_of<D: Disk, O: Opening<D>, T: Turret>(
+fn give_turn_of<R: Wait, D: Disk, O: Opening<D>, T: Turret>(
+    rt: &R,
     table: &mut Held<D, O>,
     path: Path,
-    left: &mut Tooled<T>,
-    right: &mut Tooled<T>,
+    left: &mut Driven<T>,
+    right: &mut Driven<T>,
 )
-    ensures left { ServesOn (records_since O.opened table.old One) (T.state left.old.turret) left.old.handed left.old.fault
-        (records_since O.opened table.new One) (T.state left.new.turret) left.new.handed left.new.fault }
-    ensures right { ServesOn (records_since O.opened table.old Two) (T.state right.old.turret) right.old.handed right.old.fault
-        (records_since O.opened table.new Two) (T.state right.new.turret) right.new.handed right.new.fault }
+    ensures left { ServesOn (records_since O.opened table.old One) left.old (records_since O.opened table.new One) left.new }
+    ensures right { ServesOn (records_since O.opened table.old Two) right.old (records_since O.opened table.new Two) right.new }
 {
     match path {
-        Path::One => give_turn(table, Path::One, left),
-        Path::Two => give_turn(table, Path::Two, right),
+        Path::One => give_turn(rt, table, Path::One, left),
+        Path::Two => give_turn(rt, table, Path::Two, right),
     }
 }
 
-/// Gives path 1 and path 2 their turns, by turns, until the run ends or a turret fails, and answers which.
+/// Gives path 1 and path 2 their turns, by turns, until the run ends or a turret fails, and answers which. Both turrets stand still then,
+/// but for one that failed.
 pub(crate) fn give_rest<R: Wait, D: Disk, O: Opening<D>, T: Turret>(
     rt: &R,
     table: &mut Held<D, O>,
-    left: &mut Tooled<T>,
-    right: &mut Tooled<T>,
+    left: &mut Driven<T>,
+    right: &mut Driven<T>,
 ) -> TurretEnd
-    ensures left { ServesOn (records_since O.opened table.old One) (T.state left.old.turret) left.old.handed left.old.fault
-        (records_since O.opened table.new One) (T.state left.new.turret) left.new.handed left.new.fault }
-    ensures right { ServesOn (records_since O.opened table.old Two) (T.state right.old.turret) right.old.handed right.old.fault
-        (records_since O.opened table.new Two) (T.state right.new.turret) right.new.handed right.new.fault }
-    ensures ends { HasCause table.new (first_failed left.new.fault right.new.fault) result }
+    ensures left { ServesOn (records_since O.opened table.old One) left.old (records_since O.opened table.new One) left.new }
+    ensures right { ServesOn (records_since O.opened table.old Two) right.old (records_since O.opened table.new Two) right.new }
+    ensures still { IsStillOrFailed left.new.phase × IsStillOrFailed right.new.phase }
+    ensures ends { HasCause table.new (first_failed (has_failed left.new.phase) (has_failed right.new.phase)) result }
 {
     let mut path = Path::One;
     for _ in rt.forever() {
-        let failed = first_failed(left.fault, right.fault);
+        settle(left);
+        settle(right);
+        let failed = first_failed(left.has_failed(), right.has_failed());
         if let Some(end) = end_of_run(table, failed) {
             return end;
         }
-        give_turn_of(table, path, left, right);
+        give_turn_of(rt, table, path, left, right);
         path = path.other();
     }
     unreachable!()

@@ -1,11 +1,11 @@
-use Rattle.std.proofs.Common.{[], ◌∷◌, refl, subst, false}
+use Rattle.std.proofs.Common.{[], ◌∷◌, refl, subst, sym, true≢false}
 use Rattle.nc_number.specs.declared.point.Point.{Point}
 use Rattle.nc_number.specs.declared.path.Path.TheVariants.{One, Two}
-use Rattle.nc_outside.specs.declared.motion.Got.TheVariants.{Placed}
+use Rattle.nc_outside.specs.declared.got.Got.TheVariants.{Placed}
 use Rattle.nc_outside.specs.Received.{Receives}
 use Rattle.turret_run.specs.Served.{told}
 use Rattle.turret_run.specs.Runs.{place_of}
-use Rattle.turret_run.proofs.TurretsGet.{placed, not_placed, not_called}
+use Rattle.turret_run.proofs.TurretsGet.{placed, not_placed}
 use Rattle.turret_run.proofs.placing.place_both.Goals as goal
 
 pub returns-in-Err-clause-err : goal.returns-in-Err-clause-err
@@ -13,10 +13,7 @@ returns-in-Err-clause-err g c =
     let state = g.T.Turret.state in
     let m = c.args.table.now.machine in
     let fault = c.in-Err.ensures.fault in
-    let other = not_called (told (place_of Two m) []) (state c.args.right.now) in (
-      not_placed (place_of One m) (state c.args.left.now) (state c.place.new.self) c.in-Err.ensures.err fault.later (fault.rose refl),
-      (other.0, false, other.1),
-    )
+    (not_placed (place_of One m) (state c.args.left.now) (state c.place.new.self) c.in-Err.ensures.err fault.later (fault.rose refl), refl)
 
 pub returns-in-Err-place-clause-err : goal.returns-in-Err-place-clause-err
 returns-in-Err-place-clause-err g c =
@@ -25,5 +22,5 @@ returns-in-Err-place-clause-err g c =
     let fault = c.in-Err-place.ensures.fault in
     let got = subst (λ (at : Point). Receives (state c.args.left.now) (state c.place.new.self) (Placed at ∷ []) 1) c.position.ensures c.in_default.ensures.ok in (
       not_placed (place_of Two m) (state c.args.right.now) (state c.place-2.new.self) c.in-Err-place.ensures.err fault.later (fault.rose refl),
-      (1, placed (place_of One m) (state c.args.left.now) (state c.place.new.self) got c.place.ensures.fault.later),
+      placed (place_of One m) (state c.args.left.now) (state c.place.new.self) got (c.in_default.ensures.fault.kept (λ p. true≢false (sym p))),
     )

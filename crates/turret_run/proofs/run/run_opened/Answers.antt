@@ -1,5 +1,6 @@
-use Rattle.std.proofs.Common.{ap, sym, ◌∙◌, subst}
+use Rattle.std.proofs.Common.{ap, sym, ◌∙◌, subst, refl}
 use Rattle.nc_number.specs.declared.path.Path.TheVariants.{One, Two}
+use Rattle.drive_line.specs.Driving.{has_failed}
 use Rattle.run_table.specs.Holding.{MayHold, without_turret}
 use Rattle.turret_run.proofs.TurretsRun.{none_since, taken_since, got, run_ends, placed_only, calm_is_no_disk, calm_stays}
 use Rattle.turret_run.proofs.run.run_opened.Goals as goal
@@ -20,19 +21,16 @@ returns-in-Ok g c =
     let rest = c.give_rest-end in
     let held = rest.new.table in
     let is = c.requires.opening in
-    let law = c.a_record_makes_seven_moves_at_most.ensures in
-    let since = taken_since state opened t out.result held is out.ensures.of out.ensures.shown c.requires.all law in
-    let gets = got state opened t out.result held is out.ensures.of out.ensures.shown c.requires.all law in
-    let left = c.args.left in
-    let right = c.args.right in
-    let first = rest.ensures.left left.room (turret left.turret) c.in-Ok.ensures.left in
-    let second = rest.ensures.right right.room (turret right.turret) c.in-Ok.ensures.right in
+    let since = taken_since state opened t out.result held is out.ensures.of out.ensures.shown in
+    let gets = got state opened t out.result held is out.ensures.of out.ensures.shown in
+    let first = rest.ensures.left (turret c.args.left) c.in-Ok.ensures.left in
+    let second = rest.ensures.right (turret c.args.right) c.in-Ok.ensures.right in
     record {
-      run = λ start placed. run_ends state t out.result since held start (record { left = turret rest.new.left.turret; right = turret rest.new.right.turret }) rest.new.left.fault
-          rest.new.right.fault (λ end has. c.a_taken_table_ended_so.ensures t out.result held end since (calm_is_no_disk t.halt c.requires.halt) out.ensures.taken has) out.ensures.taken.halt
-          (gets One left.room rest.new.left.handed rest.new.left.fault start.left (turret left.turret) (turret rest.new.left.turret) c.requires.rooms.0 (placed One) first)
-          (gets Two right.room rest.new.right.handed rest.new.right.fault start.right (turret right.turret) (turret rest.new.right.turret) c.requires.rooms.1 (placed Two) second)
-          rest.result rest.ensures.ends;
+      run = λ start placed. rw (c.into_turret.ensures, c.into_turret-in-Ok.ensures, c.missed-left_missed.ensures, c.missed-right_missed.ensures) (run_ends state t out.result since held start (record { left = rest.new.left.state; right = rest.new.right.state }) (has_failed rest.new.left.phase)
+          (has_failed rest.new.right.phase) (record { left = rest.new.left.missed; right = rest.new.right.missed })
+          (λ end has. c.a_taken_table_ended_so.ensures t out.result held end since (calm_is_no_disk t.halt c.requires.halt) out.ensures.taken has) out.ensures.taken.halt out.ensures.taken.file
+          (gets One start.left (turret c.args.left) rest.new.left (placed One) first) (gets Two start.right (turret c.args.right) rest.new.right (placed Two) second) rest.result
+          rest.ensures.ends);
     }
 
 pub returns-in-Err : goal.returns-in-Err
@@ -53,7 +51,8 @@ returns-in-Err g c =
           file = taken.file ∙ ap (λ h. h.file) held;
           halt = taken.halt ∙ ap (λ h. without_turret h.halt) held ∙ calm_stays t.halt c.requires.halt;
         };
-        turrets = placed_only t.machine start (record { left = turret c.args.left.turret; right = turret c.args.right.turret })
-            (record { left = turret unrun.left.turret; right = turret unrun.right.turret }) placed (ap (λ u. turret u.turret) (sym left.1)) (ap (λ u. turret u.turret) (sym left.2));
+        turrets = placed_only t.machine start (record { left = turret c.args.left; right = turret c.args.right })
+            (record { left = turret unrun.left; right = turret unrun.right }) placed (ap turret (sym left.1)) (ap turret (sym left.2));
+        none = refl;
       };
     }

@@ -1,6 +1,6 @@
 use Rattle.std.proofs.Common.{sym, subst}
 use Rattle.run_table.specs.Kept.{TableView}
-use Rattle.run_table.specs.Begun.{first_reason}
+use Rattle.seat_table.specs.Turning.{first_reason}
 use Rattle.run_table.specs.Holding.{IsHeld}
 use Rattle.run_table.proofs.HeldKept.{of_halt, first_disk, disk_first, shows_halt}
 use Rattle.run_table.proofs.held.HeldTurns.halt.Goals as goal

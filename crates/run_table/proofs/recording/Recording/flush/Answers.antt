@@ -23,5 +23,5 @@ returns-clause-records g c =
     subst (λ (r : RecordingView g.row.D.Denot). Records d [] r (record { history = i.history.items; room = i.history.room; flushed = c.len-self-inside.result; log = c.flush.new.self })) c.self.view_is
     (done d i.history.items i.history.room i.flushed i.journal c.flush.new.self c.self.invariant.within c.self.invariant.pends live
     c.flush.ensures.any_moment c.flush.ensures.uses c.flush.ensures.cause.later c.flush.ensures.idle c.len-self-inside.result c.len-self-inside.ensures
-    alive c.in_ok-flush.ensures.flushed.moved
+    alive (c.in_ok-flush.ensures.cause.calm (search rules)) c.in_ok-flush.ensures.flushed.moved
     c.a_held_journal_leaves_its_records.ensures c.in_ok-flush.ensures.acknowledged)

@@ -1,0 +1,145 @@
+-- A step of a table answers nothing exactly where the path waits.
+use Rattle.std.proofs.Common.{◌≡◌, ℕ, ◌&&◌, Bool, true, false, List, [], ◌++◌, length, refl, sym, ◌∙◌, ap, subst, append-nil, Option, Some, None, is_some, is_none}
+use Rattle.std.specs.Prelude.{nat_lt, not, MatchOption}
+use Rattle.disk_model.specs.Device.{DiskState}
+use Rattle.nc_number.specs.declared.path.Path.{Path}
+use Rattle.nc_number.specs.declared.path.Path.TheVariants.{One, Two}
+use Rattle.nc_outside.specs.declared.halt.Halt.{Halt}
+use Rattle.nc_moves.specs.declared.alarm.Alarm.{Alarm}
+use Rattle.run_records.specs.declared.entry.Entry.{Entry}
+use Rattle.run_records.specs.declared.entry.EntryKind.{EntryKind}
+use Rattle.two_path.specs.declared.turn.Turn.{Turn}
+use Rattle.two_path.specs.declared.turn.Turn.TheVariants as turn
+use Rattle.two_path.specs.Machine.{MachineView, own_first}
+use Rattle.two_path.specs.Turns.{Tapes, TurnResult, unless_idle, block_turn, tape_of, turn_of, kind_of, entry_with, entry_of}
+use Rattle.two_path.specs.Histories.{list_of}
+use Rattle.run_table.specs.declared.answer.TableStep.{TableStep}
+use Rattle.run_table.specs.declared.answer.TableStep.TheVariants.{Turned, Drain, Halted}
+use Rattle.run_table.specs.Draining.{owes, is_wait}
+use Rattle.run_table.specs.Kept.{TableView, tapes_in, MayGoOn, HasReason, IsTable}
+use Rattle.run_table.specs.Stepping.{is_due, bound_of, is_waiting, drains, step_by, step_of, Answers, IsStep}
+use Rattle.run_table.specs.Stepping.Answers.{at_once, flushed, failed}
+use Rattle.run_table.specs.Holding.{held_of, waits_at, next_of_turn, next_of}
+use Rattle.run_table.proofs.HeldSteps.{not_full}
+use Rattle.run_table.proofs.OtherGoesOn.{IsOfBlock, block_goes}
+
+-- none is answered where Q holds, and something where R does
+abbrev Tells : Turn → Type 0 → Type 0 → Type 0
+Tells t Q R = MatchOption (next_of_turn t) Q (λ _. R)
+
+-- the turn of a block answers something
+block_tells : (t : Turn) (Q R : Type 0) → IsOfBlock t → R → Tells t Q R
+block_tells (turn.Read variable stamp) Q R goes r = r
+block_tells (turn.Did moves) Q R goes r = r
+block_tells (turn.Arrived code) Q R goes r = r
+block_tells (turn.Met code) Q R goes r = r
+block_tells (turn.Ended moves) Q R goes r = r
+block_tells (turn.Waiting code) Q R goes r = absurd (goes.waits code refl)
+block_tells turn.Finished Q R goes r = r
+block_tells (turn.Alarm alarm) Q R goes r = r
+block_tells (turn.Halted alarm) Q R goes r = r
+
+abbrev waits_by : Option Alarm → Bool → Option ℕ → Bool
+waits_by alarm finished waiting = (is_none alarm && not finished) && is_some waiting
+
+idle_tells : (m : MachineView) (a : Option Alarm) (f : Bool) (w : Option ℕ) (rest : TurnResult) → IsOfBlock rest.turn
+    → Tells (unless_idle m a f w rest).turn (waits_by a f w ≡ true) (waits_by a f w ≡ false)
+idle_tells m (Some alarm) f w rest goes = refl
+idle_tells m None true w rest goes = refl
+idle_tells m None false (Some code) rest goes = refl
+idle_tells m None false None rest goes = block_tells rest.turn (false ≡ true) (false ≡ false) goes refl
+
+alarm_own : (path : Path) (m : MachineView) → (own_first path m).alarm ≡ m.alarm
+alarm_own One m = refl
+alarm_own Two m = refl
+
+turn_tells : (tapes : Tapes) (path : Path) (m : MachineView) → Tells (turn_of tapes path m).turn (is_waiting path m ≡ true) (is_waiting path m ≡ false)
+turn_tells tapes path m =
+    let own : MachineView = own_first path m in
+    subst (λ (a : Option Alarm). Tells (turn_of tapes path m).turn (waits_by a own.first.finished own.first.waiting ≡ true) (waits_by a own.first.finished own.first.waiting ≡ false))
+    (alarm_own path m)
+    (idle_tells own own.alarm own.first.finished own.first.waiting (block_turn (tape_of tapes path) path own) (block_goes (tape_of tapes path) path own))
+
+-- a turn that comes to a wait, or that is no wait, answers something
+come_tells : (t : Turn) (Q R : Type 0) → is_wait t ≡ true → Tells t Q R → R
+come_tells (turn.Read variable stamp) Q R is tells = tells
+come_tells (turn.Did moves) Q R is tells = tells
+come_tells (turn.Arrived code) Q R is tells = tells
+come_tells (turn.Met code) Q R is tells = tells
+come_tells (turn.Ended moves) Q R is tells = tells
+come_tells (turn.Waiting code) Q R is tells = absurd (let clash : false ≡ true = is in cc)
+come_tells turn.Finished Q R is tells = tells
+come_tells (turn.Alarm alarm) Q R is tells = tells
+come_tells (turn.Halted alarm) Q R is tells = tells
+
+other_tells : (t : Turn) (Q R : Type 0) → ((code : ℕ) → t ≡ turn.Waiting code → R) → Tells t Q R → R
+other_tells (turn.Read variable stamp) Q R waits tells = tells
+other_tells (turn.Did moves) Q R waits tells = tells
+other_tells (turn.Arrived code) Q R waits tells = tells
+other_tells (turn.Met code) Q R waits tells = tells
+other_tells (turn.Ended moves) Q R waits tells = tells
+other_tells (turn.Waiting code) Q R waits tells = waits code refl
+other_tells turn.Finished Q R waits tells = tells
+other_tells (turn.Alarm alarm) Q R waits tells = tells
+other_tells (turn.Halted alarm) Q R waits tells = tells
+
+and_right : (a b : Bool) → (a && b) ≡ true → b ≡ true
+and_right true b is = is
+and_right false b is = absurd (let clash : false ≡ true = is in cc)
+
+module _ {D : Type 0} (state : D → DiskState) (path : Path) (t t' : TableView D) (result : TableStep) (shown : Bool) (table : IsTable state t)
+    (step : IsStep state (step_of t path) t t' result) where
+  abbrev waits : Bool
+  waits = waits_at (held_of t shown) path
+
+  abbrev Told : TableStep → Type 0
+  Told answer = MatchOption (next_of answer) (waits ≡ true) (λ _. waits ≡ false)
+
+  abbrev the_turn : Turn
+  the_turn = (turn_of (tapes_in t.verified) path t.machine).turn
+
+  waits_is : (why bound : Option Halt) → t.halt ≡ why → bound_of t ≡ bound → waits ≡ ((is_none why && is_none bound) && is_waiting path t.machine)
+  waits_is why bound halts bounds = λ i. (is_none (halts i) && is_none (bounds i)) && is_waiting path t.machine
+
+  -- no turn comes
+  halted_tells : (why : Halt) (due : Bool) → waits ≡ false → Answers state due (Halted why) t.recording t'.recording result → Told result
+  halted_tells why due none (at_once now same file even) = subst Told (sym same) none
+  halted_tells why due none (flushed was same live all) = subst Told (sym same) none
+  halted_tells why due none (failed was same dead stay rose) = subst Told (sym same) none
+
+  drain_tells : waits ≡ false → Answers state false Drain t.recording t'.recording result → Told result
+  drain_tells none (at_once now same file even) = subst Told (sym same) none
+  drain_tells none (flushed was same live all) = absurd (let clash : false ≡ true = was in cc)
+  drain_tells none (failed was same dead stay rose) = absurd (let clash : false ≡ true = was in cc)
+
+  -- nothing has stopped the table
+  module _ (why : t.halt ≡ None) (bound : bound_of t ≡ None) where
+    may : MayGoOn t.machine t.recording
+    may = subst (HasReason t.machine t.recording) why table.reason
+
+    tells : Tells the_turn (waits ≡ true) (waits ≡ false)
+    tells = subst (λ (b : Bool). Tells the_turn (b ≡ true) (b ≡ false)) (sym (waits_is None None why bound)) (turn_tells (tapes_in t.verified) path t.machine)
+
+    -- where the path waits no records are to be written
+    not_due : (code : ℕ) → the_turn ≡ turn.Waiting code → is_due t.recording (list_of (entry_of (tapes_in t.verified) path t.machine)) the_turn ≡ false
+    not_due code is =
+        let none_made : list_of (entry_of (tapes_in t.verified) path t.machine) ≡ [] =
+        ap (λ (o : Option EntryKind). list_of (entry_with path (own_first path t.machine).first.stamps o)) (ap kind_of is) in
+        ap (λ (l : List Entry). is_due t.recording l the_turn) none_made ∙ ap (is_due t.recording []) is
+        ∙ not_full t.recording.flushed (length t.recording.history) (length (t.recording.history ++ [])) (ap length (append-nil t.recording.history)) may.few
+
+    turned_tells : Answers state (is_due t.recording (list_of (entry_of (tapes_in t.verified) path t.machine)) the_turn) (Turned the_turn) t.recording t'.recording result → Told result
+    turned_tells (at_once now same file even) = subst Told (sym same) tells
+    turned_tells (flushed was same live all) = subst Told (sym same) tells
+    turned_tells (failed due same dead stay rose) = subst Told (sym same)
+        (other_tells the_turn (waits ≡ true) (waits ≡ false) (λ code is. absurd (let clash : true ≡ false = sym due ∙ not_due code is in cc)) tells)
+
+  pub waits_told : Told result
+  waits_told = go t.halt (bound_of t) (drains t path) refl refl refl step
+    where
+      go : (why bound : Option Halt) (drain : Bool) → t.halt ≡ why → bound_of t ≡ bound → drains t path ≡ drain → IsStep state (step_by t path why bound drain) t t' result → Told result
+      go (Some why) bound drain halts bounds drained s = halted_tells why false (waits_is (Some why) bound halts bounds) s.answer
+      go None (Some why) drain halts bounds drained s = halted_tells why (nat_lt t.recording.flushed (length t.recording.history)) (waits_is None (Some why) halts bounds) s.answer
+      go None None true halts bounds drained s =
+          drain_tells (come_tells the_turn (waits ≡ true) (waits ≡ false) (and_right (owes path t.owed) (is_wait the_turn) drained) (tells halts bounds)) s.answer
+      go None None false halts bounds drained s = turned_tells halts bounds s.answer
