@@ -1,6 +1,6 @@
 //! Answers of a machine as text, so that a table of tests has them written out by hand.
+use nc_moves::{Alarm, Move, MoveList};
 use nc_number::{Path, Point, Value, Var, length_text, text};
-use nc_outside::{Alarm, Move, MoveList};
 use std::alloc::AllocError;
 use two_path::Turn;
 

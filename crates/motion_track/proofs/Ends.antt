@@ -8,10 +8,10 @@ use Rattle.nc_number.specs.declared.point.Point.{Point}
 use Rattle.nc_number.specs.Position.{IsPosition, is_position}
 use Rattle.nc_number.specs.Results.{◌>>=◌}
 use Rattle.nc_number.specs.Arithmetic.{is_zero}
-use Rattle.nc_outside.specs.declared.motion.Move.{Move}
-use Rattle.nc_outside.specs.declared.motion.Centre.{Centre}
-use Rattle.nc_outside.specs.declared.motion.Move.TheVariants.{Rapid as RapidMove, Arc}
-use Rattle.nc_outside.specs.Motion.{end_of}
+use Rattle.nc_moves.specs.declared.motion.Move.{Move}
+use Rattle.nc_moves.specs.declared.motion.Centre.{Centre}
+use Rattle.nc_moves.specs.declared.motion.Move.TheVariants.{Rapid as RapidMove, Arc}
+use Rattle.nc_moves.specs.Motion.{end_of}
 use Rattle.nc_number.specs.declared.axis.Axis.{Axis}
 use Rattle.nc_number.specs.declared.axis.Axis.TheVariants.{Keep, To, By}
 use Rattle.motion_track.specs.declared.block.BlockMotion.{BlockMotion}

@@ -2,7 +2,7 @@ use Rattle.std.proofs.Common.{◌≡◌, ℕ, zero, suc, ◌+◌, ◌-◌, ◌*�
 use Rattle.std.proofs.Math.Nat.{mul-le-mul_left}
 use Rattle.std.proofs.lemmas.Bool.Decides.{nat_tests}
 use Rattle.nc_number.specs.declared.point.Point.{Point}
-use Rattle.nc_outside.specs.declared.motion.Centre.TheVariants.{Offset}
+use Rattle.nc_moves.specs.declared.motion.Centre.TheVariants.{Offset}
 use Rattle.motion_track.specs.Circle.{is_past_tolerance, misses}
 use Rattle.motion_track.specs.Tolerance.{Reaches, IsAtMostFarther, EndsOnCircle}
 

@@ -5,9 +5,9 @@ use Rattle.code_tables.specs.declared.kind.CodeKind.TheVariants.{Rapid, Feed, Ar
 use Rattle.nc_number.specs.declared.point.Point.{Point}
 use Rattle.nc_number.specs.Position.{IsWithin}
 use Rattle.nc_number.specs.Results.{◌>>=◌}
-use Rattle.nc_outside.specs.declared.motion.Move.{Move}
-use Rattle.nc_outside.specs.declared.motion.Move.TheVariants.{Rapid as RapidMove}
-use Rattle.nc_outside.specs.Motion.{end_of}
+use Rattle.nc_moves.specs.declared.motion.Move.{Move}
+use Rattle.nc_moves.specs.declared.motion.Move.TheVariants.{Rapid as RapidMove}
+use Rattle.nc_moves.specs.Motion.{end_of}
 use Rattle.motion_track.specs.declared.fault.MotionFault.{MotionFault}
 use Rattle.motion_track.specs.declared.block.BlockMotion.{BlockMotion}
 use Rattle.nc_number.specs.Axes.{is_named, IsAxisWithin}

@@ -1,6 +1,6 @@
 use Rattle.std.specs.Prelude.{ℕ, ◌≤◌, ℤ, pos, unsigned_abs, Option, Some, None, IfSome, unwrap_or}
-use Rattle.nc_outside.specs.declared.motion.Centre.{Centre}
-use Rattle.nc_outside.specs.declared.motion.Centre.TheVariants.{Offset, Radius}
+use Rattle.nc_moves.specs.declared.motion.Centre.{Centre}
+use Rattle.nc_moves.specs.declared.motion.Centre.TheVariants.{Offset, Radius}
 
 -- the centre that I, K and R give: R before I and K; where one of I and K is given, the other counts 0
 abbrev pub centre_of : Option ℤ → Option ℤ → Option ℤ → Option Centre

@@ -1,9 +1,9 @@
 use Rattle.std.specs.Prelude.{ℕ, ◌+◌, ◌-◌, ◌*◌, ◌≤◌, max, min, Bool, ◌&&◌, nat_lt, if◌then◌else◌, ℤ, pos, ◌+ℤ◌, ◌-ℤ◌, ◌*ℤ◌, unsigned_abs, Option, Some, None, Result, Err}
 use Rattle.nc_number.specs.declared.point.Point.{Point}
-use Rattle.nc_outside.specs.declared.motion.Move.{Move}
-use Rattle.nc_outside.specs.declared.motion.Move.TheVariants.{Arc}
-use Rattle.nc_outside.specs.declared.motion.Centre.{Centre}
-use Rattle.nc_outside.specs.declared.motion.Centre.TheVariants.{Offset, Radius}
+use Rattle.nc_moves.specs.declared.motion.Move.{Move}
+use Rattle.nc_moves.specs.declared.motion.Move.TheVariants.{Arc}
+use Rattle.nc_moves.specs.declared.motion.Centre.{Centre}
+use Rattle.nc_moves.specs.declared.motion.Centre.TheVariants.{Offset, Radius}
 use Rattle.motion_track.specs.declared.circle.Place.{Place}
 use Rattle.motion_track.specs.declared.fault.MotionFault.{MotionFault}
 use Rattle.nc_number.specs.declared.cause.Cause.TheVariants.{ArcRadius, NoCentre}

@@ -1,8 +1,8 @@
 use Rattle.std.specs.Prelude.{Bool, if◌then◌else◌, ℤ, Result, Ok, Err}
 use Rattle.nc_number.specs.declared.point.Point.{Point}
 use Rattle.nc_number.specs.Arithmetic.{is_zero}
-use Rattle.nc_outside.specs.declared.motion.Move.{Move}
-use Rattle.nc_outside.specs.declared.motion.Move.TheVariants.{Feed, Thread}
+use Rattle.nc_moves.specs.declared.motion.Move.{Move}
+use Rattle.nc_moves.specs.declared.motion.Move.TheVariants.{Feed, Thread}
 use Rattle.motion_track.specs.declared.fault.MotionFault.{MotionFault}
 use Rattle.nc_number.specs.declared.cause.Cause.TheVariants.{FeedZero}
 use Rattle.motion_track.specs.Faults.{fault}

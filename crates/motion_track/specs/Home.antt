@@ -1,7 +1,7 @@
 use Rattle.std.specs.Prelude.{Bool, if◌then◌else◌, List, [], ◌∷◌}
 use Rattle.nc_number.specs.declared.point.Point.{Point}
-use Rattle.nc_outside.specs.declared.motion.Move.{Move}
-use Rattle.nc_outside.specs.declared.motion.Move.TheVariants.{Rapid}
+use Rattle.nc_moves.specs.declared.motion.Move.{Move}
+use Rattle.nc_moves.specs.declared.motion.Move.TheVariants.{Rapid}
 
 -- the point with the named parts of `to`, and the others of `at`
 abbrev pub named : Point → Point → Bool → Bool → Point

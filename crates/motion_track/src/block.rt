@@ -9,8 +9,8 @@ use crate::fault::MotionFault;
 use crate::reference::home;
 use crate::targets::{LONGEST, target};
 use code_tables::CodeKind;
+use nc_moves::{Move, MoveList};
 use nc_number::{Axis, Point, Value};
-use nc_outside::{Move, MoveList};
 
 /// The zero of the machine's own coordinates.
 const ORIGIN: Point = Point { x: 0, z: 0 };

@@ -1,7 +1,7 @@
 ghost use Rattle.std.specs.Prelude.{◌≡◌, ◌↔◌, ℕ, IsNone};
 ghost use Rattle.motion_track.specs.Centre.{centre_of, IsLengthWithin, IsGivenWithin};
 
-use nc_outside::Centre;
+use nc_moves::Centre;
 
 /// The centre that the words I, K and R give, as radius values in 0.001 mm. R goes before I and K. Where one
 /// of I and K is given, the other counts 0; where no word is, there is no centre. A vacant word is none.

@@ -1,6 +1,6 @@
 ghost use Rattle.std.specs.Prelude.{◌≡◌, ◌≤◌, true, false, ℤ, ◌*◌, unsigned_abs};
 ghost use Rattle.nc_number.specs.declared.point.Point.{Point};
-ghost use Rattle.nc_outside.specs.declared.motion.Centre.TheVariants.{Offset};
+ghost use Rattle.nc_moves.specs.declared.motion.Centre.TheVariants.{Offset};
 ghost use Rattle.nc_number.specs.Position.{IsWithin};
 ghost use Rattle.motion_track.specs.Tolerance.{EndsOnCircle};
 ghost use Rattle.motion_track.specs.Circle.{IsNear, place_of, centre_from, square_between, is_past_tolerance, misses, arc_of};
@@ -9,8 +9,8 @@ ghost use Rattle.motion_track.specs.Centre.{IsCentreWithin, IsGivenWithin};
 use crate::cut::is_feed_zero;
 use crate::fault::MotionFault;
 use crate::targets::LONGEST;
+use nc_moves::{Centre, Move};
 use nc_number::{Cause, Point, Value};
-use nc_outside::{Centre, Move};
 
 /// How far an arc's end may lie from its circle, in 0.0005 mm.
 const TOLERANCE: u128 = 20;

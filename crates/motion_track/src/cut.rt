@@ -3,8 +3,8 @@ ghost use Rattle.nc_number.specs.Arithmetic.{is_zero};
 ghost use Rattle.motion_track.specs.Cut.{line_of, thread_of};
 
 use crate::fault::MotionFault;
+use nc_moves::Move;
 use nc_number::{Cause, Point, Value};
-use nc_outside::Move;
 
 /// A straight cut; alarm 44 exactly where the feed is 0.
 pub fn line(to: Point, feed: Value, per_rev: bool) -> Result<Move, MotionFault>

@@ -1,8 +1,8 @@
 ghost use Rattle.std.specs.Prelude.{◌≡◌};
 ghost use Rattle.motion_track.specs.Home.{named, home_moves};
 
+use nc_moves::Move;
 use nc_number::Point;
-use nc_outside::Move;
 
 /// The way home of the named axes: a rapid to the intermediate point, and one to the reference
 /// position. An axis that is not named stays where it is.

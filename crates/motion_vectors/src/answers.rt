@@ -1,21 +1,18 @@
+use nc_moves::{MoveList, Moves};
 use nc_number::Path;
-use nc_outside::{Call, Drained, Drains, Halt, ListStepper, MoveList, Moves, Next, Stepper};
+use nc_outside::{Call, Drain, Drainable, Halt, ListStepper, Next, Stepper};
 use std::test::Fail;
 
-// A line along which so many moves were sent.
+// That a line was drained along which so many moves were sent.
 #[derive(Drop)]
 struct Sent {
     count: u64,
 }
 
-impl Drains for Sent {
-    ghost use Rattle.std.specs.Prelude.{◌≡◌, ⊤};
+impl Drain for Sent {
+    ghost count = { λ sent. sent.count };
 
-    ghost drains = { λ old _ count. count ≡ old.count };
-
-    ghost can_drain = { λ _. ⊤ };
-
-    fn drain_now(&mut self) -> u64 {
+    fn count(&self) -> u64 {
         self.count
     }
 }
@@ -54,7 +51,7 @@ fn it_answers_its_list_and_keeps_every_call(rt: HostRuntime) -> Result<(), Fail>
     let mut stepper = ListStepper::new(&rt, alloc, answers);
     assert_eq!(rt; step(&mut stepper, Path::One), "moves");
     assert_eq!(rt; step(&mut stepper, Path::One), "drain");
-    stepper.drained(Path::One, Drained::by(&mut Sent { count: 1 }));
+    stepper.drained(Path::One, Sent { count: 1 });
     assert_eq!(rt; step(&mut stepper, Path::Two), "finished");
     stepper.halt(Halt::Turret(Path::One));
     let mut seen = Vec::new(alloc);

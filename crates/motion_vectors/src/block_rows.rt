@@ -9,8 +9,8 @@ use motion_track::{
     BlockMotion, LONGEST, MotionFault, arc, centre_of, home, line, return_home, target, thread,
     track,
 };
+use nc_moves::{Move, MoveList};
 use nc_number::Point;
-use nc_outside::{Move, MoveList};
 
 /// The call, where the turret stands, the shift, the words, and what is answered.
 ///

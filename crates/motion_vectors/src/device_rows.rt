@@ -1,9 +1,10 @@
 //! What the forms in memory of a shelf, a sink and a turret answer where some of their calls are to fail.
 use crate::move_text::move_of;
 use crate::words::{count, lines_of, point, small};
+use nc_moves::Move;
 use nc_number::Point;
 use nc_outside::{
-    FetchFault, Got, MemoryShelf, MemoryTurret, Move, PutFault, Shelf, Sink, Turret, VecSink,
+    FetchFault, Got, LinedMove, MemoryShelf, MemoryTurret, PutFault, Shelf, Sink, Turret, VecSink,
 };
 use std::alloc::Global;
 use std::test::Fail;
@@ -26,14 +27,21 @@ records |records |0|put
 lost|records |1|failed
 7~|records 7~|1|put";
 
-/// A move or a place, how often the turret has failed, and what it answers. It has room for two, and the second and the third call fail.
+/// A move, a place or a settle, how often the turret has failed, and what it answers. It has room for two; the second and the third move
+/// or place fail, and the second settle.
 const TURRET: &str = "\
 to X50. Z0|0|taken
+settle|0|taken
 aux M3|1|failed
 aux M8|2|failed
-aux M9|2|taken
-aux M30|3|failed
-aux M30|4|failed";
+settle|3|failed
+aux M9|3|taken
+aux M30|4|failed
+aux M30|5|failed
+settle|5|taken";
+
+/// The line of the block whose moves are handed.
+const LINE: u32 = 7;
 
 fn fetch_name(answer: Result<(), FetchFault>) -> &'static str {
     match answer {
@@ -79,7 +87,8 @@ fn put_holds(alloc: Global, sink: &mut VecSink, row: &str) -> Result<bool, Fail>
 fn hand_holds(turret: &mut MemoryTurret, row: &str) -> bool {
     let (call, rest) = row.split_once('|').unwrap_or((row, ""));
     let answer = match move_of(call) {
-        Some(what) => turret.hand(&what).is_ok(),
+        Some(what) => turret.hand(&LinedMove { line: LINE, what }).is_ok(),
+        None if call == "settle" => turret.settle().is_ok(),
         None => turret.place(point(call)).is_ok(),
     };
     is_told(
@@ -124,12 +133,16 @@ fn a_planned_call_fails_and_writes_nothing(rt: HostRuntime) -> Result<(), Fail> 
 
 #[test]
 fn a_planned_call_and_one_past_the_room_fail_and_add_nothing(rt: HostRuntime) -> Result<(), Fail> {
-    let mut turret = MemoryTurret::new(rt.alloc(), 2, &[3, 2, 0])?;
+    let mut turret = MemoryTurret::with_plans(rt.alloc(), 2, &[3, 2, 0], &[2])?;
     for row in TURRET.lines() {
         assert!(&rt; hand_holds(&mut turret, row), "{row}");
     }
     let at = Point { x: 50_000, z: 0 };
-    let got = [Got::Placed(at), Got::Moved(Move::Aux { m: 9 })];
+    let moved = LinedMove {
+        line: LINE,
+        what: Move::Aux { m: 9 },
+    };
+    let got = [Got::Placed(at), Got::Moved(moved)];
     assert_eq!(&rt; turret.got(), got.as_slice());
     Ok(())
 }

@@ -1,8 +1,8 @@
 //! Moves as a row writes them: `rapid X50. Z2.`, `feed X50. Z2. F0.2`, `cw X0 Z-10. I-10. K0 F0.1 min`, `speed G96 S200`, `aux M3`.
 use crate::words::{behind, centre, count, feed, point, small};
 use motion_track::MotionFault;
+use nc_moves::Move;
 use nc_number::Point;
-use nc_outside::Move;
 
 /// Whether the text writes the number of the alarm: `alarm 41`.
 pub(crate) fn is_alarm(number: u8, text: &str) -> bool {

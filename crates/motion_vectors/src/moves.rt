@@ -1,5 +1,5 @@
 use crate::move_text::are_moves;
-use nc_outside::{MOVES_PER_BLOCK, Move, MoveList, Moves};
+use nc_moves::{MOVES_PER_BLOCK, Move, MoveList, Moves};
 
 #[test]
 fn moves_keep_their_order(rt: HostRuntime) {

@@ -5,8 +5,8 @@ ghost use Rattle.nc_number.specs.Axes.{IsAxisWithin};
 ghost use Rattle.motion_track.specs.Centre.{IsGivenWithin, IsLengthWithin};
 
 use motion_track::LONGEST;
+use nc_moves::Centre;
 use nc_number::{Axis, Literal, Point, Value, is_literal, parse_word};
-use nc_outside::Centre;
 use std::alloc::Global;
 use std::test::Fail;
 

@@ -3,7 +3,7 @@ use Rattle.std.proofs.Common.{◌≡◌, ◌==◌, ℕ, Bool, true, false, List,
 use Rattle.nc_number.specs.declared.path.Path.{Path}
 use Rattle.nc_number.specs.declared.path.Path.TheVariants.{One, Two}
 use Rattle.nc_number.specs.declared.value.Var.{Var}
-use Rattle.nc_outside.specs.declared.halt.Alarm.{Alarm}
+use Rattle.nc_moves.specs.declared.alarm.Alarm.{Alarm}
 use Rattle.run_records.specs.declared.entry.Entry.{Entry}
 use Rattle.cell_settings.specs.declared.settings.Settings.{Settings}
 use Rattle.tape_flow.specs.declared.flow.Flow.{Flow}

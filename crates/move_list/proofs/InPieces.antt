@@ -16,7 +16,7 @@ put_nothing a = record {
   ok = Appends-nil a.written;
   err = tt;
   tells = refl;
-  fault = record { later = omega arith; rose = λ failed. absurd (let e : ◌≡◌ {A = Result (Unit {0}) PutFault} (Ok tt) (Err Failed) = failed in cc) };
+  fault = record { later = omega arith; rose = λ failed. absurd (let e : ◌≡◌ {A = Result (Unit {0}) PutFault} (Ok tt) (Err Failed) = failed in cc); kept = λ none. refl };
 }
 
 -- nothing is put where memory ran out before the first piece
@@ -25,7 +25,7 @@ none_put a text = record {
   ok = tt;
   err = (0, Appends-nil a.written);
   tells = refl;
-  fault = record { later = omega arith; rose = λ failed. absurd (let e : ◌≡◌ {A = Result (Unit {0}) PutFault} (Err NoMemory) (Err Failed) = failed in cc) };
+  fault = record { later = omega arith; rose = λ failed. absurd (let e : ◌≡◌ {A = Result (Unit {0}) PutFault} (Err NoMemory) (Err Failed) = failed in cc); kept = λ none. refl };
 }
 
 -- another piece behind those that were put whole

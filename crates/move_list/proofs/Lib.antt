@@ -8,3 +8,4 @@ pub mod Replays
 pub mod SharedNumbers
 pub mod ReportOfMoves
 pub mod SummaryOfMoves
+pub mod Streams

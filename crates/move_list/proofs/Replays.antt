@@ -11,7 +11,7 @@ use Rattle.two_path.specs.Turns.{Tapes}
 use Rattle.two_path.specs.Histories.{HistoriesAreRuns, IsLegal, IsNext, behind_entry, fold}
 use Rattle.two_path.specs.Joined.{AreAtTheirWaits}
 use Rattle.two_path.specs.Again.{turn_of_entry}
-use Rattle.move_list.specs.declared.moves.LinedMove.{LinedMove}
+use Rattle.nc_outside.specs.declared.lined_move.LinedMove.{LinedMove}
 use Rattle.move_list.specs.Report.{PathTurn, made_by, moves_in, turns_from}
 
 -- the turn of a record

@@ -7,7 +7,7 @@ use Rattle.nc_verify.specs.Printed.{IsPut}
 use Rattle.run_records.specs.declared.entry.Entry.{Entry}
 use Rattle.two_path.specs.Machine.{MachineView}
 use Rattle.two_path.specs.Turns.{Tapes}
-use Rattle.move_list.specs.declared.moves.LinedMove.{LinedMove}
+use Rattle.nc_outside.specs.declared.lined_move.LinedMove.{LinedMove}
 use Rattle.move_list.specs.declared.end_line.Reason.{Reason}
 use Rattle.move_list.specs.EndText.{end_text}
 use Rattle.move_list.specs.Report.{moves_of, path_text, report_text}

@@ -11,7 +11,7 @@ use Rattle.run_records.specs.declared.entry.Entry.{Entry}
 use Rattle.two_path.specs.Machine.{MachineView}
 use Rattle.two_path.specs.Turns.{tapes_of}
 use Rattle.two_path.specs.Histories.{fold}
-use Rattle.move_list.specs.declared.moves.LinedMove.{LinedMove}
+use Rattle.nc_outside.specs.declared.lined_move.LinedMove.{LinedMove}
 use Rattle.move_list.specs.Report.{machine_at_start, moves_of}
 use Rattle.move_list.specs.Summary.{history_text, moves_text, numbers_line, outcome_text, pair_text, places_text, summary_text}
 

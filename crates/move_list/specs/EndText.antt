@@ -5,9 +5,9 @@ use Rattle.nc_number.specs.declared.cause.Cause.TheVariants.{MacroAlarm}
 use Rattle.nc_number.specs.declared.path.Path.{Path}
 use Rattle.nc_number.specs.Causes.{cause_number, cause_name, every_cause}
 use Rattle.nc_number.specs.Printed.{value_text}
-use Rattle.nc_outside.specs.declared.halt.Alarm.{Alarm}
+use Rattle.nc_moves.specs.declared.alarm.Alarm.{Alarm}
 use Rattle.move_list.specs.declared.end_line.Reason.{Reason}
-use Rattle.move_list.specs.Pieces.{path_name}
+use Rattle.move_text.specs.Pieces.{path_name}
 
 -- the cause of a number, if there is one
 abbrev pub cause_of : ℕ → Option Cause

@@ -1,5 +1,4 @@
 pub mod Pieces
-pub mod MoveText
 pub mod EndText
 pub mod Report
 pub mod Summary

@@ -1,10 +1,12 @@
 -- The report of a history: for each path its records' moves in order, the number of records, and how the run ended.
-use Rattle.std.specs.Prelude.{ℕ, if◌then◌else◌, List, [], ◌∷◌, ◌++◌, length, map, codes, decimal}
+use Rattle.std.specs.Prelude.{ℕ, if◌then◌else◌, List, [], ◌∷◌, ◌++◌, length, codes, decimal}
 use Rattle.std.specs.List.{flat_map}
 use Rattle.nc_number.specs.declared.path.Path.{Path}
 use Rattle.nc_number.specs.declared.path.Path.TheVariants.{One, Two}
-use Rattle.nc_outside.specs.declared.motion.Move.{Move}
-use Rattle.nc_outside.specs.declared.motion.Moves.{Moves}
+use Rattle.nc_outside.specs.declared.lined_move.LinedMove.{LinedMove}
+use Rattle.nc_outside.specs.Lined.{lined}
+use Rattle.move_text.specs.MoveText.{line_text}
+use Rattle.move_text.specs.Pieces.{path_name}
 use Rattle.cell_settings.specs.declared.settings.Settings.{Settings}
 use Rattle.tape_flow.specs.declared.flow.Flow.{Flow}
 use Rattle.run_records.specs.declared.entry.Entry.{Entry}
@@ -15,10 +17,7 @@ use Rattle.two_path.specs.Machine.{MachineView, opening}
 use Rattle.two_path.specs.Turns.{Tapes}
 use Rattle.two_path.specs.Histories.{behind_entry, is_same}
 use Rattle.two_path.specs.Again.{turn_of_entry}
-use Rattle.move_list.specs.declared.moves.LinedMove.{LinedMove}
 use Rattle.move_list.specs.declared.end_line.Reason.{Reason}
-use Rattle.move_list.specs.Pieces.{path_name}
-use Rattle.move_list.specs.MoveText.{line_text}
 use Rattle.move_list.specs.EndText.{end_text}
 
 -- the machine of a pair before its first record
@@ -35,13 +34,6 @@ unfoldable pub turns_from : Tapes → MachineView → List Entry → List PathTu
 turns_from tapes m [] = []
 turns_from tapes m (e ∷ entries) =
     record { path = e.path; turn = turn_of_entry tapes e m } ∷ turns_from tapes (behind_entry tapes e m) entries
-
--- each move with the line of its block
-abbrev pub lined_move : ℕ → Move → LinedMove
-lined_move line what = record { line = line; what = what }
-
-abbrev pub lined : Moves → List LinedMove
-lined moves = map (lined_move moves.line) moves.list
 
 -- the moves that a turn made
 abbrev pub made_in : Turn → List LinedMove
@@ -67,12 +59,20 @@ moves_in path turns = flat_map (made_by path) turns
 abbrev pub moves_of : Tapes → MachineView → Path → List Entry → List LinedMove
 moves_of tapes m path entries = moves_in path (turns_from tapes m entries)
 
+-- the line of a move
+abbrev pub lined_text : LinedMove → List ℕ
+lined_text made = line_text made.line made.what
+
+-- the lines of moves, in order
+abbrev pub lines_text : List LinedMove → List ℕ
+lines_text moves = flat_map lined_text moves
+
 -- the head of a path's lines: how many moves it has
 unfoldable pub head_text : Path → ℕ → List ℕ
 head_text path count = path_name path ++ codes " moves " ++ decimal count ++ codes "\n"
 
 unfoldable pub path_text : Path → List LinedMove → List ℕ
-path_text path moves = head_text path (length moves) ++ flat_map line_text moves
+path_text path moves = head_text path (length moves) ++ flat_map lined_text moves
 
 -- the report of a history from a machine on
 unfoldable pub report_text : Tapes → MachineView → List Entry → Reason → List ℕ

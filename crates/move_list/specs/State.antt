@@ -7,7 +7,7 @@ use Rattle.nc_number.specs.declared.point.Point.{Point}
 use Rattle.nc_number.specs.declared.value.Var.{Var}
 use Rattle.nc_number.specs.declared.value.Var.TheVariants.{Vacant, Is}
 use Rattle.nc_number.specs.Printed.{value_text, last_digits}
-use Rattle.nc_outside.specs.declared.halt.Alarm.{Alarm}
+use Rattle.nc_moves.specs.declared.alarm.Alarm.{Alarm}
 use Rattle.code_tables.specs.declared.group.TheConstants.{MOTION_GROUP, SPINDLE_GROUP, FEED_GROUP, UNIT_GROUP, NOSE_GROUP, WORK_GROUP}
 use Rattle.common_vars.specs.Common.{value_of}
 use Rattle.common_vars.specs.Writes.{value_after}
@@ -24,7 +24,8 @@ use Rattle.two_path.specs.Histories.{fold, IsLegal, is_same}
 use Rattle.move_list.specs.declared.condition.Condition.{Condition}
 use Rattle.move_list.specs.declared.listing.Listing.{Listing}
 use Rattle.move_list.specs.declared.listing.Listing.TheVariants.{Work, Geometry, Wear, Locals, OwnHundreds, OwnUpper, SharedHundreds, SharedUpper}
-use Rattle.move_list.specs.Pieces.{code_text, each_from, path_name, point_text}
+use Rattle.move_text.specs.Pieces.{code_text, path_name, point_text}
+use Rattle.move_list.specs.Pieces.{each_from}
 use Rattle.move_list.specs.EndText.{records_text}
 
 -- the machine is the fold of a legal history from this one on, but for what unfinished blocks have read

@@ -14,7 +14,7 @@ use Rattle.run_records.specs.declared.entry.EntryKind.TheVariants.{Did, Arrived,
 use Rattle.two_path.specs.Machine.{MachineView}
 use Rattle.two_path.specs.Turns.{Tapes, tapes_of}
 use Rattle.two_path.specs.Histories.{fold}
-use Rattle.move_list.specs.Pieces.{point_text}
+use Rattle.move_text.specs.Pieces.{point_text}
 use Rattle.move_list.specs.EndText.{records_text}
 use Rattle.move_list.specs.Report.{machine_at_start, moves_of}
 

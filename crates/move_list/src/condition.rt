@@ -1,10 +1,10 @@
 //! How a path of the machine stands.
 ghost use Rattle.std.specs.Prelude.{◌≡◌, ◌+◌, ◌≤◌, ◌++◌, length, Option};
-ghost use Rattle.nc_outside.specs.declared.halt.Alarm.{Alarm};
+ghost use Rattle.nc_moves.specs.declared.alarm.Alarm.{Alarm};
 ghost use Rattle.two_path.specs.Machine.{own_first};
 ghost use Rattle.move_list.specs.State.{condition_at_wait, condition_of, condition_text};
 
-use crate::piece::Piece;
+use move_text::Piece;
 use nc_number::Path;
 use two_path::Machine;
 

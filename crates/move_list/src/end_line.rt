@@ -2,9 +2,9 @@
 ghost use Rattle.std.specs.Prelude.{◌≡◌, ◌+◌, ◌≤◌, ℕ, Some, [], ◌++◌, length};
 ghost use Rattle.move_list.specs.EndText.{alarm_text, cause_of, end_text, given_text, name_text, reason_text, records_text, turret_text};
 
-use crate::piece::Piece;
+use move_text::Piece;
+use nc_moves::Alarm;
 use nc_number::{Cause, Path};
-use nc_outside::Alarm;
 
 /// How a run ended.
 #[derive(Clone, Copy, Debug, PartialEq, Eq)]

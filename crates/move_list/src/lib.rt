@@ -8,9 +8,8 @@
 
 mod condition;
 mod end_line;
+mod laws;
 mod listing;
-mod moves;
-mod piece;
 mod putting;
 mod report;
 mod standing;
@@ -19,7 +18,7 @@ mod summary;
 mod turns;
 
 pub use end_line::Reason;
-pub use moves::LinedMove;
+pub use laws::{law_of_later_moves, law_of_streams};
 pub use report::write_report;
 pub use state::write_state;
 pub use summary::write_summary;

@@ -7,8 +7,8 @@ ghost use Rattle.path_state.specs.Looks.{is_shared};
 ghost use Rattle.two_path.specs.Machine.{own_first};
 ghost use Rattle.move_list.specs.State.{IsListed, SharesAs, count_of, first_of, is_zero, line_of, offset_line, own_line, shared_line, variable_line};
 
-use crate::piece::Piece;
 use cell_settings::Settings;
+use move_text::Piece;
 use nc_number::{Path, Point, Var};
 use path_state::PathState;
 use two_path::Machine;

@@ -1,7 +1,7 @@
 //! Pieces of a text into a sink.
 ghost use Rattle.nc_verify.specs.Printed.{IsPut};
 
-use crate::piece::Piece;
+use move_text::Piece;
 use nc_outside::{PutFault, Sink};
 
 /// Puts a piece; one without a byte is not put.

@@ -6,17 +6,15 @@ ghost use Rattle.nc_verify.specs.Printed.{IsPut};
 ghost use Rattle.two_path.specs.Turns.{tapes_of};
 ghost use Rattle.two_path.specs.Histories.{IsLegal};
 ghost use Rattle.move_list.specs.EndText.{end_text};
-ghost use Rattle.move_list.specs.MoveText.{line_text};
-ghost use Rattle.move_list.specs.Report.{head_text, machine_at_start, path_text, report_text};
+ghost use Rattle.move_list.specs.Report.{head_text, lined_text, machine_at_start, path_text, report_text};
 
 use crate::end_line::{Reason, end_lines};
-use crate::moves::{LinedMove, move_line};
-use crate::piece::Piece;
 use crate::putting::put_piece;
 use crate::turns::{PathMoves, history_done};
 use cell_settings::Settings;
+use move_text::{Piece, move_line};
 use nc_number::Path;
-use nc_outside::{PutFault, Sink};
+use nc_outside::{LinedMove, PutFault, Sink};
 use nc_verify::Verified;
 use run_records::EntryList;
 use std::alloc::Global;
@@ -44,9 +42,9 @@ fn put_head<K: Sink>(sink: &mut K, path: Path, count: u64) -> Result<(), PutFaul
 
 /// Puts the line of a move.
 fn put_line<K: Sink>(sink: &mut K, made: &LinedMove) -> Result<(), PutFault>
-    ensures { IsPut (K.state sink.old) (K.state sink.new) (line_text made.now) result }
+    ensures { IsPut (K.state sink.old) (K.state sink.new) (lined_text made.now) result }
 {
-    put_piece(sink, &move_line(made))
+    put_piece(sink, &move_line(made.line, &made.what))
 }
 
 /// Puts the last lines.
@@ -58,7 +56,7 @@ fn put_end<K: Sink>(sink: &mut K, count: u64, reason: &Reason) -> Result<(), Put
 
 /// Puts a line for each move.
 fn put_lines<K: Sink>(sink: &mut K, moves: &[LinedMove]) -> Result<(), PutFault>
-    ensures { IsPut (K.state sink.old) (K.state sink.new) (flat_map line_text moves.now) result }
+    ensures { IsPut (K.state sink.old) (K.state sink.new) (flat_map lined_text moves.now) result }
 {
     for made in moves {
         put_line(sink, made)?;

@@ -5,9 +5,9 @@ ghost use Rattle.two_path.specs.Turns.{blocks_of};
 ghost use Rattle.move_list.specs.State.{depth_text, group_text, groups_text, modal_text, place_text, position_text, standing_of, var_text, words_text};
 
 use crate::condition::{Condition, add_condition, condition_of};
-use crate::piece::Piece;
 use code_tables::{FEED_GROUP, MOTION_GROUP, NOSE_GROUP, SPINDLE_GROUP, UNIT_GROUP, WORK_GROUP};
 use modal_state::Modal;
+use move_text::Piece;
 use nc_number::{Path, Point, Var};
 use tape_flow::Flow;
 use two_path::Machine;

@@ -7,10 +7,10 @@ ghost use Rattle.move_list.specs.Report.{machine_at_start, moves_of};
 ghost use Rattle.move_list.specs.Summary.{block_count, history_text, is_meeting, meetings_in, number_line, numbers_line, pair_text, place_text, places_text, summary_text};
 
 use crate::end_line::records_line;
-use crate::piece::Piece;
 use crate::putting::put_piece;
 use crate::turns::{DoneAgain, PathMoves, history_done};
 use cell_settings::Settings;
+use move_text::Piece;
 use nc_number::{Path, Point};
 use nc_outside::{PutFault, Sink};
 use nc_verify::Verified;

@@ -1,17 +1,18 @@
 //! The moves of a history, whose records are done again one by one.
 ghost use Rattle.std.specs.Prelude.{◌≡◌, ◌≤◌, ◌<◌, ◌+◌, [], ◌++◌, length, IfOk, OnOk};
 ghost use Rattle.nc_number.specs.declared.path.Path.TheVariants.{One, Two};
+ghost use Rattle.nc_outside.specs.Lined.{lined};
 ghost use Rattle.two_path.specs.Machine.{without_reads};
 ghost use Rattle.two_path.specs.Turns.{tapes_of};
 ghost use Rattle.two_path.specs.Histories.{IsLegal, IsNext, fold};
 ghost use Rattle.two_path.specs.Joined.{AreAtTheirWaits};
 ghost use Rattle.two_path.specs.Again.{IsDoneAgain};
-ghost use Rattle.move_list.specs.Report.{lined, made_by, made_in, machine_at_start, moves_of};
+ghost use Rattle.move_list.specs.Report.{made_by, made_in, machine_at_start, moves_of};
 
-use crate::moves::LinedMove;
 use cell_settings::Settings;
+use nc_moves::{Move, Moves};
 use nc_number::{NoMemory, Path};
-use nc_outside::{Move, Moves};
+use nc_outside::LinedMove;
 use run_records::{Entry, EntryList};
 use std::alloc::Global;
 use tape_flow::Flow;

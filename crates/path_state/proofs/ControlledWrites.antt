@@ -3,7 +3,7 @@ use Rattle.std.proofs.Common.{◌≡◌, ℕ, Bool, true, false, List, [], Optio
 use Rattle.nc_number.specs.declared.cause.Cause.{Cause}
 use Rattle.nc_number.specs.declared.point.Point.{Point}
 use Rattle.nc_number.specs.declared.value.Var.{Var}
-use Rattle.nc_outside.specs.declared.motion.Move.{Move}
+use Rattle.nc_moves.specs.declared.motion.Move.{Move}
 use Rattle.common_vars.specs.declared.variable.Variable.{Variable}
 use Rattle.common_vars.specs.declared.variable.Variable.TheVariants as variable
 use Rattle.local_levels.specs.Stack.{all_vacant}

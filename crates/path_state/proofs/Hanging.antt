@@ -7,7 +7,7 @@ use Rattle.path_state.specs.View.{Fixed, PathView}
 use Rattle.path_state.specs.Values.{Values}
 use Rattle.path_state.specs.Motion.{motion_of}
 use Rattle.nc_number.specs.declared.value.Var.TheVariants.{Vacant}
-use Rattle.nc_outside.specs.declared.motion.Move.{Move}
+use Rattle.nc_moves.specs.declared.motion.Move.{Move}
 use Rattle.block_forms.specs.declared.word.FlowWord.{FlowWord}
 use Rattle.block_forms.specs.Codes.{rows}
 use Rattle.path_state.specs.Moves.{all_moves}

@@ -5,7 +5,7 @@ use Rattle.nc_number.specs.declared.cause.Cause.TheVariants.{RanOff}
 use Rattle.nc_number.specs.declared.point.Point.{Point}
 use Rattle.nc_number.specs.declared.value.Var.{Var}
 use Rattle.nc_number.specs.Causes.{cause_number}
-use Rattle.nc_outside.specs.declared.motion.Move.{Move}
+use Rattle.nc_moves.specs.declared.motion.Move.{Move}
 use Rattle.local_levels.specs.Stack.{all_vacant}
 use Rattle.modal_state.specs.declared.fault.ModalFault.{ModalFault}
 use Rattle.modal_state.specs.declared.words.ModalWords.{ModalWords}

@@ -26,8 +26,8 @@ use Rattle.offset_store.specs.Table.{OffsetTable}
 use Rattle.offset_store.specs.Slots.{slot_named}
 use Rattle.offset_store.specs.Changes.{point_at, changed_point, in_range}
 use Rattle.offset_store.specs.Offsets.{shift_of}
-use Rattle.nc_outside.specs.declared.motion.Move.{Move}
-use Rattle.nc_outside.specs.declared.motion.Move.TheVariants as move
+use Rattle.nc_moves.specs.declared.motion.Move.{Move}
+use Rattle.nc_moves.specs.declared.motion.Move.TheVariants as move
 use Rattle.path_state.specs.View.{Fixed, PathView}
 use Rattle.path_state.specs.Values.{Values}
 

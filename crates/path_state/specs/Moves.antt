@@ -4,9 +4,9 @@ use Rattle.nc_number.specs.declared.point.Point.{Point}
 use Rattle.nc_number.specs.declared.value.Var.{Var}
 use Rattle.nc_number.specs.declared.value.Var.TheVariants.{Vacant, Is}
 use Rattle.nc_number.specs.Arithmetic.{whole_of}
-use Rattle.nc_outside.specs.declared.motion.Move.{Move}
-use Rattle.nc_outside.specs.declared.motion.Move.TheVariants as move
-use Rattle.nc_outside.specs.Motion.{end_of}
+use Rattle.nc_moves.specs.declared.motion.Move.{Move}
+use Rattle.nc_moves.specs.declared.motion.Move.TheVariants as move
+use Rattle.nc_moves.specs.Motion.{end_of}
 use Rattle.modal_state.specs.View.{ModalView}
 use Rattle.path_state.specs.Values.{Values}
 

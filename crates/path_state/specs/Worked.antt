@@ -3,9 +3,9 @@ use Rattle.std.specs.Prelude.{◌≡◌, ℕ, true, false, List, [], ◌∷◌, 
 use Rattle.nc_number.specs.declared.point.Point.{Point}
 use Rattle.nc_number.specs.declared.value.Var.{Var}
 use Rattle.nc_number.specs.declared.value.Var.TheVariants.{Vacant, Is}
-use Rattle.nc_outside.specs.declared.motion.Move.{Move}
-use Rattle.nc_outside.specs.declared.motion.Move.TheVariants as move
-use Rattle.nc_outside.specs.declared.motion.Centre.TheVariants.{Offset}
+use Rattle.nc_moves.specs.declared.motion.Move.{Move}
+use Rattle.nc_moves.specs.declared.motion.Move.TheVariants as move
+use Rattle.nc_moves.specs.declared.motion.Centre.TheVariants.{Offset}
 use Rattle.common_vars.specs.Common.{none_written}
 use Rattle.local_levels.specs.Stack.{base_level, local}
 use Rattle.modal_state.specs.Modal.{opening_modal}

@@ -21,7 +21,7 @@ use crate::values::Values;
 use crate::words_step::WordsStep;
 use block_forms::FlowWords;
 use modal_state::Modal;
-use nc_outside::MoveList;
+use nc_moves::MoveList;
 
 /// What the words say to the motion of the block.
 fn motion_words(values: &Values) -> MotionWords

@@ -1,5 +1,5 @@
+use nc_moves::Moves;
 use nc_number::{Value, Var};
-use nc_outside::Moves;
 
 /// What a path answers to the turn of its block.
 #[derive(Debug, Drop)]

@@ -1,7 +1,7 @@
 //! The law of one path's control, and what its blocks ask for.
 ghost use Rattle.std.specs.Prelude.{◌≡◌, ◌≢◌, ◌<◌, ℕ, true, List, length, map, Option, Some, None};
 ghost use Rattle.nc_number.specs.declared.value.Var.{Var};
-ghost use Rattle.nc_outside.specs.declared.motion.Move.{Move};
+ghost use Rattle.nc_moves.specs.declared.motion.Move.{Move};
 ghost use Rattle.block_order.specs.declared.control.Control.{Control};
 ghost use Rattle.block_order.specs.declared.control.Control.TheVariants.{Wait, End};
 ghost use Rattle.block_order.specs.declared.program.ControlProgram.{ControlProgram};

@@ -1,7 +1,7 @@
 //! The motion of a block: by its one-shot code if it has one, else by the motion code in force.
 ghost use Rattle.std.specs.Prelude.{Bool, ◌≡◌, ◌≤◌, ◌==◌, ◌∷◌, [], length, None, IfOk, IfSome};
 ghost use Rattle.nc_number.specs.Position.{IsPosition};
-ghost use Rattle.nc_outside.specs.declared.motion.Move.TheVariants.{Dwell};
+ghost use Rattle.nc_moves.specs.declared.motion.Move.TheVariants.{Dwell};
 ghost use Rattle.motion_track.specs.Block.{IsBlockWithin, AllEnd};
 ghost use Rattle.turn_cycles.specs.Pass.{cycle_kind_of};
 ghost use Rattle.path_state.specs.Motion.{form_of, setting_of, block_motion, cut_motion, motion_of};
@@ -14,8 +14,8 @@ ghost use Rattle.code_tables.specs.declared.kind.CodeKind.{CodeKind};
 use code_tables::{CodeKind, FEED_GROUP};
 use modal_state::Modal;
 use motion_track::{BlockMotion, LONGEST, MotionFault, track};
+use nc_moves::{Move, MoveList};
 use nc_number::{Axis, Point};
-use nc_outside::{Move, MoveList};
 use offset_store::{OffsetFault, OffsetForm, Offsets, Slot};
 use turn_cycles::{CycleKind, cycle_pass};
 

@@ -5,15 +5,15 @@ ghost use Rattle.nc_number.specs.Arithmetic.{whole_of};
 ghost use Rattle.nc_number.specs.Position.{IsPosition};
 ghost use Rattle.motion_track.specs.Block.{AllEnd};
 ghost use Rattle.modal_state.specs.View.{ModalView};
-ghost use Rattle.nc_outside.specs.declared.motion.Move.{Move};
+ghost use Rattle.nc_moves.specs.declared.motion.Move.{Move};
 ghost use Rattle.path_state.specs.Values.{Values};
 ghost use Rattle.path_state.specs.Moves.{whole_or_zero, speed_moves, tool_moves, auxiliary_moves, is_auxiliary, all_moves, last_end};
 ghost use Rattle.path_state.specs.Drawn.{settings_said};
 
 use code_tables::SPINDLE_GROUP;
 use modal_state::Modal;
+use nc_moves::{Move, MoveList};
 use nc_number::{Point, Value, Var};
-use nc_outside::{Move, MoveList};
 
 /// The code of a constant surface speed.
 const SURFACE: u16 = 96;

@@ -15,8 +15,8 @@ use crate::outcome::Stop;
 use crate::path::PathState;
 use crate::words_step::WordsStep;
 use crate::writing::{Change, StatementStep};
+use nc_moves::{MoveList, Moves};
 use nc_number::Var;
-use nc_outside::{MoveList, Moves};
 use tape_flow::Flow;
 
 impl PathState {

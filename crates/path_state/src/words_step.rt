@@ -1,8 +1,8 @@
 //! What the words of a block do to its path, but for where control goes.
 
 use crate::in_force::InForce;
+use nc_moves::MoveList;
 use nc_number::Point;
-use nc_outside::MoveList;
 use offset_store::Slot;
 
 /// What the words of a block do to its path.

@@ -1,6 +1,6 @@
 //! Moves as text, in the notation of the report, so that a table of tests has them written out by hand.
+use nc_moves::{Centre, Move};
 use nc_number::{Point, Value, length_text, text};
-use nc_outside::{Centre, Move};
 use std::alloc::AllocError;
 
 pub(crate) fn put_value(out: &mut String, value: Value) -> Result<(), AllocError> {

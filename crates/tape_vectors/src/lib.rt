@@ -10,6 +10,8 @@ mod flows;
 #[cfg(test)]
 mod forms;
 #[cfg(test)]
+mod open_blocks;
+#[cfg(test)]
 mod orders;
 #[cfg(test)]
 mod places;

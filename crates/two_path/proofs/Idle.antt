@@ -1,7 +1,7 @@
 -- What a turn is where something may happen, and where nothing may.
 use Rattle.std.proofs.Common.{◌≡◌, ℕ, Bool, true, false, ◌||◌, Option, Some, None, is_some, refl}
 use Rattle.nc_number.specs.declared.path.Path.{Path}
-use Rattle.nc_outside.specs.declared.halt.Alarm.{Alarm}
+use Rattle.nc_moves.specs.declared.alarm.Alarm.{Alarm}
 use Rattle.run_records.specs.declared.entry.EntryKind.{EntryKind}
 use Rattle.two_path.specs.Machine.{MachineView}
 use Rattle.two_path.specs.Turns.{Blocks, TurnResult, result_by, unless_idle, own_turn, kind_of}

@@ -4,7 +4,7 @@ use Rattle.std.proofs.lemmas.Bool.Decides.{nat_tests}
 use Rattle.nc_number.specs.declared.path.Path.{Path}
 use Rattle.nc_number.specs.declared.path.Path.TheVariants.{One, Two}
 use Rattle.nc_number.specs.declared.value.Var.{Var}
-use Rattle.nc_outside.specs.declared.halt.Alarm.{Alarm}
+use Rattle.nc_moves.specs.declared.alarm.Alarm.{Alarm}
 use Rattle.common_vars.specs.declared.links.Write.{Write}
 use Rattle.common_vars.specs.Writes.{is_write_of, value_after}
 use Rattle.common_vars.proofs.Laws.{seen_from_its_stamp}

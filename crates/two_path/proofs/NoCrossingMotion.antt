@@ -5,8 +5,8 @@ use Rattle.nc_number.specs.declared.point.Point.{Point}
 use Rattle.nc_number.specs.Arithmetic.{is_zero}
 use Rattle.nc_number.specs.Results.{◌>>=◌}
 use Rattle.nc_number.specs.Position.{is_position}
-use Rattle.nc_outside.specs.declared.motion.Move.{Move}
-use Rattle.nc_outside.specs.declared.motion.Centre.{Centre}
+use Rattle.nc_moves.specs.declared.motion.Move.{Move}
+use Rattle.nc_moves.specs.declared.motion.Centre.{Centre}
 use Rattle.code_tables.specs.declared.kind.CodeKind.{CodeKind}
 use Rattle.code_tables.specs.declared.kind.CodeKind.TheVariants as kind
 use Rattle.modal_state.specs.View.{ModalView}

@@ -6,8 +6,8 @@ use Rattle.nc_number.specs.declared.path.Path.{Path}
 use Rattle.nc_number.specs.declared.path.Path.TheVariants.{One, Two}
 use Rattle.nc_number.specs.declared.value.Var.{Var}
 use Rattle.nc_number.specs.Causes.{cause_number}
-use Rattle.nc_outside.specs.declared.halt.Alarm.{Alarm}
-use Rattle.nc_outside.specs.declared.motion.Move.{Move}
+use Rattle.nc_moves.specs.declared.alarm.Alarm.{Alarm}
+use Rattle.nc_moves.specs.declared.motion.Move.{Move}
 use Rattle.block_order.specs.declared.control.Control.{Control}
 use Rattle.block_order.specs.declared.control.Control.TheVariants as control
 use Rattle.block_order.specs.declared.frame.Frame.{Frame}

@@ -3,7 +3,7 @@ use Rattle.std.proofs.Common.{◌≡◌, ℕ, Bool, true, false, ◌==◌, ◌||
 use Rattle.nc_number.specs.declared.path.Path.{Path}
 use Rattle.nc_number.specs.declared.path.Path.TheVariants.{Two}
 use Rattle.nc_number.specs.declared.value.Var.{Var}
-use Rattle.nc_outside.specs.declared.halt.Alarm.{Alarm}
+use Rattle.nc_moves.specs.declared.alarm.Alarm.{Alarm}
 use Rattle.block_order.specs.declared.control.Control.TheVariants.{Wait}
 use Rattle.block_order.specs.declared.program.ControlProgram.{ControlProgram}
 use Rattle.block_order.specs.Steps.{standing}

@@ -1,6 +1,6 @@
 -- The machine in the parts that the code keeps.
 use Rattle.std.specs.Prelude.{◌≡◌, ℕ, ◌+◌, ◌≤◌, List, Option, Some}
-use Rattle.nc_outside.specs.declared.halt.Alarm.{Alarm}
+use Rattle.nc_moves.specs.declared.alarm.Alarm.{Alarm}
 use Rattle.common_vars.specs.Writes.{Writes}
 use Rattle.block_order.specs.declared.control.Control.TheVariants.{Wait}
 use Rattle.block_order.specs.declared.program.ControlProgram.{ControlProgram}

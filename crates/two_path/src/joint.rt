@@ -6,8 +6,8 @@ ghost use Rattle.two_path.specs.Joined.{IsLasting};
 ghost use Rattle.two_path.specs.Turns.{with_write};
 
 use common_vars::Shared;
+use nc_moves::Alarm;
 use nc_number::{NoMemory, Var};
-use nc_outside::Alarm;
 use std::alloc::Global;
 use std::marker::Model;
 

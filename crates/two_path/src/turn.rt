@@ -1,5 +1,5 @@
 //! What a turn of a path answers.
-use nc_outside::{Alarm, Moves};
+use nc_moves::{Alarm, Moves};
 use run_records::Entry;
 
 /// What one turn of a path came to.

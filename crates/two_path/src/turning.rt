@@ -16,8 +16,8 @@ ghost use Rattle.tape_flow.specs.Places.{line_at};
 use crate::joint::Joint;
 use crate::part::Part;
 use crate::turn::{Turn, Turned};
+use nc_moves::{Alarm, Moves};
 use nc_number::{Cause, Path, Value, Var};
-use nc_outside::{Alarm, Moves};
 use path_state::{
     Advance, a_block_asks_for_each_variable_once_at_most, control_goes_as_the_flow_orders,
     what_is_written_is_shared,

@@ -1,7 +1,7 @@
 //! Commands one after another over one disk: their words, their statuses, and the texts that they write.
 use crate::row::{is_text, lines_of};
 use disk_model::MemoryDisk;
-use lathe_top::{Outcome, top};
+use lathe_top::{Lathe, Outcome, top};
 use nc_number::NoMemory;
 use nc_outside::{MemoryShelf, MemoryTurret, VecSink};
 use std::alloc::{AllocError, Global};
@@ -199,7 +199,8 @@ fn left_by(
     alloc: Global,
     outcome: Outcome<MemoryDisk, MemoryTurret>,
 ) -> (u8, Result<Vec<u8>, AllocError>) {
-    (outcome.status, bytes_on(alloc, &outcome.disk))
+    let status = outcome.status();
+    (status, bytes_on(alloc, &outcome.into_parts().disk))
 }
 
 /// Gives a command the disk and two turrets, and says what it leaves.
@@ -213,7 +214,8 @@ fn call<R: Threads + Wait + Sync + Abort>(
 ) -> (u8, Result<Vec<u8>, AllocError>) {
     let left = MemoryTurret::new(alloc, TURRET_ROOM, &[]).expect(rt, "a turret");
     let right = MemoryTurret::new(alloc, TURRET_ROOM, &[]).expect(rt, "a turret");
-    left_by(alloc, top(rt, alloc, words, shelf, disk, left, right, out))
+    let lathe = Lathe { disk, left, right };
+    left_by(alloc, top(rt, alloc, words, shelf, lathe, out))
 }
 
 /// What a command answers over the files and the disk of a story.

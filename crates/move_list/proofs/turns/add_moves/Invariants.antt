@@ -1,7 +1,7 @@
 -- The moves so far and those that are left are the moves before and all of the block.
 use Rattle.std.proofs.Common.{◌≡◌, ◌++◌, drop}
 use Rattle.std.specs.Prelude.{map}
-use Rattle.move_list.specs.Report.{lined_move}
+use Rattle.nc_outside.specs.Lined.{lined_move}
 use Rattle.move_list.proofs.turns.add_moves.Given as goal
 
 abbrev pub invariant-loop-what : goal.invariant-loop-what

@@ -1,5 +1,5 @@
 use Rattle.std.proofs.Common.{rules, ◌≡◌, ◌==◌, false, Some, None, sym, ap, ◌∙◌}
-use Rattle.nc_outside.specs.declared.halt.Alarm.{Alarm}
+use Rattle.nc_moves.specs.declared.alarm.Alarm.{Alarm}
 use Rattle.tape_flow.specs.Places.{line_at}
 use Rattle.two_path.specs.Machine.{MachineView}
 use Rattle.two_path.specs.Joined.{machine_of}

@@ -1,5 +1,5 @@
 use Rattle.std.proofs.Common.{rules, ◌≡◌, ℕ, ap, ◌∙◌}
-use Rattle.nc_outside.specs.declared.halt.Alarm.{Alarm}
+use Rattle.nc_moves.specs.declared.alarm.Alarm.{Alarm}
 use Rattle.tape_flow.specs.Places.{line_at}
 use Rattle.path_state.specs.Effect.{Need, Done, AtEnd, effect_of}
 use Rattle.path_state.specs.StatementSteps.{write_seen}

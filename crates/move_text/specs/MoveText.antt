@@ -1,12 +1,12 @@
--- How a move is printed, with the line of the tape whose block made it.
+-- How a place is printed, and a move with the line of the tape whose block made it.
 use Rattle.std.specs.Prelude.{ℕ, Bool, if◌then◌else◌, List, ◌++◌, ℤ, codes, decimal}
+use Rattle.nc_number.specs.declared.point.Point.{Point}
 use Rattle.nc_number.specs.Printed.{value_text, length_text, last_digits}
-use Rattle.nc_outside.specs.declared.motion.Centre.{Centre}
-use Rattle.nc_outside.specs.declared.motion.Centre.TheVariants.{Offset, Radius}
-use Rattle.nc_outside.specs.declared.motion.Move.{Move}
-use Rattle.nc_outside.specs.declared.motion.Move.TheVariants.{Rapid, Feed, Thread, Arc, Dwell, Speed, Limit, Tool, Aux}
-use Rattle.move_list.specs.declared.moves.LinedMove.{LinedMove}
-use Rattle.move_list.specs.Pieces.{point_text, code_text}
+use Rattle.nc_moves.specs.declared.motion.Centre.{Centre}
+use Rattle.nc_moves.specs.declared.motion.Centre.TheVariants.{Offset, Radius}
+use Rattle.nc_moves.specs.declared.motion.Move.{Move}
+use Rattle.nc_moves.specs.declared.motion.Move.TheVariants.{Rapid, Feed, Thread, Arc, Dwell, Speed, Limit, Tool, Aux}
+use Rattle.move_text.specs.Pieces.{point_text, code_text}
 
 -- the centre of an arc from its start, or its radius
 unfoldable pub centre_text : Centre → List ℕ
@@ -29,6 +29,10 @@ move_text (Limit s) = codes "limit S" ++ decimal s
 move_text (Tool t) = codes "tool T" ++ last_digits 4 t
 move_text (Aux m) = codes "aux M" ++ code_text m
 
--- a line of the report: the line of the tape, and the move
-unfoldable pub line_text : LinedMove → List ℕ
-line_text made = decimal made.line ++ codes " " ++ move_text made.what ++ codes "\n"
+-- the line of a move: the line of the tape, and the move
+unfoldable pub line_text : ℕ → Move → List ℕ
+line_text line what = decimal line ++ codes " " ++ move_text what ++ codes "\n"
+
+-- the line of a place
+unfoldable pub placed_text : Point → List ℕ
+placed_text at = codes "place" ++ point_text at ++ codes "\n"

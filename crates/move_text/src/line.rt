@@ -1,17 +1,10 @@
-//! A move, and how it is printed.
+//! How a place and a move are printed, each as a line.
 ghost use Rattle.std.specs.Prelude.{◌≡◌, ◌+◌, ◌≤◌, [], ◌++◌, length};
-ghost use Rattle.move_list.specs.MoveText.{centre_text, feed_text, line_text, move_text};
+ghost use Rattle.move_text.specs.MoveText.{centre_text, feed_text, line_text, move_text, placed_text};
 
 use crate::piece::Piece;
-use nc_number::Value;
-use nc_outside::{Centre, Move};
-
-/// A move, and the line of the tape whose block made it.
-#[derive(Clone, Copy, Debug, PartialEq, Eq)]
-pub struct LinedMove {
-    pub line: u32,
-    pub what: Move,
-}
+use nc_moves::{Centre, Move};
+use nc_number::{Point, Value};
 
 /// The centre of an arc from its start, or its radius.
 #[tactic(auto, unfolding(crate::specs::MoveText::centre_text))]
@@ -112,15 +105,27 @@ fn add_move(piece: &mut Piece, what: &Move)
     }
 }
 
-/// The line of a move in the report.
+/// The line of a move: the line of the tape whose block made it, and the move.
 #[tactic(auto, unfolding(crate::specs::MoveText::line_text))]
-pub(crate) fn move_line(made: &LinedMove) -> Piece
-    ensures { result ≡ line_text made.now }
+pub fn move_line(line: u32, what: &Move) -> Piece
+    ensures { result ≡ line_text line what.now }
 {
     let mut piece = Piece::empty();
-    piece.add_number(u64::from(made.line));
+    piece.add_number(u64::from(line));
     piece.add(b" ");
-    add_move(&mut piece, &made.what);
+    add_move(&mut piece, what);
+    piece.add(b"\n");
+    piece
+}
+
+/// The line of a place: the point at which a turret begins.
+#[tactic(auto, unfolding(crate::specs::MoveText::placed_text))]
+pub fn place_line(at: Point) -> Piece
+    ensures { result ≡ placed_text at }
+{
+    let mut piece = Piece::empty();
+    piece.add(b"place");
+    piece.add_point(at);
     piece.add(b"\n");
     piece
 }

@@ -1,7 +1,7 @@
 //! A piece of a text.
 ghost use Rattle.std.specs.Prelude.{◌≡◌, ◌+◌, ◌≤◌, ◌%◌, [], ◌++◌, length, codes, decimal};
 ghost use Rattle.nc_number.specs.Printed.{last_digits, length_text, value_text};
-ghost use Rattle.move_list.specs.Pieces.{code_text, path_name, point_text};
+ghost use Rattle.move_text.specs.Pieces.{code_text, path_name, point_text};
 
 use arrayvec::ArrayVec;
 use itoa::Buffer;
@@ -13,7 +13,7 @@ const MOST_BYTES: usize = 512;
 
 /// A piece of a text, of which each part is put behind what is there. It takes no memory.
 #[derive(Drop)]
-pub(crate) struct Piece {
+pub struct Piece {
     bytes: ArrayVec<u8, MOST_BYTES>,
 }
 
@@ -27,7 +27,7 @@ impl Model for Piece {
 
 impl Piece {
     /// Without a byte.
-    pub(crate) fn empty() -> Self
+    pub fn empty() -> Self
         ensures { result ≡ [] }
     {
         Piece {
@@ -36,14 +36,14 @@ impl Piece {
     }
 
     /// Its bytes.
-    pub(crate) fn as_slice(&self) -> &[u8]
+    pub fn as_slice(&self) -> &[u8]
         ensures { result.now ≡ self.now }
     {
         self.bytes.as_slice()
     }
 
     /// Adds bytes as they are.
-    pub(crate) fn add(&mut self, bytes: &[u8])
+    pub fn add(&mut self, bytes: &[u8])
         requires { length self.old + length bytes.now ≤ 512 }
         ensures text { self.new ≡ self.old ++ bytes.now }
         ensures size { length self.new ≡ length self.old + length bytes.now }
@@ -52,7 +52,7 @@ impl Piece {
     }
 
     /// Adds a whole number in decimal digits.
-    pub(crate) fn add_number(&mut self, number: u64)
+    pub fn add_number(&mut self, number: u64)
         requires { length self.old + 20 ≤ 512 }
         ensures text { self.new ≡ self.old ++ decimal number }
         ensures size { length self.new ≤ length self.old + 20 }
@@ -62,7 +62,7 @@ impl Piece {
     }
 
     /// Adds a count in decimal digits.
-    pub(crate) fn add_count(&mut self, count: u128)
+    pub fn add_count(&mut self, count: u128)
         requires { length self.old + 40 ≤ 512 }
         ensures text { self.new ≡ self.old ++ decimal count }
         ensures size { length self.new ≤ length self.old + 40 }
@@ -72,7 +72,7 @@ impl Piece {
     }
 
     /// Adds a length of 0.001 mm with three decimals.
-    pub(crate) fn add_length(&mut self, increments: i64)
+    pub fn add_length(&mut self, increments: i64)
         requires { length self.old + 24 ≤ 512 }
         ensures text { self.new ≡ self.old ++ length_text increments }
         ensures size { length self.new ≤ length self.old + 24 }
@@ -83,7 +83,7 @@ impl Piece {
     }
 
     /// Adds a value without the zeros that its fraction ends with.
-    pub(crate) fn add_value(&mut self, value: Value)
+    pub fn add_value(&mut self, value: Value)
         requires { length self.old + 24 ≤ 512 }
         ensures text { self.new ≡ self.old ++ value_text value }
         ensures size { length self.new ≤ length self.old + 24 }
@@ -94,7 +94,7 @@ impl Piece {
     }
 
     /// Adds the last four digits of a number.
-    pub(crate) fn add_four_digits(&mut self, number: u16)
+    pub fn add_four_digits(&mut self, number: u16)
         requires { length self.old + 4 ≤ 512 }
         ensures text { self.new ≡ self.old ++ last_digits 4 number }
         ensures size { length self.new ≡ length self.old + 4 }
@@ -109,7 +109,7 @@ impl Piece {
 
     /// Adds a G or M code, which has at least two digits.
     #[tactic(auto, unfolding(crate::specs::Pieces::code_text))]
-    pub(crate) fn add_code(&mut self, code: u16)
+    pub fn add_code(&mut self, code: u16)
         requires { length self.old + 21 ≤ 512 }
         ensures text { self.new ≡ self.old ++ code_text code }
         ensures size { length self.new ≤ length self.old + 21 }
@@ -122,7 +122,7 @@ impl Piece {
 
     /// Adds a path by its number.
     #[tactic(auto, unfolding(crate::specs::Pieces::path_name))]
-    pub(crate) fn add_path(&mut self, path: Path)
+    pub fn add_path(&mut self, path: Path)
         requires { length self.old + 25 ≤ 512 }
         ensures text { self.new ≡ self.old ++ path_name path }
         ensures size { length self.new ≤ length self.old + 25 }
@@ -133,7 +133,7 @@ impl Piece {
 
     /// Adds the X and the Z of a point.
     #[tactic(auto, unfolding(crate::specs::Pieces::point_text))]
-    pub(crate) fn add_point(&mut self, to: Point)
+    pub fn add_point(&mut self, to: Point)
         requires { length self.old + 52 ≤ 512 }
         ensures text { self.new ≡ self.old ++ point_text to }
         ensures size { length self.new ≤ length self.old + 52 }

@@ -1,0 +1,100 @@
+-- A tape that is not sound has one first fault.
+use Rattle.std.proofs.Common.{◌≡◌, ℕ, ◌<◌, ◌≤◌, ◌⊎◌, inl, inr, List, refl, sym, subst, arith}
+use Rattle.nc_number.specs.declared.cause.Cause.{Cause}
+use Rattle.nc_number.specs.Causes.{cause_number}
+use Rattle.nc_number.proofs.CauseTable.{number_has_one_cause}
+use Rattle.block_order.specs.declared.program.ControlProgram.{ControlProgram}
+use Rattle.block_order.specs.Faults.{Stage, Fitting, Finding, Waiting, HasFault, IsClear, IsClearBefore, IsSound, IsNoLater, IsFirst}
+use Rattle.flow_laws.specs.Answers.{CantBothFail}
+use Rattle.flow_laws.proofs.Least.{none_at_all}
+
+-- what is no later than the other both ways is the same
+same_place : (line other_line n m : ℕ) → (line < other_line) ⊎ ((line ≡ other_line) × (n ≤ m))
+    → (other_line < line) ⊎ ((other_line ≡ line) × (m ≤ n)) → (line ≡ other_line) × (n ≡ m)
+same_place line other_line n m (inl a) (inl b) = absurd (omega arith)
+same_place line other_line n m (inl a) (inr b) = absurd (omega (arith, b.0))
+same_place line other_line n m (inr a) (inl b) = absurd (omega (arith, a.0))
+same_place line other_line n m (inr a) (inr b) = (a.0, omega (arith, a.1, b.1))
+
+-- the first fault of a stage
+record IsFirstIn (tape : List ControlProgram) (stage : Stage) (line : ℕ) (cause : Cause) : Type 0 where
+  before : IsClearBefore tape stage
+  holds : HasFault tape stage line cause
+  least : (other_line : ℕ) (other : Cause) → HasFault tape stage other_line other → IsNoLater line cause other_line other
+
+one_of_stage : (tape : List ControlProgram) (stage : Stage) (line other_line : ℕ) (cause other : Cause)
+    → IsFirstIn tape stage line cause → IsFirstIn tape stage other_line other → (line ≡ other_line) × (cause ≡ other)
+one_of_stage tape stage line other_line cause other a b =
+    let same = same_place line other_line (cause_number cause) (cause_number other) (a.least other_line other b.holds)
+    (b.least line cause a.holds) in
+    (same.0, number_has_one_cause cause other same.1)
+
+one_of_stages : (tape : List ControlProgram) (stage other_stage : Stage) (line other_line : ℕ) (cause other : Cause)
+    → IsFirstIn tape stage line cause → IsFirstIn tape other_stage other_line other → (line ≡ other_line) × (cause ≡ other)
+one_of_stages tape Fitting Fitting line other_line cause other a b = one_of_stage tape Fitting line other_line cause other a b
+one_of_stages tape Finding Finding line other_line cause other a b = one_of_stage tape Finding line other_line cause other a b
+one_of_stages tape Waiting Waiting line other_line cause other a b = one_of_stage tape Waiting line other_line cause other a b
+one_of_stages tape Fitting Finding line other_line cause other a b = absurd (b.before line cause a.holds)
+one_of_stages tape Fitting Waiting line other_line cause other a b = absurd (b.before.0 line cause a.holds)
+one_of_stages tape Finding Waiting line other_line cause other a b = absurd (b.before.1 line cause a.holds)
+one_of_stages tape Finding Fitting line other_line cause other a b = absurd (a.before other_line other b.holds)
+one_of_stages tape Waiting Fitting line other_line cause other a b = absurd (a.before.0 other_line other b.holds)
+one_of_stages tape Waiting Finding line other_line cause other a b = absurd (a.before.1 other_line other b.holds)
+
+in_its_stage : (tape : List ControlProgram) (line : ℕ) (cause : Cause) → (first : IsFirst tape line cause)
+    → IsFirstIn tape first.stage line cause
+in_its_stage tape line cause first = record { before = first.before; holds = first.holds; least = first.least }
+
+pub one_first : (tape : List ControlProgram) (line other_line : ℕ) (cause other : Cause) → IsFirst tape line cause
+    → IsFirst tape other_line other → (line ≡ other_line) × (cause ≡ other)
+one_first tape line other_line cause other a b =
+    one_of_stages tape a.stage b.stage line other_line cause other (in_its_stage tape line cause a)
+    (in_its_stage tape other_line other b)
+
+-- Some first fault.
+
+at_or_behind : (n m : ℕ) → n ≤ m → (n < m) ⊎ (m ≡ n)
+at_or_behind n m h = grind arith
+
+-- a cause of a fault of the line, by its number
+abbrev HasNumber : List ControlProgram → Stage → ℕ → ℕ → Type 0
+HasNumber tape stage line n = (cause : Cause) × HasFault tape stage line cause × (cause_number cause ≡ n)
+
+no_later_than : (tape : List ControlProgram) (stage : Stage) (line other_line n : ℕ) (cause other : Cause) → cause_number cause ≡ n
+    → ((m : ℕ) → HasNumber tape stage line m → n ≤ m) → HasFault tape stage other_line other → line ≤ other_line
+    → IsNoLater line cause other_line other
+no_later_than tape stage line other_line n cause other own least fault le = elim (at_or_behind line other_line le) [
+  | inl less ↦ inl less
+  | inr same ↦
+      let no_less : n ≤ cause_number other =
+      least (cause_number other) (other, subst (λ l. HasFault tape stage l other) same fault, refl) in
+      inr (sym same, omega (arith, own, no_less))
+]
+
+-- a stage without a first fault is clear, if those before it are
+clear_stage : (tape : List ControlProgram) (stage : Stage) → ((line : ℕ) × (cause : Cause) × IsFirst tape line cause → ⊥)
+    → IsClearBefore tape stage → IsClear tape stage
+clear_stage tape stage none before line cause fault =
+    none_at_all (λ l. (c : Cause) × HasFault tape stage l c)
+    (λ l some below. none_at_all (HasNumber tape stage l)
+    (λ n own least. none (
+      l,
+      own.0,
+      record {
+        stage = stage;
+        before = before;
+        holds = own.1;
+        least = λ other_line other has.
+            no_later_than tape stage l other_line n own.0 other own.2 least has (below other_line (other, has));
+      },
+    ))
+    (cause_number some.0) (some.0, some.1, refl))
+    line (cause, fault)
+
+pub sound_or_first : (tape : List ControlProgram)
+    → CantBothFail (IsSound tape) ((line : ℕ) × (cause : Cause) × IsFirst tape line cause)
+sound_or_first tape unsound none =
+    let fits : IsClear tape Fitting = clear_stage tape Fitting none tt in
+    let finds : IsClear tape Finding = clear_stage tape Finding none fits in
+    let waits : IsClear tape Waiting = clear_stage tape Waiting none (fits, finds) in
+    unsound (record { fits = fits; finds = finds; waits = waits })

@@ -1,0 +1,16 @@
+-- The least number of which something holds.
+use Rattle.std.proofs.Common.{ℕ, zero, suc, ◌<◌, ◌≤◌, ◌⊎◌, inl, inr, arith}
+
+no_less : (n m : ℕ) → (n ≤ m) ⊎ (m < n)
+no_less n m = grind arith
+
+none_below : (P : ℕ → Type 0) → ((n : ℕ) → P n → ((m : ℕ) → P m → n ≤ m) → ⊥) → (k n : ℕ) → n < k → P n → ⊥
+none_below P not_least zero n below holds = absurd (omega arith)
+none_below P not_least (suc k) n below holds = not_least n holds (λ m other. elim (no_less n m) [
+  | inl le ↦ le
+  | inr less ↦ absurd (none_below P not_least k m (omega arith) other)
+])
+
+-- what holds of no least number holds of none
+pub none_at_all : (P : ℕ → Type 0) → ((n : ℕ) → P n → ((m : ℕ) → P m → n ≤ m) → ⊥) → (n : ℕ) → P n → ⊥
+none_at_all P not_least n = none_below P not_least (suc n) n (omega arith)

@@ -1,0 +1,6 @@
+pub mod Unforked
+pub mod Least
+pub mod FirstFault
+pub mod RisingBlocks
+pub mod Refused
+pub mod ByOneList

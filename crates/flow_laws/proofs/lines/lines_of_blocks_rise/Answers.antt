@@ -1,0 +1,5 @@
+use Rattle.flow_laws.proofs.RisingBlocks.{blocks_rise}
+use Rattle.flow_laws.proofs.lines.lines_of_blocks_rise.Goals as goal
+
+pub returns : goal.returns
+returns c = blocks_rise

@@ -1,0 +1,5 @@
+use Rattle.flow_laws.proofs.FirstFault.{one_first}
+use Rattle.flow_laws.proofs.order.a_tape_has_one_first_fault.Goals as goal
+
+pub returns : goal.returns
+returns c = one_first

@@ -1,0 +1,5 @@
+use Rattle.move_list.proofs.Streams.{later_moves}
+use Rattle.move_list.proofs.laws.law_of_later_moves.Goals as goal
+
+pub returns : goal.returns
+returns c = later_moves

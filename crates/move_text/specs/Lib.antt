@@ -1,0 +1,2 @@
+pub mod MoveText
+pub mod Pieces
