@@ -12,6 +12,7 @@ mod labelled;
 mod laws;
 mod list;
 mod listing;
+mod ordered;
 mod piece;
 
 pub use comparison::compare;
@@ -23,3 +24,4 @@ pub use laws::{
 };
 pub use list::LabelList;
 pub use listing::labels;
+pub use ordered::labels_of_order;

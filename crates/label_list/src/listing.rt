@@ -249,7 +249,10 @@ fn with_start(piece: Piece) -> Result<Vec<Labelled>, Failing<PairFault>>
 }
 
 /// The labels of the main program, and of what follows its M99.
-fn main_labels(alloc: Global, order: &BlockOrder) -> Result<Vec<Labelled>, Failing<PairFault>>
+pub(crate) fn main_labels(
+    alloc: Global,
+    order: &BlockOrder,
+) -> Result<Vec<Labelled>, Failing<PairFault>>
     ensures list { IfOk result (λ labels. labels.items ≡ path_labels order.now) }
     ensures few { IfOk result (λ labels. length labels.items ≤ most_labels) }
     ensures many { IfErr result (λ error. IfFault error (IsListTooLong (path_labels order.now))) }

@@ -1,4 +1,6 @@
 pub mod Put
 pub mod Refused
 pub mod NotBoth
+pub mod OneRefusal
+pub mod SomeAnswer
 pub mod Named

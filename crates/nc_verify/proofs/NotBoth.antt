@@ -27,23 +27,23 @@ abbrev pub NotBoth : Type 0
 NotBoth = (waits : WaitCodes) (tape : List Program) (programs : List ProgramForm) (line number : ℕ)
     → IsAccepted waits tape programs → IsRefused waits tape line number → ⊥
 
-one_cell : (a b : Cell) (r : Result Cell ℕ) → r ≡ Ok a → r ≡ Ok b → a ≡ b
+pub one_cell : (a b : Cell) (r : Result Cell ℕ) → r ≡ Ok a → r ≡ Ok b → a ≡ b
 one_cell a b r p q = let e : ◌≡◌ {A = Result Cell ℕ} (Ok a) (Ok b) = sym p ∙ q in cc
 
-one_tape : (a b : List Program) (r : Result (List Program) TextFault) → r ≡ Ok a → r ≡ Ok b → a ≡ b
+pub one_tape : (a b : List Program) (r : Result (List Program) TextFault) → r ≡ Ok a → r ≡ Ok b → a ≡ b
 one_tape a b r p q = let e : ◌≡◌ {A = Result (List Program) TextFault} (Ok a) (Ok b) = sym p ∙ q in cc
 
 one_programs : (a b : List ProgramForm) (r : Result (List ProgramForm) FlowFault) → r ≡ Ok a → r ≡ Ok b → a ≡ b
 one_programs a b r p q = let e : ◌≡◌ {A = Result (List ProgramForm) FlowFault} (Ok a) (Ok b) = sym p ∙ q in cc
 
 -- a tape has one flow
-one_flow : (cell : Cell) (path : Path) (text : List ℕ) (a b : List ProgramForm) → IsFlowOf cell path text a → IsFlowOf cell path text b → a ≡ b
+pub one_flow : (cell : Cell) (path : Path) (text : List ℕ) (a b : List ProgramForm) → IsFlowOf cell path text a → IsFlowOf cell path text b → a ≡ b
 one_flow cell path text a b x y =
     let same : x.tape ≡ y.tape = one_tape x.tape y.tape (tape_of (skips_of path cell) text) x.reads y.reads in
     one_programs a b (programs_read (waits_in cell) y.tape)
     (subst (λ t. programs_read (waits_in cell) t ≡ Ok a) same x.accepted.reads) y.accepted.reads
 
-not_both_tape : NotBoth → (cell : Cell) (path : Path) (text : List ℕ) (programs : List ProgramForm) (refusal : Refusal)
+pub not_both_tape : NotBoth → (cell : Cell) (path : Path) (text : List ℕ) (programs : List ProgramForm) (refusal : Refusal)
     → IsFlowOf cell path text programs → IsTapeRefusal cell path text refusal → ⊥
 not_both_tape law cell path text programs refusal x (reading fault refused is) =
     absurd (let e : ◌≡◌ {A = Result (List Program) TextFault} (Ok x.tape) (Err fault) = sym x.reads ∙ refused in cc)
@@ -52,7 +52,7 @@ not_both_tape law cell path text programs refusal x (flow tape line number reads
     law (waits_in cell) tape programs line number (subst (λ t. IsAccepted (waits_in cell) t programs) same x.accepted) refused
 
 -- lists that agree, lines aside, have the same label everywhere
-same_label : (xs ys : List Labelled) (n : ℕ) (a b : Labelled) → bare xs ≡ bare ys → slice_get xs n ≡ Some a → slice_get ys n ≡ Some b
+pub same_label : (xs ys : List Labelled) (n : ℕ) (a b : Labelled) → bare xs ≡ bare ys → slice_get xs n ≡ Some a → slice_get ys n ≡ Some b
     → a.label ≡ b.label
 same_label [] ys n a b e p q = absurd cc
 same_label (x ∷ xs) [] n a b e p q = absurd cc

@@ -1,15 +1,27 @@
 -- Texts that are put in pieces.
-use Rattle.std.proofs.Common.{ℕ, ◌+◌, ◌≤◌, min, List, ◌++◌, length, take, Result, Ok, Err, sym, subst, ◌∙◌, arith}
+use Rattle.std.proofs.Common.{◌≡◌, ℕ, ◌+◌, ◌≤◌, min, List, ◌++◌, length, take, Result, Ok, Err, sym, subst, ◌∙◌, arith}
 use Rattle.std.proofs.KnownBytes.{Appends-trans}
 use Rattle.std.proofs.Math.Seq.{take-append-add}
 use Rattle.std.proofs.lemmas.List.{take-append-le, take_min}
 use Rattle.nc_outside.specs.declared.sink.PutFault.{PutFault}
-use Rattle.nc_outside.specs.Faults.{Rose}
+use Rattle.nc_outside.specs.declared.sink.PutFault.TheVariants.{Failed}
+use Rattle.nc_outside.specs.Faults.{Rose, CountsFault}
 use Rattle.nc_outside.specs.Written.{SinkState, Writes}
 use Rattle.nc_verify.specs.Printed.{IsPut}
 
 rose_before : (a b c : ℕ) → a ≤ b → Rose b c → Rose a c
 rose_before a b c le rose = omega arith
+
+-- a call that did not fail, and then another
+counts_on : (a b c : ℕ) {First Fails : Type 0} → (First → ⊥) → CountsFault a b First → CountsFault b c Fails → CountsFault a c Fails
+counts_on a b c calm one two = record {
+  later = omega (arith, one.later, two.later);
+  rose = λ failed. rose_before a b c one.later (two.rose failed);
+  kept = λ none. two.kept none ∙ one.kept calm;
+}
+
+put_well : ◌≡◌ {A = Result (Unit {0}) PutFault} (Ok tt) (Err Failed) → ⊥
+put_well clash = absurd cc
 
 -- a piece was put, and then another
 pub put_then : (a b c : SinkState) (front back : List ℕ) (result : Result (Unit {0}) PutFault)
@@ -18,7 +30,7 @@ put_then a b c front back (Ok x) one two = record {
   ok = Appends-trans a.written b.written c.written front back one.ok two.ok;
   err = tt;
   tells = two.tells ∙ one.tells;
-  fault = record { later = omega (arith, one.fault.later, two.fault.later); rose = λ failed. rose_before a.faults b.faults c.faults one.fault.later (two.fault.rose failed) };
+  fault = counts_on a.faults b.faults c.faults put_well one.fault two.fault;
 }
 put_then a b c front back (Err fault) one two = record {
   ok = tt;
@@ -28,7 +40,7 @@ put_then a b c front back (Err fault) one two = record {
         (Appends-trans a.written b.written c.written front (take two.err.0 back) one.ok two.err.1),
   );
   tells = two.tells ∙ one.tells;
-  fault = record { later = omega (arith, one.fault.later, two.fault.later); rose = λ failed. rose_before a.faults b.faults c.faults one.fault.later (two.fault.rose failed) };
+  fault = counts_on a.faults b.faults c.faults put_well one.fault two.fault;
 }
 
 -- the first piece was not put whole

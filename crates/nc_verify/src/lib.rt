@@ -12,7 +12,9 @@ mod verified;
 mod verifying;
 mod writing;
 
-pub use laws::accepted_texts_are_not_refused;
+pub use laws::{
+    accepted_texts_are_not_refused, no_texts_are_without_an_answer, texts_have_one_refusal,
+};
 pub use refusal::Refusal;
 pub use verified::Verified;
 pub use verifying::verdict;
