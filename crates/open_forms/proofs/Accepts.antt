@@ -1,0 +1,566 @@
+-- No open refusal holds of a block of words that reads in full.
+use Rattle.std.proofs.Common.{◌≡◌, ℕ, Bool, true, false, cond, not, ◌&&◌, ◌||◌, ◌*◌, ◌==◌, List, [], ℤ, pos, Option, Some, None, refl, sym, ◌∙◌, ap, subst}
+use Rattle.std.specs.Prelude.{codes, if◌then◌else◌}
+use Rattle.std.specs.List.{list_any, list_all, filter_map}
+use Rattle.nc_number.specs.declared.cause.Cause.TheVariants.{TooManyDigits, NotFixed, UnknownCode, WaitNotAlone, WaitPaths, TwoM, BadCall, AxisTwice, WordRange}
+use Rattle.nc_text.specs.declared.tape.Word.{Word}
+use Rattle.code_tables.specs.declared.row.Row.{Row}
+use Rattle.code_tables.specs.SystemA.{system_a_rows}
+use Rattle.code_tables.specs.declared.kind.CodeKind.{CodeKind}
+use Rattle.code_tables.specs.declared.kind.CodeKind.TheVariants as kind
+use Rattle.block_forms.specs.declared.waits.WaitCodes.{WaitCodes}
+use Rattle.block_forms.specs.declared.word.FlowWord.{FlowWord}
+use Rattle.block_forms.specs.declared.purpose.Purpose.{Purpose}
+use Rattle.block_forms.specs.declared.purpose.Purpose.TheVariants as purpose
+use Rattle.block_forms.specs.Words as read
+use Rattle.block_forms.specs.Codes.{gives, is_dwell, is_setting, is_macro_call, has_code, one_shot, purpose_by, purpose_of}
+use Rattle.block_forms.specs.Codes as read_codes
+use Rattle.block_forms.specs.declared.range.Range.TheVariants.{Between}
+use Rattle.block_forms.specs.Ranges.{range_of, is_in_range}
+use Rattle.block_forms.specs.Controls.{end_or_next, control_of_words, control_by as full_control_by}
+use Rattle.block_forms.specs.Refusals as closed
+use Rattle.open_forms.specs.declared.role.Role.{Role}
+use Rattle.open_forms.specs.declared.role.Role.TheVariants as role
+use Rattle.open_forms.specs.Words.{words_of, has_computed, numbers_of}
+use Rattle.open_forms.specs.Controls.{control_by}
+use Rattle.open_forms.specs.Codes.{is_g, g_values, has_g, m_codes, has_m, has_wait, is_refused_g, is_refused_m, is_macro, cycle_of, role_of}
+use Rattle.open_forms.specs.Refusals.{fixed_letters, is_long, is_not_fixed, is_parameter, writes_parameters, is_beside_a_call, begins_macro_call, is_unknown_by, is_contour, is_crowded, is_unknown, waits_there, is_wait_not_alone, is_wait_of_others, has_two_m, uses_p, is_bad_call_by, is_bad_call, are_in, is_in_range_by, is_out_of_range, refusal_of}
+use Rattle.open_forms.specs.Widening.{names_interrupt}
+use Rattle.open_forms.proofs.ReadWords.{AreSaid, none, one_more, same_words_of, same_has, same_count, same_computed, none_long, same_numbers, same_last, same_row}
+use Rattle.open_forms.proofs.TableRows.{same_kind, macro_is, setting_is, same_takes, no_such_g, each_has_row}
+use Rattle.open_forms.proofs.AmongLetters.{neither, not_false, HaveRange, AreAmong, one_among, front_among, fewer_computed, none_of, none_computed, range_of_one, range_of_two, all_fit, all_within, within_more, no_parameters}
+
+and_false : (b : Bool) → (b && false) ≡ false
+and_false true = refl
+and_false false = refl
+
+or_true : (b : Bool) → (b || true) ≡ true
+or_true true = refl
+or_true false = refl
+
+-- no refusal of the full reading holds
+pub record IsAccepted (waits : WaitCodes) (words : List FlowWord) : Type 0 where
+  pub fixed : closed.is_not_fixed waits words ≡ false
+  pub known : closed.is_unknown words ≡ false
+  pub alone : closed.is_wait_not_alone waits words ≡ false
+  pub both : closed.is_wait_of_others waits words ≡ false
+  pub one_m : closed.has_two_m words ≡ false
+  pub good_call : closed.is_bad_call waits words ≡ false
+  pub ranges : closed.is_out_of_range waits words ≡ false
+
+pub accepted : (waits : WaitCodes) (words : List FlowWord) → closed.refusal_of waits words ≡ None → IsAccepted waits words
+accepted waits words e =
+    go (closed.is_not_fixed waits words) (closed.is_unknown words) (closed.is_wait_not_alone waits words) (closed.is_wait_of_others waits words) (closed.has_two_m words) (closed.is_bad_call waits words) (closed.has_axis_twice words) (closed.is_out_of_range waits words) refl refl refl refl refl refl refl e
+  where
+    go : (a b c d e f g h : Bool) → closed.is_not_fixed waits words ≡ a → closed.is_unknown words ≡ b → closed.is_wait_not_alone waits words ≡ c
+        → closed.is_wait_of_others waits words ≡ d → closed.has_two_m words ≡ e → closed.is_bad_call waits words ≡ f → closed.is_out_of_range waits words ≡ h
+        → (if a then Some NotFixed else if b then Some UnknownCode else if c then Some WaitNotAlone else if d then Some WaitPaths
+        else if e then Some TwoM else if f then Some BadCall else if g then Some AxisTwice else if h then Some WordRange else None) ≡ None
+        → IsAccepted waits words
+    go false false false false false false false false fixed known alone both one_m good ranges open_all =
+        record { fixed = fixed; known = known; alone = alone; both = both; one_m = one_m; good_call = good; ranges = ranges }
+    go true b c d e f g h _ _ _ _ _ _ _ open_all = absurd (cc)
+    go false true c d e f g h _ _ _ _ _ _ _ open_all = absurd (cc)
+    go false false true d e f g h _ _ _ _ _ _ _ open_all = absurd (cc)
+    go false false false true e f g h _ _ _ _ _ _ _ open_all = absurd (cc)
+    go false false false false true f g h _ _ _ _ _ _ _ open_all = absurd (cc)
+    go false false false false false true g h _ _ _ _ _ _ _ open_all = absurd (cc)
+    go false false false false false false true h _ _ _ _ _ _ _ open_all = absurd (cc)
+    go false false false false false false false true _ _ _ _ _ _ _ open_all = absurd (cc)
+
+-- what P and L are for beside no call and no wait
+abbrev pub is_left : Purpose → Bool
+is_left purpose.Dwell = true
+is_left purpose.Setting = true
+is_left purpose.Other = true
+is_left _ = false
+
+left : (k : Option CodeKind) → is_left (purpose_by k) ≡ true
+left None = refl
+left (Some kind.Rapid) = refl
+left (Some kind.Feed) = refl
+left (Some kind.ArcCw) = refl
+left (Some kind.ArcCcw) = refl
+left (Some kind.Thread) = refl
+left (Some kind.CycleTurn) = refl
+left (Some kind.CycleThread) = refl
+left (Some kind.CycleFace) = refl
+left (Some kind.Surface) = refl
+left (Some kind.Spindle) = refl
+left (Some kind.PerMin) = refl
+left (Some kind.PerRev) = refl
+left (Some kind.Inch) = refl
+left (Some kind.Metric) = refl
+left (Some kind.NoseOff) = refl
+left (Some kind.NoseOn) = refl
+left (Some kind.Work) = refl
+left (Some kind.Dwell) = refl
+left (Some kind.Setting) = refl
+left (Some kind.Home) = refl
+left (Some kind.Limit) = refl
+left (Some kind.Machine) = refl
+left (Some kind.MacroCall) = refl
+left (Some kind.Idle) = refl
+
+-- the role of the open reading beside the purpose of the full one
+pub data IsSame (words : List FlowWord) : Role → Purpose → Type 0 where
+  macro : gives is_macro_call words ≡ true → IsSame words role.MacroCall purpose.MacroCall
+  subprogram : gives is_macro_call words ≡ false → has_code 98 words ≡ true → IsSame words role.Subprogram purpose.Subprogram
+  returns : gives is_macro_call words ≡ false → has_code 99 words ≡ true → IsSame words role.Return purpose.Return
+  wait : gives is_macro_call words ≡ false → IsSame words role.Wait purpose.Wait
+  ends : (p : Purpose) → gives is_macro_call words ≡ false → (has_code 2 words || has_code 30 words) ≡ true → is_left p ≡ true
+      → IsSame words role.End p
+  onward : (p : Purpose) → gives is_macro_call words ≡ false → (has_code 2 words || has_code 30 words) ≡ false → is_left p ≡ true
+      → IsSame words role.Other p
+
+pub record HaveRole (waits : WaitCodes) (texts : List Word) (words : List FlowWord) : Type 0 where
+  pub role : Role
+  pub purpose : Purpose
+  pub role_is : role_of waits texts ≡ role
+  pub purpose_is : purpose_of waits words ≡ purpose
+  pub same : IsSame words role purpose
+
+left_plain : (p : Purpose) → is_left p ≡ true → read_codes.is_macro p ≡ false
+left_plain purpose.MacroCall e = absurd (cc)
+left_plain purpose.Subprogram e = refl
+left_plain purpose.Return e = refl
+left_plain purpose.Wait e = refl
+left_plain purpose.Dwell e = refl
+left_plain purpose.Setting e = refl
+left_plain purpose.Other e = refl
+
+pl_among : AreAmong (codes "PL") (codes "GNOPL")
+pl_among letter is = go (80 == letter) (76 == letter) is
+  where
+    go : (a b : Bool) → (a || (b || false)) ≡ true → ((71 == letter) || ((78 == letter) || ((79 == letter) || (a || (b || false))))) ≡ true
+    go a b e = rw e (last (71 == letter) (78 == letter) (79 == letter))
+      where
+        last : (x y z : Bool) → (x || (y || (z || true))) ≡ true
+        last true y z = refl
+        last false true z = refl
+        last false false true = refl
+        last false false false = refl
+
+module _ (waits : WaitCodes) (words : List FlowWord) where
+  left_leads : (p : Purpose) → is_left p ≡ true → full_control_by p waits words ≡ end_or_next words
+  left_leads purpose.MacroCall e = absurd (cc)
+  left_leads purpose.Subprogram e = absurd (cc)
+  left_leads purpose.Return e = absurd (cc)
+  left_leads purpose.Wait e = absurd (cc)
+  left_leads purpose.Dwell e = refl
+  left_leads purpose.Setting e = refl
+  left_leads purpose.Other e = refl
+
+module _ (waits : WaitCodes) (texts : List Word) (words : List FlowWord) (are : AreSaid texts words) (given : IsAccepted waits words) where
+  macro_same : is_macro texts ≡ gives is_macro_call words
+  macro_same = same_kind is_macro_call 65 macro_is _ _ (same_words_of (codes "G") texts words are)
+
+  setting_same : has_g 10000000 texts ≡ gives is_setting words
+  setting_same = same_kind is_setting 10 setting_is _ _ (same_words_of (codes "G") texts words are)
+
+  pub codes_same : m_codes texts ≡ read_codes.m_codes words
+  codes_same = same_numbers (codes "M") texts words are
+
+  -- outside macro calls the G codes are those of the table
+  g_plain : read.has_computed (codes "G") words ≡ false
+  g_plain = go (purpose_of waits words) given.fixed
+    where
+      go : (p : Purpose) → read.has_computed (closed.fixed_letters p) words ≡ false → read.has_computed (codes "G") words ≡ false
+      go purpose.MacroCall e = fewer_computed (codes "G") (codes "GNOPL") (one_among 71 (codes "GNOPL") refl) words e
+      go purpose.Subprogram e = fewer_computed (codes "G") (codes "GNOMPL") (one_among 71 (codes "GNOMPL") refl) words e
+      go purpose.Return e = fewer_computed (codes "G") (codes "GNOMPL") (one_among 71 (codes "GNOMPL") refl) words e
+      go purpose.Setting e = fewer_computed (codes "G") (codes "GNOML") (one_among 71 (codes "GNOML") refl) words e
+      go purpose.Wait e = fewer_computed (codes "G") (codes "GNOM") (one_among 71 (codes "GNOM") refl) words e
+      go purpose.Dwell e = fewer_computed (codes "G") (codes "GNOM") (one_among 71 (codes "GNOM") refl) words e
+      go purpose.Other e = fewer_computed (codes "G") (codes "GNOM") (one_among 71 (codes "GNOM") refl) words e
+
+  record IsKnown : Type 0 where
+    codes_are : list_any closed.is_unknown_code (read.words_of (codes "G") words) ≡ false
+    letters_are : list_any (λ (w : FlowWord). closed.is_unknown_letter words w.letter) words ≡ false
+
+  known_there : gives is_macro_call words ≡ false → IsKnown
+  known_there no_macro = go (gives is_macro_call words) refl given.known
+    where
+      go : (b : Bool) → gives is_macro_call words ≡ b
+          → cond b (not (closed.begins_macro_call words))
+          ((list_any closed.is_unknown_code (read.words_of (codes "G") words) || list_any (λ (w : FlowWord). closed.is_unknown_letter words w.letter) words)
+          || (closed.is_bad_limit words || closed.is_bad_machine words)) ≡ false → IsKnown
+      go true e all = absurd (cc)
+      go false e all = let both = neither _ _ (neither _ _ all).0 in record { codes_are = both.0; letters_are = both.1 }
+
+  no_g : gives is_macro_call words ≡ false → (p : ℤ → Bool) → list_all (λ (row : Row). not (p (pos (row.code * 1000000)))) system_a_rows ≡ true
+      → list_any p (g_values texts) ≡ false
+  no_g no_macro p all = no_such_g p all _ _ (same_words_of (codes "G") texts words are) (known_there no_macro).codes_are g_plain
+
+  no_cycle : gives is_macro_call words ≡ false → cycle_of texts ≡ role.Other
+  no_cycle no_macro =
+      rw (no_g no_macro (is_g 70000000) refl, no_g no_macro (is_g 71000000) refl, no_g no_macro (is_g 72000000) refl, no_g no_macro (is_g 73000000) refl) refl
+
+  pub roles : HaveRole waits texts words
+  roles =
+      go (gives is_macro_call words) (has_code 98 words) (has_code 99 words) (read_codes.has_wait waits words) (has_code 2 words || has_code 30 words)
+      refl refl refl refl refl
+    where
+      has_code_same : (code : ℕ) → has_m code texts ≡ has_code code words
+      has_code_same code = ap (list_any (λ own. own == code)) codes_same
+
+      wait_same : has_wait waits texts ≡ read_codes.has_wait waits words
+      wait_same = ap (list_any (read_codes.is_waiting waits)) codes_same
+
+      end_same : (has_m 2 texts || has_m 30 texts) ≡ (has_code 2 words || has_code 30 words)
+      end_same = rw (has_code_same 2, has_code_same 30) refl
+
+      go : (a b c d e : Bool) → gives is_macro_call words ≡ a → has_code 98 words ≡ b → has_code 99 words ≡ c → read_codes.has_wait waits words ≡ d
+          → (has_code 2 words || has_code 30 words) ≡ e → HaveRole waits texts words
+      go true b c d e is1 is2 is3 is4 is5 = record {
+        role = role.MacroCall;
+        purpose = purpose.MacroCall;
+        role_is = rw (macro_same, is1) refl;
+        purpose_is = rw is1 refl;
+        same = macro is1;
+      }
+      go false true c d e is1 is2 is3 is4 is5 = record {
+        role = role.Subprogram;
+        purpose = purpose.Subprogram;
+        role_is = rw (macro_same, is1, has_code_same 98, is2) refl;
+        purpose_is = rw (is1, is2) refl;
+        same = subprogram is1 is2;
+      }
+      go false false true d e is1 is2 is3 is4 is5 = record {
+        role = role.Return;
+        purpose = purpose.Return;
+        role_is = rw (macro_same, is1, has_code_same 98, is2, has_code_same 99, is3) refl;
+        purpose_is = rw (is1, is2, is3) refl;
+        same = returns is1 is3;
+      }
+      go false false false true e is1 is2 is3 is4 is5 = record {
+        role = role.Wait;
+        purpose = purpose.Wait;
+        role_is = rw (macro_same, is1, has_code_same 98, is2, has_code_same 99, is3, wait_same, is4) refl;
+        purpose_is = rw (is1, is2, is3, is4) refl;
+        same = wait is1;
+      }
+      go false false false false true is1 is2 is3 is4 is5 = record {
+        role = role.End;
+        purpose = purpose_by (one_shot words);
+        role_is = rw (macro_same, is1, has_code_same 98, is2, has_code_same 99, is3, wait_same, is4, end_same, is5) refl;
+        purpose_is = rw (is1, is2, is3, is4) refl;
+        same = ends (purpose_by (one_shot words)) is1 is5 (left (one_shot words));
+      }
+      go false false false false false is1 is2 is3 is4 is5 = record {
+        role = role.Other;
+        purpose = purpose_by (one_shot words);
+        role_is = rw (macro_same, is1, has_code_same 98, is2, has_code_same 99, is3, wait_same, is4, end_same, is5) (no_cycle is1);
+        purpose_is = rw (is1, is2, is3, is4) refl;
+        same = onward (purpose_by (one_shot words)) is1 is5 (left (one_shot words));
+      }
+
+  -- what the refusals of calls leave
+  not_macro : (p : Purpose) → purpose_of waits words ≡ p → read_codes.is_macro p ≡ false → gives is_macro_call words ≡ false
+  not_macro p is other = go (gives is_macro_call words) refl
+    where
+      go : (b : Bool) → gives is_macro_call words ≡ b → b ≡ false
+      go false e = refl
+      go true e =
+          let own : purpose_of waits words ≡ purpose.MacroCall = rw e refl in
+          let same : p ≡ purpose.MacroCall = sym is ∙ own in
+          let apart : read_codes.is_macro purpose.MacroCall ≡ false = subst (λ q. read_codes.is_macro q ≡ false) same other in
+          absurd (cc)
+
+  good_block : (p : Purpose) → purpose_of waits words ≡ p → gives is_macro_call words ≡ false → closed.is_bad_block p words ≡ false
+  good_block p is no_macro = go (gives is_macro_call words) no_macro given.good_call
+    where
+      go : (b : Bool) → b ≡ false → cond b (closed.is_bad_macro_call words) (closed.is_bad_block (purpose_of waits words) words) ≡ false
+          → closed.is_bad_block p words ≡ false
+      go true e all = absurd (cc)
+      go false e all = subst (λ q. closed.is_bad_block q words ≡ false) is all
+
+  not_crowded : (p : Purpose) → purpose_of waits words ≡ p → gives is_macro_call words ≡ false → closed.is_crowded_call words ≡ false
+  not_crowded p is no_macro = (neither _ _ (neither _ _ (good_block p is no_macro)).0).1
+
+  l_free : (p : Purpose) → purpose_of waits words ≡ p → gives is_macro_call words ≡ false → closed.is_idle_l p ≡ true → read.has (codes "L") words ≡ false
+  l_free p is no_macro idle = go (read.has (codes "L") words) (closed.is_idle_l p) idle (neither _ _ (neither _ _ (good_block p is no_macro)).1).1
+    where
+      go : (a b : Bool) → b ≡ true → (a && b) ≡ false → a ≡ false
+      go false b e all = refl
+      go true true e all = absurd (cc)
+      go true false e all = absurd (cc)
+
+  fixed_by : (p : Purpose) → purpose_of waits words ≡ p → read.has_computed (closed.fixed_letters p) words ≡ false
+  fixed_by p is = subst (λ q. read.has_computed (closed.fixed_letters q) words ≡ false) is given.fixed
+
+  l_plain : (p : Purpose) → purpose_of waits words ≡ p → read.has_computed (codes "L") words ≡ false
+  l_plain purpose.MacroCall is = fewer_computed (codes "L") (codes "GNOPL") (one_among 76 (codes "GNOPL") refl) words (fixed_by purpose.MacroCall is)
+  l_plain purpose.Subprogram is = fewer_computed (codes "L") (codes "GNOMPL") (one_among 76 (codes "GNOMPL") refl) words (fixed_by purpose.Subprogram is)
+  l_plain purpose.Return is = fewer_computed (codes "L") (codes "GNOMPL") (one_among 76 (codes "GNOMPL") refl) words (fixed_by purpose.Return is)
+  l_plain purpose.Setting is = fewer_computed (codes "L") (codes "GNOML") (one_among 76 (codes "GNOML") refl) words (fixed_by purpose.Setting is)
+  l_plain purpose.Wait is = none_computed (codes "L") words (l_free purpose.Wait is (not_macro purpose.Wait is refl) refl)
+  l_plain purpose.Dwell is = none_computed (codes "L") words (l_free purpose.Dwell is (not_macro purpose.Dwell is refl) refl)
+  l_plain purpose.Other is = none_computed (codes "L") words (l_free purpose.Other is (not_macro purpose.Other is refl) refl)
+
+  p_plain : (p : Purpose) → purpose_of waits words ≡ p → read.is_one_of (closed.fixed_letters p) 80 ≡ true → read.has_computed (codes "P") words ≡ false
+  p_plain p is there = fewer_computed (codes "P") (closed.fixed_letters p) (one_among 80 (closed.fixed_letters p) there) words (fixed_by p is)
+
+  -- 54
+  plain_by : (p : Purpose) → is_left p ≡ true → read.has_computed (closed.fixed_letters p) words ≡ false → read.has_computed (codes "GNOM") words ≡ false
+  plain_by purpose.Dwell kind e = e
+  plain_by purpose.Other kind e = e
+  plain_by purpose.Setting kind e = fewer_computed (codes "GNOM") (codes "GNOML") (front_among (codes "GNOM") (codes "L")) words e
+  plain_by purpose.MacroCall kind e = absurd (cc)
+  plain_by purpose.Subprogram kind e = absurd (cc)
+  plain_by purpose.Return kind e = absurd (cc)
+  plain_by purpose.Wait kind e = absurd (cc)
+
+  letters_plain : (r : Role) (p : Purpose) → IsSame words r p → read.has_computed (closed.fixed_letters p) words ≡ false → has_computed (fixed_letters r) texts ≡ false
+  letters_plain _ _ (macro is) e = same_computed (codes "GNOPL") texts words are ∙ e
+  letters_plain _ _ (subprogram apart is) e = same_computed (codes "GNOMPL") texts words are ∙ e
+  letters_plain _ _ (returns apart is) e = same_computed (codes "GNOMPL") texts words are ∙ e
+  letters_plain _ _ (wait apart) e = same_computed (codes "GNOM") texts words are ∙ e
+  letters_plain _ _ (ends p apart is kind) e = same_computed (codes "GNOM") texts words are ∙ plain_by p kind e
+  letters_plain _ _ (onward p apart is kind) e = same_computed (codes "GNOM") texts words are ∙ plain_by p kind e
+
+  fixed_there : HaveRole waits texts words → is_not_fixed waits texts ≡ false
+  fixed_there r =
+      let letters : has_computed (fixed_letters (role_of waits texts)) texts ≡ false =
+      subst (λ q. has_computed (fixed_letters q) texts ≡ false) (sym r.role_is) (letters_plain r.role r.purpose r.same (fixed_by r.purpose r.purpose_is)) in
+      let l_alone : has_computed (codes "L") texts ≡ false = same_computed (codes "L") texts words are ∙ l_plain r.purpose r.purpose_is in
+      rw (letters, l_alone) (and_false (has_g 10000000 texts))
+
+  -- 56
+  begins_same : (texts : List Word) (words : List FlowWord) → AreSaid texts words → begins_macro_call texts ≡ closed.begins_macro_call words
+  begins_same _ _ none = refl
+  begins_same _ _ (one_more text word texts words is further) =
+      rw (is.letter, same_row text word is, same_has (codes "GNO") texts words further) refl
+
+  sets_nothing : (p : Purpose) → purpose_of waits words ≡ p → gives is_macro_call words ≡ false → (has_code 98 words || has_code 99 words) ≡ true
+      → (gives is_dwell words ≡ false) × (gives is_setting words ≡ false)
+  sets_nothing p is no_macro call = neither _ _ (go (has_code 98 words || has_code 99 words) call (not_crowded p is no_macro))
+    where
+      go : (b : Bool) → b ≡ true → (b && (gives is_dwell words || gives is_setting words)) ≡ false → (gives is_dwell words || gives is_setting words) ≡ false
+      go true e all = all
+      go false e all = absurd (cc)
+
+  l_numbers : (p : Purpose) → purpose_of waits words ≡ p → closed.is_idle_l p ≡ true → gives is_macro_call words ≡ false → list_any is_parameter (numbers_of (codes "L") texts) ≡ false
+  l_numbers p is idle no_macro =
+      let none_there : read.words_of (codes "L") words ≡ [] = none_of (codes "L") words (l_free p is no_macro idle) in
+      same_any (same_numbers (codes "L") texts words are) none_there
+    where
+      same_any : numbers_of (codes "L") texts ≡ filter_map (λ (w : FlowWord). read_codes.natural (read.whole_value w.value)) (read.words_of (codes "L") words)
+          → read.words_of (codes "L") words ≡ [] → list_any is_parameter (numbers_of (codes "L") texts) ≡ false
+      same_any e empty = rw (e, empty) refl
+
+  setting_numbers : purpose_of waits words ≡ purpose.Setting → list_any is_parameter (numbers_of (codes "L") texts) ≡ false
+  setting_numbers is =
+      let ranges : list_any (λ (w : FlowWord). not (is_in_range purpose.Setting w)) words ≡ false =
+      subst (λ q. list_any (λ (w : FlowWord). not (is_in_range q w)) words ≡ false) is given.ranges in
+      no_parameters _ _ (same_words_of (codes "L") texts words are)
+      (all_fit purpose.Setting 2 2 (codes "L") (range_of_one purpose.Setting 2 2 76 refl) words ranges)
+
+  by_left : (p : Purpose) → purpose_of waits words ≡ p → is_left p ≡ true → gives is_macro_call words ≡ false → list_any is_parameter (numbers_of (codes "L") texts) ≡ false
+  by_left purpose.Setting is kind apart = setting_numbers is
+  by_left purpose.Dwell is kind apart = l_numbers purpose.Dwell is refl apart
+  by_left purpose.Other is kind apart = l_numbers purpose.Other is refl apart
+  by_left purpose.MacroCall is kind apart = absurd (cc)
+  by_left purpose.Subprogram is kind apart = absurd (cc)
+  by_left purpose.Return is kind apart = absurd (cc)
+  by_left purpose.Wait is kind apart = absurd (cc)
+
+  no_writing : (r : Role) (p : Purpose) → IsSame words r p → purpose_of waits words ≡ p → gives is_macro_call words ≡ false → writes_parameters texts ≡ false
+  no_writing _ _ (macro held) is apart = absurd (cc)
+  no_writing _ _ (subprogram apart held) is _ = rw (setting_same, (sets_nothing purpose.Subprogram is apart (rw held refl)).1) refl
+  no_writing _ _ (returns apart held) is _ = rw (setting_same, (sets_nothing purpose.Return is apart (rw held (or_true (has_code 98 words)))).1) refl
+  no_writing _ _ (wait apart) is _ = rw (l_numbers purpose.Wait is refl apart) (and_false (has_g 10000000 texts))
+  no_writing _ _ (ends p apart held kind) is _ = rw (by_left p is kind apart) (and_false (has_g 10000000 texts))
+  no_writing _ _ (onward p apart held kind) is _ = rw (by_left p is kind apart) (and_false (has_g 10000000 texts))
+
+  elsewhere : gives is_macro_call words ≡ false → names_interrupt waits texts ≡ false → writes_parameters texts ≡ false
+      → ((list_any is_refused_g (g_values texts) || list_any (is_refused_m waits) (m_codes texts)) || writes_parameters texts) ≡ false
+  elsewhere apart plain writes =
+      rw (no_g apart is_refused_g refl, go (is_macro texts) (list_any (is_refused_m waits) (m_codes texts)) (macro_same ∙ apart) plain, writes) refl
+    where
+      go : (a b : Bool) → a ≡ false → (not a && b) ≡ false → b ≡ false
+      go true b e all = absurd (cc)
+      go false b e all = all
+
+  unknown_by : (r : Role) (p : Purpose) → IsSame words r p → purpose_of waits words ≡ p → names_interrupt waits texts ≡ false → is_unknown_by r waits texts ≡ false
+  unknown_by r p (macro held) is plain = rw (begins_same texts words are) (go (gives is_macro_call words) held given.known)
+    where
+      go : (b : Bool) → b ≡ true → cond b (not (closed.begins_macro_call words))
+          ((list_any closed.is_unknown_code (read.words_of (codes "G") words) || list_any (λ (w : FlowWord). closed.is_unknown_letter words w.letter) words)
+          || (closed.is_bad_limit words || closed.is_bad_machine words)) ≡ false → not (closed.begins_macro_call words) ≡ false
+      go true e all = all
+      go false e all = absurd (cc)
+  unknown_by r p (subprogram apart held) is plain = elsewhere apart plain (no_writing r p (subprogram apart held) is apart)
+  unknown_by r p (returns apart held) is plain = elsewhere apart plain (no_writing r p (returns apart held) is apart)
+  unknown_by r p (wait apart) is plain = elsewhere apart plain (no_writing r p (wait apart) is apart)
+  unknown_by r p (ends q apart held kind) is plain = elsewhere apart plain (no_writing r p (ends q apart held kind) is apart)
+  unknown_by r p (onward q apart held kind) is plain = elsewhere apart plain (no_writing r p (onward q apart held kind) is apart)
+
+  letters_beside : (texts : List Word) (own : List FlowWord) → AreSaid texts own → gives is_setting words ≡ false
+      → list_any (λ (w : FlowWord). closed.is_unknown_letter words w.letter) own ≡ false
+      → list_all (λ (t : Word). read.is_one_of (codes "XZUWIKRFSTNOMGPLABCEVY") t.letter) texts ≡ true
+  letters_beside _ _ none apart all = refl
+  letters_beside _ _ (one_more text word texts own is further) apart all =
+      let both = neither _ _ all in
+      let here : (read.is_one_of (codes "XZUWIKRFSTNOMGPL") word.letter || (read.is_one_of (codes "Q") word.letter && gives is_setting words)) ≡ true = not_false _ both.0 in
+      let letter : read.is_one_of (codes "XZUWIKRFSTNOMGPLABCEVY") text.letter ≡ true =
+      front_among (codes "XZUWIKRFSTNOMGPL") (codes "ABCEVY") text.letter
+      (subst (λ l. read.is_one_of (codes "XZUWIKRFSTNOMGPL") l ≡ true) is.letter (first (read.is_one_of (codes "XZUWIKRFSTNOMGPL") word.letter) (read.is_one_of (codes "Q") word.letter) (gives is_setting words) apart here)) in
+      rw letter (letters_beside texts own further apart both.1)
+    where
+      first : (a b c : Bool) → c ≡ false → (a || (b && c)) ≡ true → a ≡ true
+      first true b c e all = refl
+      first false true true e all = absurd (cc)
+      first false true false e all = absurd (cc)
+      first false false c e all = absurd (cc)
+
+  beside_call : (p : Purpose) → purpose_of waits words ≡ p → gives is_macro_call words ≡ false → (has_code 98 words || has_code 99 words) ≡ true
+      → not (is_beside_a_call texts) ≡ false
+  beside_call p is apart call =
+      let known = known_there apart in
+      let letters = letters_beside texts words are (sets_nothing p is apart call).1 known.letters_are in
+      let have_rows = each_has_row _ _ (same_words_of (codes "G") texts words are) known.codes_are g_plain in
+      rw (letters, have_rows) refl
+
+  crowded_by : (r : Role) (p : Purpose) → IsSame words r p → purpose_of waits words ≡ p → is_crowded r texts ≡ false
+  crowded_by _ _ (macro held) is = refl
+  crowded_by _ _ (subprogram apart held) is = beside_call purpose.Subprogram is apart (rw held refl)
+  crowded_by _ _ (returns apart held) is = beside_call purpose.Return is apart (rw held (or_true (has_code 98 words)))
+  crowded_by _ _ (wait apart) is = refl
+  crowded_by _ _ (ends p apart held kind) is = ap is_contour (no_cycle apart)
+  crowded_by _ _ (onward p apart held kind) is = refl
+
+  known_codes : HaveRole waits texts words → names_interrupt waits texts ≡ false → is_unknown waits texts ≡ false
+  known_codes r plain =
+      subst (λ q. (is_unknown_by q waits texts || is_crowded q texts) ≡ false) (sym r.role_is)
+      (rw (unknown_by r.role r.purpose r.same r.purpose_is plain, crowded_by r.role r.purpose r.same r.purpose_is) refl)
+
+  -- 57, 58, 59
+  there_same : waits_there waits texts ≡ closed.waits_there waits words
+  there_same = rw (macro_same, codes_same) refl
+
+  alone_there : is_wait_not_alone waits texts ≡ false
+  alone_there = rw (there_same, same_count (codes "ABCDEFGHIJKLMNOQRSTUVWXYZ") texts words are) (given.alone)
+
+  both_there : is_wait_of_others waits texts ≡ false
+  both_there =
+      rw (there_same, same_has (codes "P") texts words are, same_computed (codes "P") texts words are, same_last (codes "P") texts words are) (given.both)
+
+  one_m_there : has_two_m texts ≡ false
+  one_m_there = rw (macro_same, same_count (codes "M") texts words are, given.one_m) refl
+
+  -- 61
+  takes_nothing : (p : Purpose) → purpose_of waits words ≡ p → gives is_macro_call words ≡ false → (has_code 98 words || has_code 99 words) ≡ true → uses_p texts ≡ false
+  takes_nothing p is apart call =
+      let nothing = sets_nothing p is apart call in
+      same_takes _ _ (same_words_of (codes "G") texts words are) ∙ (rw (nothing.0, nothing.1) refl)
+
+  bad_call_by : (r : Role) (p : Purpose) → IsSame words r p → purpose_of waits words ≡ p → is_bad_call_by r texts ≡ false
+  bad_call_by _ _ (macro held) is = rw (same_has (codes "P") texts words are) (go (gives is_macro_call words) held given.good_call)
+    where
+      go : (b : Bool) → b ≡ true → cond b (closed.is_bad_macro_call words) (closed.is_bad_block (purpose_of waits words) words) ≡ false
+          → not (read.has (codes "P") words) ≡ false
+      go true e all = (neither _ _ all).0
+      go false e all = absurd (cc)
+  bad_call_by _ _ (subprogram apart held) is =
+      let good = neither (not (read.has (codes "P") words)) (closed.has_repeats words && read.has (codes "L") words)
+      (neither _ _ (neither _ _ (good_block purpose.Subprogram is apart)).0).0 in
+      rw (same_has (codes "P") texts words are, takes_nothing purpose.Subprogram is apart (rw held refl), same_last (codes "P") texts words are, same_has (codes "L") texts words are, good.0, good.1) refl
+  bad_call_by _ _ (returns apart held) is =
+      rw (same_has (codes "L") texts words are, l_free purpose.Return is apart refl, takes_nothing purpose.Return is apart (rw held (or_true (has_code 98 words)))) refl
+  bad_call_by _ _ (wait apart) is = refl
+  bad_call_by _ _ (ends p apart held kind) is = refl
+  bad_call_by _ _ (onward p apart held kind) is = refl
+
+  good_there : HaveRole waits texts words → is_bad_call waits texts ≡ false
+  good_there r = subst (λ q. is_bad_call_by q texts ≡ false) (sym r.role_is) (bad_call_by r.role r.purpose r.same r.purpose_is)
+
+  -- 64
+  ranges_by : (p : Purpose) → purpose_of waits words ≡ p → list_any (λ (w : FlowWord). not (is_in_range p w)) words ≡ false
+  ranges_by p is = subst (λ q. list_any (λ (w : FlowWord). not (is_in_range q w)) words ≡ false) is given.ranges
+
+  within : (p : Purpose) (least greatest : ℕ) (letters : List ℕ) → purpose_of waits words ≡ p → HaveRange p least greatest letters
+      → read.has_computed letters words ≡ false → are_in least greatest letters texts ≡ true
+  within p least greatest letters is range plain =
+      all_within least greatest _ _ (same_words_of letters texts words are) (all_fit p least greatest letters range words (ranges_by p is)) plain
+
+  range_by : (r : Role) (p : Purpose) → IsSame words r p → purpose_of waits words ≡ p → is_in_range_by r texts ≡ true
+  range_by _ _ (macro held) is =
+      within purpose.MacroCall 1 9999 (codes "PL") is (range_of_two purpose.MacroCall 1 9999 80 76 refl refl)
+      (fewer_computed (codes "PL") (codes "GNOPL") pl_among words (fixed_by purpose.MacroCall is))
+  range_by _ _ (subprogram apart held) is =
+      rw (within purpose.Subprogram 1 99999999 (codes "P") is (range_of_one purpose.Subprogram 1 99999999 80 refl) (p_plain purpose.Subprogram is refl))
+      (within purpose.Subprogram 1 9999 (codes "L") is (range_of_one purpose.Subprogram 1 9999 76 refl) (l_plain purpose.Subprogram is))
+  range_by _ _ (returns apart held) is =
+      within purpose.Return 1 99999 (codes "P") is (range_of_one purpose.Return 1 99999 80 refl) (p_plain purpose.Return is refl)
+  range_by _ _ (wait apart) is = refl
+  range_by _ _ (ends p apart held kind) is = refl
+  range_by _ _ (onward p apart held kind) is = refl
+
+  m_plain : (p : Purpose) → purpose_of waits words ≡ p → read_codes.is_macro p ≡ false → read.has_computed (codes "M") words ≡ false
+  m_plain p is other = fewer_computed (codes "M") (closed.fixed_letters p) (one_among 77 (closed.fixed_letters p) (there p other)) words (fixed_by p is)
+    where
+      there : (p : Purpose) → read_codes.is_macro p ≡ false → read.is_one_of (closed.fixed_letters p) 77 ≡ true
+      there purpose.MacroCall e = absurd (cc)
+      there purpose.Subprogram e = refl
+      there purpose.Return e = refl
+      there purpose.Wait e = refl
+      there purpose.Dwell e = refl
+      there purpose.Setting e = refl
+      there purpose.Other e = refl
+
+  m_within : (p : Purpose) → purpose_of waits words ≡ p → read_codes.is_macro p ≡ false → are_in 0 99999999 (codes "M") texts ≡ true
+  m_within p is other =
+      within_more 0 999 99999999 refl (words_of (codes "M") texts)
+      (within p 0 999 (codes "M") is (range_of_one p 0 999 77 (range_m p other)) (m_plain p is other))
+    where
+      range_m : (p : Purpose) → read_codes.is_macro p ≡ false → range_of p 77 ≡ Between 0 999
+      range_m purpose.MacroCall e = absurd (cc)
+      range_m purpose.Subprogram e = refl
+      range_m purpose.Return e = refl
+      range_m purpose.Wait e = refl
+      range_m purpose.Dwell e = refl
+      range_m purpose.Setting e = refl
+      range_m purpose.Other e = refl
+
+  m_by : (r : Role) (p : Purpose) → IsSame words r p → purpose_of waits words ≡ p → (not (is_macro texts) && not (are_in 0 99999999 (codes "M") texts)) ≡ false
+  m_by _ _ (macro held) is = rw (macro_same, held) refl
+  m_by _ p (subprogram apart held) is = rw (m_within p is refl) (and_false (not (is_macro texts)))
+  m_by _ p (returns apart held) is = rw (m_within p is refl) (and_false (not (is_macro texts)))
+  m_by _ p (wait apart) is = rw (m_within p is refl) (and_false (not (is_macro texts)))
+  m_by _ p (ends q apart held kind) is = rw (m_within p is (left_plain q kind)) (and_false (not (is_macro texts)))
+  m_by _ p (onward q apart held kind) is = rw (m_within p is (left_plain q kind)) (and_false (not (is_macro texts)))
+
+  ranges_there : HaveRole waits texts words → is_out_of_range waits texts ≡ false
+  ranges_there r =
+      let own : is_in_range_by (role_of waits texts) texts ≡ true =
+      subst (λ q. is_in_range_by q texts ≡ true) (sym r.role_is) (range_by r.role r.purpose r.same r.purpose_is) in
+      rw (own, m_by r.role r.purpose r.same r.purpose_is) refl
+
+  pub no_refusal : names_interrupt waits texts ≡ false → refusal_of waits texts ≡ None
+  no_refusal plain =
+      let r = roles in
+      let long : is_long waits texts ≡ false =
+      rw (none_long (fixed_letters (role_of waits texts)) texts words are, none_long (codes "L") texts words are) (and_false (has_g 10000000 texts)) in
+      all_false (is_long waits texts) (is_not_fixed waits texts) (is_unknown waits texts) (is_wait_not_alone waits texts) (is_wait_of_others waits texts) (has_two_m texts) (is_bad_call waits texts) (is_out_of_range waits texts)
+      long (fixed_there r) (known_codes r plain) alone_there both_there one_m_there (good_there r) (ranges_there r)
+    where
+      all_false : (a b c d e f g h : Bool) → a ≡ false → b ≡ false → c ≡ false → d ≡ false → e ≡ false → f ≡ false → g ≡ false → h ≡ false
+          → (if a then Some TooManyDigits else if b then Some NotFixed else if c then Some UnknownCode else if d then Some WaitNotAlone else if e then Some WaitPaths
+          else if f then Some TwoM else if g then Some BadCall else if h then Some WordRange else None) ≡ None
+      all_false a b c d e f g h is1 is2 is3 is4 is5 is6 is7 is8 = rw (is1, is2, is3, is4, is5, is6, is7, is8) refl
+
+  -- where it leads
+  leads_by : (r : Role) (p : Purpose) → IsSame words r p → control_by r waits texts ≡ full_control_by p waits words
+  leads_by _ _ (macro held) = rw (same_last (codes "P") texts words are, same_last (codes "L") texts words are) refl
+  leads_by _ _ (subprogram apart held) = rw (same_last (codes "P") texts words are, same_last (codes "L") texts words are) refl
+  leads_by _ _ (returns apart held) = rw (same_last (codes "P") texts words are) refl
+  leads_by _ _ (wait apart) = rw codes_same refl
+  leads_by _ _ (ends p apart held kind) = sym (left_leads waits words p kind ∙ (rw held refl))
+  leads_by _ _ (onward p apart held kind) = sym (left_leads waits words p kind ∙ (rw held refl))
+
+  pub leads_there : control_by (role_of waits texts) waits texts ≡ control_of_words waits words
+  leads_there =
+      let r = roles in
+      ap (λ q. control_by q waits texts) r.role_is ∙ leads_by r.role r.purpose r.same
+      ∙ ap (λ q. full_control_by q waits words) (sym r.purpose_is)

@@ -1,0 +1,26 @@
+-- The last word of a letter, word by word.
+use Rattle.std.proofs.Common.{◌≡◌, ℕ, ◌+◌, ◌<◌, Bool, true, false, cond, List, [], ◌∷◌, ◌++◌, length, get_or, take, Some, append-nil, refl, ap}
+use Rattle.std.proofs.lemmas.List.Elements.{filter-append}
+use Rattle.std.proofs.lemmas.List.{take_more}
+use Rattle.code_tables.specs.Codes.{last_of}
+use Rattle.nc_text.specs.declared.tape.Word.{Word}
+use Rattle.block_forms.specs.Words.{is_one_of}
+use Rattle.open_forms.specs.Words.{words_of, number, number_of_last, last_number}
+
+-- the last of a list with one more is that one
+last_of_push : {X : Type 0} (xs : List X) (x : X) → last_of (xs ++ x ∷ []) ≡ Some x
+last_of_push [] x = refl
+last_of_push (y ∷ ys) x = rw (last_of_push ys x) refl
+
+last_number_push : (letters : List ℕ) (words : List Word) (word : Word) → last_number letters (words ++ word ∷ []) ≡ cond (is_one_of letters word.letter) (number word) (last_number letters words)
+last_number_push letters words word =
+    rw (filter-append (λ (w : Word). is_one_of letters w.letter) words (word ∷ [])) (go (is_one_of letters word.letter) (words_of letters words))
+  where
+    go : (b : Bool) (before : List Word) → number_of_last (last_of (before ++ cond b (word ∷ []) [])) ≡ cond b (number word) (number_of_last (last_of before))
+    go true before = rw (last_of_push before word) refl
+    go false before = ap (λ ws. number_of_last (last_of ws)) (append-nil before)
+
+-- a loop over words, at one word more
+pub last_number_more : (letters : List ℕ) (words : List Word) (i : ℕ) (d : Word) → i < length words → last_number letters (take (i + 1) words) ≡ cond (is_one_of letters (get_or words i d).letter) (number (get_or words i d)) (last_number letters (take i words))
+last_number_more letters words i d lt =
+    rw (take_more words i d lt) (last_number_push letters (take i words) (get_or words i d))

@@ -1,0 +1,11 @@
+pub mod Prefixes
+pub mod LastWord
+pub mod Calm
+pub mod Sentences
+pub mod ReadWords
+pub mod TableRows
+pub mod AmongLetters
+pub mod LastWithin
+pub mod Accepts
+pub mod Widened
+pub mod CleanStatements

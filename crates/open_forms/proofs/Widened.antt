@@ -1,0 +1,99 @@
+-- A block that reads in full leads where its open reading says.
+use Rattle.std.proofs.Common.{◌≡◌, ℕ, false, Bool, true, cond, List, Option, Some, None, Result, Ok, Err, refl, ◌∙◌, ap, subst}
+use Rattle.nc_number.specs.declared.cause.Cause.{Cause}
+use Rattle.nc_number.specs.declared.cause.Cause.TheVariants.{TooManyVariables}
+use Rattle.nc_text.specs.declared.tape.Word.{Word}
+use Rattle.nc_text.specs.declared.tape.Block.{Block}
+use Rattle.nc_text.specs.declared.tape.Body.{Body}
+use Rattle.nc_text.specs.declared.tape.Body.TheVariants.{Words, Statement}
+use Rattle.macro_expr.specs.declared.stop.Stop.{Stop}
+use Rattle.macro_expr.specs.declared.tree.ExprFault.{ExprFault}
+use Rattle.macro_expr.specs.Tree.{Sentence}
+use Rattle.macro_expr.specs.Limits.{cleaned, has_many_variables, refusal, answer}
+use Rattle.macro_expr.specs.Statements.{statement_at, whole}
+use Rattle.macro_expr.specs.Grammar.{IsStatement}
+use Rattle.macro_expr.specs.Answers.{statement_of}
+use Rattle.macro_expr.proofs.StatementsSound.{whole-statement-sound}
+use Rattle.block_forms.specs.declared.waits.WaitCodes.{WaitCodes}
+use Rattle.block_forms.specs.declared.word.FlowWord.{FlowWord}
+use Rattle.block_forms.specs.Controls.{control_of_words, control_of_sentence}
+use Rattle.block_forms.specs.Forms.{Form, OfWords, OfSentence, BlockForm, block_at, form_at, form_or_refusal, form_of_words, form_of_sentence, sentence_or_refusal, words_or_refusal, control_of_form, judged, all_words, has_many_variables as closed_many, with_refusal as form_refusal}
+use Rattle.block_forms.specs.Refusals as closed
+use Rattle.open_forms.specs.Statements.{control_of_statement}
+use Rattle.open_forms.specs.Codes.{role_of}
+use Rattle.open_forms.specs.Controls.{with_refusal, control_by, control_of_words as open_control_of_words, open_control}
+use Rattle.open_forms.specs.Widening.{names_interrupt, has_interrupt, IsClean, IsWidened}
+use Rattle.open_forms.proofs.Sentences.{statement_leads}
+use Rattle.open_forms.proofs.ReadWords.{are_said}
+use Rattle.open_forms.proofs.Accepts.{accepted, no_refusal, leads_there}
+
+-- what is answered for a text that reads is its tree
+answered : (text : List ℕ) (read : Result Sentence Stop) (sentence : Sentence) → answer text read ≡ Ok sentence → read ≡ Ok sentence
+answered text (Err stop) sentence e = absurd (cc)
+answered text (Ok tree) sentence e = go (has_many_variables text) e
+  where
+    go : (many : Bool) → cond many (Err (refusal TooManyVariables)) (Ok tree) ≡ Ok sentence → ◌≡◌ {A = Result Sentence Stop} (Ok tree) (Ok sentence)
+    go true e = absurd (cc)
+    go false e = let same : tree ≡ sentence = cc in ap Ok same
+
+sentence_widened : (text : List ℕ) (sentence : Sentence) → cleaned false text ≡ text → statement_of text ≡ Ok sentence
+    → control_of_statement text ≡ Ok (control_of_sentence sentence)
+sentence_widened text sentence clean reads =
+    let whole_reads : whole (statement_at (cleaned false text)) ≡ Ok sentence = answered (cleaned false text) (whole (statement_at (cleaned false text))) sentence reads in
+    statement_leads text sentence (subst (λ t. IsStatement t sentence) clean (whole-statement-sound (cleaned false text) sentence whole_reads))
+
+-- words that are not refused
+judged_words : (waits : WaitCodes) (texts : List Word) (words : List FlowWord) → words_or_refusal waits texts ≡ Ok words
+    → (all_words texts ≡ Ok words) × (closed.refusal_of waits words ≡ None)
+judged_words waits texts words reads = go (all_words texts) (closed_many texts) reads
+  where
+    refused : (own : List FlowWord) (r : Option Cause) → form_refusal r own ≡ Ok words → (own ≡ words) × (r ≡ None)
+    refused own (Some cause) e = absurd (cc)
+    refused own None e = (cc, refl)
+
+    go : (read : Result (List FlowWord) ℕ) (many : Bool) → judged waits many read ≡ Ok words → (read ≡ Ok words) × (closed.refusal_of waits words ≡ None)
+    go (Err number) many e = absurd (cc)
+    go (Ok own) true e = absurd (cc)
+    go (Ok own) false e =
+        let both = refused own (closed.refusal_of waits own) e in
+        (ap Ok both.0, subst (λ ws. closed.refusal_of waits ws ≡ None) both.0 both.1)
+
+words_widened : (waits : WaitCodes) (texts : List Word) (words : List FlowWord) → words_or_refusal waits texts ≡ Ok words
+    → names_interrupt waits texts ≡ false → open_control_of_words waits texts ≡ Ok (control_of_words waits words)
+words_widened waits texts words reads plain =
+    let told = judged_words waits texts words reads in
+    let are = are_said texts words told.0 in
+    let given = accepted waits words told.1 in
+    ap (λ r. with_refusal r (control_by (role_of waits texts) waits texts)) (no_refusal waits texts words are given plain)
+    ∙ ap Ok (leads_there waits texts words are given)
+
+form_control : (waits : WaitCodes) (block : Block) (read : Result Form ℕ) (form : BlockForm) → block_at waits block read ≡ Ok form
+    → (own : Form) × ((read ≡ Ok own) × (control_of_form waits own ≡ form.control))
+form_control waits block (Err number) form e = absurd (cc)
+form_control waits block (Ok own) form e =
+    let same : form_at block.line block.sequence own (control_of_form waits own) ≡ form = cc in
+    (own, (refl, ap (λ f. f.control) same))
+
+body_widened : (waits : WaitCodes) (body : Body) (own : Form) → form_or_refusal waits body ≡ Ok own → has_interrupt waits body ≡ false
+    → IsClean body → open_control waits body ≡ Ok (control_of_form waits own)
+body_widened waits (Words texts) own reads plain clean = go (words_or_refusal waits texts) refl reads
+  where
+    go : (read : Result (List FlowWord) ℕ) → words_or_refusal waits texts ≡ read → form_of_words read ≡ Ok own
+        → open_control_of_words waits texts ≡ Ok (control_of_form waits own)
+    go (Err number) at e = absurd (cc)
+    go (Ok words) at e =
+        let same : OfWords words ≡ own = cc in
+        words_widened waits texts words at plain ∙ ap (λ f. Ok (control_of_form waits f)) same
+body_widened waits (Statement text) own reads plain clean = go (statement_of text) refl reads
+  where
+    go : (read : Result Sentence ExprFault) → statement_of text ≡ read → form_of_sentence (sentence_or_refusal read) ≡ Ok own
+        → control_of_statement text ≡ Ok (control_of_form waits own)
+    go (Err fault) at e = absurd (cc)
+    go (Ok sentence) at e =
+        let same : OfSentence sentence ≡ own = cc in
+        sentence_widened text sentence clean at ∙ ap (λ f. Ok (control_of_form waits f)) same
+
+pub widened : (waits : WaitCodes) (block : Block) (form : BlockForm) → IsWidened waits block form
+widened waits block form reads plain clean =
+    let own = form_control waits block (form_or_refusal waits block.body) form reads in
+    body_widened waits block.body own.0 own.1.0 plain clean ∙ ap Ok own.1.1

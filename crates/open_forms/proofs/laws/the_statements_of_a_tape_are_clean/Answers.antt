@@ -1,0 +1,5 @@
+use Rattle.open_forms.proofs.CleanStatements.{tape_clean}
+use Rattle.open_forms.proofs.laws.the_statements_of_a_tape_are_clean.Goals as goal
+
+pub returns : goal.returns
+returns c = tape_clean

@@ -1,0 +1,5 @@
+use Rattle.open_forms.proofs.Widened.{widened}
+use Rattle.open_forms.proofs.laws.what_reads_in_full_leads_where_it_said.Goals as goal
+
+pub returns : goal.returns
+returns c = widened

@@ -1,0 +1,5 @@
+use Rattle.open_forms.proofs.Prefixes.{behind_prefix}
+use Rattle.open_forms.proofs.statement.behind.Goals as goal
+
+pub returns : goal.returns
+returns c = behind_prefix c.args.word.now c.args.text.now c.strip_prefix.result c.strip_prefix.ensures.cases

@@ -1,0 +1,76 @@
+-- The codes on which the control of a block hangs.
+use Rattle.std.specs.Prelude.{ℕ, Bool, true, false, not, ◌==◌, ◌&&◌, ◌||◌, nat_lt, nat_le, List, ℤ, pos, negsuc, codes, if◌then◌else◌}
+use Rattle.std.specs.List.{list_any, filter_map}
+use Rattle.nc_text.specs.declared.tape.Word.{Word}
+use Rattle.block_forms.specs.declared.waits.WaitCodes.{WaitCodes}
+use Rattle.block_forms.specs.Codes.{is_waiting}
+use Rattle.open_forms.specs.declared.role.Role.{Role}
+use Rattle.open_forms.specs.declared.role.Role.TheVariants.{MacroCall, Subprogram, Return, Wait, End, Roughing, Finishing, Other}
+use Rattle.open_forms.specs.Words.{words_of, has, written, numbers_of}
+
+abbrev pub g_values : List Word → List ℤ
+g_values words = filter_map written (words_of (codes "G") words)
+
+abbrev pub is_g : ℕ → ℤ → Bool
+is_g micro (pos n) = n == micro
+is_g micro (negsuc n) = false
+
+-- a G code of so many millionths is given
+abbrev pub has_g : ℕ → List Word → Bool
+has_g micro words = list_any (is_g micro) (g_values words)
+
+-- G65.1 and on, G66, G66.1: modal calls; G68, G69: both paths wait at each; G72.1, G72.2: copies call a program
+abbrev pub leads_elsewhere : ℕ → Bool
+leads_elsewhere n =
+    (nat_lt 65000000 n && nat_lt n 67000000)
+    || ((n == 68000000 || n == 69000000) || (nat_le 72100000 n && nat_le n 72200000))
+
+-- it leads elsewhere, or is none
+abbrev pub is_refused_g : ℤ → Bool
+is_refused_g (pos n) = leads_elsewhere n
+is_refused_g (negsuc n) = true
+
+abbrev pub m_codes : List Word → List ℕ
+m_codes words = numbers_of (codes "M") words
+
+abbrev pub has_m : ℕ → List Word → Bool
+has_m code words = list_any (λ own. own == code) (m_codes words)
+
+abbrev pub has_wait : WaitCodes → List Word → Bool
+has_wait waits words = list_any (is_waiting waits) (m_codes words)
+
+-- M96, M97: interrupts; M198: a program of another memory
+abbrev pub is_refused_m : WaitCodes → ℕ → Bool
+is_refused_m waits code = not (is_waiting waits code) && ((code == 96 || code == 97) || code == 198)
+
+-- codes beside which no other M code may stand
+abbrev pub is_lone_m : ℕ → Bool
+is_lone_m code = (code == 2 || code == 30) || (code == 98 || code == 99)
+
+abbrev pub is_macro : List Word → Bool
+is_macro words = has_g 65000000 words
+
+abbrev pub is_roughing : List Word → Bool
+is_roughing words = has_g 71000000 words || (has_g 72000000 words || has_g 73000000 words)
+
+abbrev pub is_finishing : List Word → Bool
+is_finishing words = has_g 70000000 words
+
+-- the first block of a cycle says depths alone
+abbrev pub has_contour : List Word → Bool
+has_contour words = has (codes "PQ") words
+
+abbrev pub cycle_of : List Word → Role
+cycle_of words =
+    if is_finishing words then Finishing
+    else if is_roughing words && has_contour words then Roughing
+    else Other
+
+abbrev pub role_of : WaitCodes → List Word → Role
+role_of waits words =
+    if is_macro words then MacroCall
+    else if has_m 98 words then Subprogram
+    else if has_m 99 words then Return
+    else if has_wait waits words then Wait
+    else if has_m 2 words || has_m 30 words then End
+    else cycle_of words

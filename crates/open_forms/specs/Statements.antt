@@ -1,0 +1,147 @@
+-- What a statement does to the order of blocks, where neither its condition nor what it assigns is looked into.
+use Rattle.std.specs.Prelude.{ℕ, zero, suc, ◌-◌, Bool, false, not, ◌==◌, ◌&&◌, ◌||◌, nat_le, List, [], ◌∷◌, Option, Some, None, is_some, Result, Ok, Err, codes, if◌then◌else◌}
+use Rattle.nc_number.specs.declared.cause.Cause.{Cause}
+use Rattle.nc_number.specs.declared.cause.Cause.TheVariants.{TooManyDigits, BadExpression, BadCondition, BadLoopNumber, WordRange}
+use Rattle.nc_number.specs.declared.fault.NumberFault.{NumberFault}
+use Rattle.nc_number.specs.declared.literal.Literal.{Literal}
+use Rattle.nc_number.specs.Arithmetic.{whole_of}
+use Rattle.nc_number.specs.Literals.{is_literal, all_digits, word_literal}
+use Rattle.block_forms.specs.Codes.{natural}
+use Rattle.block_order.specs.declared.control.Control.{Control}
+use Rattle.block_order.specs.declared.control.Control.TheVariants as control
+
+-- what stands behind the word, where the text begins with it
+abbrev pub behind : List ℕ → List ℕ → Option (List ℕ)
+behind [] text = Some text
+behind (w ∷ word) [] = None
+behind (w ∷ word) (b ∷ text) = if b == w then behind word text else None
+
+-- a bracket closes the last open one, behind which the rest stands, or an inner one
+abbrev pub closed : ℕ → List ℕ → Option (List ℕ) → Option (List ℕ)
+closed zero rest deeper = Some rest
+closed (suc n) rest deeper = deeper
+
+-- the text behind the bracket that closes the first one, where so many are open besides
+unfoldable pub behind_close : ℕ → List ℕ → Option (List ℕ)
+behind_close n [] = None
+behind_close n (b ∷ bs) =
+    if b == 91 then behind_close (suc n) bs
+    else if b == 93 then closed n bs (behind_close (n - 1) bs)
+    else behind_close n bs
+
+-- the text behind a condition, which is not looked into
+abbrev pub behind_condition : List ℕ → Option (List ℕ)
+behind_condition [] = None
+behind_condition (b ∷ bs) = if b == 91 then behind_close 0 bs else None
+
+-- the M of MOD or of PRM
+abbrev pub begins : List ℕ → List ℕ → Bool
+begins word text = is_some (behind word text)
+
+abbrev pub is_own_m : ℕ → ℕ → List ℕ → Bool
+is_own_m two one rest = (two == 80 && one == 82) || begins (codes "OD") rest
+
+-- A G or M word may hide in the text, before which these two bytes stand: a G, or another M.
+unfoldable pub hides_word : ℕ → ℕ → List ℕ → Bool
+hides_word two one [] = false
+hides_word two one (b ∷ bs) = (b == 71 || (b == 77 && not (is_own_m two one bs))) || hides_word one b bs
+
+-- an assignment, whose value is not looked into
+abbrev pub assignment : List ℕ → Result Control Cause
+assignment text = if hides_word 0 0 text then Err BadExpression else Ok control.Next
+
+-- the target of a jump: digits; or a variable or an expression, whose number may be any
+abbrev pub in_range : Option ℕ → Result Control Cause
+in_range None = Err BadExpression
+in_range (Some n) = if nat_le n 99999 then Ok (control.Goto (Some n)) else Err WordRange
+
+abbrev pub fixed_target : Result Literal NumberFault → Result Control Cause
+fixed_target (Err fault) = Err TooManyDigits
+fixed_target (Ok literal) = in_range (natural (whole_of literal.value))
+
+abbrev pub is_computed : List ℕ → Bool
+is_computed [] = false
+is_computed (b ∷ bs) = b == 35 || b == 91
+
+abbrev pub target : List ℕ → Result Control Cause
+target text =
+    if is_computed text then Ok (control.Goto None)
+    else if is_literal text && all_digits text then fixed_target (word_literal text)
+    else Err BadExpression
+
+-- the number of a loop: 1, 2 or 3
+abbrev pub number_of_loop : List ℕ → Option ℕ
+number_of_loop (b ∷ []) = if nat_le 49 b && nat_le b 51 then Some (b - 48) else None
+number_of_loop other = None
+
+abbrev pub loop_of : (ℕ → Control) → Option ℕ → Result Control Cause
+loop_of kind None = Err BadLoopNumber
+loop_of kind (Some name) = Ok (kind name)
+
+abbrev pub loop_number : (ℕ → Control) → List ℕ → Result Control Cause
+loop_number kind text = loop_of kind (number_of_loop text)
+
+-- behind the condition of an IF: a jump, or an assignment
+abbrev pub jump_or_assignment : Option (List ℕ) → Option (List ℕ) → Result Control Cause
+jump_or_assignment (Some rest) other = target rest
+jump_or_assignment None (Some rest) = assignment rest
+jump_or_assignment None None = Err BadExpression
+
+abbrev pub behind_if : Option (List ℕ) → Result Control Cause
+behind_if None = Err BadCondition
+behind_if (Some rest) = jump_or_assignment (behind (codes "GOTO") rest) (behind (codes "THEN#") rest)
+
+abbrev pub loop_or_none : Option (List ℕ) → Result Control Cause
+loop_or_none None = Err BadExpression
+loop_or_none (Some rest) = loop_number control.While rest
+
+abbrev pub behind_while : Option (List ℕ) → Result Control Cause
+behind_while None = Err BadCondition
+behind_while (Some rest) = loop_or_none (behind (codes "DO") rest)
+
+-- each keyword in its turn; a text that begins with none of them is no statement
+pub record Heads : Type 0 where
+  pub assignment : Option (List ℕ)
+  pub jump : Option (List ℕ)
+  pub test : Option (List ℕ)
+  pub loop : Option (List ℕ)
+  pub plain_loop : Option (List ℕ)
+  pub close : Option (List ℕ)
+
+abbrev pub heads : List ℕ → Heads
+heads text = record {
+  assignment = behind (codes "#") text;
+  jump = behind (codes "GOTO") text;
+  test = behind (codes "IF") text;
+  loop = behind (codes "WHILE") text;
+  plain_loop = behind (codes "DO") text;
+  close = behind (codes "END") text;
+}
+
+abbrev pub by_close : Option (List ℕ) → Result Control Cause
+by_close (Some rest) = loop_number control.EndLoop rest
+by_close None = Err BadExpression
+
+abbrev pub by_plain_loop : Option (List ℕ) → Heads → Result Control Cause
+by_plain_loop (Some rest) h = loop_number control.Do rest
+by_plain_loop None h = by_close h.close
+
+abbrev pub by_loop : Option (List ℕ) → Heads → Result Control Cause
+by_loop (Some rest) h = behind_while (behind_condition rest)
+by_loop None h = by_plain_loop h.plain_loop h
+
+abbrev pub by_test : Option (List ℕ) → Heads → Result Control Cause
+by_test (Some rest) h = behind_if (behind_condition rest)
+by_test None h = by_loop h.loop h
+
+abbrev pub by_jump : Option (List ℕ) → Heads → Result Control Cause
+by_jump (Some rest) h = target rest
+by_jump None h = by_test h.test h
+
+abbrev pub by_assignment : Option (List ℕ) → Heads → Result Control Cause
+by_assignment (Some rest) h = assignment rest
+by_assignment None h = by_jump h.jump h
+
+-- the control of a statement, or its refusal
+abbrev pub control_of_statement : List ℕ → Result Control Cause
+control_of_statement text = by_assignment (heads text).assignment (heads text)

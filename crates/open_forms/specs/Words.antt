@@ -1,0 +1,55 @@
+-- The words of a block as they stand on the tape, of which only those are read that its control hangs on.
+use Rattle.std.specs.Prelude.{ℕ, Bool, not, ◌&&◌, List, Option, Some, None, ℤ, Result, Ok, Err, filter, if◌then◌else◌}
+use Rattle.std.specs.List.{list_any, filter_map}
+use Rattle.nc_number.specs.declared.fault.NumberFault.{NumberFault}
+use Rattle.nc_number.specs.declared.literal.Literal.{Literal}
+use Rattle.nc_number.specs.Arithmetic.{whole_of}
+use Rattle.nc_number.specs.Literals.{is_literal, has_too_many_digits, word_literal}
+use Rattle.code_tables.specs.Codes.{last_of}
+use Rattle.nc_text.specs.declared.tape.Word.{Word}
+use Rattle.block_forms.specs.Words.{is_one_of}
+use Rattle.block_forms.specs.Codes.{natural}
+
+-- the words of these letters, in their order
+abbrev pub words_of : List ℕ → List Word → List Word
+words_of letters words = filter (λ word. is_one_of letters word.letter) words
+
+-- a word of one of these letters is there
+abbrev pub has : List ℕ → List Word → Bool
+has letters words = list_any (λ word. is_one_of letters word.letter) words
+
+abbrev pub value_of_literal : Result Literal NumberFault → Option ℤ
+value_of_literal (Ok literal) = Some literal.value
+value_of_literal (Err fault) = None
+
+-- the millionths of a number that is written out, with not too many digits; an expression is not looked into
+abbrev pub written : Word → Option ℤ
+written word = if is_literal word.text then value_of_literal (word_literal word.text) else None
+
+abbrev pub whole_of_written : Option ℤ → Option ℕ
+whole_of_written None = None
+whole_of_written (Some micro) = natural (whole_of micro)
+
+-- the whole number that is written out, not below 0
+abbrev pub number : Word → Option ℕ
+number word = whole_of_written (written word)
+
+-- the numbers of the words of these letters, where each is written out
+abbrev pub numbers_of : List ℕ → List Word → List ℕ
+numbers_of letters words = filter_map number (words_of letters words)
+
+abbrev pub number_of_last : Option Word → Option ℕ
+number_of_last None = None
+number_of_last (Some word) = number word
+
+-- the number of the last word of these letters: it is the one in force
+abbrev pub last_number : List ℕ → List Word → Option ℕ
+last_number letters words = number_of_last (last_of (words_of letters words))
+
+-- a word of one of these letters is computed
+abbrev pub has_computed : List ℕ → List Word → Bool
+has_computed letters words = list_any (λ word. not (is_literal word.text)) (words_of letters words)
+
+-- a word of one of these letters has too many digits
+abbrev pub has_long : List ℕ → List Word → Bool
+has_long letters words = list_any (λ word. is_literal word.text && has_too_many_digits word.text) (words_of letters words)

@@ -1,0 +1,148 @@
+ghost use Rattle.std.specs.Prelude.{◌≡◌};
+ghost use Rattle.block_forms.specs.Codes.{first_waiting};
+ghost use Rattle.open_forms.specs.Codes.{is_g, has_g, leads_elsewhere, is_refused_g, m_codes, has_m, has_wait, is_refused_m, is_lone_m, is_roughing, has_contour, cycle_of, role_of};
+
+use crate::letters::{has, number, written};
+use crate::role::Role;
+use block_forms::{WaitCodes, is_one_of};
+use nc_text::Word;
+
+/// Whether so many millionths are those.
+fn is_g(micro: u32, own: i64) -> bool
+    ensures { result ≡ is_g micro own }
+{
+    own == i64::from(micro)
+}
+
+/// Whether a G code of so many millionths is given.
+pub(crate) fn has_g(words: &[Word], micro: u32) -> bool
+    ensures { result ≡ has_g micro words.now }
+{
+    words
+        .iter()
+        .filter(|word| is_one_of(b"G", word.letter))
+        .filter_map(|word| written(word))
+        .any(|own| is_g(micro, own))
+}
+
+/// Whether a G code of so many millionths may call a program or wait: G65.1 and on, G66, G66.1, modal
+/// calls; G68, G69, at which both paths wait; G72.1, G72.2, copies that call a program.
+fn leads_elsewhere(micro: u64) -> bool
+    ensures { result ≡ leads_elsewhere micro }
+{
+    (65_000_000 < micro && micro < 67_000_000)
+        || (micro == 68_000_000 || micro == 69_000_000)
+        || (72_100_000 <= micro && micro <= 72_200_000)
+}
+
+/// Whether the G code may lead elsewhere, or is none.
+pub(crate) fn is_refused_g(micro: i64) -> bool
+    ensures { result ≡ is_refused_g micro }
+{
+    micro < 0 || leads_elsewhere(micro as u64)
+}
+
+/// Whether the block has an M word of this code.
+pub(crate) fn has_m(words: &[Word], code: u32) -> bool
+    ensures { result ≡ has_m code words.now }
+{
+    words
+        .iter()
+        .filter(|word| is_one_of(b"M", word.letter))
+        .filter_map(|word| number(word))
+        .any(|own| own == code)
+}
+
+/// Whether the block has a waiting M code.
+pub(crate) fn has_wait(words: &[Word], waits: WaitCodes) -> bool
+    ensures { result ≡ has_wait waits words.now }
+{
+    words
+        .iter()
+        .filter(|word| is_one_of(b"M", word.letter))
+        .filter_map(|word| number(word))
+        .any(|code| waits.is_waiting(code))
+}
+
+/// The first waiting M code of the block.
+fn find_waiting(words: &[Word], waits: WaitCodes) -> Option<u32>
+    ensures { result ≡ first_waiting waits (m_codes words.now) }
+{
+    words
+        .iter()
+        .filter(|word| is_one_of(b"M", word.letter))
+        .filter_map(|word| number(word))
+        .find(|code| waits.is_waiting(*code))
+}
+
+/// The first waiting M code of the block, which is none above the last waiting code.
+#[tactic(auto, using(block_forms::proofs::Waiting::first_waiting_is_below))]
+pub(crate) fn first_waiting(words: &[Word], waits: WaitCodes) -> Option<u16>
+    ensures { result ≡ first_waiting waits (m_codes words.now) }
+{
+    match find_waiting(words, waits) {
+        Some(code) => Some(code as u16),
+        None => None,
+    }
+}
+
+/// Whether the M code is an interrupt, M96 or M97, or calls a program of another memory, M198, and no
+/// wait of the settings.
+pub(crate) fn is_refused_m(waits: WaitCodes, code: u32) -> bool
+    ensures { result ≡ is_refused_m waits code }
+{
+    !waits.is_waiting(code) && (code == 96 || code == 97 || code == 198)
+}
+
+/// Whether no other M code may stand beside this one: an end, a call or a return.
+pub(crate) fn is_lone_m(code: u32) -> bool
+    ensures { result ≡ is_lone_m code }
+{
+    (code == 2 || code == 30) || (code == 98 || code == 99)
+}
+
+/// Whether a roughing cycle is given.
+fn is_roughing(words: &[Word]) -> bool
+    ensures { result ≡ is_roughing words.now }
+{
+    has_g(words, 71_000_000) || has_g(words, 72_000_000) || has_g(words, 73_000_000)
+}
+
+/// Whether the block names a contour. The first block of a cycle says depths alone.
+fn has_contour(words: &[Word]) -> bool
+    ensures { result ≡ has_contour words.now }
+{
+    has(words, b"PQ")
+}
+
+/// The cycle that the block is, if it is one.
+pub(crate) fn cycle_of(words: &[Word]) -> Role
+    ensures { result ≡ cycle_of words.now }
+{
+    if has_g(words, 70_000_000) {
+        Role::Finishing
+    } else if is_roughing(words) && has_contour(words) {
+        Role::Roughing
+    } else {
+        Role::Other
+    }
+}
+
+/// What decides where the block leads.
+pub(crate) fn role_of(waits: WaitCodes, words: &[Word]) -> Role
+    ensures { result ≡ role_of waits words.now }
+{
+    if has_g(words, 65_000_000) {
+        Role::MacroCall
+    } else if has_m(words, 98) {
+        Role::Subprogram
+    } else if has_m(words, 99) {
+        Role::Return
+    } else if has_wait(words, waits) {
+        Role::Wait
+    } else if has_m(words, 2) || has_m(words, 30) {
+        Role::End
+    } else {
+        cycle_of(words)
+    }
+}

@@ -1,0 +1,97 @@
+ghost use Rattle.std.specs.Prelude.{◌≡◌, ◌≤◌, IfSome, None};
+ghost use Rattle.block_forms.specs.Controls.{or_number, call_of_p, back_to, wait_at};
+ghost use Rattle.open_forms.specs.Words.{last_number};
+ghost use Rattle.open_forms.specs.Codes.{role_of};
+ghost use Rattle.open_forms.specs.Refusals.{refusal_of};
+ghost use Rattle.open_forms.specs.Controls.{control_by, control_of_words};
+
+use crate::codes::{first_waiting, role_of};
+use crate::letters::last_number;
+use crate::refusals::refusal_of;
+use crate::role::Role;
+use block_forms::WaitCodes;
+use block_order::Control;
+use nc_number::Cause;
+use nc_text::Word;
+
+/// The number that the last word of these letters says, or another one.
+fn number_or(words: &[Word], letters: &[u8], other: u16) -> u16
+    requires { IfSome (last_number letters.now words.now) (λ n. n ≤ 9999) }
+    ensures { result ≡ or_number other (last_number letters.now words.now) }
+{
+    match last_number(words, letters) {
+        Some(n) => n as u16,
+        None => other,
+    }
+}
+
+/// The call of a program, with its repeats before the program's four digits or apart.
+fn call_of_p(p: u32, repeats: u16) -> Control
+    requires { p ≤ 99999999 }
+    ensures { result ≡ call_of_p p repeats }
+{
+    if 10_000 <= p {
+        Control::Call {
+            program: (p % 10_000) as u16,
+            repeats: (p / 10_000) as u16,
+        }
+    } else {
+        Control::Call {
+            program: p as u16,
+            repeats,
+        }
+    }
+}
+
+/// Back to a sequence number, or to the call.
+fn back_to(sequence: Option<u32>) -> Control
+    ensures { result ≡ back_to sequence }
+{
+    match sequence {
+        Some(n) => Control::BackTo(n),
+        None => Control::Back,
+    }
+}
+
+fn wait_at(code: Option<u16>) -> Control
+    ensures { result ≡ wait_at code }
+{
+    match code {
+        Some(code) => Control::Wait(code),
+        None => Control::Next,
+    }
+}
+
+/// Where a block of this role leads, where it is not refused.
+fn control_by(role: Role, waits: WaitCodes, words: &[Word]) -> Control
+    requires role { role ≡ role_of waits words.now }
+    requires accepted { refusal_of waits words.now ≡ None }
+    ensures { result ≡ control_by role waits words.now }
+{
+    match role {
+        Role::MacroCall => Control::Call {
+            program: number_or(words, b"P", 0),
+            repeats: number_or(words, b"L", 1),
+        },
+        Role::Subprogram => match last_number(words, b"P") {
+            Some(p) => call_of_p(p, number_or(words, b"L", 1)),
+            None => call_of_p(0, number_or(words, b"L", 1)),
+        },
+        Role::Return => back_to(last_number(words, b"P")),
+        Role::Wait => wait_at(first_waiting(words, waits)),
+        Role::End => Control::End,
+        Role::Roughing => Control::Goto(last_number(words, b"Q")),
+        Role::Finishing | Role::Other => Control::Next,
+    }
+}
+
+/// What a block of words does to the order of blocks, or the least refusal that holds of it.
+pub(crate) fn control_of_words(waits: WaitCodes, words: &[Word]) -> Result<Control, Cause>
+    ensures { result ≡ control_of_words waits words.now }
+{
+    let role = role_of(waits, words);
+    match refusal_of(role, waits, words) {
+        Some(cause) => Err(cause),
+        None => Ok(control_by(role, waits, words)),
+    }
+}

@@ -1,0 +1,377 @@
+ghost use Rattle.std.specs.Prelude.{◌≡◌, codes};
+ghost use Rattle.std.specs.List.{list_any, list_all};
+ghost use Rattle.code_tables.specs.Codes.{row_of};
+ghost use Rattle.code_tables.specs.SystemA.{system_a_rows};
+ghost use Rattle.block_forms.specs.Words.{is_one_of};
+ghost use Rattle.block_forms.specs.Refusals.{is_macro_row, is_both, is_many, names_both};
+ghost use Rattle.open_forms.specs.Words.{words_of, numbers_of, last_number};
+ghost use Rattle.open_forms.specs.Codes.{g_values, m_codes, is_refused_g, is_refused_m, is_lone_m, role_of};
+ghost use Rattle.open_forms.specs.Refusals.{fixed_letters, is_long, is_not_fixed, is_parameter, writes_parameters, row_of_word, is_no_row, is_beside_a_call, begins_macro_call, is_unknown_by, is_contour, is_crowded, is_unknown, waits_there, is_wait_not_alone, is_wait_of_others, has_two_m, takes_p, uses_p, is_one_contour, is_bad_call_by, is_in, are_in, is_in_range_by, is_out_of_range, refusal_of};
+
+use crate::codes::{cycle_of, has_g, has_wait, is_lone_m, is_refused_g, is_refused_m};
+use crate::letters::{count_of, has, has_computed, has_long, last_number, number, written};
+use crate::role::Role;
+use block_forms::{WaitCodes, is_one_of};
+use code_tables::{CodeKind, Row, system_a};
+use nc_number::Cause;
+use nc_text::Word;
+
+const SETTING: u32 = 10_000_000;
+
+const MACRO_CALL: u32 = 65_000_000;
+
+/// The letters whose words must be written out: a computed G or M may be any code, and a computed N or
+/// O any number.
+fn fixed_letters(role: Role) -> &'static [u8]
+    ensures { result.now ≡ fixed_letters role }
+{
+    match role {
+        Role::MacroCall => b"GNOPL",
+        Role::Subprogram | Role::Return => b"GNOMPL",
+        Role::Roughing | Role::Finishing => b"GNOMPQ",
+        Role::Wait | Role::End | Role::Other => b"GNOM",
+    }
+}
+
+/// 54: a word that must be written out is computed, or the L of G10, which may write parameters.
+fn is_not_fixed(role: Role, waits: WaitCodes, words: &[Word]) -> bool
+    requires { role ≡ role_of waits words.now }
+    ensures { result ≡ is_not_fixed waits words.now }
+{
+    has_computed(words, fixed_letters(role)) || (has_g(words, SETTING) && has_computed(words, b"L"))
+}
+
+fn is_parameter(kind: u32) -> bool
+    ensures { result ≡ is_parameter kind }
+{
+    50 <= kind && kind <= 52
+}
+
+/// Whether the block writes parameters, by G10 L50 to L52.
+fn writes_parameters(words: &[Word]) -> bool
+    ensures { result ≡ writes_parameters words.now }
+{
+    has_g(words, SETTING) && names_parameters(words)
+}
+
+fn names_parameters(words: &[Word]) -> bool
+    ensures { result ≡ list_any is_parameter (numbers_of (codes "L") words.now) }
+{
+    words
+        .iter()
+        .filter(|word| is_one_of(b"L", word.letter))
+        .filter_map(|word| number(word))
+        .any(|kind| is_parameter(kind))
+}
+
+/// The row of a G code, if the profile has one.
+fn row_of(code: u32) -> Option<Row>
+    ensures { result ≡ row_of system_a_rows code }
+{
+    if code > 65_535 {
+        return None;
+    }
+    system_a().find(code as u16)
+}
+
+/// The row of a G word that is written out, if the profile has one.
+fn row_of_word(word: &Word) -> Option<Row>
+    ensures { result ≡ row_of_word word.now }
+{
+    match number(word) {
+        Some(code) => row_of(code),
+        None => None,
+    }
+}
+
+fn has_no_row(word: &Word) -> bool
+    ensures { result ≡ is_no_row (row_of_word word.now) }
+{
+    row_of_word(word).is_none()
+}
+
+fn has_code_without_row(words: &[Word]) -> bool
+    ensures { result ≡ list_any (λ word. is_no_row (row_of_word word)) (words_of (codes "G") words.now) }
+{
+    words
+        .iter()
+        .filter(|word| is_one_of(b"G", word.letter))
+        .any(|word| has_no_row(word))
+}
+
+/// Whether all words are of these letters.
+fn are_of(words: &[Word], letters: &[u8]) -> bool
+    ensures { result ≡ list_all (λ word. is_one_of letters.now word.letter) words.now }
+{
+    words.iter().all(|word| is_one_of(letters, word.letter))
+}
+
+/// Whether only G codes of the profile, and letters that can't say more of a call, stand there.
+fn is_beside_a_call(words: &[Word]) -> bool
+    ensures { result ≡ is_beside_a_call words.now }
+{
+    are_of(words, b"XZUWIKRFSTNOMGPLABCEVY") && !has_code_without_row(words)
+}
+
+/// Whether it is the row of a macro call.
+fn is_macro_row(row: Option<Row>) -> bool
+    ensures { result ≡ is_macro_row row }
+{
+    match row {
+        Some(row) => matches!(row.kind, CodeKind::MacroCall),
+        None => false,
+    }
+}
+
+/// Whether the first word is the G65, and no other is a G word, or a computed N or O.
+fn begins_macro_call(words: &[Word]) -> bool
+    ensures { result ≡ begins_macro_call words.now }
+{
+    match words {
+        [] => false,
+        [first, rest @ ..] => {
+            is_one_of(b"G", first.letter) && is_macro_row(row_of_word(first)) && !has(rest, b"GNO")
+        }
+    }
+}
+
+fn has_refused_g(words: &[Word]) -> bool
+    ensures { result ≡ list_any is_refused_g (g_values words.now) }
+{
+    words
+        .iter()
+        .filter(|word| is_one_of(b"G", word.letter))
+        .filter_map(|word| written(word))
+        .any(|micro| is_refused_g(micro))
+}
+
+fn has_refused_m(waits: WaitCodes, words: &[Word]) -> bool
+    ensures { result ≡ list_any (is_refused_m waits) (m_codes words.now) }
+{
+    words
+        .iter()
+        .filter(|word| is_one_of(b"M", word.letter))
+        .filter_map(|word| number(word))
+        .any(|code| is_refused_m(waits, code))
+}
+
+/// Whether a code may call or wait in a way that is not known here.
+fn is_unknown_by(role: Role, waits: WaitCodes, words: &[Word]) -> bool
+    ensures { result ≡ is_unknown_by role waits words.now }
+{
+    match role {
+        Role::MacroCall => !begins_macro_call(words),
+        _ => has_refused_g(words) || has_refused_m(waits, words) || writes_parameters(words),
+    }
+}
+
+fn is_contour(role: Role) -> bool
+    ensures { result ≡ is_contour role }
+{
+    matches!(role, Role::Roughing | Role::Finishing)
+}
+
+/// Whether words beside a call or a return may say more of it, or a contour stands beside an end.
+fn is_crowded(role: Role, words: &[Word]) -> bool
+    ensures { result ≡ is_crowded role words.now }
+{
+    match role {
+        Role::Subprogram | Role::Return => !is_beside_a_call(words),
+        Role::End => is_contour(cycle_of(words)),
+        _ => false,
+    }
+}
+
+/// 56: a code that may lead elsewhere, or words that may.
+fn is_unknown(role: Role, waits: WaitCodes, words: &[Word]) -> bool
+    requires { role ≡ role_of waits words.now }
+    ensures { result ≡ is_unknown waits words.now }
+{
+    is_unknown_by(role, waits, words) || is_crowded(role, words)
+}
+
+/// Whether the block waits for the other path.
+fn waits_there(waits: WaitCodes, words: &[Word]) -> bool
+    ensures { result ≡ waits_there waits words.now }
+{
+    !has_g(words, MACRO_CALL) && has_wait(words, waits)
+}
+
+/// 57: a wait beside another word than P.
+fn is_wait_not_alone(waits: WaitCodes, words: &[Word]) -> bool
+    ensures { result ≡ is_wait_not_alone waits words.now }
+{
+    waits_there(waits, words) && 1 < count_of(words, b"ABCDEFGHIJKLMNOQRSTUVWXYZ")
+}
+
+/// Whether the P of a wait names both paths: 3 by bits, 12 or 21 by their numbers.
+fn names_both(bits: bool, paths: u32) -> bool
+    ensures { result ≡ names_both bits paths }
+{
+    if bits {
+        paths == 3
+    } else {
+        paths == 12 || paths == 21
+    }
+}
+
+/// Whether the number of the last P names both paths.
+fn is_both(bits: bool, words: &[Word]) -> bool
+    ensures { result ≡ is_both bits (last_number (codes "P") words.now) }
+{
+    match last_number(words, b"P") {
+        Some(paths) => names_both(bits, paths),
+        None => false,
+    }
+}
+
+/// 58: the P of a wait is computed, or the last one does not name both paths.
+fn is_wait_of_others(waits: WaitCodes, words: &[Word]) -> bool
+    ensures { result ≡ is_wait_of_others waits words.now }
+{
+    waits_there(waits, words)
+        && has(words, b"P")
+        && (has_computed(words, b"P") || !is_both(waits.bits, words))
+}
+
+fn has_lone_m(words: &[Word]) -> bool
+    ensures { result ≡ list_any is_lone_m (m_codes words.now) }
+{
+    words
+        .iter()
+        .filter(|word| is_one_of(b"M", word.letter))
+        .filter_map(|word| number(word))
+        .any(|code| is_lone_m(code))
+}
+
+/// 59: an end, a call or a return beside another M code.
+fn has_two_m(words: &[Word]) -> bool
+    ensures { result ≡ has_two_m words.now }
+{
+    !has_g(words, MACRO_CALL) && 1 < count_of(words, b"M") && has_lone_m(words)
+}
+
+/// Whether the G word is a dwell or the setting of an offset, whose P is its own.
+fn takes_p(word: &Word) -> bool
+    ensures { result ≡ takes_p (row_of_word word.now) }
+{
+    match row_of_word(word) {
+        Some(row) => matches!(row.kind, CodeKind::Dwell | CodeKind::Setting),
+        None => false,
+    }
+}
+
+fn uses_p(words: &[Word]) -> bool
+    ensures { result ≡ uses_p words.now }
+{
+    words
+        .iter()
+        .filter(|word| is_one_of(b"G", word.letter))
+        .any(|word| takes_p(word))
+}
+
+/// Whether one P, one Q and one G word stand there.
+fn is_one_contour(words: &[Word]) -> bool
+    ensures { result ≡ is_one_contour words.now }
+{
+    count_of(words, b"P") == 1 && count_of(words, b"Q") == 1 && count_of(words, b"G") == 1
+}
+
+/// Whether the P of a call of a subprogram has repeats before the program's four digits.
+fn has_repeats(words: &[Word]) -> bool
+    ensures { result ≡ is_many (last_number (codes "P") words.now) }
+{
+    match last_number(words, b"P") {
+        Some(n) => 10_000 <= n,
+        None => false,
+    }
+}
+
+/// 61: a call without its program, repeats twice over, L of a return, P of a dwell or an offset beside a
+/// call, half a contour.
+fn is_bad_call(role: Role, words: &[Word]) -> bool
+    ensures { result ≡ is_bad_call_by role words.now }
+{
+    match role {
+        Role::MacroCall => !has(words, b"P"),
+        Role::Subprogram => {
+            !has(words, b"P") || uses_p(words) || (has_repeats(words) && has(words, b"L"))
+        }
+        Role::Return => has(words, b"L") || uses_p(words),
+        Role::Roughing | Role::Finishing => !is_one_contour(words),
+        Role::Wait | Role::End | Role::Other => false,
+    }
+}
+
+/// Whether the word writes a whole number from the one to the other.
+fn is_in(word: &Word, least: u32, greatest: u32) -> bool
+    ensures { result ≡ is_in least greatest word.now }
+{
+    match number(word) {
+        Some(n) => least <= n && n <= greatest,
+        None => false,
+    }
+}
+
+fn are_in(words: &[Word], letters: &[u8], least: u32, greatest: u32) -> bool
+    ensures { result ≡ are_in least greatest letters.now words.now }
+{
+    words
+        .iter()
+        .filter(|word| is_one_of(letters, word.letter))
+        .all(|word| is_in(word, least, greatest))
+}
+
+fn is_in_range(role: Role, words: &[Word]) -> bool
+    ensures { result ≡ is_in_range_by role words.now }
+{
+    match role {
+        Role::MacroCall => are_in(words, b"PL", 1, 9_999),
+        Role::Subprogram => { are_in(words, b"P", 1, 99_999_999) && are_in(words, b"L", 1, 9_999) }
+        Role::Return => are_in(words, b"P", 1, 99_999),
+        Role::Roughing | Role::Finishing => are_in(words, b"PQ", 1, 99_999),
+        Role::Wait | Role::End | Role::Other => true,
+    }
+}
+
+/// 64: an M code that is none; the P, L or Q of a call, a return or a contour out of its range.
+fn is_out_of_range(role: Role, waits: WaitCodes, words: &[Word]) -> bool
+    requires { role ≡ role_of waits words.now }
+    ensures { result ≡ is_out_of_range waits words.now }
+{
+    !is_in_range(role, words) || (!has_g(words, MACRO_CALL) && !are_in(words, b"M", 0, 99_999_999))
+}
+
+/// 5: a word that must be written out has too many digits, or the L of G10, which may write parameters.
+fn is_long(role: Role, waits: WaitCodes, words: &[Word]) -> bool
+    requires { role ≡ role_of waits words.now }
+    ensures { result ≡ is_long waits words.now }
+{
+    has_long(words, fixed_letters(role)) || (has_g(words, SETTING) && has_long(words, b"L"))
+}
+
+/// Why the block is refused: of the refusals that hold of it the one of the least number.
+pub(crate) fn refusal_of(role: Role, waits: WaitCodes, words: &[Word]) -> Option<Cause>
+    requires { role ≡ role_of waits words.now }
+    ensures { result ≡ refusal_of waits words.now }
+{
+    if is_long(role, waits, words) {
+        Some(Cause::TooManyDigits)
+    } else if is_not_fixed(role, waits, words) {
+        Some(Cause::NotFixed)
+    } else if is_unknown(role, waits, words) {
+        Some(Cause::UnknownCode)
+    } else if is_wait_not_alone(waits, words) {
+        Some(Cause::WaitNotAlone)
+    } else if is_wait_of_others(waits, words) {
+        Some(Cause::WaitPaths)
+    } else if has_two_m(words) {
+        Some(Cause::TwoM)
+    } else if is_bad_call(role, words) {
+        Some(Cause::BadCall)
+    } else if is_out_of_range(role, waits, words) {
+        Some(Cause::WordRange)
+    } else {
+        None
+    }
+}

@@ -1,0 +1,4 @@
+pub mod Listed
+pub mod Refused
+pub mod Within
+pub mod FirstRefused

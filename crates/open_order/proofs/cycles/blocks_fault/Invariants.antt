@@ -1,0 +1,12 @@
+-- The first fault is that of the blocks that the loop has not passed.
+use Rattle.std.proofs.Common.{◌≡◌, drop}
+use Rattle.block_order.specs.Loud.{loud}
+use Rattle.block_order.specs.Order.{blocks}
+use Rattle.open_order.specs.Contours.{blocks_fault}
+use Rattle.open_order.proofs.cycles.blocks_fault.Given as goal
+
+abbrev pub invariant-loop-block : goal.invariant-loop-block
+invariant-loop-block l =
+    (l.place ≡ l.block-index)
+    × (blocks_fault (loud l.order) (blocks l.order l.program) 0 l.listed
+    ≡ blocks_fault (loud l.order) (blocks l.order l.program) l.place (drop l.block-index l.listed))

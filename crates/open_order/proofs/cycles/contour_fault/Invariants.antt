@@ -1,0 +1,7 @@
+-- The first fault is that of the programs that the loop has not passed.
+use Rattle.std.proofs.Common.{◌≡◌, drop}
+use Rattle.open_order.specs.Contours.{contour_fault}
+use Rattle.open_order.proofs.cycles.contour_fault.Given as goal
+
+abbrev pub invariant-loop-program : goal.invariant-loop-program
+invariant-loop-program l = contour_fault l.order l.tape ≡ contour_fault l.order (drop l.program-index l.tape)

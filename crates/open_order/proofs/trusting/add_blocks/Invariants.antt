@@ -1,0 +1,10 @@
+-- What was added, with what the rest adds, is the whole.
+use Rattle.std.proofs.Common.{◌≡◌, drop}
+use Rattle.open_order.specs.Basis.{basis, seen}
+use Rattle.open_order.specs.Trusted.{with_blocks}
+use Rattle.open_order.proofs.trusting.add_blocks.Given as goal
+
+abbrev pub invariant-loop-block : goal.invariant-loop-block
+invariant-loop-block l =
+    with_blocks (basis l.reading) (seen l.fn.trust) l.blocks
+    ≡ with_blocks (basis l.reading) (seen l.trust) (drop l.block-index l.blocks)

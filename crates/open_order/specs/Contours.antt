@@ -1,0 +1,108 @@
+-- The contours of the cycles G70 to G73: what is wrong with one, and the first fault of a tape.
+use Rattle.std.specs.Prelude.{ℕ, suc, ◌-◌, Bool, true, false, not, ◌==◌, ◌&&◌, ◌||◌, nat_le, List, [], ◌∷◌, take, drop, Option, Some, None, ℤ, codes, if◌then◌else◌}
+use Rattle.std.specs.List.{list_any}
+use Rattle.nc_number.specs.declared.cause.Cause.{Cause}
+use Rattle.nc_number.specs.declared.cause.Cause.TheVariants.{NoSequence, BranchAtWait}
+use Rattle.nc_number.specs.Causes.{cause_number}
+use Rattle.nc_text.specs.declared.tape.Word.{Word}
+use Rattle.nc_text.specs.declared.tape.Block.{Block}
+use Rattle.nc_text.specs.declared.tape.Body.{Body}
+use Rattle.nc_text.specs.declared.tape.Body.TheVariants.{Words, Statement}
+use Rattle.nc_text.specs.declared.tape.Program.{Program}
+use Rattle.block_order.specs.declared.control.Control.{Control}
+use Rattle.block_order.specs.declared.control.Control.TheVariants.{Wait, End, Call, Back, BackTo}
+use Rattle.block_order.specs.declared.program.ControlBlock.{ControlBlock}
+use Rattle.block_order.specs.declared.program.ControlProgram.{ControlProgram}
+use Rattle.block_order.specs.Loud.{loud}
+use Rattle.block_order.specs.Order.{blocks, seek}
+use Rattle.tape_flow.specs.declared.fault.FlowFault.{FlowFault}
+use Rattle.block_forms.specs.Words.{is_one_of}
+use Rattle.open_forms.specs.Codes.{is_g}
+use Rattle.open_forms.specs.Words.{written, last_number}
+use Rattle.open_order.specs.declared.contour.Contour.{Contour}
+
+-- G70, G71, G72 or G73, by its millionths
+abbrev pub is_cycle_code : Option ℤ → Bool
+is_cycle_code None = false
+is_cycle_code (Some z) = (is_g 70000000 z || is_g 71000000 z) || (is_g 72000000 z || is_g 73000000 z)
+
+-- G65, of which every other word is an argument
+abbrev pub is_macro_code : Option ℤ → Bool
+is_macro_code None = false
+is_macro_code (Some z) = is_g 65000000 z
+
+-- one of the G words is such a code
+abbrev pub has_code : (Option ℤ → Bool) → List Word → Bool
+has_code is_it words = list_any (λ word. is_one_of (codes "G") word.letter && is_it (written word)) words
+
+abbrev pub contour_by : Option ℕ → Option ℕ → Option Contour
+contour_by (Some from) (Some to) = Some (record { from = from; to = to })
+contour_by _ _ = None
+
+-- the contour of the cycle that a block begins, from the block numbered P to the one numbered Q
+abbrev pub contour_in : Body → Option Contour
+contour_in (Words words) =
+    if not (has_code is_macro_code words) && has_code is_cycle_code words
+    then contour_by (last_number (codes "P") words) (last_number (codes "Q") words)
+    else None
+contour_in (Statement text) = None
+
+-- a block of this control may not stand in a contour: a wait, an end, an M99, or a call of a program that waits or ends
+abbrev pub disturbs : (ℕ → Bool) → Control → Bool
+disturbs loud (Wait code) = true
+disturbs loud End = true
+disturbs loud Back = true
+disturbs loud (BackTo n) = true
+disturbs loud (Call program repeats) = loud program
+disturbs loud other = false
+
+-- the blocks from first to last, both among them
+abbrev pub between : List ControlBlock → ℕ → ℕ → List ControlBlock
+between bs first last = take (suc (last - first)) (drop first bs)
+
+-- The contour runs from a block to the same or a later one, and none of its blocks disturbs it.
+abbrev pub is_calm : (ℕ → Bool) → List ControlBlock → ℕ → ℕ → Bool
+is_calm loud bs first last =
+    nat_le first last && not (list_any (λ b. disturbs loud b.control) (between bs first last))
+
+-- the last block of the contour that begins with this one
+abbrev pub last_block : List ControlBlock → Contour → ℕ → Option ℕ
+last_block bs contour first = if contour.from == contour.to then Some first else seek bs first contour.to
+
+abbrev pub fault_between : (ℕ → Bool) → List ControlBlock → ℕ → Option ℕ → Option Cause
+fault_between loud bs first None = Some NoSequence
+fault_between loud bs first (Some last) = if is_calm loud bs first last then None else Some BranchAtWait
+
+abbrev pub fault_from : (ℕ → Bool) → List ControlBlock → Contour → Option ℕ → Option Cause
+fault_from loud bs contour None = Some NoSequence
+fault_from loud bs contour (Some first) = fault_between loud bs first (last_block bs contour first)
+
+-- What is wrong with the contour of a cycle at a place of a program: 50 if the program lacks one of its numbers; else 65 if it
+-- ends before it begins, or a block of it disturbs it.
+abbrev pub contour_cause : (ℕ → Bool) → List ControlBlock → ℕ → Option Contour → Option Cause
+contour_cause loud bs place None = None
+contour_cause loud bs place (Some contour) = fault_from loud bs contour (seek bs place contour.from)
+
+abbrev pub fault_at : ℕ → Option Cause → Option FlowFault
+fault_at line None = None
+fault_at line (Some cause) = Some (record { number = cause_number cause; line = line })
+
+-- the fault of a block at a place of a program, told at its line
+abbrev pub block_fault : (ℕ → Bool) → List ControlBlock → ℕ → Block → Option FlowFault
+block_fault loud bs place block = fault_at block.line (contour_cause loud bs place (contour_in block.body))
+
+abbrev pub or_later : Option FlowFault → Option FlowFault → Option FlowFault
+or_later (Some fault) later = Some fault
+or_later None later = later
+
+-- the first fault of these blocks, which stand in the program from a place on
+abbrev pub blocks_fault : (ℕ → Bool) → List ControlBlock → ℕ → List Block → Option FlowFault
+blocks_fault loud bs place [] = None
+blocks_fault loud bs place (block ∷ rest) =
+    or_later (block_fault loud bs place block) (blocks_fault loud bs (suc place) rest)
+
+-- the first fault of these programs of a tape in this order
+abbrev pub contour_fault : List ControlProgram → List Program → Option FlowFault
+contour_fault order [] = None
+contour_fault order (program ∷ rest) =
+    or_later (blocks_fault (loud order) (blocks order program.number) 0 program.blocks) (contour_fault order rest)

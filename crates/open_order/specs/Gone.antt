@@ -1,0 +1,18 @@
+-- The programs that a tape may lack.
+use Rattle.std.specs.Prelude.{ℕ, Bool, false, not, ◌==◌, ◌&&◌, nat_le, List, Option, Some, None}
+use Rattle.std.specs.List.{list_any}
+use Rattle.nc_text.specs.declared.tape.Program.{Program}
+use Rattle.open_order.specs.declared.outside.Outside.{Outside}
+
+-- the number is one of those programs
+abbrev pub is_in : Option Outside → ℕ → Bool
+is_in None number = false
+is_in (Some outside) number = nat_le outside.least number && nat_le number outside.greatest
+
+-- the tape has the program
+abbrev pub is_on : List Program → ℕ → Bool
+is_on tape number = list_any (λ program. program.number == number) tape
+
+-- the tape lacks the program, as it may
+abbrev pub is_gone : Option Outside → List Program → ℕ → Bool
+is_gone outside tape number = is_in outside number && not (is_on tape number)

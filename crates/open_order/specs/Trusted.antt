@@ -1,0 +1,111 @@
+-- What is taken on trust: codes that this control does not know and that are taken to go on, and calls of programs that the tape
+-- lacks.
+use Rattle.std.specs.Prelude.{ℕ, Bool, true, false, not, ◌==◌, ◌&&◌, ◌||◌, nat_le, List, [], ◌∷◌, Option, Some, None, ℤ, pos, negsuc, Result, Ok, Err, if◌then◌else◌}
+use Rattle.std.specs.Ordering.{nat_cmp}
+use Rattle.std.specs.BTreeSet.{insert_key}
+use Rattle.nc_text.specs.declared.tape.Word.{Word}
+use Rattle.nc_text.specs.declared.tape.Block.{Block}
+use Rattle.nc_text.specs.declared.tape.Body.{Body}
+use Rattle.nc_text.specs.declared.tape.Body.TheVariants.{Words, Statement}
+use Rattle.nc_text.specs.declared.tape.Program.{Program}
+use Rattle.code_tables.specs.declared.row.Row.{Row}
+use Rattle.code_tables.specs.Kinds.{is_refused}
+use Rattle.block_order.specs.declared.control.Control.{Control}
+use Rattle.block_order.specs.declared.control.Control.TheVariants.{Call}
+use Rattle.block_forms.specs.declared.fault.FormFault.{FormFault}
+use Rattle.block_forms.specs.declared.waits.WaitCodes.{WaitCodes}
+use Rattle.block_forms.specs.Codes.{row_of_number, is_waiting}
+use Rattle.open_forms.specs.Words.{written, number}
+use Rattle.open_forms.specs.Controls.{open_control, numbered}
+use Rattle.open_order.specs.declared.premises.Premises.{Premises}
+use Rattle.open_order.specs.Gone.{is_gone}
+use Rattle.open_order.specs.Contours.{has_code, is_macro_code}
+use Rattle.open_order.specs.Reading.{Basis, gone_from}
+use Rattle.open_order.specs.declared.code.Code.{Code}
+use Rattle.open_order.specs.declared.code.Code.TheVariants.{Geometry, Auxiliary, Subprogram}
+
+-- G codes by their millionths, M codes and O numbers, each once and in order
+pub record TrustView : Type 0 where
+  pub geometry : List ℕ
+  pub auxiliary : List ℕ
+  pub programs : List ℕ
+
+abbrev pub no_trust : TrustView
+no_trust = record { geometry = []; auxiliary = []; programs = [] }
+
+abbrev pub is_none : List ℕ → Bool
+is_none [] = true
+is_none (x ∷ xs) = false
+
+-- nothing was taken on trust
+abbrev pub is_nothing : TrustView → Bool
+is_nothing trust = (is_none trust.geometry && is_none trust.auxiliary) && is_none trust.programs
+
+-- this code besides
+abbrev pub with_code : TrustView → Option Code → TrustView
+with_code trust None = trust
+with_code trust (Some (Geometry micro)) = record trust { geometry = insert_key nat_cmp trust.geometry micro }
+with_code trust (Some (Auxiliary code)) = record trust { auxiliary = insert_key nat_cmp trust.auxiliary code }
+with_code trust (Some (Subprogram number)) = record trust { programs = insert_key nat_cmp trust.programs number }
+
+-- stops, ends, the spindle, coolant, and calls: none of them is ever made a call on a machine
+abbrev pub is_standard_m : ℕ → Bool
+is_standard_m code = (nat_le code 5 || (code == 8 || code == 9)) || (code == 30 || (code == 98 || code == 99))
+
+-- the row of a code that this control knows, and that it does not refuse
+abbrev pub is_own_row : Option Row → Bool
+is_own_row None = false
+is_own_row (Some row) = not (is_refused row.kind)
+
+-- the G code of so many millionths
+abbrev pub geometry_code : Option ℤ → Option Code
+geometry_code None = None
+geometry_code (Some (pos micro)) = Some (Geometry micro)
+geometry_code (Some (negsuc n)) = None
+
+-- an M code that is no wait and none of the standard ones
+abbrev pub auxiliary_code : WaitCodes → Option ℕ → Option Code
+auxiliary_code waits None = None
+auxiliary_code waits (Some code) =
+    if is_waiting waits code || is_standard_m code then None else Some (Auxiliary code)
+
+-- what a word takes on trust: a G (71) that this control does not know, or an M (77) of those
+abbrev pub word_code : WaitCodes → Word → Option Code
+word_code waits word =
+    if word.letter == 71 then (if is_own_row (row_of_number (number word)) then None else geometry_code (written word))
+    else if word.letter == 77 then auxiliary_code waits (number word)
+    else None
+
+abbrev pub with_words : WaitCodes → TrustView → List Word → TrustView
+with_words waits trust [] = trust
+with_words waits trust (word ∷ words) = with_words waits (with_code trust (word_code waits word)) words
+
+abbrev pub with_body : WaitCodes → TrustView → Body → TrustView
+with_body waits trust (Words words) = if has_code is_macro_code words then trust else with_words waits trust words
+with_body waits trust (Statement text) = trust
+
+-- the program of a call that the tape lacks
+abbrev pub gone_call : (ℕ → Bool) → Control → Option Code
+gone_call gone (Call program repeats) = if gone program then Some (Subprogram program) else None
+gone_call gone other = None
+
+abbrev pub called_outside : (ℕ → Bool) → Result Control FormFault → Option Code
+called_outside gone (Ok control) = gone_call gone control
+called_outside gone (Err fault) = None
+
+abbrev pub with_block : Basis → TrustView → Block → TrustView
+with_block basis trust block =
+    with_code (with_body basis.premises.waits trust block.body)
+    (called_outside (gone_from basis) (numbered (open_control basis.premises.waits block.body)))
+
+abbrev pub with_blocks : Basis → TrustView → List Block → TrustView
+with_blocks basis trust [] = trust
+with_blocks basis trust (block ∷ blocks) = with_blocks basis (with_block basis trust block) blocks
+
+abbrev pub with_programs : Basis → TrustView → List Program → TrustView
+with_programs basis trust [] = trust
+with_programs basis trust (program ∷ programs) = with_programs basis (with_blocks basis trust program.blocks) programs
+
+-- what a tape takes on trust, besides what another one did
+abbrev pub with_tape : Premises → TrustView → List Program → TrustView
+with_tape premises trust tape = with_programs (record { premises = premises; tape = tape }) trust tape

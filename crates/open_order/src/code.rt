@@ -1,0 +1,138 @@
+//! The codes of a block that are taken on trust.
+ghost use Rattle.std.specs.Prelude.{◌≡◌};
+ghost use Rattle.code_tables.specs.Codes.{row_of};
+ghost use Rattle.code_tables.specs.SystemA.{system_a_rows};
+ghost use Rattle.block_forms.specs.Codes.{row_of_number};
+ghost use Rattle.open_forms.specs.Words.{number};
+ghost use Rattle.open_forms.specs.Controls.{numbered, open_control};
+ghost use Rattle.open_order.specs.Basis.{basis};
+ghost use Rattle.open_order.specs.Reading.{gone_from};
+ghost use Rattle.open_order.specs.Trusted.{is_own_row, is_standard_m, geometry_code, auxiliary_code, word_code, gone_call, called_outside};
+
+use crate::outside::is_gone;
+use crate::reading::Reading;
+use block_forms::WaitCodes;
+use block_order::Control;
+use code_tables::{Row, system_a};
+use nc_text::{Block, Word};
+use open_forms::{number, open_control, written};
+
+/// A code that is taken to go on to the next block.
+#[derive(Clone, Copy, Debug, PartialEq, Eq)]
+pub(crate) enum Code {
+    /// A G code, by its millionths.
+    Geometry(u64),
+    /// An M code.
+    Auxiliary(u32),
+    /// A call of a program that the tape lacks.
+    Subprogram(u16),
+}
+
+/// The row of a G code, if the control knows it.
+fn row_of(code: u32) -> Option<Row>
+    ensures { result ≡ row_of system_a_rows code }
+{
+    if code > 65_535 {
+        return None;
+    }
+    system_a().find(code as u16)
+}
+
+fn is_own_row(row: Option<Row>) -> bool
+    ensures { result ≡ is_own_row row }
+{
+    match row {
+        Some(row) => !row.kind.is_refused(),
+        None => false,
+    }
+}
+
+/// Whether this control knows a G word, and does not refuse it.
+fn is_own(word: &Word) -> bool
+    ensures { result ≡ is_own_row (row_of_number (number word.now)) }
+{
+    match number(word) {
+        Some(code) => is_own_row(row_of(code)),
+        None => false,
+    }
+}
+
+/// The G code of so many millionths.
+fn geometry_code(micro: Option<i64>) -> Option<Code>
+    ensures { result ≡ geometry_code micro }
+{
+    match micro {
+        Some(micro) if micro >= 0 => Some(Code::Geometry(micro as u64)),
+        _ => None,
+    }
+}
+
+/// Stops, ends, the spindle, coolant, and calls.
+fn is_standard_m(code: u32) -> bool
+    ensures { result ≡ is_standard_m code }
+{
+    (code <= 5 || (code == 8 || code == 9)) || (code == 30 || (code == 98 || code == 99))
+}
+
+fn auxiliary_code(waits: &WaitCodes, code: Option<u32>) -> Option<Code>
+    ensures { result ≡ auxiliary_code waits.now code }
+{
+    match code {
+        Some(code) => {
+            if waits.is_waiting(code) || is_standard_m(code) {
+                None
+            } else {
+                Some(Code::Auxiliary(code))
+            }
+        }
+        None => None,
+    }
+}
+
+/// What a word takes on trust: a G code that the control does not know, or an M code that is no wait and
+/// none of the standard ones.
+pub(crate) fn word_code(waits: &WaitCodes, word: &Word) -> Option<Code>
+    ensures { result ≡ word_code waits.now word.now }
+{
+    if word.letter == b'G' {
+        if is_own(word) {
+            None
+        } else {
+            geometry_code(written(word))
+        }
+    } else if word.letter == b'M' {
+        auxiliary_code(waits, number(word))
+    } else {
+        None
+    }
+}
+
+/// The program of a call, if the tape lacks it.
+fn gone_call(reading: &Reading<'_>, control: Control) -> Option<Code>
+    ensures { result ≡ gone_call (gone_from (basis reading.now)) control }
+{
+    match control {
+        Control::Call {
+            program,
+            repeats: _,
+        } => {
+            if is_gone(reading.premises.outside, reading.tape, program) {
+                Some(Code::Subprogram(program))
+            } else {
+                None
+            }
+        }
+        _ => None,
+    }
+}
+
+/// The program that a block calls, if the tape lacks it.
+pub(crate) fn called_outside(reading: &Reading<'_>, block: &Block) -> Option<Code>
+    ensures { result ≡ called_outside (gone_from (basis reading.now))
+        (numbered (open_control reading.now.premises.waits block.now.body)) }
+{
+    match open_control(block, &reading.premises.waits) {
+        Ok(control) => gone_call(reading, control),
+        Err(_) => None,
+    }
+}

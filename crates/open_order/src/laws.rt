@@ -1,0 +1,14 @@
+//! What holds of every tape, for the crates above: who calls the function has the law.
+ghost use Rattle.std.specs.Prelude.{◌≡◌, ℕ, List, Err};
+ghost use Rattle.nc_text.specs.declared.tape.Program.{Program};
+ghost use Rattle.nc_text.specs.Shape.{IsTapeShape};
+ghost use Rattle.open_order.specs.declared.premises.Premises.{Premises};
+ghost use Rattle.open_order.specs.Exact.{refusal};
+ghost use Rattle.open_order.specs.Least.{IsLeastRefused};
+ghost use Rattle.open_order.specs.Reading.{programs_read};
+
+/// The block for which a tape is refused has the least line of all that are refused.
+pub fn the_first_refused_block_has_the_least_line()
+    ensures { (premises : Premises) (tape : List Program) (line number : ℕ) → IsTapeShape tape
+        → programs_read premises tape ≡ Err (refusal line number) → IsLeastRefused premises tape line number }
+{}

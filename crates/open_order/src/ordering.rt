@@ -1,0 +1,61 @@
+//! The order of the blocks of a tape, read for its waits.
+ghost use Rattle.std.specs.Prelude.{◌≡◌, IfOk, IfErr};
+ghost use Rattle.block_order.specs.Answers.{IfFault};
+ghost use Rattle.block_order.specs.Faults.{IsSound};
+ghost use Rattle.block_order.specs.Shape.{IsListed};
+ghost use Rattle.tape_flow.specs.Exact.{IsOrderFault};
+ghost use Rattle.nc_text.specs.Shape.{IsTapeShape};
+ghost use Rattle.open_order.specs.Exact.{IsOrdered, IsRefused};
+
+use crate::cycles::contour_fault;
+use crate::premises::Premises;
+use crate::reading::read_tape;
+use block_order::{BlockOrder, ControlProgram};
+use nc_number::Failing;
+use nc_text::Program;
+use std::alloc::Global;
+use tape_flow::FlowFault;
+
+/// The order of the blocks of programs, or its first fault.
+fn order_of(alloc: Global, programs: Vec<ControlProgram>) -> Result<BlockOrder, Failing<FlowFault>>
+    requires { IsListed programs.items }
+    ensures same { IfOk result (λ order. order ≡ programs.items) }
+    ensures sound { IfOk result (λ _. IsSound programs.items) }
+    ensures first { IfErr result (λ error. IfFault error
+        (λ fault. IsOrderFault programs.items fault.line fault.number)) }
+{
+    match BlockOrder::check(alloc, programs) {
+        Ok(order) => Ok(order),
+        Err(Failing::Fault(fault)) => Err(Failing::Fault(FlowFault {
+            number: fault.cause.number(),
+            line: fault.line,
+        })),
+        Err(Failing::NoMemory) => Err(Failing::NoMemory),
+    }
+}
+
+/// The order of the blocks of a tape, or its refusal: of its first block that is refused; else by 60 and
+/// 52, by 50, 51 and 53, or by 65 and 66 of the order of its blocks; else by 50 and 65 of a contour.
+pub fn open_order(
+    alloc: Global,
+    premises: Premises,
+    tape: &[Program],
+) -> Result<BlockOrder, Failing<FlowFault>>
+    requires { IsTapeShape tape.now }
+    ensures ordered { IfOk result (IsOrdered premises tape.now) }
+    ensures refused { IfErr result (λ error. IfFault error
+        (λ fault. IsRefused premises tape.now fault.line fault.number)) }
+{
+    let programs = match read_tape(alloc, premises, tape) {
+        Ok(programs) => programs,
+        Err(error) => return Err(error),
+    };
+    let order = match order_of(alloc, programs) {
+        Ok(order) => order,
+        Err(error) => return Err(error),
+    };
+    match contour_fault(&order, tape) {
+        Some(fault) => Err(Failing::Fault(fault)),
+        None => Ok(order),
+    }
+}

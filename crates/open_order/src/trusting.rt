@@ -1,0 +1,140 @@
+//! What the tapes of a pair take on trust.
+ghost use Rattle.std.specs.Prelude.{◌≡◌, OnOk, Some};
+ghost use Rattle.open_order.specs.declared.code.Code.TheVariants as Code;
+ghost use Rattle.open_order.specs.Basis.{basis, seen};
+ghost use Rattle.open_order.specs.Trusted.{no_trust, with_code, with_words, with_body, with_block, with_blocks, with_programs, with_tape};
+
+use crate::code::{Code, called_outside, word_code};
+use crate::contour::is_macro_call;
+use crate::premises::Premises;
+use crate::reading::Reading;
+use block_forms::WaitCodes;
+use nc_number::NoMemory;
+use nc_text::{Block, Body, Program, Word};
+use std::alloc::Global;
+use std::collections::BTreeSet;
+
+/// Codes and calls that are taken to go on to the next block, each once and in order.
+#[derive(Drop)]
+pub struct Trust {
+    /// G codes that this control does not know, by their millionths.
+    pub geometry: BTreeSet<u64>,
+    /// M codes that are no waits, and none of the standard ones.
+    pub auxiliary: BTreeSet<u32>,
+    /// The O numbers of programs that are called and that the tapes lack.
+    pub programs: BTreeSet<u16>,
+}
+
+impl Trust {
+    ghost use Rattle.std.specs.Prelude.{◌≡◌};
+    ghost use Rattle.open_order.specs.Basis.{seen};
+    ghost use Rattle.open_order.specs.Trusted.{is_nothing};
+
+    /// Whether nothing was taken on trust.
+    pub fn is_empty(&self) -> bool
+        ensures { result ≡ is_nothing (seen self.now) }
+    {
+        self.geometry.is_empty() && self.auxiliary.is_empty() && self.programs.is_empty()
+    }
+}
+
+/// Nothing yet.
+pub fn no_trust(alloc: Global) -> Trust
+    ensures { seen result ≡ no_trust }
+{
+    Trust {
+        geometry: BTreeSet::new(alloc),
+        auxiliary: BTreeSet::new(alloc),
+        programs: BTreeSet::new(alloc),
+    }
+}
+
+fn add_geometry(trust: &mut Trust, micro: u64) -> Result<(), NoMemory>
+    ensures { OnOk result (seen trust.new ≡ with_code (seen trust.old) (Some (Code.Geometry micro))) }
+{
+    trust.geometry.insert(micro)?;
+    Ok(())
+}
+
+fn add_auxiliary(trust: &mut Trust, code: u32) -> Result<(), NoMemory>
+    ensures { OnOk result (seen trust.new ≡ with_code (seen trust.old) (Some (Code.Auxiliary code))) }
+{
+    trust.auxiliary.insert(code)?;
+    Ok(())
+}
+
+fn add_program(trust: &mut Trust, number: u16) -> Result<(), NoMemory>
+    ensures { OnOk result (seen trust.new ≡ with_code (seen trust.old) (Some (Code.Subprogram number))) }
+{
+    trust.programs.insert(number)?;
+    Ok(())
+}
+
+fn add_code(trust: &mut Trust, code: Option<Code>) -> Result<(), NoMemory>
+    ensures { OnOk result (seen trust.new ≡ with_code (seen trust.old) code) }
+{
+    match code {
+        Some(Code::Geometry(micro)) => add_geometry(trust, micro),
+        Some(Code::Auxiliary(code)) => add_auxiliary(trust, code),
+        Some(Code::Subprogram(number)) => add_program(trust, number),
+        None => Ok(()),
+    }
+}
+
+fn add_words(trust: &mut Trust, waits: &WaitCodes, words: &[Word]) -> Result<(), NoMemory>
+    ensures { OnOk result (seen trust.new ≡ with_words waits.now (seen trust.old) words.now) }
+{
+    for word in words {
+        add_code(trust, word_code(waits, word))?;
+    }
+    Ok(())
+}
+
+fn add_body(trust: &mut Trust, waits: &WaitCodes, body: &Body) -> Result<(), NoMemory>
+    ensures { OnOk result (seen trust.new ≡ with_body waits.now (seen trust.old) body.now) }
+{
+    match body {
+        Body::Words(words) => {
+            let words = words.as_slice();
+            if is_macro_call(words) {
+                Ok(())
+            } else {
+                add_words(trust, waits, words)
+            }
+        }
+        Body::Statement(_) => Ok(()),
+    }
+}
+
+fn add_block(trust: &mut Trust, reading: &Reading<'_>, block: &Block) -> Result<(), NoMemory>
+    ensures { OnOk result (seen trust.new ≡ with_block (basis reading.now) (seen trust.old) block.now) }
+{
+    add_body(trust, &reading.premises.waits, &block.body)?;
+    add_code(trust, called_outside(reading, block))
+}
+
+fn add_blocks(trust: &mut Trust, reading: &Reading<'_>, blocks: &[Block]) -> Result<(), NoMemory>
+    ensures { OnOk result (seen trust.new ≡ with_blocks (basis reading.now) (seen trust.old) blocks.now) }
+{
+    for block in blocks {
+        add_block(trust, reading, block)?;
+    }
+    Ok(())
+}
+
+fn add_programs(trust: &mut Trust, reading: &Reading<'_>) -> Result<(), NoMemory>
+    ensures { OnOk result (seen trust.new
+        ≡ with_programs (basis reading.now) (seen trust.old) reading.now.tape.now) }
+{
+    for program in reading.tape {
+        add_blocks(trust, reading, program.blocks.as_slice())?;
+    }
+    Ok(())
+}
+
+/// Adds what a tape takes on trust.
+pub fn add_tape(trust: &mut Trust, premises: Premises, tape: &[Program]) -> Result<(), NoMemory>
+    ensures { OnOk result (seen trust.new ≡ with_tape premises (seen trust.old) tape.now) }
+{
+    add_programs(trust, &Reading { premises, tape })
+}

@@ -1,0 +1,157 @@
+-- Two paths over tapes whose lists of labels are equal: the labels ahead of both agree, and each step leaves it so.
+use Rattle.std.proofs.Common.{◌≡◌, ℕ, ◌⊎◌, inl, inr, List, [], ◌∷◌, Some, refl, sym, subst, ◌∙◌}
+use Rattle.block_order.specs.declared.control.Control.{Control}
+use Rattle.block_order.specs.declared.control.Control.TheVariants as control
+use Rattle.block_order.specs.declared.frame.Frame.{Frame}
+use Rattle.block_order.specs.declared.label.Label.{Label}
+use Rattle.block_order.specs.declared.label.Label.TheVariants as label
+use Rattle.block_order.specs.declared.program.ControlProgram.{ControlProgram}
+use Rattle.block_order.specs.Labels.{ahead, list, start}
+use Rattle.block_order.specs.Steps.{Step, IsPlace, standing, passed, Kept, KeepsLabels}
+use Rattle.pair_order.specs.Pairs.{Paths, IsAtWait, IsAtEnd, Goes, one, two, meet, IsBeginning, AreMet, none, one_more, anew, IsFree, IsReached, begun, gone, IsNeverStuck}
+
+-- the labels ahead are the same, or one path has gone back to its start and the other is about to
+abbrev Agree : List Label → List Label → List Label → Type 0
+Agree all xs ys = (xs ≡ ys) ⊎ (((xs ≡ all) × (ys ≡ label.Again ∷ [])) ⊎ ((xs ≡ label.Again ∷ []) × (ys ≡ all)))
+
+agree_swap : (all xs ys : List Label) → Agree all xs ys → Agree all ys xs
+agree_swap all xs ys (inl e) = inl (sym e)
+agree_swap all xs ys (inr (inl p)) = inr (inr (p.1, p.0))
+agree_swap all xs ys (inr (inr p)) = inr (inl (p.1, p.0))
+
+agree_same : (all xs ys xs' : List Label) → xs' ≡ xs → Agree all xs ys → Agree all xs' ys
+agree_same all xs ys xs' e a = subst (λ zs. Agree all zs ys) (sym e) a
+
+agree_again : (all xs ys xs' : List Label) → xs ≡ label.Again ∷ [] → xs' ≡ all → Agree all xs ys → Agree all xs' ys
+agree_again all xs ys xs' again new (inl e) = inr (inl (new, sym e ∙ again))
+agree_again all xs ys xs' again new (inr (inl p)) = inr (inl (new, p.1))
+agree_again all xs ys xs' again new (inr (inr p)) = inl (new ∙ sym p.1)
+
+agree_waits : (all xs ys : List Label) (code other : ℕ) → Agree all (label.Wait code ∷ xs) (label.Wait other ∷ ys) → (code ≡ other) × (xs ≡ ys)
+agree_waits all xs ys code other (inl e) = (cc, cc)
+agree_waits all xs ys code other (inr (inl p)) = absurd (cc (p.1))
+agree_waits all xs ys code other (inr (inr p)) = absurd (cc (p.0))
+
+agree_end : (all xs : List Label) (code : ℕ) → Agree all (label.Wait code ∷ xs) (label.End ∷ []) → ⊥
+agree_end all xs code (inl e) = cc
+agree_end all xs code (inr (inl p)) = cc (p.1)
+agree_end all xs code (inr (inr p)) = cc (p.0)
+
+kept_agree : (tape : List ControlProgram) (ys : List Label) (f : Frame) (stack : List Frame) (c : Control) (to : List Frame)
+    → Kept tape f stack c to → Agree (list tape) (ahead tape (f ∷ stack)) ys → Agree (list tape) (ahead tape to) ys
+kept_agree tape ys f stack control.Next to k a = agree_same (list tape) (ahead tape (f ∷ stack)) ys (ahead tape to) k a
+kept_agree tape ys f stack (control.Goto n) to k a = agree_same (list tape) (ahead tape (f ∷ stack)) ys (ahead tape to) k a
+kept_agree tape ys f stack (control.While m) to k a = agree_same (list tape) (ahead tape (f ∷ stack)) ys (ahead tape to) k a
+kept_agree tape ys f stack (control.Do m) to k a = agree_same (list tape) (ahead tape (f ∷ stack)) ys (ahead tape to) k a
+kept_agree tape ys f stack (control.EndLoop m) to k a = agree_same (list tape) (ahead tape (f ∷ stack)) ys (ahead tape to) k a
+kept_agree tape ys f stack (control.Wait code) to k a = agree_same (list tape) (ahead tape (f ∷ stack)) ys (ahead tape to) k a
+kept_agree tape ys f stack control.End to k a = agree_same (list tape) (ahead tape (f ∷ stack)) ys (ahead tape to) k a
+kept_agree tape ys f stack (control.Call q r) to k a = agree_same (list tape) (ahead tape (f ∷ stack)) ys (ahead tape to) k a
+kept_agree tape ys f stack (control.BackTo n) to k a = agree_same (list tape) (ahead tape (f ∷ stack)) ys (ahead tape to) k a
+kept_agree tape ys f (g ∷ stack) control.Back to k a = agree_same (list tape) (ahead tape (f ∷ g ∷ stack)) ys (ahead tape to) k a
+kept_agree tape ys f [] control.Back to k a = agree_again (list tape) (ahead tape (f ∷ [])) ys (ahead tape to) k.0 k.1 a
+
+-- a step leads to a place, and leaves the agreement
+step_keeps : (tape : List ControlProgram) → KeepsLabels tape → (ys : List Label) (from to : List Frame) → IsPlace tape from → Step tape from to
+    → Agree (list tape) (ahead tape from) ys → IsPlace tape to × Agree (list tape) (ahead tape to) ys
+step_keeps tape law ys [] to place step a = absurd place
+step_keeps tape law ys (f ∷ stack) to place (c, is, goes) a =
+    let k = law.step f stack place c is to goes in (k.0, kept_agree tape ys f stack c to k.1 a)
+
+-- a step leaves what was met, also one back to the start
+kept_met : (tape : List ControlProgram) (met : List ℕ) (f : Frame) (stack : List Frame) (c : Control) (to : List Frame)
+    → Kept tape f stack c to → AreMet (list tape) met (ahead tape (f ∷ stack)) → AreMet (list tape) met (ahead tape to)
+kept_met tape met f stack control.Next to k a = rw k a
+kept_met tape met f stack (control.Goto n) to k a = rw k a
+kept_met tape met f stack (control.While m) to k a = rw k a
+kept_met tape met f stack (control.Do m) to k a = rw k a
+kept_met tape met f stack (control.EndLoop m) to k a = rw k a
+kept_met tape met f stack (control.Wait code) to k a = rw k a
+kept_met tape met f stack control.End to k a = rw k a
+kept_met tape met f stack (control.Call q r) to k a = rw k a
+kept_met tape met f stack (control.BackTo n) to k a = rw k a
+kept_met tape met f (g ∷ stack) control.Back to k a = rw k a
+kept_met tape met f [] control.Back to k a =
+    rw k.1 (anew met (subst (λ xs. AreMet (list tape) met xs) k.0 a))
+
+step_met : (tape : List ControlProgram) → KeepsLabels tape → (met : List ℕ) (from to : List Frame) → IsPlace tape from → Step tape from to
+    → AreMet (list tape) met (ahead tape from) → AreMet (list tape) met (ahead tape to)
+step_met tape law met [] to place step a = absurd place
+step_met tape law met (f ∷ stack) to place (c, is, goes) a = kept_met tape met f stack c to (law.step f stack place c is to goes).1 a
+
+-- both stand at places of their tapes, the labels ahead agree, and those before were met
+record IsSound (left right : List ControlProgram) (p : Paths) : Type 0 where
+  first : IsPlace left p.first
+  second : IsPlace right p.second
+  agree : Agree (list left) (ahead left p.first) (ahead right p.second)
+  met : AreMet (list left) p.met (ahead left p.first)
+
+-- the laws of both tapes, and that their lists are equal
+pub record IsLawfulPair (left right : List ControlProgram) : Type 0 where
+  pub first : KeepsLabels left
+  pub second : KeepsLabels right
+  pub equal : list left ≡ list right
+
+-- waits at which both stand are of one code, and after them the labels are the same
+meeting : (left right : List ControlProgram) → IsLawfulPair left right → (p : Paths) → IsSound left right p → (code there : ℕ)
+    → IsAtWait left p.first code → IsAtWait right p.second there → (code ≡ there) × (ahead left (passed p.first) ≡ ahead right (passed p.second))
+meeting left right pair p s code there is other =
+    agree_waits (list left) (ahead left (passed p.first)) (ahead right (passed p.second)) code there
+    (rw (← (pair.first.wait p.first code s.first is).1, ← (pair.second.wait p.second there s.second other).1) (s.agree))
+
+goes_sound : (left right : List ControlProgram) → IsLawfulPair left right → (from to : Paths) → IsSound left right from
+    → Goes left right from to → IsSound left right to
+goes_sound left right pair from to s (one step stays same) =
+    let k = step_keeps left pair.first (ahead right from.second) from.first to.first s.first step s.agree in
+    record {
+      first = k.0;
+      second = rw stays (s.second);
+      agree = rw stays (k.1);
+      met = rw same (step_met left pair.first from.met from.first to.first s.first step s.met);
+    }
+goes_sound left right pair from to s (two stays step same) =
+    let turned : Agree (list right) (ahead right from.second) (ahead left from.first) =
+    subst (λ all. Agree all (ahead right from.second) (ahead left from.first)) pair.equal
+    (agree_swap (list left) (ahead left from.first) (ahead right from.second) s.agree) in
+    let k = step_keeps right pair.second (ahead left from.first) from.second to.second s.second step turned in
+    let back : Agree (list left) (ahead left from.first) (ahead right to.second) =
+    agree_swap (list left) (ahead right to.second) (ahead left from.first)
+    (subst (λ all. Agree all (ahead right to.second) (ahead left from.first)) (sym pair.equal) k.1) in
+    record { first = rw stays (s.first); second = k.0; agree = rw stays back; met = rw (stays, same) (s.met) }
+goes_sound left right pair from to s (meet code there is other here beyond more) =
+    let k = pair.first.wait from.first code s.first is in
+    record {
+      first = rw here (k.0);
+      second = rw beyond ((pair.second.wait from.second there s.second other).0);
+      agree = inl (rw (here, beyond) ((meeting left right pair from s code there is other).1));
+      met = rw (here, more) (one_more from.met code (ahead left (passed from.first))
+          (subst (λ xs. AreMet (list left) from.met xs) k.1 s.met));
+    }
+
+beginning_sound : (left right : List ControlProgram) → IsLawfulPair left right → (p : Paths) → IsBeginning left right p
+    → IsSound left right p
+beginning_sound left right pair p at = record {
+  first = rw at.first (refl, refl);
+  second = rw at.second (refl, refl);
+  agree = inl (rw (at.first, at.second) (pair.equal));
+  met = rw (at.first, at.met) none;
+}
+
+free : (left right : List ControlProgram) → IsLawfulPair left right → (p : Paths) → IsSound left right p → IsFree left right p
+free left right pair p s = record {
+  same = λ code there is other. (meeting left right pair p s code there is other).0;
+  first_alone = λ code is ends. agree_end (list left) (ahead left (passed p.first)) code
+      (rw (← (pair.first.wait p.first code s.first is).1, ← pair.second.ends p.second s.second ends) (s.agree));
+  second_alone = λ code ends is. agree_end (list left) (ahead right (passed p.second)) code
+      (rw (← (pair.second.wait p.second code s.second is).1, ← pair.first.ends p.first s.first ends)
+      (agree_swap (list left) (ahead left p.first) (ahead right p.second) s.agree));
+  met = s.met;
+}
+
+reached_sound : (left right : List ControlProgram) → IsLawfulPair left right → (p : Paths) → IsReached left right p → IsSound left right p
+reached_sound left right pair _ (begun p begins) = beginning_sound left right pair p begins
+reached_sound left right pair _ (gone from to before goes) =
+    goes_sound left right pair from to (reached_sound left right pair from before) goes
+
+pub never_stuck : (left right : List ControlProgram) → IsLawfulPair left right → IsNeverStuck left right
+never_stuck left right pair p reached = free left right pair p (reached_sound left right pair p reached)

@@ -1,0 +1,108 @@
+-- No pair is both accepted and refused.
+use Rattle.std.proofs.Common.{◌≡◌, ℕ, ◌↔◌, List, Result, Ok, Err, Option, Some, None, sym, subst, ◌∙◌, arith}
+use Rattle.nc_number.specs.declared.cause.Cause.{Cause}
+use Rattle.nc_number.specs.declared.path.Path.{Path}
+use Rattle.nc_number.specs.declared.path.Path.TheVariants.{One, Two}
+use Rattle.nc_text.specs.declared.fault.TextFault.{TextFault}
+use Rattle.nc_text.specs.declared.tape.Program.{Program}
+use Rattle.nc_text.specs.Tape.{tape_of}
+use Rattle.cell_settings.specs.Cell.{Cell, settings_of}
+use Rattle.block_order.specs.declared.program.ControlProgram.{ControlProgram}
+use Rattle.block_order.specs.Faults.{Stage, Fitting, Finding, Waiting, HasFault, IsSound}
+use Rattle.block_order.specs.Labels.{IsUnforked}
+use Rattle.tape_flow.specs.declared.fault.FlowFault.{FlowFault}
+use Rattle.tape_flow.specs.Exact.{IsOrderFault}
+use Rattle.label_list.specs.Accepted.{AgreeOnLabels, IsAcceptedPair}
+use Rattle.label_list.specs.Lists.{path_labels}
+use Rattle.nc_verify.specs.declared.refusal.Refusal.{Refusal}
+use Rattle.nc_verify.specs.Verdict.{skips_of, IsPairRefusal}
+use Rattle.nc_verify.specs.Verdict.IsPairRefusal.{one, two, differ}
+use Rattle.nc_verify.proofs.NotBoth.{one_cell, one_tape, same_label}
+use Rattle.open_order.specs.declared.premises.Premises.{Premises}
+use Rattle.wait_verify.specs.Asked.{Asked, opened}
+use Rattle.open_order.specs.Contours.{contour_fault}
+use Rattle.open_order.specs.Exact.{refusal, IsOrdered, IsRefused}
+use Rattle.open_order.specs.Exact.IsRefused.{block, order, contour}
+use Rattle.open_order.specs.Reading.{programs_read}
+use Rattle.wait_verify.specs.Verdict.{premises_of, IsOrderOf, IsTapeRefusal, IsLeftOrder, IsRightOrder, Judged, AreOrders, AreAccepted, IsRefusalOf}
+use Rattle.wait_verify.specs.Verdict.IsTapeRefusal.{reading as tape_reading, order as tape_order}
+use Rattle.wait_verify.specs.Verdict.IsRefusalOf.{settings, left, right, pair}
+
+pub one_order : (a b : List ControlProgram) (r : Result (List ControlProgram) FlowFault) → r ≡ Ok a → r ≡ Ok b → a ≡ b
+one_order a b r p q = let e : ◌≡◌ {A = Result (List ControlProgram) FlowFault} (Ok a) (Ok b) = sym p ∙ q in cc
+
+pub no_fault : (tape : List ControlProgram) (stage : Stage) (line : ℕ) (cause : Cause) → IsSound tape
+    → HasFault tape stage line cause → ⊥
+no_fault tape Fitting line cause sound fault = sound.fits line cause fault
+no_fault tape Finding line cause sound fault = sound.finds line cause fault
+no_fault tape Waiting line cause sound fault = sound.waits line cause fault
+
+-- no tape has an order and is refused
+pub not_both_order : (premises : Premises) (programs : List Program) (own : List ControlProgram) (line number : ℕ)
+    → IsOrdered premises programs own → IsRefused premises programs line number → ⊥
+not_both_order premises programs own line number x (block failed) =
+    absurd (let e : ◌≡◌ {A = Result (List ControlProgram) FlowFault} (Ok own) (Err (refusal line number)) =
+    sym x.reads ∙ failed in cc)
+not_both_order premises programs own line number x (order other reads fault) =
+    let same : other ≡ own = one_order other own (programs_read premises programs) reads x.reads in
+    let here = subst (λ o. IsOrderFault o line number) same fault in
+    no_fault own here.1.stage line here.0 x.sound here.1.holds
+not_both_order premises programs own line number x (contour other reads sound fault) =
+    let same : other ≡ own = one_order other own (programs_read premises programs) reads x.reads in
+    let here = subst (λ o. contour_fault o programs ≡ Some (refusal line number)) same fault in
+    absurd (let e : ◌≡◌ {A = Option FlowFault} None (Some (refusal line number)) = sym x.contours ∙ here in cc)
+
+-- a text has one tape, and one order of its blocks
+pub same_programs : (premises : Premises) (skips : ℕ) (text : List ℕ) (a b : List Program) (oa ob : List ControlProgram)
+    → IsOrderOf premises skips text a oa → IsOrderOf premises skips text b ob → a ≡ b
+same_programs premises skips text a b oa ob x y = one_tape a b (tape_of skips (opened text)) x.reads y.reads
+
+pub same_order : (premises : Premises) (skips : ℕ) (text : List ℕ) (a b : List Program) (oa ob : List ControlProgram)
+    → IsOrderOf premises skips text a oa → IsOrderOf premises skips text b ob → oa ≡ ob
+same_order premises skips text a b oa ob x y =
+    let same : a ≡ b = same_programs premises skips text a b oa ob x y in
+    one_order oa ob (programs_read premises b) (subst (λ t. programs_read premises t ≡ Ok oa) same x.ordered.reads) y.ordered.reads
+
+pub not_both_tape : (premises : Premises) (skips : ℕ) (path : Path) (text : List ℕ) (programs : List Program)
+    (own : List ControlProgram) (told : Refusal) → IsOrderOf premises skips text programs own
+    → IsTapeRefusal premises skips path text told → ⊥
+not_both_tape premises skips path text programs own told x (tape_reading fault refused is) =
+    absurd (let e : ◌≡◌ {A = Result (List Program) TextFault} (Ok programs) (Err fault) = sym x.reads ∙ refused in cc)
+not_both_tape premises skips path text programs own told x (tape_order other line number reads refused is) =
+    let same : programs ≡ other = one_tape programs other (tape_of skips (opened text)) x.reads reads in
+    not_both_order premises other own line number (subst (λ t. IsOrdered premises t own) same x.ordered) refused
+
+not_both_pair : (l r : List ControlProgram) (told : Refusal) → AgreeOnLabels l r → IsPairRefusal l r told → ⊥
+not_both_pair l r told agree (one long) = omega (arith, long.long, agree.left_few)
+not_both_pair l r told agree (two few long) = omega (arith, long.long, agree.right_few)
+not_both_pair l r told agree (differ few_l few_r fault m is) =
+    m.differ (same_label (path_labels l) (path_labels r) fault.after m.one m.two agree.same m.is_one m.is_two)
+
+-- the law of lists of labels
+abbrev pub ByLists : Type 0
+ByLists = (l r : List ControlProgram) → IsUnforked l → IsUnforked r → IsAcceptedPair l r ↔ AgreeOnLabels l r
+
+pub not_both : ByLists → (asked : Asked) (judged : Judged) (told : Refusal) → AreAccepted asked judged → IsRefusalOf asked told → ⊥
+not_both lists asked judged told ok (settings s) =
+    absurd (let e : ◌≡◌ {A = Result Cell ℕ} (Ok judged.cell) (Err s.line) = sym ok.orders.settings_are ∙ s.refused in cc)
+not_both lists asked judged told ok (left other read refused) =
+    let same : judged.cell ≡ other = one_cell judged.cell other (settings_of asked.texts.settings) ok.orders.settings_are read in
+    not_both_tape (premises_of asked other) (skips_of One other) One asked.texts.left judged.left_tape judged.left told
+    (subst (λ c. IsLeftOrder asked c judged.left_tape judged.left) same ok.orders.left_is) refused
+not_both lists asked judged told ok (right other first_tape first_order read first refused) =
+    let same : judged.cell ≡ other = one_cell judged.cell other (settings_of asked.texts.settings) ok.orders.settings_are read in
+    not_both_tape (premises_of asked other) (skips_of Two other) Two asked.texts.right judged.right_tape judged.right told
+    (subst (λ c. IsRightOrder asked c judged.right_tape judged.right) same ok.orders.right_is) refused
+not_both lists asked judged told ok (pair other orders refused) =
+    let same : judged.cell ≡ other.cell =
+    one_cell judged.cell other.cell (settings_of asked.texts.settings) ok.orders.settings_are orders.settings_are in
+    let la : other.left ≡ judged.left =
+    same_order (premises_of asked other.cell) (skips_of One other.cell) asked.texts.left other.left_tape judged.left_tape
+    other.left judged.left orders.left_is (subst (λ c. IsLeftOrder asked c judged.left_tape judged.left) same ok.orders.left_is) in
+    let rb : other.right ≡ judged.right =
+    same_order (premises_of asked other.cell) (skips_of Two other.cell) asked.texts.right other.right_tape judged.right_tape
+    other.right judged.right orders.right_is
+    (subst (λ c. IsRightOrder asked c judged.right_tape judged.right) same ok.orders.right_is) in
+    not_both_pair judged.left judged.right told
+    ((lists judged.left judged.right ok.pair.left_unforked ok.pair.right_unforked).0 ok.pair)
+    (subst (λ x. IsPairRefusal judged.left x told) rb (subst (λ x. IsPairRefusal x other.right told) la refused))

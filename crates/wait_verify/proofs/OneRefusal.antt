@@ -1,0 +1,244 @@
+-- A pair has one refusal at most.
+use Rattle.std.proofs.Common.{◌≡◌, ℕ, zero, suc, ◌<◌, ◌⊎◌, inl, inr, List, [], ◌∷◌, take, slice_get, Option, Some, None, Result, Ok, Err, refl, ap, sym, subst, ◌∙◌, arith}
+use Rattle.nc_number.specs.declared.cause.Cause.{Cause}
+use Rattle.nc_number.specs.Causes.{cause_number}
+use Rattle.nc_number.specs.declared.path.Path.{Path}
+use Rattle.nc_number.specs.declared.path.Path.TheVariants.{One, Two}
+use Rattle.nc_text.specs.declared.fault.TextFault.{TextFault}
+use Rattle.nc_text.specs.declared.tape.Program.{Program}
+use Rattle.nc_text.specs.Tape.{tape_of}
+use Rattle.cell_settings.specs.Cell.{Cell, settings_of}
+use Rattle.block_order.specs.declared.program.ControlProgram.{ControlProgram}
+use Rattle.block_order.specs.Faults.{IsFirst, IsSound}
+use Rattle.tape_flow.specs.declared.fault.FlowFault.{FlowFault}
+use Rattle.tape_flow.specs.Exact.{IsOrderFault}
+use Rattle.label_list.specs.declared.fault.PairFault.{PairFault}
+use Rattle.label_list.specs.declared.labelled.Labelled.{Labelled}
+use Rattle.label_list.specs.Faults as labels
+use Rattle.label_list.specs.Faults.{IsMismatch}
+use Rattle.label_list.specs.Lists.{path_labels}
+use Rattle.nc_verify.specs.declared.refusal.Refusal.{Refusal}
+use Rattle.nc_verify.specs.Refusals.{at_setting, at_line, mismatch}
+use Rattle.nc_verify.specs.Verdict.{skips_of, AreRefusedSettings, IsPairRefusal}
+use Rattle.nc_verify.specs.Verdict.IsPairRefusal.{one, two, differ}
+use Rattle.nc_verify.proofs.NotBoth.{one_cell, one_tape, same_label}
+use Rattle.open_order.specs.declared.premises.Premises.{Premises}
+use Rattle.wait_verify.specs.Asked.{Asked, opened}
+use Rattle.open_order.specs.Contours.{contour_fault}
+use Rattle.open_order.specs.Exact.{refusal, IsOrdered, IsRefused}
+use Rattle.open_order.specs.Exact.IsRefused.{block, order, contour}
+use Rattle.open_order.specs.Reading.{programs_read}
+use Rattle.wait_verify.specs.Verdict.{premises_of, IsOrderOf, IsTapeRefusal, IsLeftOrder, IsRightOrder, Judged, AreOrders, IsRefusalOf}
+use Rattle.wait_verify.specs.Verdict.IsTapeRefusal.{reading as tape_reading, order as tape_order}
+use Rattle.wait_verify.specs.Verdict.IsRefusalOf.{settings, left, right, pair}
+use Rattle.wait_verify.proofs.NotBoth.{one_order, no_fault, same_order, not_both_tape}
+
+-- the law of a first fault
+abbrev pub OneFirst : Type 0
+OneFirst = (tape : List ControlProgram) (line other_line : ℕ) (cause other : Cause) → IsFirst tape line cause
+    → IsFirst tape other_line other → (line ≡ other_line) × (cause ≡ other)
+
+one_of_settings : (text : List ℕ) (a b : Refusal) → AreRefusedSettings text a → AreRefusedSettings text b → a ≡ b
+one_of_settings text a b x y =
+    let both : ◌≡◌ {A = Result Cell ℕ} (Err x.line) (Err y.line) = sym x.refused ∙ y.refused in
+    let same : x.line ≡ y.line = cc in
+    x.is ∙ ap at_setting same ∙ sym y.is
+
+-- The tape of a path.
+
+same_fault : (line number other_line other : ℕ) → ◌≡◌ {A = FlowFault} (refusal line number) (refusal other_line other)
+    → (line ≡ other_line) × (number ≡ other)
+same_fault line number other_line other e = (ap (λ (f : FlowFault). f.line) e, ap (λ (f : FlowFault). f.number) e)
+
+same_error : (r : Result (List ControlProgram) FlowFault) (a b : FlowFault) → r ≡ Err a → r ≡ Err b → a ≡ b
+same_error r a b p q = let e : ◌≡◌ {A = Result (List ControlProgram) FlowFault} (Err a) (Err b) = sym p ∙ q in cc
+
+same_some : (o : Option FlowFault) (a b : FlowFault) → o ≡ Some a → o ≡ Some b → a ≡ b
+same_some o a b p q = let e : ◌≡◌ {A = Option FlowFault} (Some a) (Some b) = sym p ∙ q in cc
+
+read_or_not : (r : Result (List ControlProgram) FlowFault) (own : List ControlProgram) (fault : FlowFault) → r ≡ Ok own
+    → r ≡ Err fault → ⊥
+read_or_not r own fault p q =
+    absurd (let e : ◌≡◌ {A = Result (List ControlProgram) FlowFault} (Ok own) (Err fault) = sym p ∙ q in cc)
+
+one_of_orders : OneFirst → (own : List ControlProgram) (line number other_line other : ℕ) → IsOrderFault own line number
+    → IsOrderFault own other_line other → (line ≡ other_line) × (number ≡ other)
+one_of_orders law own line number other_line other x y =
+    let same = law own line other_line x.0 y.0 x.1 y.1 in
+    (same.0, x.2 ∙ ap cause_number same.1 ∙ sym y.2)
+
+faulty_is_unsound : (own : List ControlProgram) (line number : ℕ) → IsSound own → IsOrderFault own line number → ⊥
+faulty_is_unsound own line number sound fault = no_fault own fault.1.stage line fault.0 sound fault.1.holds
+
+one_of_refused : OneFirst → (premises : Premises) (programs : List Program) (line number other_line other : ℕ)
+    → IsRefused premises programs line number → IsRefused premises programs other_line other
+    → (line ≡ other_line) × (number ≡ other)
+one_of_refused law premises programs line number other_line other (block x) (block y) =
+    same_fault line number other_line other
+    (same_error (programs_read premises programs) (refusal line number) (refusal other_line other) x y)
+one_of_refused law premises programs line number other_line other (block x) (order own reads fault) =
+    absurd (read_or_not (programs_read premises programs) own (refusal line number) reads x)
+one_of_refused law premises programs line number other_line other (block x) (contour own reads sound fault) =
+    absurd (read_or_not (programs_read premises programs) own (refusal line number) reads x)
+one_of_refused law premises programs line number other_line other (order own reads fault) (block y) =
+    absurd (read_or_not (programs_read premises programs) own (refusal other_line other) reads y)
+one_of_refused law premises programs line number other_line other (order own reads fault) (order own' reads' fault') =
+    let same : own ≡ own' = one_order own own' (programs_read premises programs) reads reads' in
+    one_of_orders law own' line number other_line other (subst (λ o. IsOrderFault o line number) same fault) fault'
+one_of_refused law premises programs line number other_line other (order own reads fault) (contour own' reads' sound fault') =
+    let same : own ≡ own' = one_order own own' (programs_read premises programs) reads reads' in
+    absurd (faulty_is_unsound own' line number sound (subst (λ o. IsOrderFault o line number) same fault))
+one_of_refused law premises programs line number other_line other (contour own reads sound fault) (block y) =
+    absurd (read_or_not (programs_read premises programs) own (refusal other_line other) reads y)
+one_of_refused law premises programs line number other_line other (contour own reads sound fault) (order own' reads' fault') =
+    let same : own' ≡ own = one_order own' own (programs_read premises programs) reads' reads in
+    absurd (faulty_is_unsound own other_line other sound (subst (λ o. IsOrderFault o other_line other) same fault'))
+one_of_refused law premises programs line number other_line other (contour own reads sound fault) (contour own' reads' sound' fault') =
+    let same : own ≡ own' = one_order own own' (programs_read premises programs) reads reads' in
+    same_fault line number other_line other
+    (same_some (contour_fault own' programs) (refusal line number) (refusal other_line other)
+    (subst (λ o. contour_fault o programs ≡ Some (refusal line number)) same fault) fault')
+
+not_both_read : (text : List ℕ) (skips : ℕ) (programs : List Program) (fault : TextFault) → tape_of skips text ≡ Ok programs
+    → tape_of skips text ≡ Err fault → ⊥
+not_both_read text skips programs fault read refused =
+    absurd (let e : ◌≡◌ {A = Result (List Program) TextFault} (Ok programs) (Err fault) = sym read ∙ refused in cc)
+
+one_of_tape : OneFirst → (premises : Premises) (skips : ℕ) (path : Path) (text : List ℕ) (a b : Refusal)
+    → IsTapeRefusal premises skips path text a → IsTapeRefusal premises skips path text b → a ≡ b
+one_of_tape law premises skips path text a b (tape_reading fault e is) (tape_reading other f own) =
+    let both : ◌≡◌ {A = Result (List Program) TextFault} (Err fault) (Err other) = sym e ∙ f in
+    let same : fault ≡ other = cc in
+    is ∙ ap (λ (x : TextFault). at_line path x.line x.number) same ∙ sym own
+one_of_tape law premises skips path text a b (tape_reading fault e is) (tape_order programs line number read refused own) =
+    absurd (not_both_read (opened text) skips programs fault read e)
+one_of_tape law premises skips path text a b (tape_order programs line number read refused is) (tape_reading fault e own) =
+    absurd (not_both_read (opened text) skips programs fault read e)
+one_of_tape law premises skips path text a b (tape_order programs line number read refused is) (tape_order other other_line n other_read other_refused own) =
+    let same : programs ≡ other = one_tape programs other (tape_of skips (opened text)) read other_read in
+    let here : IsRefused premises other line number = subst (λ t. IsRefused premises t line number) same refused in
+    let at = one_of_refused law premises other line number other_line n here other_refused in
+    is ∙ ap (λ k. at_line path k number) at.0 ∙ ap (λ k. at_line path other_line k) at.1 ∙ sym own
+
+-- Two lists of labels.
+
+take_get : (xs : List Labelled) (n k : ℕ) → k < n → slice_get (take n xs) k ≡ slice_get xs k
+take_get xs zero k less = absurd (omega arith)
+take_get [] (suc n) k less = refl
+take_get (x ∷ xs) (suc n) zero less = refl
+take_get (x ∷ xs) (suc n) (suc k) less = take_get xs n k (omega arith)
+
+-- no mismatch comes before another
+not_before : (l r : List Labelled) (f g : PairFault) → IsMismatch l r f → IsMismatch l r g → f.after < g.after → ⊥
+not_before l r f g x y less =
+    x.differ (same_label (take g.after l) (take g.after r) f.after x.one x.two y.equal
+    (take_get l g.after f.after less ∙ x.is_one) (take_get r g.after f.after less ∙ x.is_two))
+
+before_or_not : (n m : ℕ) → (n < m) ⊎ ((m < n) ⊎ (n ≡ m))
+before_or_not n m = grind arith
+
+one_label : (a b : Labelled) (o : Option Labelled) → o ≡ Some a → o ≡ Some b → a ≡ b
+one_label a b o p q = let both : ◌≡◌ {A = Option Labelled} (Some a) (Some b) = sym p ∙ q in cc
+
+one_mismatch : (l r : List Labelled) (f g : PairFault) → IsMismatch l r f → IsMismatch l r g → f ≡ g
+one_mismatch l r f g x y = elim (before_or_not f.after g.after) [
+  | inl less ↦ absurd (not_before l r f g x y less)
+  | inr (inl less) ↦ absurd (not_before l r g f y x less)
+  | inr (inr same) ↦
+      let one' : x.one ≡ y.one =
+      one_label x.one y.one (slice_get l g.after) (subst (λ k. slice_get l k ≡ Some x.one) same x.is_one) y.is_one in
+      let two' : x.two ≡ y.two =
+      one_label x.two y.two (slice_get r g.after) (subst (λ k. slice_get r k ≡ Some x.two) same x.is_two) y.is_two in
+      x.is ∙ ap (λ k. labels.mismatch k x.one.line x.two.line) same ∙ ap (λ (z : Labelled). labels.mismatch g.after z.line x.two.line) one'
+      ∙ ap (λ (z : Labelled). labels.mismatch g.after y.one.line z.line) two' ∙ sym y.is
+]
+
+one_of_pair : (l r : List ControlProgram) (a b : Refusal) → IsPairRefusal l r a → IsPairRefusal l r b → a ≡ b
+one_of_pair l r a b (one x) (one y) = x.is ∙ sym y.is
+one_of_pair l r a b (one x) (two few y) = absurd (omega (arith, x.long, few))
+one_of_pair l r a b (one x) (differ few other fault m is) = absurd (omega (arith, x.long, few))
+one_of_pair l r a b (two few x) (one y) = absurd (omega (arith, y.long, few))
+one_of_pair l r a b (two few x) (two other y) = x.is ∙ sym y.is
+one_of_pair l r a b (two few x) (differ one_few other fault m is) = absurd (omega (arith, x.long, other))
+one_of_pair l r a b (differ few other fault m is) (one y) = absurd (omega (arith, y.long, few))
+one_of_pair l r a b (differ few other fault m is) (two one_few y) = absurd (omega (arith, y.long, other))
+one_of_pair l r a b (differ few other fault m is) (differ few' other' fault' m' is') =
+    is ∙ ap mismatch (one_mismatch (path_labels l) (path_labels r) fault fault' m m') ∙ sym is'
+
+-- A pair.
+
+not_both_settings : (text : List ℕ) (cell : Cell) (a : Refusal) → AreRefusedSettings text a → settings_of text ≡ Ok cell → ⊥
+not_both_settings text cell a x read =
+    absurd (let e : ◌≡◌ {A = Result Cell ℕ} (Ok cell) (Err x.line) = sym read ∙ x.refused in cc)
+
+-- the tape of a path, under the settings of one text
+abbrev IsPathOrder : Asked → Path → List ℕ → Cell → List Program → List ControlProgram → Type 0
+IsPathOrder asked path text cell programs own = IsOrderOf (premises_of asked cell) (skips_of path cell) text programs own
+
+abbrev IsPathRefusal : Asked → Path → List ℕ → Cell → Refusal → Type 0
+IsPathRefusal asked path text cell told = IsTapeRefusal (premises_of asked cell) (skips_of path cell) path text told
+
+not_both_path : (asked : Asked) (path : Path) (text : List ℕ) (cell other : Cell) (programs : List Program)
+    (own : List ControlProgram) (told : Refusal) → settings_of asked.texts.settings ≡ Ok cell
+    → settings_of asked.texts.settings ≡ Ok other → IsPathOrder asked path text cell programs own
+    → IsPathRefusal asked path text other told → ⊥
+not_both_path asked path text cell other programs own told read again ordered refused =
+    let same : cell ≡ other = one_cell cell other (settings_of asked.texts.settings) read again in
+    not_both_tape (premises_of asked other) (skips_of path other) path text programs own told
+    (subst (λ c. IsPathOrder asked path text c programs own) same ordered) refused
+
+one_of_path : OneFirst → (asked : Asked) (path : Path) (text : List ℕ) (cell other : Cell) (a b : Refusal)
+    → settings_of asked.texts.settings ≡ Ok cell → settings_of asked.texts.settings ≡ Ok other
+    → IsPathRefusal asked path text cell a → IsPathRefusal asked path text other b → a ≡ b
+one_of_path law asked path text cell other a b read again x y =
+    let same : cell ≡ other = one_cell cell other (settings_of asked.texts.settings) read again in
+    one_of_tape law (premises_of asked other) (skips_of path other) path text a b
+    (subst (λ c. IsPathRefusal asked path text c a) same x) y
+
+one_of_two : (asked : Asked) (one' other : Judged) (a b : Refusal) → AreOrders asked one' → AreOrders asked other
+    → IsPairRefusal one'.left one'.right a → IsPairRefusal other.left other.right b → a ≡ b
+one_of_two asked one' other a b orders others x y =
+    let same : one'.cell ≡ other.cell =
+    one_cell one'.cell other.cell (settings_of asked.texts.settings) orders.settings_are others.settings_are in
+    let ll : one'.left ≡ other.left =
+    same_order (premises_of asked other.cell) (skips_of One other.cell) asked.texts.left one'.left_tape other.left_tape
+    one'.left other.left (subst (λ c. IsLeftOrder asked c one'.left_tape one'.left) same orders.left_is) others.left_is in
+    let rr : one'.right ≡ other.right =
+    same_order (premises_of asked other.cell) (skips_of Two other.cell) asked.texts.right one'.right_tape other.right_tape
+    one'.right other.right (subst (λ c. IsRightOrder asked c one'.right_tape one'.right) same orders.right_is) others.right_is in
+    one_of_pair other.left other.right a b
+    (subst (λ z. IsPairRefusal other.left z a) rr (subst (λ z. IsPairRefusal z one'.right a) ll x)) y
+
+pub one_refusal : OneFirst → (asked : Asked) (a b : Refusal) → IsRefusalOf asked a → IsRefusalOf asked b → a ≡ b
+one_refusal law asked a b (settings x) (settings y) = one_of_settings asked.texts.settings a b x y
+one_refusal law asked a b (settings x) (left cell read y) = absurd (not_both_settings asked.texts.settings cell a x read)
+one_refusal law asked a b (settings x) (right cell programs own read first y) =
+    absurd (not_both_settings asked.texts.settings cell a x read)
+one_refusal law asked a b (settings x) (pair judged orders y) =
+    absurd (not_both_settings asked.texts.settings judged.cell a x orders.settings_are)
+one_refusal law asked a b (left cell read x) (settings y) = absurd (not_both_settings asked.texts.settings cell b y read)
+one_refusal law asked a b (left cell read x) (left other again y) =
+    one_of_path law asked One asked.texts.left cell other a b read again x y
+one_refusal law asked a b (left cell read x) (right other programs own again first y) =
+    absurd (not_both_path asked One asked.texts.left other cell programs own a again read first x)
+one_refusal law asked a b (left cell read x) (pair judged orders y) =
+    absurd (not_both_path asked One asked.texts.left judged.cell cell judged.left_tape judged.left a orders.settings_are read
+    orders.left_is x)
+one_refusal law asked a b (right cell programs own read first x) (settings y) =
+    absurd (not_both_settings asked.texts.settings cell b y read)
+one_refusal law asked a b (right cell programs own read first x) (left other again y) =
+    absurd (not_both_path asked One asked.texts.left cell other programs own b read again first y)
+one_refusal law asked a b (right cell programs own read first x) (right other others theirs again second y) =
+    one_of_path law asked Two asked.texts.right cell other a b read again x y
+one_refusal law asked a b (right cell programs own read first x) (pair judged orders y) =
+    absurd (not_both_path asked Two asked.texts.right judged.cell cell judged.right_tape judged.right a orders.settings_are read
+    orders.right_is x)
+one_refusal law asked a b (pair judged orders x) (settings y) =
+    absurd (not_both_settings asked.texts.settings judged.cell b y orders.settings_are)
+one_refusal law asked a b (pair judged orders x) (left other again y) =
+    absurd (not_both_path asked One asked.texts.left judged.cell other judged.left_tape judged.left b orders.settings_are again
+    orders.left_is y)
+one_refusal law asked a b (pair judged orders x) (right other programs own again first y) =
+    absurd (not_both_path asked Two asked.texts.right judged.cell other judged.right_tape judged.right b orders.settings_are again
+    orders.right_is y)
+one_refusal law asked a b (pair judged orders x) (pair other others y) = one_of_two asked judged other a b orders others x y

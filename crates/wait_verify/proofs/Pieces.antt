@@ -1,0 +1,33 @@
+-- Texts that are put in pieces.
+use Rattle.std.proofs.Common.{◌≡◌, ℕ, zero, suc, ◌≤◌, min, List, [], ◌∷◌, ◌++◌, length, drop, Result, Ok, Err, OnOk, refl, ap, ◌∙◌, arith, append_assoc}
+use Rattle.label_list.specs.declared.labelled.Labelled.{Labelled}
+use Rattle.wait_verify.specs.Printed.{meetings_text}
+
+two : (old a b x y : List ℕ) → x ≡ old ++ a → y ≡ x ++ b → y ≡ old ++ (a ++ b)
+two old a b x y first second = second ∙ ap (λ (l : List ℕ). l ++ b) first ∙ append_assoc old a b
+
+-- three pieces
+pub three : {T E : Type 0} (result : Result T E) (old a b c x y z : List ℕ) → x ≡ old ++ a → y ≡ x ++ b
+    → OnOk result (z ≡ y ++ c) → OnOk result (z ≡ old ++ ((a ++ b) ++ c))
+three (Ok done) old a b c x y z first second third = two old (a ++ b) c y z (two old a b x y first second) third
+three (Err fault) old a b c x y z first second third = tt
+
+-- four pieces
+pub four : {T E : Type 0} (result : Result T E) (old a b c d x y z w : List ℕ) → x ≡ old ++ a → y ≡ x ++ b → z ≡ y ++ c
+    → OnOk result (w ≡ z ++ d) → OnOk result (w ≡ old ++ (((a ++ b) ++ c) ++ d))
+four result old a b c d x y z w first second third last =
+    three result old (a ++ b) c d y z w (two old a b x y first second) third last
+
+-- after the shorter list nothing follows
+pub no_more : (left right : List Labelled) (n : ℕ) → min (length left) (length right) ≤ n
+    → meetings_text (drop n left) (drop n right) ≡ []
+no_more [] right zero over = refl
+no_more [] right (suc n) over = refl
+no_more (one ∷ left) [] zero over = refl
+no_more (one ∷ left) [] (suc n) over = none (drop n left)
+  where
+    none : (xs : List Labelled) → meetings_text xs [] ≡ []
+    none [] = refl
+    none (x ∷ xs) = refl
+no_more (one ∷ left) (two ∷ right) zero over = absurd (omega (arith, over))
+no_more (one ∷ left) (two ∷ right) (suc n) over = no_more left right n (omega (arith, over))

@@ -1,0 +1,8 @@
+-- What was put, with what the rest puts, is the whole.
+use Rattle.std.proofs.Common.{◌≡◌, ◌++◌}
+use Rattle.wait_verify.specs.Printed.{geometries_text}
+use Rattle.wait_verify.proofs.printing.push_geometries.Given as goal
+
+abbrev pub invariant-loop-micro : goal.invariant-loop-micro
+invariant-loop-micro l =
+    l.fn.text.items ++ geometries_text l.numbers.keys ≡ l.text.items ++ geometries_text l.micro-iterator

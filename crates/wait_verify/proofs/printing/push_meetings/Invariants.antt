@@ -1,0 +1,8 @@
+-- What was put, with what the rest puts, is the whole.
+use Rattle.std.proofs.Common.{◌≡◌, ◌++◌, drop}
+use Rattle.wait_verify.specs.Printed.{meetings_text}
+use Rattle.wait_verify.proofs.printing.push_meetings.Given as goal
+
+abbrev pub invariant-loop-place : goal.invariant-loop-place
+invariant-loop-place l =
+    l.fn.text.items ++ meetings_text l.left l.right ≡ l.text.items ++ meetings_text (drop l.place l.left) (drop l.place l.right)

@@ -1,0 +1,4 @@
+pub mod Asked
+pub mod Verdict
+pub mod Printed
+pub mod Widening

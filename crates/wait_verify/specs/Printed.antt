@@ -1,0 +1,57 @@
+-- The meetings of an accepted pair as a text.
+use Rattle.std.specs.Prelude.{ℕ, ◌-◌, nat_le, pos, List, [], ◌∷◌, ◌++◌, length, codes, decimal, if◌then◌else◌}
+use Rattle.nc_number.specs.Printed.{value_text}
+use Rattle.block_order.specs.declared.label.Label.{Label}
+use Rattle.block_order.specs.declared.label.Label.TheVariants.{Wait, End, Again, Off}
+use Rattle.label_list.specs.declared.labelled.Labelled.{Labelled}
+use Rattle.open_order.specs.Trusted.{TrustView, is_nothing}
+
+-- a meeting by its code, or how the list ends
+abbrev pub label_text : Label → List ℕ
+label_text (Wait code) = codes "M" ++ decimal code
+label_text End = codes "end"
+label_text Again = codes "again"
+label_text Off = codes "off"
+
+abbrev pub place_text : List ℕ → ℕ → List ℕ
+place_text path line = path ++ decimal line
+
+-- a label of both paths, with the line of each
+unfoldable pub meeting_text : Labelled → Labelled → List ℕ
+meeting_text one two =
+    label_text one.label ++ place_text (codes " path 1 line ") one.line ++ place_text (codes " path 2 line ") two.line ++ codes "\n"
+
+-- a line for each label of both lists
+abbrev pub meetings_text : List Labelled → List Labelled → List ℕ
+meetings_text [] right = []
+meetings_text (one ∷ left) [] = []
+meetings_text (one ∷ left) (two ∷ right) = meeting_text one two ++ meetings_text left right
+
+-- a G code by its millionths, of which there are no more than a value may have
+abbrev pub geometry_text : ℕ → List ℕ
+geometry_text micro = if nat_le micro 99999999999999 then codes " G" ++ value_text (pos micro) else []
+
+abbrev pub geometries_text : List ℕ → List ℕ
+geometries_text [] = []
+geometries_text (micro ∷ rest) = geometry_text micro ++ geometries_text rest
+
+-- each number after these bytes
+abbrev pub numbers_text : List ℕ → List ℕ → List ℕ
+numbers_text before [] = []
+numbers_text before (number ∷ rest) = before ++ decimal number ++ numbers_text before rest
+
+abbrev pub codes_text : TrustView → List ℕ
+codes_text trust =
+    geometries_text trust.geometry ++ numbers_text (codes " M") trust.auxiliary ++ numbers_text (codes " O") trust.programs
+
+-- the line of what was taken on trust, if there is anything
+abbrev pub trust_text : TrustView → List ℕ
+trust_text trust = if is_nothing trust then [] else codes "goes on" ++ codes_text trust ++ codes "\n"
+
+-- how often the paths meet: each label but the last is a wait
+abbrev pub head_text : List Labelled → List ℕ
+head_text left = codes "waits " ++ decimal (length left - 1) ++ codes "\n"
+
+-- the text of an accepted pair
+unfoldable pub waits_text : List Labelled → List Labelled → TrustView → List ℕ
+waits_text left right trust = head_text left ++ meetings_text left right ++ trust_text trust

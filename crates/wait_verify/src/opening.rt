@@ -1,0 +1,25 @@
+//! The text of a tape with a blank for each comma.
+ghost use Rattle.std.specs.Prelude.{◌≡◌, IfOk};
+ghost use Rattle.wait_verify.specs.Asked.{without_comma, opened};
+
+use nc_number::NoMemory;
+use std::alloc::Global;
+
+/// A comma as a blank.
+fn without_comma(byte: u8) -> u8
+    ensures { result ≡ without_comma byte }
+{
+    if byte == b',' { b' ' } else { byte }
+}
+
+/// The text of a tape with a blank for each comma: a chamfer or a corner is written `,C1.` or `,R1.`, and
+/// the reader of tapes knows no comma. No line moves.
+pub(crate) fn opened(alloc: Global, text: &[u8]) -> Result<Vec<u8>, NoMemory>
+    ensures { IfOk result (λ bytes. bytes.items ≡ opened text.now) }
+{
+    let mut bytes = Vec::with_capacity(alloc, text.len())?;
+    for byte in text {
+        bytes.push(without_comma(*byte))?;
+    }
+    Ok(bytes)
+}

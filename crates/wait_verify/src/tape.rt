@@ -1,0 +1,100 @@
+//! The tape of one path, from its text to the order of its blocks.
+ghost use Rattle.std.specs.Prelude.{◌≡◌, ℕ, List, Ok, IfOk, IfErr};
+ghost use Rattle.block_order.specs.Answers.{IfFault};
+ghost use Rattle.nc_number.specs.Answers.{Gives};
+ghost use Rattle.nc_text.specs.Tape.{tape_of};
+ghost use Rattle.open_order.specs.declared.premises.Premises.{Premises};
+ghost use Rattle.wait_verify.specs.Asked.{opened};
+ghost use Rattle.open_order.specs.Exact.{IsOrdered, IsRefused};
+ghost use Rattle.wait_verify.specs.Verdict.{IsOrderOf, IsTapeRefusal};
+
+use crate::opening::opened;
+use crate::refusal::of_tape;
+use block_order::BlockOrder;
+use nc_number::{Failing, Path};
+use nc_text::{Reader, Tape, TextFault};
+use nc_verify::Refusal;
+use open_order::{Premises, open_order};
+use std::alloc::Global;
+
+/// A tape, and the order of its blocks.
+#[derive(Drop)]
+pub(crate) struct OrderedTape {
+    pub(crate) tape: Tape,
+    pub(crate) order: BlockOrder,
+}
+
+/// The tape of a text, where blocks of these switches are skipped.
+fn read_bytes(alloc: Global, skips: u16, bytes: &[u8]) -> Result<Tape, Failing<TextFault>>
+    ensures { Gives (λ tape. tape) result (tape_of skips bytes.now) }
+{
+    let mut reader = Reader::new(alloc, skips)?;
+    match reader.feed(bytes) {
+        Ok(()) => reader.finish(),
+        Err(fault) => Err(fault),
+    }
+}
+
+/// The same with a blank for each comma.
+fn read_text(alloc: Global, skips: u16, text: &[u8]) -> Result<Tape, Failing<TextFault>>
+    ensures { Gives (λ tape. tape) result (tape_of skips (opened text.now)) }
+{
+    let bytes = opened(alloc, text)?;
+    read_bytes(alloc, skips, bytes.as_slice())
+}
+
+/// The tape of a path, or the refusal of its reading.
+fn tape_of_path(
+    alloc: Global,
+    skips: u16,
+    path: Path,
+    text: &[u8],
+) -> Result<Tape, Failing<Refusal>>
+    ensures reads { IfOk result (λ tape. tape_of skips (opened text.now) ≡ Ok tape) }
+    ensures refused { (premises : Premises) → IfErr result (λ error. IfFault error (IsTapeRefusal premises skips path text.now)) }
+{
+    match read_text(alloc, skips, text) {
+        Ok(tape) => Ok(tape),
+        Err(Failing::Fault(fault)) => Err(Failing::Fault(of_tape(path, fault.line, fault.number))),
+        Err(Failing::NoMemory) => Err(Failing::NoMemory),
+    }
+}
+
+/// The order of the blocks of a path's tape, or its refusal.
+fn order_of_path(
+    alloc: Global,
+    premises: Premises,
+    path: Path,
+    tape: &Tape,
+) -> Result<BlockOrder, Failing<Refusal>>
+    ensures ordered { IfOk result (IsOrdered premises tape.now) }
+    ensures refused { (skips : ℕ) (text : List ℕ) → tape_of skips (opened text) ≡ Ok tape.now
+        → IfErr result (λ error. IfFault error (IsTapeRefusal premises skips path text)) }
+{
+    match open_order(alloc, premises, tape.as_slice()) {
+        Ok(order) => Ok(order),
+        Err(Failing::Fault(fault)) => Err(Failing::Fault(of_tape(path, fault.line, fault.number))),
+        Err(Failing::NoMemory) => Err(Failing::NoMemory),
+    }
+}
+
+/// The tape of a path and its order, or the refusal of its reading, or else of its order.
+pub(crate) fn ordered_tape(
+    alloc: Global,
+    premises: Premises,
+    skips: u16,
+    path: Path,
+    text: &[u8],
+) -> Result<OrderedTape, Failing<Refusal>>
+    ensures ordered { IfOk result (λ ordered. IsOrderOf premises skips text.now ordered.tape ordered.order) }
+    ensures refused { IfErr result (λ error. IfFault error (IsTapeRefusal premises skips path text.now)) }
+{
+    let tape = match tape_of_path(alloc, skips, path, text) {
+        Ok(tape) => tape,
+        Err(error) => return Err(error),
+    };
+    match order_of_path(alloc, premises, path, &tape) {
+        Ok(order) => Ok(OrderedTape { tape, order }),
+        Err(error) => Err(error),
+    }
+}
