@@ -1,0 +1,40 @@
+-- What the tests of a form say of it.
+use Rattle.std.proofs.Common.{◌≡◌, ℕ, ◌≤◌, Bool, true, false, not, ◌&&◌, List, [], ◌∷◌, ℤ, pos, ◌+ℤ◌, ◌≤ℤ◌, refl, arith, All}
+use Rattle.std.specs.Prelude.{int_le}
+use Rattle.std.proofs.lemmas.Int.{ints}
+use Rattle.std.proofs.lemmas.List.Elements.{All-head, All-tail}
+use Rattle.nc_number.specs.declared.point.Point.{Point}
+use Rattle.rough_cycle.specs.Contour.{Descends, last_of}
+use Rattle.rough_cycle.specs.Form.{IsWritten}
+use Rattle.rough_cycle.specs.Roughing.{Rough, IsForm, IsFinishStart}
+use Rattle.cycle_form.specs.Forms.{goes_down, descends, is_form, is_finish_start}
+
+both : (a b : Bool) → (a && b) ≡ true → (a ≡ true) × (b ≡ true)
+both true b e = (refl, e)
+both false b e = absurd (let wrong : false ≡ true = e in cc)
+
+le_is : (a b : ℤ) → int_le a b ≡ true → a ≤ℤ b
+le_is a b e = grind (arith, ints)
+
+falls : (p : Point) (points : List Point) → descends p points ≡ true → Descends p points
+falls p [] e = tt
+falls p (q ∷ points) e =
+    let parts = both (goes_down p q) (descends q points) e in
+    let orders = both (int_le p.x q.x && int_le q.z p.z) (not (int_le q.x p.x && int_le p.z q.z)) parts.0 in
+    let down = both (int_le p.x q.x) (int_le q.z p.z) orders.0 in
+    (le_is p.x q.x down.0, le_is q.z p.z down.1, falls q points parts.1)
+
+-- the last point of a contour is one that was written
+pub last_near : (p : Point) (points : List Point) → IsWritten p → All IsWritten points → IsWritten (last_of p points)
+last_near p [] near all = near
+last_near p (q ∷ points) near all = last_near q points (All-head IsWritten q points all) (All-tail IsWritten q points all)
+
+pub form : (r : Rough) → 1 ≤ r.depth → r.first.z ≡ r.start.z → is_form r ≡ true → IsForm r
+form r deep at_start e =
+    let parts = both (descends r.first r.points) (int_le ((last_of r.first r.points).x +ℤ pos r.across) r.start.x) e in
+    record { deep = deep; at_start = at_start; descends = falls r.first r.points parts.0; high = le_is _ _ parts.1 }
+
+pub finish_start : (r : Rough) (start : Point) → is_finish_start r start ≡ true → IsFinishStart r start
+finish_start r start e =
+    let parts = both (int_le (last_of r.first r.points).x start.x) (int_le r.first.z start.z) e in
+    record { high = le_is _ _ parts.0; before = le_is _ _ parts.1 }

@@ -1,0 +1,6 @@
+use Rattle.std.proofs.Common.{◌≡◌, drop}
+use Rattle.cycle_form.specs.Forms.{descends}
+use Rattle.cycle_form.proofs.form.descends.Given as goal
+
+abbrev pub invariant-loop-to : goal.invariant-loop-to
+invariant-loop-to l = descends l.from (drop l.to-index l.points) ≡ descends l.first l.points

@@ -1,0 +1,51 @@
+-- The blocks of a contour.
+use Rattle.std.specs.Prelude.{ℕ, ◌-◌, Bool, true, false, ◌&&◌, ◌==◌, List, [], ◌∷◌, ◌++◌, length, drop, Option, Some, None, ℤ, pos, option_map, if◌then◌else◌}
+use Rattle.nc_number.specs.Options.{◌>>=◌}
+use Rattle.nc_text.specs.declared.tape.Word.{Word}
+use Rattle.nc_text.specs.declared.tape.Block.{Block}
+use Rattle.nc_text.specs.declared.tape.Body.{Body}
+use Rattle.nc_text.specs.declared.tape.Body.TheVariants.{Words, Statement}
+use Rattle.nc_number.specs.declared.point.Point.{Point}
+use Rattle.cycle_form.specs.Words.{literal_at, length_at, is_code, start_of}
+
+-- the words of a block that is no statement
+abbrev pub words_of : Body → Option (List Word)
+words_of (Words words) = Some words
+words_of (Statement text) = None
+
+-- the words behind a G01
+unfoldable pub behind_line : List Word → List Word
+behind_line words = if is_code (pos 1) (literal_at words 0 71) then drop 1 words else words
+
+-- X, Z, or both in either order
+unfoldable pub target_of : Point → List Word → Option Point
+target_of from words =
+    if length words == 1 then one_axis (length_at words 0 88) (length_at words 0 90)
+    else (if length words == 2 then two_axes (length_at words 0 88) (length_at words 1 90) (length_at words 1 88) (length_at words 0 90) else None)
+  where
+    one_axis : Option ℤ → Option ℤ → Option Point
+    one_axis (Some x) z = Some (record from { x = x })
+    one_axis None (Some z) = Some (record from { z = z })
+    one_axis None None = None
+
+    two_axes : Option ℤ → Option ℤ → Option ℤ → Option ℤ → Option Point
+    two_axes (Some x) (Some z) late early = Some (record { x = x; z = z })
+    two_axes x z (Some late) (Some early) = Some (record { x = late; z = early })
+    two_axes x z late early = None
+
+-- where a block of the contour leads
+unfoldable pub contour_point : Point → Body → Option Point
+contour_point from body = do
+  words ← words_of body
+  target_of from (behind_line words)
+
+abbrev pub is_numbered : ℕ → Option ℕ → Bool
+is_numbered number None = false
+is_numbered number (Some n) = n == number
+
+-- the points of the blocks up to the first with this number, behind those that were read
+unfoldable pub points_behind : List Point → Point → ℕ → List Block → Option (List Point)
+points_behind done from last [] = None
+points_behind done from last (block ∷ blocks) = do
+  to ← contour_point from block.body
+  if is_numbered last block.sequence then Some (done ++ to ∷ []) else points_behind (done ++ to ∷ []) to last blocks

@@ -1,0 +1,100 @@
+-- What the first four blocks of a G71 form say.
+use Rattle.std.specs.Prelude.{◌≡◌, ℕ, zero, suc, ◌+◌, ◌≤◌, Bool, true, false, not, ◌&&◌, ◌==◌, nat_le, nat_lt, List, [], ◌∷◌, length, Option, Some, None, is_none, ℤ, pos, negsuc, ◌+ℤ◌, int_lt, int_le, unsigned_abs, if◌then◌else◌}
+use Rattle.nc_number.specs.Arithmetic.{whole_of}
+use Rattle.nc_number.specs.Options.{◌>>=◌}
+use Rattle.nc_text.specs.declared.tape.Word.{Word}
+use Rattle.nc_text.specs.declared.tape.Block.{Block}
+use Rattle.nc_number.specs.declared.point.Point.{Point}
+use Rattle.rough_cycle.specs.Form.{IsWritten}
+use Rattle.cycle_form.specs.declared.head.Cut.{Cut}
+use Rattle.cycle_form.specs.declared.head.Call.{Call}
+use Rattle.cycle_form.specs.declared.head.Head.{Head}
+use Rattle.cycle_form.specs.Words.{literal_at, length_at, is_code, start_of}
+use Rattle.cycle_form.specs.Contour.{words_of, is_numbered}
+
+abbrev pub natural : ℤ → Option ℕ
+natural (pos n) = Some n
+natural (negsuc n) = None
+
+-- a length that is not negative
+unfoldable pub size_at : List Word → ℕ → ℕ → Option ℕ
+size_at words i letter = do
+  z ← length_at words i letter
+  natural z
+
+-- a sequence number
+unfoldable pub number_at : List Word → ℕ → ℕ → Option ℕ
+number_at words i letter = do
+  literal ← literal_at words i letter
+  n ← whole_of literal.value
+  natural n
+
+-- a feed above 0
+unfoldable pub feed_at : List Word → ℕ → ℕ → Option ℤ
+feed_at words i letter = do
+  literal ← literal_at words i letter
+  if int_lt (pos 0) literal.value then Some literal.value else None
+
+-- G71 U<depth> R<retreat>
+unfoldable pub cut_of : List Word → Option Cut
+cut_of words =
+    if length words == 3 && is_code (pos 71) (literal_at words 0 71) then (do
+      depth ← size_at words 1 85
+      retreat ← size_at words 2 82
+      if nat_lt 0 depth then Some (record { depth = depth; retreat = retreat }) else None) else None
+
+-- G71 P<first> Q<last> U<across> W<along> F<feed>
+unfoldable pub call_of : List Word → Option Call
+call_of words =
+    if length words == 6 && is_code (pos 71) (literal_at words 0 71) then (do
+      first ← number_at words 1 80
+      last ← number_at words 2 81
+      across ← size_at words 3 85
+      along ← size_at words 4 87
+      feed ← feed_at words 5 70
+      Some (record { first = first; last = last; across = across; along = along; feed = feed })) else None
+
+-- the words of a block without a number
+unfoldable pub plain_words : Block → Option (List Word)
+plain_words block = if is_none block.sequence then words_of block.body else None
+
+-- G00 X<x> under this number
+unfoldable pub first_of : ℕ → Block → Option ℤ
+first_of number block = do
+  words ← words_of block.body
+  if (is_numbered number block.sequence && length words == 2) && is_code (pos 0) (literal_at words 0 71) then length_at words 1 88 else None
+
+unfoldable pub head_of : Block → Block → Block → Block → Option Head
+head_of a b c d = do
+  a_words ← plain_words a
+  start ← start_of a_words
+  b_words ← plain_words b
+  cut ← cut_of b_words
+  c_words ← plain_words c
+  call ← call_of c_words
+  x ← first_of call.first d
+  Some (record { start = start; cut = cut; call = call; first = record { x = x; z = start.z } })
+
+-- the first four blocks of a form, of which the last three stand first here
+abbrev pub head_at : Block → List Block → Option Head
+head_at a [] = None
+head_at a (b ∷ []) = None
+head_at a (b ∷ c ∷ []) = None
+head_at a (b ∷ c ∷ d ∷ blocks) = head_of a b c d
+
+pub record IsSoundCut (cut : Cut) : Type 0 where
+  pub deep : 1 ≤ cut.depth
+  pub depth : cut.depth ≤ 100000000000
+  pub retreat : cut.retreat ≤ 100000000000
+
+pub record IsSoundCall (call : Call) : Type 0 where
+  pub across : call.across ≤ 100000000000
+  pub along : call.along ≤ 100000000000
+
+-- all lengths are those that a literal can write, the depth is above 0, and the contour begins at the start's Z
+pub record IsSoundHead (head : Head) : Type 0 where
+  pub start : IsWritten head.start
+  pub cut : IsSoundCut head.cut
+  pub call : IsSoundCall head.call
+  pub first : IsWritten head.first
+  pub at_start : head.first.z ≡ head.start.z

@@ -1,0 +1,9 @@
+pub mod Faults
+pub mod Marks
+pub mod Words
+pub mod Contour
+pub mod Head
+pub mod Parts
+pub mod Forms
+pub mod Walk
+pub mod Sizes

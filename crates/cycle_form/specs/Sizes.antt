@@ -1,0 +1,19 @@
+-- How many blocks a tape has once its parts are written out.
+use Rattle.std.specs.Prelude.{ℕ, ◌+◌, ◌-◌, ⊤, nat_lt, List, [], ◌∷◌, length, Option, Some, None, Result, Ok, Err, if◌then◌else◌}
+use Rattle.cycle_form.specs.declared.fault.CycleFault.{CycleFault}
+use Rattle.cycle_form.specs.declared.fault.CycleFault.TheVariants.{TooLarge}
+use Rattle.cycle_form.specs.Parts.{PartView, part_blocks}
+
+-- with the blocks of a part in place of its lines
+abbrev pub blocks_with : ℕ → PartView → ℕ
+blocks_with blocks part = (blocks + length (part_blocks part)) - length part.lines
+
+abbrev pub first_line : List ℕ → ℕ
+first_line [] = 0
+first_line (line ∷ lines) = line
+
+-- The parts of a tape that so far has so many blocks, or the one with which it first has more than 20,000.
+unfoldable pub sized : ℕ → List PartView → Result ⊤ CycleFault
+sized blocks [] = Ok tt
+sized blocks (part ∷ parts) =
+    if nat_lt 20000 (blocks_with blocks part) then Err (TooLarge (first_line part.lines)) else sized (blocks_with blocks part) parts

@@ -1,0 +1,88 @@
+-- The parts of a tape that are written out, in the order of the text, or the first block with a cycle that is part of none.
+use Rattle.std.specs.Prelude.{ℕ, zero, suc, ◌-◌, Bool, true, false, List, [], ◌∷◌, ◌++◌, length, drop, Option, Some, None, Result, Ok, Err, slice_get, ℤ, pos, if◌then◌else◌}
+use Rattle.std.specs.List.{list_any}
+use Rattle.nc_number.specs.Options.{◌>>=◌}
+use Rattle.nc_text.specs.declared.tape.Word.{Word}
+use Rattle.nc_text.specs.declared.tape.Block.{Block}
+use Rattle.nc_text.specs.declared.tape.Program.{Program}
+use Rattle.nc_text.specs.declared.tape.Body.{Body}
+use Rattle.nc_text.specs.declared.tape.Body.TheVariants.{Words, Statement}
+use Rattle.cycle_form.specs.declared.fault.CycleFault.{CycleFault}
+use Rattle.cycle_form.specs.declared.fault.CycleFault.TheVariants.{BadCycle}
+use Rattle.cycle_form.specs.declared.walk.Found.{Found}
+use Rattle.cycle_form.specs.declared.walk.Found.TheVariants as found
+use Rattle.cycle_form.specs.Words.{literal_of, is_code}
+use Rattle.cycle_form.specs.Forms.{form_at, finish_at}
+use Rattle.cycle_form.specs.Parts.{PartView, IsSoundPart}
+
+abbrev pub has_word : ℤ → Word → Bool
+has_word code word = is_code code (literal_of 71 (Some word))
+
+-- the block has this G code
+abbrev pub has_code : ℤ → Body → Bool
+has_code code (Words words) = list_any (has_word code) words
+has_code code (Statement text) = false
+
+abbrev pub part_or_bad : Option PartView → Found
+part_or_bad None = found.Bad
+part_or_bad (Some part) = found.One part
+
+abbrev pub IsSoundFound : Found → Type 0
+IsSoundFound found.Nothing = Unit {0}
+IsSoundFound found.Bad = Unit {0}
+IsSoundFound (found.One part) = IsSoundPart part
+
+-- the last of the blocks that were passed
+abbrev pub block_before : List Block → Option Block
+block_before passed = slice_get passed (length passed - 1)
+
+-- a form whose first G71 is the first of these blocks
+abbrev pub form_behind : List Bool → List Block → List Block → Option PartView
+form_behind marks passed rest = block_before passed >>= (λ a. form_at marks a rest)
+
+abbrev pub finish_behind : List Bool → List Block → Block → List PartView → Option PartView
+finish_behind marks passed block done = block_before passed >>= (λ a. finish_at marks a block done)
+
+-- What begins in a block: nothing, a part, or a cycle that is part of none. It depends on the blocks that were passed, on the
+-- parts of the program so far, and on the blocks from this one on.
+abbrev pub part_in : List Bool → List Block → List PartView → Block → List Block → Found
+part_in marks passed done block rest =
+    if has_code (pos 71) block.body then part_or_bad (form_behind marks passed rest)
+    else (if has_code (pos 70) block.body then part_or_bad (finish_behind marks passed block done)
+    else found.Nothing)
+
+abbrev pub Answer : Type 0
+Answer = Result (List PartView) CycleFault
+
+-- the blocks of a part after its first
+abbrev pub blocks_left : PartView → ℕ
+blocks_left part = length part.lines - 1
+
+abbrev pub found_next : ℕ → Found → Answer → (PartView → Answer) → Answer
+found_next line found.Nothing rest more = rest
+found_next line found.Bad rest more = Err (BadCycle line)
+found_next line (found.One part) rest more = more part
+
+-- The parts so far and those of these blocks of a program. So many of the first blocks belong to the part before them, and
+-- the parts of the program begin at a place in the list of parts.
+unfoldable pub parts_from : List Bool → ℕ → ℕ → List Block → List PartView → List Block → Answer
+parts_from marks from skip passed done [] = Ok done
+parts_from marks from (suc skip) passed done (block ∷ blocks) = parts_from marks from skip (passed ++ block ∷ []) done blocks
+parts_from marks from zero passed done (block ∷ blocks) =
+    found_next block.line (part_in marks passed (drop from done) block (block ∷ blocks))
+    (parts_from marks from 0 (passed ++ block ∷ []) done blocks)
+    (λ part. parts_from marks from (blocks_left part) (passed ++ block ∷ []) (done ++ part ∷ []) blocks)
+
+abbrev pub and_then : Answer → (List PartView → Answer) → Answer
+and_then (Ok parts) next = next parts
+and_then (Err fault) next = Err fault
+
+-- the parts so far and those of these programs
+unfoldable pub parts_behind : List Bool → List PartView → List Program → Answer
+parts_behind marks done [] = Ok done
+parts_behind marks done (program ∷ programs) =
+    and_then (parts_from marks (length done) 0 [] done program.blocks) (λ parts. parts_behind marks parts programs)
+
+-- the parts of a tape
+abbrev pub parts_of : List Bool → List Program → Answer
+parts_of marks tape = parts_behind marks [] tape

@@ -1,0 +1,45 @@
+ghost use Rattle.std.specs.Prelude.{◌≡◌, ◌≤◌, IfOk};
+ghost use Rattle.nc_number.specs.Answers.{Gives};
+ghost use Rattle.cycle_form.specs.Sizes.{blocks_with, first_line, sized};
+
+use crate::fault::CycleFault;
+use crate::part::Part;
+use nc_number::Failing;
+use std::alloc::{AllocError, Global};
+
+/// The blocks that a tape may have.
+const MOST_BLOCKS: u128 = 20_000;
+
+fn first_line(lines: &[u32]) -> u32
+    ensures { result ≡ first_line lines.now }
+{
+    match lines.first() {
+        Some(line) => *line,
+        None => 0,
+    }
+}
+
+fn blocks_with(alloc: Global, blocks: u128, part: &Part) -> Result<u128, AllocError>
+    requires { blocks ≤ 20000 }
+    ensures { IfOk result (λ more. more ≡ blocks_with blocks part.now) }
+{
+    let made = part.blocks(alloc)?.len() as u128;
+    Ok((blocks + made).saturating_sub(part.lines().len() as u128))
+}
+
+/// Whether a tape of so many blocks has at most 20,000 once these parts are written out.
+///
+/// Errors: 94 at the first line of the part with which it first has more.
+pub fn check_sizes(alloc: Global, blocks: usize, parts: &[Part]) -> Result<(), Failing<CycleFault>>
+    requires { blocks ≤ 20000 }
+    ensures { Gives (λ _. tt) result (sized blocks parts.now) }
+{
+    let mut count = blocks as u128;
+    for part in parts {
+        count = blocks_with(alloc, count, part)?;
+        if MOST_BLOCKS < count {
+            return Err(Failing::Fault(CycleFault::TooLarge(first_line(part.lines()))));
+        }
+    }
+    Ok(())
+}

@@ -1,0 +1,71 @@
+-- Which passes are made.
+use Rattle.std.proofs.Common.{◌≡◌, ℕ, zero, suc, ◌+◌, ◌-◌, ◌<◌, ◌≤◌, Bool, true, false, ◌&&◌, List, [], ◌∷◌, ◌++◌, ℤ, pos, ◌+ℤ◌, ◌-ℤ◌, ◌≤ℤ◌, ◌<ℤ◌, refl, ap, sym, subst, ◌∙◌, arith, append_assoc, append-nil, cond, Option, Some, None}
+use Rattle.std.specs.Prelude.{int_lt}
+use Rattle.std.proofs.lemmas.Int.{ints}
+use Rattle.nc_number.specs.declared.point.Point.{Point}
+use Rattle.rough_cycle.specs.Roughing.{end_at, Rough, first_moved, points_moved, x_of_pass, pass_of, is_made, made_at, passes_from}
+
+lt_true : (a b : ℤ) → a <ℤ b → int_lt a b ≡ true
+lt_true a b less = grind (arith, ints)
+
+lt_false : (a b : ℤ) → b ≤ℤ a → int_lt a b ≡ false
+lt_false a b less = grind (arith, ints)
+
+pub made : (r : Rough) (k : ℕ) → (first_moved r).x <ℤ x_of_pass r k → (pass_of r k).z <ℤ r.start.z → made_at r k ≡ Some (pass_of r k)
+made r k above below = rw (lt_true (first_moved r).x (x_of_pass r k) above, lt_true (pass_of r k).z r.start.z below) refl
+
+pub none_above : (r : Rough) (k : ℕ) → x_of_pass r k ≤ℤ (first_moved r).x → made_at r k ≡ None
+none_above r k past = rw (lt_false (first_moved r).x (x_of_pass r k) past) refl
+
+pub none_below : (r : Rough) (k : ℕ) → r.start.z ≤ℤ (pass_of r k).z → made_at r k ≡ None
+none_below r k past = go (int_lt (first_moved r).x (x_of_pass r k))
+  where
+    no : int_lt (pass_of r k).z r.start.z ≡ false
+    no = lt_false (pass_of r k).z r.start.z past
+
+    go : (b : Bool) → cond (b && int_lt (pass_of r k).z r.start.z) (Some (pass_of r k)) None ≡ None
+    go true = rw no refl
+    go false = refl
+
+-- the rest of the passes by the next one
+pub no_further : (r : Rough) (k most : ℕ) → made_at r k ≡ None → passes_from r k most ≡ []
+unfolding passes_from
+no_further r k zero none = refl
+no_further r k (suc most) none = go (is_made r (pass_of r k)) none
+  where
+    go : (b : Bool) → cond b (Some (pass_of r k)) None ≡ None → cond b (pass_of r k ∷ passes_from r (k + 1) most) [] ≡ []
+    go true wrong = absurd (let different : Some (pass_of r k) ≡ None = wrong in cc)
+    go false e = refl
+
+pub one_further : (r : Rough) (k most : ℕ) (pass : Point) → made_at r k ≡ Some pass → passes_from r k (suc most) ≡ pass ∷ passes_from r (k + 1) most
+unfolding passes_from
+one_further r k most pass some = go (is_made r (pass_of r k)) some
+  where
+    go : (b : Bool) → cond b (Some (pass_of r k)) None ≡ Some pass → cond b (pass_of r k ∷ passes_from r (k + 1) most) [] ≡ pass ∷ passes_from r (k + 1) most
+    go true e = let same : pass_of r k ≡ pass = cc in rw same refl
+    go false wrong = absurd (let different : None ≡ Some pass = wrong in cc)
+
+no_passes : (r : Rough) (k : ℕ) → passes_from r k 0 ≡ []
+unfolding passes_from
+no_passes r k = refl
+
+-- the loop over the passes
+pub at_first : (r : Rough) (done : List Point) → done ≡ [] → done ++ passes_from r 1 (1002 - 1) ≡ passes_from r 1 1001
+at_first r done none = rw none refl
+
+pub at_last : (r : Rough) (done all : List Point) (k : ℕ) → done ++ passes_from r k (1002 - k) ≡ all → 1002 ≤ k → done ≡ all
+at_last r done all k so_far last =
+    let none_left : 1002 - k ≡ 0 = omega arith in
+    let rest : passes_from r k (1002 - k) ≡ [] = ap (passes_from r k) none_left ∙ no_passes r k in
+    sym (append-nil done) ∙ ap (λ l. done ++ l) (sym rest) ∙ so_far
+
+pub at_end : (r : Rough) (done all : List Point) (k : ℕ) → done ++ passes_from r k (1002 - k) ≡ all → made_at r k ≡ None → done ≡ all
+at_end r done all k so_far none = sym (append-nil done) ∙ ap (λ l. done ++ l) (sym (no_further r k (1002 - k) none)) ∙ so_far
+
+pub at_next : (r : Rough) (done new all : List Point) (k : ℕ) (pass : Point) → done ++ passes_from r k (1002 - k) ≡ all → k < 1002 → made_at r k ≡ Some pass → new ≡ done ++ pass ∷ [] → new ++ passes_from r (k + 1) (1002 - (k + 1)) ≡ all
+at_next r done new all k pass so_far before some new_is =
+    let one_left : 1002 - k ≡ suc (1002 - (k + 1)) = omega arith in
+    let rest : passes_from r k (1002 - k) ≡ pass ∷ passes_from r (k + 1) (1002 - (k + 1)) = ap (passes_from r k) one_left ∙ one_further r k (1002 - (k + 1)) pass some in
+    ap (λ l. l ++ passes_from r (k + 1) (1002 - (k + 1))) new_is
+    ∙ append_assoc done (pass ∷ []) (passes_from r (k + 1) (1002 - (k + 1)))
+    ∙ ap (λ l. done ++ l) (sym rest) ∙ so_far

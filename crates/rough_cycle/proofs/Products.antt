@@ -1,0 +1,58 @@
+-- Products and parts of lengths.
+use Rattle.std.proofs.Common.{◌≡◌, ℕ, suc, ◌+◌, ◌*◌, ◌/◌, ◌<◌, ◌≤◌, ◌^◌, ℤ, pos, ◌*ℤ◌, refl, ap, ◌∙◌, arith, ◌⊎◌, inl, inr, to_z, of_z, FitsSigned}
+use Rattle.std.specs.Int.{w64, w128}
+use Rattle.std.specs.Prelude.{unsigned_abs, int_lt, ◌-ℤ◌, Bool, true, false}
+use Rattle.nc_number.specs.declared.point.Point.{Point}
+use Rattle.rough_cycle.specs.Inside.{apart, is_below_line}
+use Rattle.std.proofs.lemmas.Int.{ints, unsigned_abs-mul, fits_signed_from_abs, to_z-of_z}
+use Rattle.std.proofs.lemmas.Nat.{div-add-mod'}
+use Rattle.std.proofs.lemmas.Bool.{cases_lt}
+use Rattle.std.proofs.Math.Nat.{mul-le-mul, mul-le-mul_left, mul-le-mul_right}
+
+pub quotient_below : (n d : ℕ) → n / d * d ≤ n
+quotient_below n d = let split = div-add-mod' n d in omega arith
+
+-- a part of l along that goes less than w across is at most l
+pub part_below : (l k w : ℕ) → k ≤ w → 0 < w → l * k / w ≤ l
+part_below l k w less some = go (cases_lt l (l * k / w))
+  where
+    go : (l < l * k / w) ⊎ (l * k / w ≤ l) → l * k / w ≤ l
+    go (inr low) = low
+    go (inl high) =
+        let scaled : suc l * w ≤ l * k / w * w = mul-le-mul_right w high in
+        let reached : l * k / w * w ≤ l * k = quotient_below (l * k) w in
+        let far : l * k ≤ l * w = mul-le-mul_left l less in
+        absurd (omega (arith, scaled, reached, far, some))
+
+pub product_bound : (a b : ℕ) → a ≤ 2000000000000 → b ≤ 2000000000000 → a * b ≤ 4000000000000000000000000
+product_bound a b la lb = let le : a * b ≤ 2000000000000 * 2000000000000 = mul-le-mul la lb in le
+
+-- the product of two lengths fits 128 bits
+pub product_fits : (a : ℤ) (b : ℕ) → unsigned_abs a ≤ 2000000000000 → b ≤ 2000000000000 → FitsSigned w128 (a *ℤ pos b)
+product_fits a b la lb = fits_signed_from_abs w128 (a *ℤ pos b) (rw (unsigned_abs-mul a (pos b)) (let le = product_bound (unsigned_abs a) b la lb in omega arith))
+
+-- what the code multiplies, as it is stored
+pub product_is : (a x y : ℤ) (b : ℕ) → unsigned_abs a ≤ 2000000000000 → b ≤ 2000000000000 → x ≡ a → y ≡ pos b → to_z w128 (of_z w128 (to_z w128 (of_z w128 x) *ℤ to_z w128 (of_z w128 y))) ≡ a *ℤ pos b
+product_is a x y b la lb x_is y_is =
+    let x_fits : FitsSigned w128 a = fits_signed_from_abs w128 a (omega arith) in
+    let y_fits : FitsSigned w128 (pos b) = fits_signed_from_abs w128 (pos b) (omega arith) in
+    rw (x_is, y_is, to_z-of_z w128 a x_fits, to_z-of_z w128 (pos b) y_fits) (to_z-of_z w128 (a *ℤ pos b) (product_fits a b la lb))
+
+pub product_fits_stored : (a x y : ℤ) (b : ℕ) → unsigned_abs a ≤ 2000000000000 → b ≤ 2000000000000 → x ≡ a → y ≡ pos b → FitsSigned w128 (to_z w128 (of_z w128 x) *ℤ to_z w128 (of_z w128 y))
+product_fits_stored a x y b la lb x_is y_is =
+    let x_fits : FitsSigned w128 a = fits_signed_from_abs w128 a (omega arith) in
+    let y_fits : FitsSigned w128 (pos b) = fits_signed_from_abs w128 (pos b) (omega arith) in
+    rw (x_is, y_is, to_z-of_z w128 a x_fits, to_z-of_z w128 (pos b) y_fits) (product_fits a b la lb)
+
+-- a test of products that are stored
+pub below_stored : (p q at : Point) (m n : ℤ)
+    → m ≡ ((at.x -ℤ p.x) *ℤ pos (apart q.z p.z)) → n ≡ ((q.x -ℤ p.x) *ℤ pos (apart at.z p.z))
+    → FitsSigned w128 m → FitsSigned w128 n
+    → int_lt (to_z w128 (of_z w128 m)) (to_z w128 (of_z w128 n)) ≡ is_below_line p q at
+below_stored p q at m n m_is n_is m_fits n_fits = rw (to_z-of_z w128 m m_fits, to_z-of_z w128 n n_fits, m_is, n_is) refl
+
+pub stored_apart : (a b : ℤ) → unsigned_abs a ≤ 1000000000000 → unsigned_abs b ≤ 1000000000000 → to_z w64 (of_z w64 (to_z w64 (of_z w64 a) -ℤ to_z w64 (of_z w64 b))) ≡ (a -ℤ b)
+stored_apart a b near_a near_b = omega (arith, ints)
+
+pub same_share : (r a b d x y z : ℕ) → r ≡ a * b / d → a ≡ x → b ≡ y → d ≡ z → r ≡ x * y / z
+same_share r a b d x y z is ax by dz = is ∙ rw (ax, by, dz) refl

@@ -1,0 +1,36 @@
+-- What was pushed in turn.
+use Rattle.std.proofs.Common.{◌≡◌, ◌<ℤ◌, ◌≤ℤ◌, Bool, true, false, cond, arith, List, [], ◌∷◌, ◌++◌, ℤ, refl, ap, ◌∙◌, append_assoc}
+use Rattle.std.specs.Prelude.{int_lt}
+use Rattle.std.specs.Int.{int_min}
+use Rattle.std.proofs.lemmas.Int.{ints}
+use Rattle.nc_number.specs.declared.point.Point.{Point}
+
+pub four_pushed : {A : Type 0} (old b c d e : List A) (w x y z : A) → b ≡ old ++ w ∷ [] → c ≡ b ++ x ∷ [] → d ≡ c ++ y ∷ [] → e ≡ d ++ z ∷ [] → e ≡ old ++ w ∷ x ∷ y ∷ z ∷ []
+four_pushed old b c d e w x y z is_b is_c is_d is_e =
+    is_e ∙ ap (λ l. l ++ z ∷ []) is_d ∙ append_assoc c (y ∷ []) (z ∷ [])
+    ∙ ap (λ l. l ++ y ∷ z ∷ []) is_c ∙ append_assoc b (x ∷ []) (y ∷ z ∷ [])
+    ∙ ap (λ l. l ++ x ∷ y ∷ z ∷ []) is_b ∙ append_assoc old (w ∷ []) (x ∷ y ∷ z ∷ [])
+
+pub lines_pushed : {A : Type 0} (old b c d e f : List A) (w x y z : A) (lines : List A) → b ≡ old ++ w ∷ [] → c ≡ b ++ x ∷ [] → d ≡ c ++ lines → e ≡ d ++ y ∷ [] → f ≡ e ++ z ∷ [] → f ≡ old ++ w ∷ x ∷ (lines ++ y ∷ z ∷ [])
+lines_pushed old b c d e f w x y z lines is_b is_c is_d is_e is_f =
+    is_f ∙ ap (λ l. l ++ z ∷ []) is_e ∙ append_assoc d (y ∷ []) (z ∷ [])
+    ∙ ap (λ l. l ++ y ∷ z ∷ []) is_d ∙ append_assoc c lines (y ∷ z ∷ [])
+    ∙ ap (λ l. l ++ (lines ++ y ∷ z ∷ [])) is_c ∙ append_assoc b (x ∷ []) (lines ++ y ∷ z ∷ [])
+    ∙ ap (λ l. l ++ x ∷ (lines ++ y ∷ z ∷ [])) is_b ∙ append_assoc old (w ∷ []) (x ∷ (lines ++ y ∷ z ∷ []))
+
+pub same_point : (p q : Point) → p.x ≡ q.x → p.z ≡ q.z → p ≡ q
+same_point p q x z =
+    let at : ℤ → ℤ → Point = λ a b. record { x = a; z = b } in
+    ap (λ a. at a p.z) x ∙ ap (λ b. at q.x b) z
+
+lt_true : (a b : ℤ) → a <ℤ b → int_lt a b ≡ true
+lt_true a b less = grind (arith, ints)
+
+lt_false : (a b : ℤ) → b ≤ℤ a → int_lt a b ≡ false
+lt_false a b less = grind (arith, ints)
+
+pub min_second : (a b : ℤ) → b <ℤ a → int_min a b ≡ b
+min_second a b less = rw (lt_true b a less) refl
+
+pub min_first : (a b : ℤ) → a ≤ℤ b → int_min a b ≡ a
+min_first a b less = rw (lt_false b a less) refl

@@ -1,0 +1,33 @@
+-- A form as the code keeps it.
+use Rattle.std.specs.Prelude.{ℕ, ◌≤◌, All, unsigned_abs}
+use Rattle.nc_number.specs.declared.point.Point.{Point}
+use Rattle.rough_cycle.specs.declared.form.RoughForm.{RoughForm}
+use Rattle.rough_cycle.specs.Roughing.{Rough}
+
+abbrev pub rough_of : RoughForm → Rough
+rough_of form = record {
+  start = form.start;
+  depth = form.depth;
+  retreat = form.retreat;
+  across = form.across;
+  along = form.along;
+  first = form.first;
+  points = form.points.items;
+}
+
+-- a length that a literal can write
+abbrev pub IsWritten : Point → Type 0
+IsWritten p = (unsigned_abs p.x ≤ 100000000000) × (unsigned_abs p.z ≤ 100000000000)
+
+-- all lengths are those that a literal can write
+pub record IsNearForm (r : Rough) : Type 0 where
+  pub start : IsWritten r.start
+  pub depth : r.depth ≤ 100000000000
+  pub retreat : r.retreat ≤ 100000000000
+  pub across : r.across ≤ 100000000000
+  pub along : r.along ≤ 100000000000
+  pub first : IsWritten r.first
+  pub points : All IsWritten r.points
+
+abbrev pub IsNearPass : Point → Type 0
+IsNearPass pass = (unsigned_abs pass.x ≤ 400000000000000) × (unsigned_abs pass.z ≤ 4000000000000)

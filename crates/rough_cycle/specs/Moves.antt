@@ -1,0 +1,33 @@
+-- The moves of blocks, and the whole points on them.
+use Rattle.std.specs.Prelude.{◌≡◌, ℕ, ◌*◌, Bool, false, List, [], ◌∷◌, ◌⊎◌, ℤ, ◌≤ℤ◌, Option, Some, None, unwrap_or}
+use Rattle.nc_number.specs.declared.point.Point.{Point}
+use Rattle.rough_cycle.specs.declared.block.PlainBlock.{PlainBlock}
+use Rattle.rough_cycle.specs.Inside.{apart, is_inside_from}
+
+-- b lies between a and c
+abbrev pub IsBetween : ℤ → ℤ → ℤ → Type 0
+IsBetween a b c = ((a ≤ℤ b) × (b ≤ℤ c)) ⊎ ((c ≤ℤ b) × (b ≤ℤ a))
+
+-- the point lies on the line from one point to another
+pub record IsOn (from to at : Point) : Type 0 where
+  pub across : IsBetween from.x at.x to.x
+  pub along : IsBetween from.z at.z to.z
+  pub line : apart at.x from.x * apart to.z from.z ≡ apart to.x from.x * apart at.z from.z
+
+-- where a block leads
+abbrev pub after : Point → PlainBlock → Point
+after at block = record { x = unwrap_or block.x at.x; z = unwrap_or block.z at.z }
+
+-- where blocks lead
+abbrev pub after_all : Point → List PlainBlock → Point
+after_all at [] = at
+after_all at (block ∷ blocks) = after_all (after at block) blocks
+
+-- no whole point on the move lies inside the contour
+abbrev pub IsClear : Point → List Point → Point → Point → Type 0
+IsClear p points from to = (at : Point) → IsOn from to at → is_inside_from p points at ≡ false
+
+-- nor on one of the moves of these blocks
+abbrev pub AreClear : Point → List Point → Point → List PlainBlock → Type 0
+AreClear p points from [] = Unit {0}
+AreClear p points from (block ∷ blocks) = IsClear p points from (after from block) × AreClear p points (after from block) blocks

@@ -1,0 +1,101 @@
+-- The passes of G71, and the blocks that G71 and G70 stand for.
+use Rattle.std.specs.Prelude.{◌≡◌, ℕ, zero, suc, ◌+◌, ◌*◌, ◌/◌, ◌≤◌, Bool, true, false, ◌&&◌, List, [], ◌∷◌, ◌++◌, map, ℤ, pos, ◌+ℤ◌, ◌-ℤ◌, ◌≤ℤ◌, int_lt, int_le, Option, Some, None, if◌then◌else◌}
+use Rattle.std.specs.List.{flat_map}
+use Rattle.std.specs.Int.{int_min}
+use Rattle.nc_number.specs.declared.point.Point.{Point}
+use Rattle.rough_cycle.specs.declared.block.PlainBlock.{PlainBlock}
+use Rattle.rough_cycle.specs.Contour.{Descends, last_of, moved_point, moved}
+use Rattle.rough_cycle.specs.Inside.{apart}
+
+-- the least Z at which the contour has X at most x, rounded up to a whole number
+abbrev pub end_at : ℤ → Point → List Point → ℤ
+end_at x p [] = p.z
+end_at x p (q ∷ points) =
+    if int_le q.x x
+    then end_at x q points
+    else p.z -ℤ pos (apart p.z q.z * apart x p.x / apart q.x p.x)
+
+-- what a G71 form says: its start, the depth of a cut, the retreat, the allowances, and the contour
+pub record Rough : Type 0 where
+  pub start : Point
+  pub depth : ℕ
+  pub retreat : ℕ
+  pub across : ℕ
+  pub along : ℕ
+  pub first : Point
+  pub points : List Point
+
+-- the first point of the contour with its allowance, and those behind it
+abbrev pub first_moved : Rough → Point
+first_moved r = moved_point r.across r.along r.first
+
+abbrev pub points_moved : Rough → List Point
+points_moved r = moved r.across r.along r.points
+
+pub record IsForm (r : Rough) : Type 0 where
+  pub deep : 1 ≤ r.depth
+  pub at_start : r.first.z ≡ r.start.z
+  pub descends : Descends r.first r.points
+  pub high : ((last_of r.first r.points).x +ℤ pos r.across) ≤ℤ r.start.x
+
+-- The X of a pass. A pass is the point at its end.
+abbrev pub x_of_pass : Rough → ℕ → ℤ
+x_of_pass r k = r.start.x -ℤ pos (2 * r.depth * k)
+
+abbrev pub pass_of : Rough → ℕ → Point
+pass_of r k = record { x = x_of_pass r k; z = end_at (x_of_pass r k) (first_moved r) (points_moved r) }
+
+-- a pass is made above the contour's first point, where it leads down from the start
+abbrev pub is_made : Rough → Point → Bool
+is_made r pass = int_lt (first_moved r).x pass.x && int_lt pass.z r.start.z
+
+abbrev pub made_at : Rough → ℕ → Option Point
+made_at r k = if is_made r (pass_of r k) then Some (pass_of r k) else None
+
+-- the passes from k on, at most so many
+unfoldable pub passes_from : Rough → ℕ → ℕ → List Point
+passes_from r k zero = []
+passes_from r k (suc most) =
+    if is_made r (pass_of r k) then pass_of r k ∷ passes_from r (k + 1) most else []
+
+abbrev pub across_to : Bool → Point → PlainBlock
+across_to cuts p = record { cuts = cuts; x = Some p.x; z = None }
+
+abbrev pub along_to : Bool → Point → PlainBlock
+along_to cuts p = record { cuts = cuts; x = None; z = Some p.z }
+
+abbrev pub straight_to : Bool → Point → PlainBlock
+straight_to cuts p = record { cuts = cuts; x = Some p.x; z = Some p.z }
+
+-- off the cut of a pass, and along as far as the start
+abbrev pub off_pass : Rough → Point → Point
+off_pass r pass = record { x = pass.x +ℤ pos (2 * r.retreat); z = int_min (pass.z +ℤ pos r.retreat) r.start.z }
+
+-- in, along, off, and back
+abbrev pub pass_blocks : Rough → Point → List PlainBlock
+pass_blocks r pass =
+    across_to false pass
+    ∷ along_to true pass
+    ∷ straight_to false (off_pass r pass)
+    ∷ along_to false r.start
+    ∷ []
+
+-- to the contour's first point, along it, off, and back
+abbrev pub contour_blocks : Point → Point → List Point → List PlainBlock
+contour_blocks start p points =
+    along_to false p
+    ∷ across_to false p
+    ∷ (map (straight_to true) points ++ across_to true start ∷ along_to false start ∷ [])
+
+-- the blocks of G71 with at most so many passes
+abbrev pub rough_blocks : Rough → ℕ → List PlainBlock
+rough_blocks r most =
+    flat_map (pass_blocks r) (passes_from r 1 most) ++ contour_blocks r.start (first_moved r) (points_moved r)
+
+-- the blocks of G70 from a start
+abbrev pub finish_blocks : Rough → Point → List PlainBlock
+finish_blocks r start = contour_blocks start r.first r.points
+
+pub record IsFinishStart (r : Rough) (start : Point) : Type 0 where
+  pub high : (last_of r.first r.points).x ≤ℤ start.x
+  pub before : r.first.z ≤ℤ start.z

@@ -1,0 +1,237 @@
+ghost use Rattle.std.specs.Prelude.{◌≡◌, ◌≤◌, ◌++◌, IfOk, IfSome, OnOk, unsigned_abs, All, true, map, [], ◌∷◌};
+ghost use Rattle.std.specs.List.{flat_map};
+ghost use Rattle.rough_cycle.specs.Contour.{moved_point, moved};
+ghost use Rattle.rough_cycle.specs.Inside.{IsNear};
+ghost use Rattle.rough_cycle.specs.Roughing.{passes_from, made_at, off_pass, x_of_pass, pass_blocks, contour_blocks, rough_blocks, finish_blocks, first_moved, points_moved, across_to, along_to, straight_to};
+ghost use Rattle.rough_cycle.specs.Form.{rough_of, IsNearForm, IsNearPass, IsWritten};
+
+use crate::block::PlainBlock;
+use crate::contour::end_at;
+use nc_number::Point;
+use std::alloc::{AllocError, Global};
+
+/// One pass more than a form may have.
+const TRIED: u32 = 1_001;
+
+/// What a G71 form says; lengths are in 0.001 mm.
+#[derive(Debug, Drop)]
+pub struct RoughForm {
+    pub start: Point,
+    pub depth: u64,
+    pub retreat: u64,
+    pub across: u64,
+    pub along: u64,
+    pub first: Point,
+    pub points: Vec<Point>,
+}
+
+impl RoughForm {
+    /// The blocks of the G71 part.
+    pub fn rough_blocks(&self, alloc: Global) -> Result<Vec<PlainBlock>, AllocError>
+        requires { IsNearForm (rough_of self.now) }
+        ensures { IfOk result (λ v. v.items ≡ rough_blocks (rough_of self.now) 1001) }
+    {
+        let first = moved_point(self.across, self.along, &self.first);
+        let points = moved(alloc, self.across, self.along, &self.points)?;
+        let passes = self.passes(alloc, &first, &points)?;
+        let mut blocks = Vec::new(alloc);
+        self.push_passes(&passes, &mut blocks)?;
+        push_contour(&self.start, &first, &points, &mut blocks)?;
+        Ok(blocks)
+    }
+
+    /// The blocks of the G70 part from a start.
+    pub fn finish_blocks(&self, alloc: Global, start: &Point) -> Result<Vec<PlainBlock>, AllocError>
+        ensures { IfOk result (λ v. v.items ≡ finish_blocks (rough_of self.now) start.now) }
+    {
+        let mut blocks = Vec::new(alloc);
+        push_contour(start, &self.first, &self.points, &mut blocks)?;
+        Ok(blocks)
+    }
+
+    // The passes, or the first 1,001 of them.
+    fn passes(
+        &self,
+        alloc: Global,
+        first: &Point,
+        points: &[Point],
+    ) -> Result<Vec<Point>, AllocError>
+        requires near { IsNearForm (rough_of self.now) }
+        requires first { first.now ≡ first_moved (rough_of self.now) }
+        requires points { points.now ≡ points_moved (rough_of self.now) }
+        requires near_first { IsNear first.now }
+        requires near_points { All IsNear points.now }
+        ensures passes { IfOk result (λ v. v.items ≡ passes_from (rough_of self.now) 1 1001) }
+        ensures near { IfOk result (λ v. All IsNearPass v.items) }
+    {
+        let mut passes = Vec::new(alloc);
+        for k in 1..TRIED + 1 {
+            let Some(pass) = self.pass_at(first, points, k) else {
+                return Ok(passes);
+            };
+            passes.push(pass)?;
+        }
+        Ok(passes)
+    }
+
+    fn pass_at(&self, first: &Point, points: &[Point], k: u32) -> Option<Point>
+        requires near { IsNearForm (rough_of self.now) }
+        requires first { first.now ≡ first_moved (rough_of self.now) }
+        requires points { points.now ≡ points_moved (rough_of self.now) }
+        requires near_first { IsNear first.now }
+        requires near_points { All IsNear points.now }
+        requires k { k ≤ 1001 }
+        ensures pass { result ≡ made_at (rough_of self.now) k }
+        ensures near { IfSome result IsNearPass }
+    {
+        let x = self.x_of_pass(k);
+        if x <= first.x {
+            return None;
+        }
+        let end = end_at(x, first, points);
+        if end < self.start.z {
+            Some(Point { x, z: end })
+        } else {
+            None
+        }
+    }
+
+    fn x_of_pass(&self, k: u32) -> i64
+        requires near { IsNearForm (rough_of self.now) }
+        requires k { k ≤ 1001 }
+        ensures x { result ≡ x_of_pass (rough_of self.now) k }
+        ensures near { unsigned_abs result ≤ 400000000000000 }
+    {
+        self.start.x - (2 * self.depth * u64::from(k)) as i64
+    }
+
+    // Off the cut of a pass.
+    fn off(&self, pass: &Point) -> Point
+        requires near { IsNearForm (rough_of self.now) }
+        requires pass { IsNearPass pass.now }
+        ensures { result ≡ off_pass (rough_of self.now) pass.now }
+    {
+        let back = pass.z + self.retreat as i64;
+        Point {
+            x: pass.x + (2 * self.retreat) as i64,
+            z: if self.start.z < back {
+                self.start.z
+            } else {
+                back
+            },
+        }
+    }
+
+    fn push_passes(&self, passes: &[Point], blocks: &mut Vec<PlainBlock>) -> Result<(), AllocError>
+        requires near { IsNearForm (rough_of self.now) }
+        requires passes { All IsNearPass passes.now }
+        ensures ok { OnOk result (blocks.new.items ≡ blocks.old.items ++ flat_map (pass_blocks (rough_of self.now)) passes.now) }
+    {
+        for pass in passes {
+            self.push_pass(pass, blocks)?;
+        }
+        Ok(())
+    }
+
+    fn push_pass(&self, pass: &Point, blocks: &mut Vec<PlainBlock>) -> Result<(), AllocError>
+        requires near { IsNearForm (rough_of self.now) }
+        requires pass { IsNearPass pass.now }
+        ensures ok { OnOk result (blocks.new.items ≡ blocks.old.items ++ pass_blocks (rough_of self.now) pass.now) }
+    {
+        let off = self.off(pass);
+        push(blocks, across_to(false, pass))?;
+        push(blocks, along_to(true, pass))?;
+        push(blocks, straight_to(false, &off))?;
+        push(blocks, along_to(false, &self.start))?;
+        Ok(())
+    }
+}
+
+fn moved_point(across: u64, along: u64, point: &Point) -> Point
+    requires across { across ≤ 100000000000 }
+    requires along { along ≤ 100000000000 }
+    requires point { IsWritten point.now }
+    ensures point { result ≡ moved_point across along point.now }
+    ensures near { IsNear result }
+{
+    Point {
+        x: point.x + across as i64,
+        z: point.z + along as i64,
+    }
+}
+
+fn moved(alloc: Global, across: u64, along: u64, points: &[Point]) -> Result<Vec<Point>, AllocError>
+    requires across { across ≤ 100000000000 }
+    requires along { along ≤ 100000000000 }
+    requires points { All IsWritten points.now }
+    ensures points { IfOk result (λ v. v.items ≡ moved across along points.now) }
+    ensures near { IfOk result (λ v. All IsNear v.items) }
+{
+    let mut out = Vec::new(alloc);
+    for point in points {
+        out.push(moved_point(across, along, point))?;
+    }
+    Ok(out)
+}
+
+fn push_contour(
+    start: &Point,
+    first: &Point,
+    points: &[Point],
+    blocks: &mut Vec<PlainBlock>,
+) -> Result<(), AllocError>
+    ensures ok { OnOk result (blocks.new.items ≡ blocks.old.items ++ contour_blocks start.now first.now points.now) }
+{
+    push(blocks, along_to(false, first))?;
+    push(blocks, across_to(false, first))?;
+    push_lines(points, blocks)?;
+    push(blocks, across_to(true, start))?;
+    push(blocks, along_to(false, start))?;
+    Ok(())
+}
+
+fn push_lines(points: &[Point], blocks: &mut Vec<PlainBlock>) -> Result<(), AllocError>
+    ensures ok { OnOk result (blocks.new.items ≡ blocks.old.items ++ map (straight_to true) points.now) }
+{
+    for point in points {
+        push(blocks, straight_to(true, point))?;
+    }
+    Ok(())
+}
+
+fn across_to(cuts: bool, point: &Point) -> PlainBlock
+    ensures { result ≡ across_to cuts point.now }
+{
+    PlainBlock {
+        cuts,
+        x: Some(point.x),
+        z: None,
+    }
+}
+
+fn along_to(cuts: bool, point: &Point) -> PlainBlock
+    ensures { result ≡ along_to cuts point.now }
+{
+    PlainBlock {
+        cuts,
+        x: None,
+        z: Some(point.z),
+    }
+}
+
+fn straight_to(cuts: bool, point: &Point) -> PlainBlock
+    ensures { result ≡ straight_to cuts point.now }
+{
+    PlainBlock {
+        cuts,
+        x: Some(point.x),
+        z: Some(point.z),
+    }
+}
+
+fn push(blocks: &mut Vec<PlainBlock>, block: PlainBlock) -> Result<(), AllocError>
+    ensures ok { OnOk result (blocks.new.items ≡ blocks.old.items ++ block ∷ []) }
+{
+    blocks.push(block)?;
+    Ok(())
+}

@@ -1,0 +1,12 @@
+//! G71 and G70 over a line contour, as plain blocks.
+#![tactic(auto)]
+
+mod block;
+mod contour;
+mod form;
+mod law;
+
+pub use block::PlainBlock;
+pub use contour::inside;
+pub use form::RoughForm;
+pub use law::{an_end_is_the_least, no_move_enters_the_contour};

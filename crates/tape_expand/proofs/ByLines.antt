@@ -1,0 +1,79 @@
+-- A text with edits, byte by byte, is the same line by line.
+use Rattle.std.proofs.Common.{◌≡◌, ℕ, ◌+◌, Bool, true, false, ◌==◌, List, [], ◌∷◌, ◌++◌, drop, refl, ap, sym, ◌∙◌, arith}
+use Rattle.std.proofs.lemmas.Bool.Decides.{nat_tests}
+use Rattle.nc_text.specs.Lines.{Line, lines_of, onto_line}
+use Rattle.tape_expand.specs.declared.edits.Edit.{Edit}
+use Rattle.tape_expand.specs.Splice.{edited, spliced, is_due, first_new}
+
+-- a byte of a line, if an edit names the line or none does
+dropped : (n : ℕ) (edits : List Edit) (b : ℕ) (lines : List Line) → is_due n edits ≡ true → edited n edits (onto_line b lines) ≡ edited n edits lines
+dropped n edits b [] due = rw due refl
+dropped n edits b (line ∷ lines) due = rw due refl
+
+kept : (n : ℕ) (edits : List Edit) (b : ℕ) (lines : List Line) → is_due n edits ≡ false → edited n edits (onto_line b lines) ≡ b ∷ edited n edits lines
+kept n edits b [] due = rw due refl
+kept n edits b (line ∷ lines) due = rw due refl
+
+none : (n : ℕ) (edits : List Edit) → spliced n edits [] ≡ []
+unfolding spliced
+none n edits = refl
+
+line_feed : (b : ℕ) → (b == 10) ≡ true → b ≡ 10
+line_feed b end = grind (arith, nat_tests)
+
+end_is : (b : ℕ) (bs : List ℕ) → (b == 10) ≡ true → lines_of (b ∷ bs) ≡ record { bytes = []; ended = true } ∷ lines_of bs
+end_is b bs end = rw end refl
+
+byte_is : (b : ℕ) (bs : List ℕ) → (b == 10) ≡ false → lines_of (b ∷ bs) ≡ onto_line b (lines_of bs)
+byte_is b bs other = rw other refl
+
+named_end : (n : ℕ) (edits : List Edit) (lines : List Line) → is_due n edits ≡ true
+    → edited n edits (record { bytes = []; ended = true } ∷ lines) ≡ first_new edits ++ edited (n + 1) (drop 1 edits) lines
+named_end n edits lines due = rw due refl
+
+other_end : (n : ℕ) (edits : List Edit) (lines : List Line) → is_due n edits ≡ false
+    → edited n edits (record { bytes = []; ended = true } ∷ lines) ≡ 10 ∷ edited (n + 1) edits lines
+other_end n edits lines due = rw due refl
+
+named_feed : (n : ℕ) (edits : List Edit) (b : ℕ) (bs : List ℕ) → is_due n edits ≡ true → (b == 10) ≡ true
+    → spliced n edits (b ∷ bs) ≡ first_new edits ++ spliced (n + 1) (drop 1 edits) bs
+unfolding spliced
+named_feed n edits b bs due end = rw (due, end) refl
+
+named_byte : (n : ℕ) (edits : List Edit) (b : ℕ) (bs : List ℕ) → is_due n edits ≡ true → (b == 10) ≡ false
+    → spliced n edits (b ∷ bs) ≡ spliced n edits bs
+unfolding spliced
+named_byte n edits b bs due other = rw (due, other) refl
+
+other_feed : (n : ℕ) (edits : List Edit) (b : ℕ) (bs : List ℕ) → is_due n edits ≡ false → (b == 10) ≡ true
+    → spliced n edits (b ∷ bs) ≡ b ∷ spliced (n + 1) edits bs
+unfolding spliced
+other_feed n edits b bs due end = rw (due, end) refl
+
+other_byte : (n : ℕ) (edits : List Edit) (b : ℕ) (bs : List ℕ) → is_due n edits ≡ false → (b == 10) ≡ false
+    → spliced n edits (b ∷ bs) ≡ b ∷ spliced n edits bs
+unfolding spliced
+other_byte n edits b bs due other = rw (due, other) refl
+
+one_byte : (n : ℕ) (edits : List Edit) (b : ℕ) (bs : List ℕ) (is_named is_end : Bool) → is_due n edits ≡ is_named → (b == 10) ≡ is_end
+    → spliced n edits bs ≡ edited n edits (lines_of bs)
+    → spliced (n + 1) edits bs ≡ edited (n + 1) edits (lines_of bs)
+    → spliced (n + 1) (drop 1 edits) bs ≡ edited (n + 1) (drop 1 edits) (lines_of bs)
+    → spliced n edits (b ∷ bs) ≡ edited n edits (lines_of (b ∷ bs))
+one_byte n edits b bs true true due end here next behind =
+    named_feed n edits b bs due end ∙ ap (λ l. first_new edits ++ l) behind
+    ∙ sym (named_end n edits (lines_of bs) due) ∙ ap (edited n edits) (sym (end_is b bs end))
+one_byte n edits b bs true false due end here next behind =
+    named_byte n edits b bs due end ∙ here ∙ sym (dropped n edits b (lines_of bs) due) ∙ ap (edited n edits) (sym (byte_is b bs end))
+one_byte n edits b bs false true due end here next behind =
+    other_feed n edits b bs due end ∙ ap (λ x. x ∷ spliced (n + 1) edits bs) (line_feed b end) ∙ ap (λ l. 10 ∷ l) next
+    ∙ sym (other_end n edits (lines_of bs) due) ∙ ap (edited n edits) (sym (end_is b bs end))
+one_byte n edits b bs false false due end here next behind =
+    other_byte n edits b bs due end ∙ ap (λ l. b ∷ l) here ∙ sym (kept n edits b (lines_of bs) due) ∙ ap (edited n edits) (sym (byte_is b bs end))
+
+of_text : (text : List ℕ) (n : ℕ) (edits : List Edit) → spliced n edits text ≡ edited n edits (lines_of text)
+of_text [] n edits = none n edits
+of_text (b ∷ bs) n edits = one_byte n edits b bs (is_due n edits) (b == 10) refl refl (of_text bs n edits) (of_text bs (n + 1) edits) (of_text bs (n + 1) (drop 1 edits))
+
+pub by_lines : (n : ℕ) (edits : List Edit) (text : List ℕ) → spliced n edits text ≡ edited n edits (lines_of text)
+by_lines n edits text = of_text text n edits

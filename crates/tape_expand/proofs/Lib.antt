@@ -1,0 +1,4 @@
+pub mod Answered
+pub mod ByLines
+pub mod Counting
+pub mod Splicing

@@ -1,0 +1,6 @@
+use Rattle.std.proofs.Common.{◌∙◌}
+use Rattle.tape_expand.proofs.ByLines.{by_lines}
+use Rattle.tape_expand.proofs.edits.edited.Goals as goal
+
+pub returns : goal.returns
+returns c = c.in_ok-bytes.ensures ∙ by_lines 1 c.args.edits.now c.args.text.now

@@ -1,0 +1,9 @@
+use Rattle.std.proofs.Common.{◌≡◌, ◌++◌, ◌≤◌, ◌+◌, drop, length}
+use Rattle.tape_expand.specs.Splice.{spliced}
+use Rattle.tape_expand.proofs.edits.splice.Given as goal
+
+abbrev pub invariant-loop-b : goal.invariant-loop-b
+invariant-loop-b l = record {
+  rest : l.out.items ++ spliced l.line l.rest (drop l.b-index l.text) ≡ spliced 1 l.edits l.text;
+  lines : l.line ≤ l.b-index + 1;
+}

@@ -1,0 +1,6 @@
+use Rattle.std.proofs.Common.{◌≡◌, ◌++◌, map, take}
+use Rattle.tape_expand.specs.Replaced.{removed}
+use Rattle.tape_expand.proofs.part_text.push_removed.Given as goal
+
+abbrev pub invariant-loop-line : goal.invariant-loop-line
+invariant-loop-line l = l.edits.items ≡ l.fn.edits.items ++ map removed (take l.line-index l.lines)

@@ -1,0 +1,55 @@
+-- The tape of a text with its roughing cycles written out.
+use Rattle.std.specs.Prelude.{ℕ, ⊤, Bool, List, length, All, Result, Ok, Err}
+use Rattle.std.specs.List.{flat_map}
+use Rattle.nc_text.specs.declared.fault.TextFault.{TextFault}
+use Rattle.nc_text.specs.declared.tape.Program.{Program}
+use Rattle.nc_text.specs.Lines.{lines_of}
+use Rattle.nc_text.specs.Shape.{blocks_in}
+use Rattle.nc_text.specs.Tape.{tape_of}
+use Rattle.cycle_form.specs.declared.fault.CycleFault.{CycleFault}
+use Rattle.cycle_form.specs.Marks.{marks_of}
+use Rattle.cycle_form.specs.Parts.{PartView, IsClearPart}
+use Rattle.cycle_form.specs.Sizes.{sized}
+use Rattle.cycle_form.specs.Walk.{parts_of}
+use Rattle.tape_expand.specs.declared.fault.ExpandFault.{ExpandFault}
+use Rattle.tape_expand.specs.declared.fault.ExpandFault.TheVariants.{Unreadable, Cycle}
+use Rattle.tape_expand.specs.Replaced.{edits_of}
+use Rattle.tape_expand.specs.Splice.{edited}
+
+abbrev pub fitting : List PartView → Result ⊤ CycleFault → Result (List PartView) CycleFault
+fitting parts (Ok done) = Ok parts
+fitting parts (Err fault) = Err fault
+
+abbrev pub sized_by : ℕ → Result (List PartView) CycleFault → Result (List PartView) CycleFault
+sized_by blocks (Ok parts) = fitting parts (sized blocks parts)
+sized_by blocks (Err fault) = Err fault
+
+-- the parts of a tape, if it has no more blocks than it may with them written out
+abbrev pub sized_parts : List Bool → List Program → Result (List PartView) CycleFault
+sized_parts marks tape = sized_by (length (blocks_in tape)) (parts_of marks tape)
+
+abbrev pub of_cycles : Result (List PartView) CycleFault → Result (List PartView) ExpandFault
+of_cycles (Ok parts) = Ok parts
+of_cycles (Err fault) = Err (Cycle fault)
+
+abbrev pub of_tape : List ℕ → Result (List Program) TextFault → Result (List PartView) ExpandFault
+of_tape text (Ok tape) = of_cycles (sized_parts (marks_of text) tape)
+of_tape text (Err fault) = Err (Unreadable fault)
+
+-- The parts of a text that are written out, or why it is refused: as no tape, else for a cycle that is part of no form, else
+-- for its size.
+unfoldable pub parts_in : List ℕ → Result (List PartView) ExpandFault
+parts_in text = of_tape text (tape_of 0 text)
+
+abbrev pub written_out : List ℕ → Result (List PartView) ExpandFault → Result (List ℕ) ExpandFault
+written_out text (Ok parts) = Ok (edited 1 (flat_map edits_of parts) (lines_of text))
+written_out text (Err fault) = Err fault
+
+-- the text in which each part gives way to its blocks, and every other line stays byte for byte
+abbrev pub expansion_of : List ℕ → Result (List ℕ) ExpandFault
+expansion_of text = written_out text (parts_in text)
+
+-- there are parts, and no whole point on a move of their blocks lies inside their contours
+abbrev pub AreClearParts : Result (List PartView) ExpandFault → Type 0
+AreClearParts (Ok parts) = All IsClearPart parts
+AreClearParts (Err fault) = ⊥

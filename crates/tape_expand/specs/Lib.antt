@@ -1,0 +1,5 @@
+pub mod Faults
+pub mod BlockText
+pub mod Splice
+pub mod Replaced
+pub mod Expansion

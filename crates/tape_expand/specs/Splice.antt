@@ -1,0 +1,41 @@
+-- A text in which some lines are replaced.
+use Rattle.std.specs.Prelude.{ℕ, ◌+◌, Bool, true, false, ◌==◌, List, [], ◌∷◌, ◌++◌, drop, if◌then◌else◌}
+use Rattle.nc_text.specs.Lines.{Line}
+use Rattle.tape_expand.specs.declared.edits.Edit.{Edit}
+
+-- whether the first of the edits is of this line
+abbrev pub is_due : ℕ → List Edit → Bool
+is_due n [] = false
+is_due n (edit ∷ edits) = n == edit.line
+
+abbrev pub first_new : List Edit → List ℕ
+first_new [] = []
+first_new (edit ∷ edits) = edit.new
+
+-- the bytes of a line, with its line feed
+abbrev pub bytes_of : Line → List ℕ
+bytes_of line = line.bytes ++ (if line.ended then 10 ∷ [] else [])
+
+-- what the first edit puts in place of a line and its line feed
+abbrev pub new_for : List Edit → Line → List ℕ
+new_for edits line = if line.ended then first_new edits else []
+
+-- The lines of a text from line n on: a line that an edit names gives way to the edit's bytes, and every other line stands
+-- byte for byte. The edits are in the order of their lines.
+abbrev pub edited : ℕ → List Edit → List Line → List ℕ
+edited n edits [] = []
+edited n edits (line ∷ lines) =
+    if is_due n edits
+    then new_for edits line ++ edited (n + 1) (drop 1 edits) lines
+    else bytes_of line ++ edited (n + 1) edits lines
+
+abbrev pub line_behind : ℕ → ℕ → ℕ
+line_behind n b = if b == 10 then n + 1 else n
+
+-- the same byte by byte, from a place in line n on
+unfoldable pub spliced : ℕ → List Edit → List ℕ → List ℕ
+spliced n edits [] = []
+spliced n edits (b ∷ bytes) =
+    if is_due n edits
+    then (if b == 10 then first_new edits ++ spliced (n + 1) (drop 1 edits) bytes else spliced n edits bytes)
+    else b ∷ spliced (line_behind n b) edits bytes

@@ -1,0 +1,91 @@
+ghost use Rattle.std.specs.Prelude.{◌≡◌, ◌<◌, ◌^◌, ◌++◌, ◌∷◌, [], IfOk, OnOk, length, drop};
+ghost use Rattle.nc_text.specs.Lines.{lines_of};
+ghost use Rattle.tape_expand.specs.Splice.{edited, spliced, is_due, first_new, line_behind};
+
+use nc_number::ByteList;
+use std::alloc::{AllocError, Global};
+
+/// What stands in place of a line and its line feed.
+#[derive(Debug, Drop)]
+pub struct Edit {
+    /// The line, from 1.
+    pub line: u32,
+    pub new: ByteList,
+}
+
+/// The text with edits, which are in the order of their lines.
+pub(crate) fn edited(alloc: Global, text: &[u8], edits: &[Edit]) -> Result<Vec<u8>, AllocError>
+    ensures { IfOk result (λ bytes. bytes.items ≡ edited 1 edits.now (lines_of text.now)) }
+{
+    let bytes = splice(alloc, text, edits)?;
+    Ok(bytes)
+}
+
+// The same, byte by byte.
+fn splice(alloc: Global, text: &[u8], edits: &[Edit]) -> Result<Vec<u8>, AllocError>
+    ensures { IfOk result (λ v. v.items ≡ spliced 1 edits.now text.now) }
+{
+    let mut out = Vec::new(alloc);
+    let mut line = 1u128;
+    let mut rest = edits;
+    for b in text {
+        if is_due(line, rest) {
+            if *b == b'\n' {
+                push_first(&mut out, rest)?;
+                rest = behind_first(rest);
+                line += 1;
+                continue;
+            }
+            continue;
+        }
+        push_byte(&mut out, *b)?;
+        line = line_behind(line, *b);
+    }
+    Ok(out)
+}
+
+// A byte that stands.
+fn push_byte(out: &mut Vec<u8>, b: u8) -> Result<(), AllocError>
+    ensures ok { OnOk result (out.new.items ≡ out.old.items ++ b ∷ []) }
+{
+    out.push(b)?;
+    Ok(())
+}
+
+fn is_due(line: u128, edits: &[Edit]) -> bool
+    ensures { result ≡ is_due line edits.now }
+{
+    match edits.first() {
+        Some(edit) => line == u128::from(edit.line),
+        None => false,
+    }
+}
+
+fn line_behind(line: u128, b: u8) -> u128
+    requires { line < 2 ^ 127 }
+    ensures { result ≡ line_behind line b }
+{
+    if b == b'\n' { line + 1 } else { line }
+}
+
+fn behind_first(edits: &[Edit]) -> &[Edit]
+    ensures { result.now ≡ drop 1 edits.now }
+{
+    edits.get(1..).unwrap_or(edits)
+}
+
+fn push_first(out: &mut Vec<u8>, edits: &[Edit]) -> Result<(), AllocError>
+    ensures ok { OnOk result (out.new.items ≡ out.old.items ++ first_new edits.now) }
+{
+    match edits.first() {
+        Some(edit) => push_all(out, edit.new.as_slice()),
+        None => Ok(()),
+    }
+}
+
+pub(crate) fn push_all(out: &mut Vec<u8>, bytes: &[u8]) -> Result<(), AllocError>
+    ensures ok { OnOk result (out.new.items ≡ out.old.items ++ bytes.now) }
+{
+    out.extend_from_slice(bytes)?;
+    Ok(())
+}
