@@ -1,0 +1,333 @@
+-- The waits and the end of a path in a trace are the labels of its tape: by induction on the history, with the labels ahead of the
+-- path's place of which the first is told already if the path waits or has ended.
+use Rattle.std.proofs.Common.{◌≡◌, ◌⊎◌, inl, inr, ℕ, ◌==◌, ◌||◌, Bool, true, false, List, [], ◌∷◌, ◌++◌, refl, sym, subst, ap, ◌∙◌, Option, Some, None, is_some, arith, append-nil}
+use Rattle.std.specs.Prelude.{if◌then◌else◌}
+use Rattle.std.proofs.lemmas.Grind.{flat_map-append}
+use Rattle.std.proofs.lemmas.Bool.Decides.{nat_tests}
+use Rattle.nc_number.specs.declared.path.Path.{Path}
+use Rattle.nc_number.specs.declared.path.Path.TheVariants.{One, Two}
+use Rattle.nc_number.specs.declared.point.Point.{Point}
+use Rattle.nc_number.specs.declared.value.Var.{Var}
+use Rattle.nc_moves.specs.declared.alarm.Alarm.{Alarm}
+use Rattle.nc_moves.specs.declared.motion.Move.{Move}
+use Rattle.nc_moves.specs.declared.motion.Moves.{Moves}
+use Rattle.block_order.specs.declared.control.Control.{Control}
+use Rattle.block_order.specs.declared.control.Control.TheVariants as control
+use Rattle.block_order.specs.declared.frame.Frame.{Frame}
+use Rattle.block_order.specs.declared.label.Label.{Label}
+use Rattle.block_order.specs.declared.label.Label.TheVariants as label
+use Rattle.block_order.specs.declared.program.ControlProgram.{ControlProgram}
+use Rattle.block_order.specs.Labels.{ahead, list, start}
+use Rattle.block_order.specs.Steps.{Step, IsPlace, standing, passed, Kept, KeepsLabels}
+use Rattle.run_records.specs.declared.entry.Entry.{Entry}
+use Rattle.run_records.specs.declared.entry.EntryKind.{EntryKind}
+use Rattle.path_state.specs.View.{PathView}
+use Rattle.path_state.specs.Effect.{Effect, Need, Done, AtWait, AtEnd}
+use Rattle.path_state.specs.Effect as effect
+use Rattle.path_state.specs.Controlled.{GoesAsOrdered}
+use Rattle.tape_flow.specs.declared.flow.Flow.{Flow}
+use Rattle.two_path.specs.declared.turn.Turn.{Turn}
+use Rattle.two_path.specs.declared.turn.Turn.TheVariants as turn
+use Rattle.two_path.specs.Machine.{Part, MachineView, own_first, opening}
+use Rattle.two_path.specs.Turns.{Blocks, Tapes, TurnResult, block_turn, kind_of, own_turn, result_at_wait, result_by, tape_of, tapes_of, unless_idle}
+use Rattle.two_path.specs.Histories.{IsLegal, IsStep, behind_entry, behind_step, is_same, with_reads}
+use Rattle.two_path.specs.Again.{turn_of_entry}
+use Rattle.two_path.specs.Stuck.{AreAtStart, IsPair}
+use Rattle.trace_list.specs.declared.looking.Look.{Look}
+use Rattle.trace_list.specs.declared.looking.Standing.{Standing}
+use Rattle.trace_list.specs.Stops.{Follows, none, next, anew, stop_of, stops_of}
+use Rattle.trace_list.specs.Trace.{block_lines, is_same_point, is_same_way, lines_of, look_of, met_after, moved_lines, path_in, says_speed, shift_lines, spindle_lines, standing_of, traced, turn_lines}
+use Rattle.trace_list.specs.TraceText.{TraceLine, Shift, Spindle, Moved, Wait, Met, Ended}
+
+-- the stops of a turn, of its own path
+abbrev own_stops : Turn → List Label
+own_stops (turn.Arrived code) = label.Wait code ∷ []
+own_stops (turn.Met code) = label.Wait code ∷ []
+own_stops (turn.Ended moves) = label.End ∷ []
+own_stops other = []
+
+-- of one path its stops, and of the other none
+abbrev chosen : Bool → List Label → List Label
+chosen b stops = if b then stops else []
+
+chosen_none : (b : Bool) → chosen b [] ≡ []
+chosen_none true = refl
+chosen_none false = refl
+
+no_moves : (path of : Path) (line : ℕ) (moves : List Move) → stops_of path (moved_lines of line moves) ≡ []
+no_moves path of line [] = refl
+no_moves path of line (x ∷ xs) = no_moves path of line xs
+
+no_shift : (path of : Path) (line : ℕ) (after : Point) (b : Bool) → stops_of path (if b then [] else Shift of line after ∷ []) ≡ []
+no_shift path of line after true = refl
+no_shift path of line after false = refl
+
+no_way : (path of : Path) (line : ℕ) (after b : Bool) → stops_of path (if b then [] else Spindle of line after ∷ []) ≡ []
+no_way path of line after true = refl
+no_way path of line after false = refl
+
+block_stops : (path of : Path) (moves : Moves) (before after : Look) → stops_of path (block_lines of moves before after) ≡ []
+block_stops path of moves before after =
+    let shift = shift_lines of moves.line before.shift after.shift in
+    let way = spindle_lines of moves before.surface after.surface in
+    let rest = moved_lines of moves.line moves.list in
+    flat_map-append (stop_of path) shift (way ++ rest)
+    ∙ ap (λ (t : List Label). t ++ stops_of path (way ++ rest)) (no_shift path of moves.line after.shift (is_same_point before.shift after.shift))
+    ∙ flat_map-append (stop_of path) way rest
+    ∙ ap (λ (t : List Label). t ++ stops_of path rest) (no_way path of moves.line after.surface (is_same_way before.surface after.surface || says_speed moves.list))
+    ∙ no_moves path of moves.line moves.list
+
+turn_stops : (path of : Path) (met : ℕ) (before : Standing) (after : Look) (t : Turn)
+    → stops_of path (turn_lines of met before after t) ≡ chosen (is_same path of) (own_stops t)
+turn_stops path of met before after (turn.Read variable stamp) = sym (chosen_none (is_same path of))
+turn_stops path of met before after (turn.Did moves) = block_stops path of moves before.look after ∙ sym (chosen_none (is_same path of))
+turn_stops path of met before after (turn.Arrived code) = append-nil (chosen (is_same path of) (label.Wait code ∷ []))
+turn_stops path of met before after (turn.Met code) = append-nil (chosen (is_same path of) (label.Wait code ∷ []))
+turn_stops path of met before after (turn.Ended moves) =
+    flat_map-append (stop_of path) (block_lines of moves before.look after) (Ended of moves.line ∷ [])
+    ∙ ap (λ (t : List Label). t ++ stops_of path (Ended of moves.line ∷ [])) (block_stops path of moves before.look after)
+    ∙ append-nil (chosen (is_same path of) (label.End ∷ []))
+turn_stops path of met before after (turn.Waiting code) = sym (chosen_none (is_same path of))
+turn_stops path of met before after turn.Finished = sym (chosen_none (is_same path of))
+turn_stops path of met before after (turn.Alarm alarm) = sym (chosen_none (is_same path of))
+turn_stops path of met before after (turn.Halted alarm) = sym (chosen_none (is_same path of))
+
+-- the labels that are not told: the first of those ahead is, if the path waits or has ended
+abbrev left_of : Bool → List Label → List Label
+left_of true [] = []
+left_of true (x ∷ xs) = xs
+left_of false xs = xs
+
+abbrev idle : Option ℕ → Bool → Bool
+idle waiting finished = finished || is_some waiting
+
+abbrev due : List ControlProgram → Part → List Label
+due tape p = left_of (idle p.waiting p.finished) (ahead tape p.path.place)
+
+-- a path's place; where it waits it stands on that wait, and has not ended
+record IsSide (tape : List ControlProgram) (at : List Frame) (waiting : Option ℕ) (finished : Bool) : Type 0 where
+  place : IsPlace tape at
+  waits : (code : ℕ) → waiting ≡ Some code → (standing tape at ≡ Some (control.Wait code)) × (finished ≡ false)
+
+abbrev SideOf : List ControlProgram → Part → Type 0
+SideOf tape p = IsSide tape p.path.place p.waiting p.finished
+
+-- where a step leads
+kept_labels : (tape : List ControlProgram) (f : Frame) (stack : List Frame) (c : Control) (to : List Frame) (rest : List Label) → Kept tape f stack c to
+    → Follows (list tape) (ahead tape to) rest → Follows (list tape) (ahead tape (f ∷ stack)) rest
+kept_labels tape f stack control.Next to rest k follows = subst (λ xs. Follows (list tape) xs rest) k follows
+kept_labels tape f stack (control.Goto n) to rest k follows = subst (λ xs. Follows (list tape) xs rest) k follows
+kept_labels tape f stack (control.While m) to rest k follows = subst (λ xs. Follows (list tape) xs rest) k follows
+kept_labels tape f stack (control.Do m) to rest k follows = subst (λ xs. Follows (list tape) xs rest) k follows
+kept_labels tape f stack (control.EndLoop m) to rest k follows = subst (λ xs. Follows (list tape) xs rest) k follows
+kept_labels tape f stack (control.Wait code) to rest k follows = subst (λ xs. Follows (list tape) xs rest) k follows
+kept_labels tape f stack control.End to rest k follows = subst (λ xs. Follows (list tape) xs rest) k follows
+kept_labels tape f stack (control.Call q r) to rest k follows = subst (λ xs. Follows (list tape) xs rest) k follows
+kept_labels tape f stack (control.BackTo n) to rest k follows = subst (λ xs. Follows (list tape) xs rest) k follows
+kept_labels tape f (g ∷ stack) control.Back to rest k follows = subst (λ xs. Follows (list tape) xs rest) k follows
+kept_labels tape f [] control.Back to rest k follows =
+    subst (λ xs. Follows (list tape) xs rest) (sym k.0) (anew rest (subst (λ xs. Follows (list tape) xs rest) k.1 follows))
+
+step_labels : (tape : List ControlProgram) → KeepsLabels tape → (from to : List Frame) (rest : List Label) → IsPlace tape from → Step tape from to
+    → Follows (list tape) (ahead tape to) rest → Follows (list tape) (ahead tape from) rest
+step_labels tape law [] to rest place step follows = absurd place
+step_labels tape law (f ∷ stack) to rest place (c, is, goes) follows =
+    kept_labels tape f stack c to rest (law.step f stack place c is to goes).1 follows
+
+step_place : (tape : List ControlProgram) → KeepsLabels tape → (from to : List Frame) → IsPlace tape from → Step tape from to → IsPlace tape to
+step_place tape law [] to place step = absurd place
+step_place tape law (f ∷ stack) to place (c, is, goes) = (law.step f stack place c is to goes).0
+
+-- what a turn leaves of a path, and what is told of it in that turn
+record Passes (tape : List ControlProgram) (before after : Part) (stops : List Label) : Type 0 where
+  side : SideOf tape after
+  follows : (rest : List Label) → Follows (list tape) (due tape after) rest → Follows (list tape) (due tape before) (stops ++ rest)
+
+-- a path that goes on
+module _ (tape : List ControlProgram) (law : KeepsLabels tape) (path : Path) (line : ℕ) (m : MachineView) (side : SideOf tape m.first)
+    (none_waits : m.first.waiting ≡ None) (unfinished : m.first.finished ≡ false) where
+  awake : (place : List Frame) (rest : List Label) → Follows (list tape) (left_of (idle m.first.waiting m.first.finished) (ahead tape place)) rest
+      → Follows (list tape) (ahead tape place) rest
+  awake place rest f =
+      subst (λ b. Follows (list tape) (left_of (b || false) (ahead tape place)) rest) unfinished
+      (subst (λ (w : Option ℕ). Follows (list tape) (left_of (m.first.finished || is_some w) (ahead tape place)) rest) none_waits f)
+
+  due_is : due tape m.first ≡ ahead tape m.first.path.place
+  due_is =
+      ap (λ (w : Option ℕ). left_of (m.first.finished || is_some w) (ahead tape m.first.path.place)) none_waits
+      ∙ ap (λ b. left_of (b || false) (ahead tape m.first.path.place)) unfinished
+
+  from_here : (stops rest : List Label) → Follows (list tape) (ahead tape m.first.path.place) (stops ++ rest) → Follows (list tape) (due tape m.first) (stops ++ rest)
+  from_here stops rest f = subst (λ xs. Follows (list tape) xs (stops ++ rest)) (sym due_is) f
+
+  never_waits : {A : Type 0} (code : ℕ) → m.first.waiting ≡ Some code → A
+  never_waits code is = absurd (let clash : ◌≡◌ {A = Option ℕ} None (Some code) = sym none_waits ∙ is in cc)
+
+  -- nothing of the path changes
+  stays : Passes tape m.first m.first []
+  stays = record { side = side; follows = λ rest f. f }
+
+  at_wait : (code : ℕ) → standing tape m.first.path.place ≡ Some (control.Wait code) → (o : Option ℕ)
+      → Passes tape m.first (result_at_wait path line m code o).machine.first (own_stops (result_at_wait path line m code o).turn)
+  at_wait code is None = record {
+    side = record { place = side.place; waits = λ c same. (is ∙ ap (λ (x : ℕ). Some (control.Wait x)) (let e : ◌≡◌ {A = Option ℕ} (Some code) (Some c) = same in cc), unfinished) };
+    follows = λ rest f.
+        let ahead_is = (law.wait m.first.path.place code side.place is).1 in
+        let told : Follows (list tape) (left_of true (ahead tape m.first.path.place)) rest =
+        subst (λ b. Follows (list tape) (left_of (b || true) (ahead tape m.first.path.place)) rest) unfinished f in
+        from_here (label.Wait code ∷ []) rest
+        (subst (λ xs. Follows (list tape) xs (label.Wait code ∷ rest)) (sym ahead_is)
+        (next (label.Wait code) (ahead tape (passed m.first.path.place)) rest (subst (λ xs. Follows (list tape) (left_of true xs) rest) ahead_is told)));
+  }
+  at_wait code is (Some there) = go (code == there) refl
+    where
+      go : (b : Bool) → (code == there) ≡ b → Passes tape m.first (result_at_wait path line m code (Some there)).machine.first (own_stops (result_at_wait path line m code (Some there)).turn)
+      go true e = rw e (record {
+        side = record { place = (law.wait m.first.path.place code side.place is).0; waits = λ c same. absurd cc };
+        follows = λ rest f.
+            let ahead_is = (law.wait m.first.path.place code side.place is).1 in
+            let told : Follows (list tape) (ahead tape (passed m.first.path.place)) rest =
+            subst (λ b. Follows (list tape) (left_of (b || false) (ahead tape (passed m.first.path.place))) rest) unfinished f in
+            from_here (label.Wait code ∷ []) rest
+            (subst (λ xs. Follows (list tape) xs (label.Wait code ∷ rest)) (sym ahead_is) (next (label.Wait code) (ahead tape (passed m.first.path.place)) rest told));
+      })
+      go false e = rw e (record { side = side; follows = λ rest f. f })
+
+  by_effect : (e : Effect) → GoesAsOrdered tape m.first.path e → Passes tape m.first (result_by path line m e).machine.first (own_stops (result_by path line m e).turn)
+  by_effect (Need variable) goes = record { side = side; follows = λ rest f. f }
+  by_effect (Done to write moves) goes = record {
+    side = record { place = step_place tape law m.first.path.place to.place side.place goes; waits = λ c same. never_waits c same };
+    follows = λ rest f. from_here [] rest (step_labels tape law m.first.path.place to.place rest side.place goes (awake to.place rest f));
+  }
+  by_effect (AtWait code) goes = at_wait code goes m.second.waiting
+  by_effect (AtEnd to moves) goes = record {
+    side = record { place = subst (IsPlace tape) (sym goes.1) side.place; waits = λ c same. never_waits c same };
+    follows = λ rest f.
+        let ahead_is = law.ends m.first.path.place side.place goes.0 in
+        let told : Follows (list tape) [] rest =
+        subst (λ xs. Follows (list tape) (left_of true xs) rest) ahead_is (subst (λ place. Follows (list tape) (left_of true (ahead tape place)) rest) goes.1 f) in
+        from_here (label.End ∷ []) rest
+        (subst (λ xs. Follows (list tape) xs (label.End ∷ rest)) (sym ahead_is) (next label.End [] rest told));
+  }
+  by_effect (effect.Alarm number value) goes = record { side = side; follows = λ rest f. f }
+
+-- the other path's turn
+module _ (tape : List ControlProgram) (law : KeepsLabels tape) (path : Path) (line : ℕ) (m : MachineView) (side : SideOf tape m.second) where
+  met_there : (code : ℕ) (o : Option ℕ) → m.second.waiting ≡ o → Passes tape m.second (result_at_wait path line m code o).machine.second []
+  met_there code None is = record { side = side; follows = λ rest f. f }
+  met_there code (Some there) is = go (code == there) refl
+    where
+      waits : (standing tape m.second.path.place ≡ Some (control.Wait there)) × (m.second.finished ≡ false)
+      waits = side.waits there is
+
+      go : (b : Bool) → (code == there) ≡ b → Passes tape m.second (result_at_wait path line m code (Some there)).machine.second []
+      go true e = rw e (record {
+        side = record { place = (law.wait m.second.path.place there side.place waits.0).0; waits = λ c same. absurd cc };
+        follows = λ rest f.
+            let ahead_is = (law.wait m.second.path.place there side.place waits.0).1 in
+            let told : Follows (list tape) (ahead tape (passed m.second.path.place)) rest =
+            subst (λ b. Follows (list tape) (left_of (b || false) (ahead tape (passed m.second.path.place))) rest) waits.1 f in
+            let due_is : due tape m.second ≡ ahead tape (passed m.second.path.place) =
+            ap (λ (w : Option ℕ). left_of (m.second.finished || is_some w) (ahead tape m.second.path.place)) is
+            ∙ ap (λ b. left_of (b || true) (ahead tape m.second.path.place)) waits.1
+            ∙ ap (left_of true) ahead_is in
+            subst (λ xs. Follows (list tape) xs rest) (sym due_is) told;
+      })
+      go false e = rw e (record { side = side; follows = λ rest f. f })
+
+  by_other : (e : Effect) → Passes tape m.second (result_by path line m e).machine.second []
+  by_other (Need variable) = record { side = side; follows = λ rest f. f }
+  by_other (Done to write moves) = record { side = side; follows = λ rest f. f }
+  by_other (AtWait code) = met_there code m.second.waiting refl
+  by_other (AtEnd to moves) = record { side = side; follows = λ rest f. f }
+  by_other (effect.Alarm number value) = record { side = side; follows = λ rest f. f }
+
+-- a turn that makes a record is that of a block
+record IsAwake (m : MachineView) (r rest : TurnResult) : Type 0 where
+  none_waits : m.first.waiting ≡ None
+  unfinished : m.first.finished ≡ false
+  same : r ≡ rest
+
+awake_by : (m : MachineView) (a : Option Alarm) (f : Bool) (w : Option ℕ) (rest : TurnResult) (kind : EntryKind) → m.first.finished ≡ f → m.first.waiting ≡ w
+    → kind_of (unless_idle m a f w rest).turn ≡ Some kind → IsAwake m (unless_idle m a f w rest) rest
+awake_by m (Some alarm) f w rest kind ends is makes = absurd (cc)
+awake_by m None true w rest kind ends is makes = absurd (cc)
+awake_by m None false (Some code) rest kind ends is makes = absurd (cc)
+awake_by m None false None rest kind ends is makes = record { none_waits = is; unfinished = ends; same = refl }
+
+abbrev AreLed : List ControlProgram → Blocks → Type 0
+AreLed tape blocks = (path : PathView) (values : List Var) → GoesAsOrdered tape path (blocks.effect path values)
+
+own_passes : (tape : List ControlProgram) (blocks : Blocks) (path : Path) (kind : EntryKind) (stamps : List ℕ) (m : MachineView) → KeepsLabels tape → AreLed tape blocks
+    → SideOf tape m.first → IsStep blocks path m kind stamps
+    → Passes tape m.first (own_turn blocks path (with_reads blocks stamps m)).machine.first (own_stops (own_turn blocks path (with_reads blocks stamps m)).turn)
+own_passes tape blocks path kind stamps m law led side step =
+    let now = with_reads blocks stamps m in
+    let is = awake_by now now.alarm now.first.finished now.first.waiting (block_turn blocks path now) kind refl refl step.is in
+    let by = by_effect tape law path (blocks.line now.first.path.place) now (record { place = side.place; waits = side.waits }) is.none_waits is.unfinished
+    (blocks.effect now.first.path now.first.values) (led now.first.path now.first.values) in
+    subst (λ (r : TurnResult). Passes tape m.first r.machine.first (own_stops r.turn)) (sym is.same) (record { side = by.side; follows = by.follows })
+
+other_passes : (tape : List ControlProgram) (blocks : Blocks) (path : Path) (kind : EntryKind) (stamps : List ℕ) (m : MachineView) → KeepsLabels tape
+    → SideOf tape m.second → IsStep blocks path m kind stamps → Passes tape m.second (own_turn blocks path (with_reads blocks stamps m)).machine.second []
+other_passes tape blocks path kind stamps m law side step =
+    let now = with_reads blocks stamps m in
+    let is = awake_by now now.alarm now.first.finished now.first.waiting (block_turn blocks path now) kind refl refl step.is in
+    let by = by_other tape law path (blocks.line now.first.path.place) now (record { place = side.place; waits = side.waits }) (blocks.effect now.first.path now.first.values) in
+    subst (λ (r : TurnResult). Passes tape m.second r.machine.second []) (sym is.same) (record { side = by.side; follows = by.follows })
+
+abbrev part_of : Path → MachineView → Part
+part_of path m = (own_first path m).first
+
+abbrev turn_after : Tapes → Path → List ℕ → MachineView → Turn
+turn_after tapes path stamps m = (own_turn (tape_of tapes path) path (with_reads (tape_of tapes path) stamps (own_first path m))).turn
+
+abbrev machine_after : Tapes → Path → List ℕ → MachineView → MachineView
+machine_after tapes path stamps m = own_first path (behind_step (tape_of tapes path) path stamps (own_first path m))
+
+-- a record of either path, as one path sees it
+entry_passes : (path of : Path) (tapes : Tapes) (tape : List ControlProgram) (kind : EntryKind) (stamps : List ℕ) (m : MachineView) → KeepsLabels tape
+    → AreLed tape (tape_of tapes path) → SideOf tape (part_of path m) → IsStep (tape_of tapes of) of (own_first of m) kind stamps
+    → Passes tape (part_of path m) (part_of path (machine_after tapes of stamps m)) (chosen (is_same path of) (own_stops (turn_after tapes of stamps m)))
+entry_passes One One tapes tape kind stamps m law led side step =
+    let p = own_passes tape tapes.first One kind stamps m law led side step in record { side = p.side; follows = p.follows }
+entry_passes One Two tapes tape kind stamps m law led side step =
+    let p = other_passes tape tapes.second Two kind stamps (own_first Two m) law side step in record { side = p.side; follows = p.follows }
+entry_passes Two One tapes tape kind stamps m law led side step =
+    let p = other_passes tape tapes.first One kind stamps m law side step in record { side = p.side; follows = p.follows }
+entry_passes Two Two tapes tape kind stamps m law led side step =
+    let p = own_passes tape tapes.second Two kind stamps (own_first Two m) law led side step in record { side = p.side; follows = p.follows }
+
+-- from any machine on
+follows_from : (path : Path) (tapes : Tapes) (tape : List ControlProgram) → KeepsLabels tape → AreLed tape (tape_of tapes path) → (met : ℕ) (m : MachineView)
+    (entries : List Entry) → SideOf tape (part_of path m) → IsLegal tapes m entries
+    → Follows (list tape) (due tape (part_of path m)) (stops_of path (traced tapes met m entries))
+unfolding traced
+follows_from path tapes tape law led met m [] side legal = none (due tape (part_of path m))
+follows_from path tapes tape law led met m (e ∷ entries) side legal =
+    let t = turn_of_entry tapes e m in
+    let after = behind_entry tapes e m in
+    let lines = lines_of tapes met m e in
+    let rest = traced tapes (met_after met t) after entries in
+    let passes = entry_passes path e.path tapes tape e.kind e.stamps m law led side legal.0 in
+    subst (λ stops. Follows (list tape) (due tape (part_of path m)) stops)
+    (ap (λ (stops : List Label). stops ++ stops_of path rest) (sym (turn_stops path e.path met (standing_of tapes e.path m) (look_of (path_in e.path after)) t))
+    ∙ sym (flat_map-append (stop_of path) lines rest))
+    (passes.follows (stops_of path rest) (follows_from path tapes tape law led (met_after met t) after entries passes.side legal.1))
+
+-- before its first record a path stands at the start of its tape
+start_side : (tape : List ControlProgram) → IsSide tape (start tape) None false
+start_side tape = record { place = (refl, refl); waits = λ code is. absurd cc }
+
+pub follows : (left right : Flow) → KeepsLabels left.order → KeepsLabels right.order → IsPair left right → (first second : PathView)
+    → AreAtStart left.order right.order first second → (entries : List Entry) → IsLegal (tapes_of left right) (opening first second) entries
+    → Follows (list left.order) (list left.order) (stops_of One (traced (tapes_of left right) 0 (opening first second) entries))
+    × Follows (list right.order) (list right.order) (stops_of Two (traced (tapes_of left right) 0 (opening first second) entries))
+follows left right left_law right_law pair first second at entries legal = (
+  subst (λ place. Follows (list left.order) (ahead left.order place) (stops_of One (traced (tapes_of left right) 0 (opening first second) entries))) at.one
+      (follows_from One (tapes_of left right) left.order left_law pair.left_controlled 0 (opening first second) entries
+      (subst (λ place. IsSide left.order place None false) (sym at.one) (start_side left.order)) legal),
+  subst (λ place. Follows (list right.order) (ahead right.order place) (stops_of Two (traced (tapes_of left right) 0 (opening first second) entries))) at.two
+      (follows_from Two (tapes_of left right) right.order right_law pair.right_controlled 0 (opening first second) entries
+      (subst (λ place. IsSide right.order place None false) (sym at.two) (start_side right.order)) legal),
+)

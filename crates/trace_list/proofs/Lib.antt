@@ -1,0 +1,5 @@
+pub mod InParts
+pub mod Traced
+pub mod SameMoves
+pub mod Paired
+pub mod Followed

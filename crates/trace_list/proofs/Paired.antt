@@ -1,0 +1,216 @@
+-- Each meeting of a trace closes the open waits of both paths: by induction on the history, with the waits that the machine has.
+use Rattle.std.proofs.Common.{◌≡◌, ℕ, ◌+◌, ◌==◌, ◌||◌, Bool, true, false, List, [], ◌∷◌, ◌++◌, refl, sym, subst, ap, ◌∙◌, append_assoc, Option, Some, None, arith}
+use Rattle.std.specs.Prelude.{if◌then◌else◌, map, option_map}
+use Rattle.nc_number.specs.declared.path.Path.{Path}
+use Rattle.nc_number.specs.declared.path.Path.TheVariants.{One, Two}
+use Rattle.nc_number.specs.declared.point.Point.{Point}
+use Rattle.nc_moves.specs.declared.alarm.Alarm.{Alarm}
+use Rattle.nc_moves.specs.declared.motion.Move.{Move}
+use Rattle.nc_moves.specs.declared.motion.Moves.{Moves}
+use Rattle.run_records.specs.declared.entry.Entry.{Entry}
+use Rattle.run_records.specs.declared.entry.EntryKind.{EntryKind}
+use Rattle.path_state.specs.View.{PathView}
+use Rattle.path_state.specs.Effect.{Effect, Need, Done, AtWait, AtEnd}
+use Rattle.path_state.specs.Effect as effect
+use Rattle.two_path.specs.declared.turn.Turn.{Turn}
+use Rattle.two_path.specs.declared.turn.Turn.TheVariants as turn
+use Rattle.two_path.specs.Machine.{MachineView, own_first, opening, without_reads}
+use Rattle.two_path.specs.Turns.{Blocks, Tapes, TurnResult, alarm_at, block_turn, kind_of, own_turn, result_at_wait, result_by, tape_of, unless_idle}
+use Rattle.two_path.specs.Histories.{IsLegal, IsNext, IsStep, behind_entry, behind_step, with_reads}
+use Rattle.two_path.specs.Again.{turn_of_entry}
+use Rattle.trace_list.specs.declared.looking.Look.{Look}
+use Rattle.trace_list.specs.declared.looking.Standing.{Standing}
+use Rattle.trace_list.specs.Meetings.{ArePaired, Goes, OpenWait, open_wait}
+use Rattle.trace_list.specs.Trace.{block_lines, is_same_point, is_same_way, line_here, line_of, lines_of, look_of, met_after, moved_lines, path_in, says_speed, shift_lines, spindle_lines, standing_of, traced, turn_lines}
+use Rattle.trace_list.specs.TraceText.{TraceLine, Shift, Spindle, Moved, Wait, Met, Raised, Ended}
+
+-- the waits of a path and of the other one
+abbrev PairedFor : Path → Option OpenWait → Option OpenWait → ℕ → List TraceLine → Type 0
+PairedFor One mine other met lines = ArePaired mine other met lines
+PairedFor Two mine other met lines = ArePaired other mine met lines
+
+-- lines of a path that does not wait, before others
+shift_on : (path : Path) (other : Option OpenWait) (met line : ℕ) (by : Point) (rest : List TraceLine) → PairedFor path None other met rest
+    → PairedFor path None other met (Shift path line by ∷ rest)
+shift_on One other met line by rest p = (refl, p)
+shift_on Two other met line by rest p = (refl, p)
+
+way_on : (path : Path) (other : Option OpenWait) (met line : ℕ) (surface : Bool) (rest : List TraceLine) → PairedFor path None other met rest
+    → PairedFor path None other met (Spindle path line surface ∷ rest)
+way_on One other met line surface rest p = (refl, p)
+way_on Two other met line surface rest p = (refl, p)
+
+moves_on : (path : Path) (other : Option OpenWait) (met line : ℕ) (moves : List Move) (rest : List TraceLine) → PairedFor path None other met rest
+    → PairedFor path None other met (moved_lines path line moves ++ rest)
+moves_on path other met line [] rest p = p
+moves_on One other met line (x ∷ xs) rest p = (refl, moves_on One other met line xs rest p)
+moves_on Two other met line (x ∷ xs) rest p = (refl, moves_on Two other met line xs rest p)
+
+ended_on : (path : Path) (other : Option OpenWait) (met line : ℕ) (rest : List TraceLine) → PairedFor path None other met rest
+    → PairedFor path None other met (Ended path line ∷ rest)
+ended_on One other met line rest p = (refl, p)
+ended_on Two other met line rest p = (refl, p)
+
+raised_on : (path : Path) (other : Option OpenWait) (met line cause : ℕ) (value : _) (rest : List TraceLine) → PairedFor path None other met rest
+    → PairedFor path None other met (Raised (alarm_at path line cause value) ∷ rest)
+raised_on One other met line cause value rest p = (refl, p)
+raised_on Two other met line cause value rest p = (refl, p)
+
+wait_on : (path : Path) (other : Option OpenWait) (met line code : ℕ) (rest : List TraceLine) → PairedFor path (Some (open_wait line code)) other met rest
+    → PairedFor path None other met (Wait path line code ∷ rest)
+wait_on One other met line code rest p = (refl, p)
+wait_on Two other met line code rest p = (refl, p)
+
+if_shift : (path : Path) (other : Option OpenWait) (met line : ℕ) (by : Point) (b : Bool) (rest : List TraceLine) → PairedFor path None other met rest
+    → PairedFor path None other met ((if b then [] else Shift path line by ∷ []) ++ rest)
+if_shift path other met line by true rest p = p
+if_shift path other met line by false rest p = shift_on path other met line by rest p
+
+if_way : (path : Path) (other : Option OpenWait) (met line : ℕ) (surface b : Bool) (rest : List TraceLine) → PairedFor path None other met rest
+    → PairedFor path None other met ((if b then [] else Spindle path line surface ∷ []) ++ rest)
+if_way path other met line surface true rest p = p
+if_way path other met line surface false rest p = way_on path other met line surface rest p
+
+block_on : (path : Path) (other : Option OpenWait) (met : ℕ) (moves : Moves) (before after : Look) (rest : List TraceLine) → PairedFor path None other met rest
+    → PairedFor path None other met (block_lines path moves before after ++ rest)
+block_on path other met moves before after rest p =
+    let shift = shift_lines path moves.line before.shift after.shift in
+    let way = spindle_lines path moves before.surface after.surface in
+    let made = moved_lines path moves.line moves.list in
+    subst (PairedFor path None other met)
+    (ap (λ (t : List TraceLine). shift ++ t) (sym (append_assoc way made rest)) ∙ sym (append_assoc shift (way ++ made) rest))
+    (if_shift path other met moves.line after.shift (is_same_point before.shift after.shift) (way ++ (made ++ rest))
+    (if_way path other met moves.line after.surface (is_same_way before.surface after.surface || says_speed moves.list) (made ++ rest)
+    (moves_on path other met moves.line moves.list rest p)))
+
+-- the open wait of a path, by its machine
+abbrev waits : Blocks → PathView → Option ℕ → Option OpenWait
+waits blocks path code = option_map (λ c. open_wait (blocks.line path.place) c) code
+
+-- the line at which the other path stands
+abbrev other_line : Path → Standing → ℕ
+other_line One s = s.two
+other_line Two s = s.one
+
+met_on : (path : Path) (met code there : ℕ) (before : Standing) (other_line_is : ℕ) (rest : List TraceLine) → code ≡ there → other_line path before ≡ other_line_is
+    → PairedFor path None None (met + 1) rest
+    → PairedFor path None (Some (open_wait other_line_is there)) met (Wait path (line_here path before) code ∷ Met (met + 1) code before.one before.two ∷ rest)
+met_on One met code there before line rest same is p =
+    (refl, (refl, ap (λ c. Some (open_wait line c)) (sym same) ∙ ap (λ n. Some (open_wait n code)) (sym is), refl, p))
+met_on Two met code there before line rest same is p =
+    (refl, (ap (λ c. Some (open_wait line c)) (sym same) ∙ ap (λ n. Some (open_wait n code)) (sym is), refl, refl, p))
+
+-- what is in order after a turn of the path whose part is the first
+abbrev After : Blocks → Blocks → Path → ℕ → List TraceLine → TurnResult → Type 0
+After blocks other path met rest r =
+    PairedFor path (waits blocks r.machine.first.path r.machine.first.waiting) (waits other r.machine.second.path r.machine.second.waiting)
+    (met_after met r.turn) rest
+
+-- A turn of the path whose part is the first, by what its block comes to: what is in order after it makes its own lines be in order.
+module _ (blocks other : Blocks) (path : Path) (met : ℕ) (m : MachineView) (before : Standing) (after : Look) (rest : List TraceLine)
+    (here : line_here path before ≡ blocks.line m.first.path.place) (there : other_line path before ≡ other.line m.second.path.place)
+    (none : m.first.waiting ≡ None) where
+  -- the path does not wait after a block
+  goes : (at : PathView) (theirs : Option OpenWait) (n : ℕ) → PairedFor path (waits blocks at m.first.waiting) theirs n rest → PairedFor path None theirs n rest
+  goes at theirs n p = subst (λ (w : Option ℕ). PairedFor path (waits blocks at w) theirs n rest) none p
+
+  wait_step : (code : ℕ) (o : Option ℕ) → After blocks other path met rest (result_at_wait path (blocks.line m.first.path.place) m code o) → m.second.waiting ≡ o
+      → PairedFor path None (waits other m.second.path o) met
+      (turn_lines path met before after (result_at_wait path (blocks.line m.first.path.place) m code o).turn ++ rest)
+  wait_step code None p is =
+      subst (λ n. PairedFor path None (waits other m.second.path None) met (Wait path n code ∷ rest)) (sym here)
+      (wait_on path (waits other m.second.path None) met (blocks.line m.first.path.place) code rest
+      (subst (λ (w : Option ℕ). PairedFor path (Some (open_wait (blocks.line m.first.path.place) code)) (waits other m.second.path w) met rest) is p))
+  wait_step code (Some far) p is = go (code == far) refl p
+    where
+      go : (b : Bool) → (code == far) ≡ b → After blocks other path met rest (result_at_wait path (blocks.line m.first.path.place) m code (Some far))
+          → PairedFor path None (waits other m.second.path (Some far)) met
+          (turn_lines path met before after (result_at_wait path (blocks.line m.first.path.place) m code (Some far)).turn ++ rest)
+      go true e p =
+          let same : code ≡ far = grind arith in
+          let q = rw e at p in
+          rw e (met_on path met code far before (other.line m.second.path.place) rest same there q)
+      go false e p =
+          let q = rw e at p in
+          rw e (raised_on path (waits other m.second.path (Some far)) met (blocks.line m.first.path.place) _ _ rest
+          (subst (λ (w : Option ℕ). PairedFor path None (waits other m.second.path w) met rest) is (goes m.first.path (waits other m.second.path m.second.waiting) met q)))
+
+  effect_step : (e : Effect) → After blocks other path met rest (result_by path (blocks.line m.first.path.place) m e)
+      → PairedFor path None (waits other m.second.path m.second.waiting) met
+      (turn_lines path met before after (result_by path (blocks.line m.first.path.place) m e).turn ++ rest)
+  effect_step (Need variable) p = goes m.first.path (waits other m.second.path m.second.waiting) met p
+  effect_step (Done at write moves) p =
+      let made : Moves = record { line = blocks.line m.first.path.place; list = moves } in
+      block_on path (waits other m.second.path m.second.waiting) met made before.look after rest (goes at (waits other m.second.path m.second.waiting) met p)
+  effect_step (AtWait code) p = wait_step code m.second.waiting p refl
+  effect_step (AtEnd at moves) p =
+      let line = blocks.line m.first.path.place in
+      let made : Moves = record { line = line; list = moves } in
+      subst (PairedFor path None (waits other m.second.path m.second.waiting) met)
+      (sym (append_assoc (block_lines path made before.look after) (Ended path line ∷ []) rest))
+      (block_on path (waits other m.second.path m.second.waiting) met made before.look after (Ended path line ∷ rest)
+      (ended_on path (waits other m.second.path m.second.waiting) met line rest (goes at (waits other m.second.path m.second.waiting) met p)))
+  effect_step (effect.Alarm number value) p =
+      raised_on path (waits other m.second.path m.second.waiting) met (blocks.line m.first.path.place) number value rest
+      (goes m.first.path (waits other m.second.path m.second.waiting) met p)
+
+-- a turn that makes a record is one of a path that goes
+record IsAwake (m : MachineView) (r rest : TurnResult) : Type 0 where
+  none : m.first.waiting ≡ None
+  same : r ≡ rest
+
+awake_by : (m : MachineView) (a : Option Alarm) (f : Bool) (w : Option ℕ) (rest : TurnResult) (kind : EntryKind) → m.first.waiting ≡ w
+    → kind_of (unless_idle m a f w rest).turn ≡ Some kind → IsAwake m (unless_idle m a f w rest) rest
+awake_by m (Some alarm) f w rest kind is makes = absurd (cc)
+awake_by m None true w rest kind is makes = absurd (cc)
+awake_by m None false (Some code) rest kind is makes = absurd (cc)
+awake_by m None false None rest kind is makes = record { none = is; same = refl }
+
+-- a record of the path whose part is the first
+step_on : (blocks other : Blocks) (path : Path) (kind : EntryKind) (stamps : List ℕ) (met : ℕ) (m : MachineView) (before : Standing) (after : Look) (rest : List TraceLine)
+    → line_here path before ≡ blocks.line m.first.path.place → other_line path before ≡ other.line m.second.path.place → IsStep blocks path m kind stamps
+    → After blocks other path met rest (own_turn blocks path (with_reads blocks stamps m))
+    → PairedFor path (waits blocks m.first.path m.first.waiting) (waits other m.second.path m.second.waiting) met
+    (turn_lines path met before after (own_turn blocks path (with_reads blocks stamps m)).turn ++ rest)
+step_on blocks other path kind stamps met m before after rest here there step p =
+    let now = with_reads blocks stamps m in
+    let awake = awake_by now now.alarm now.first.finished now.first.waiting (block_turn blocks path now) kind refl step.is in
+    let q = subst (After blocks other path met rest) awake.same p in
+    let done = effect_step blocks other path met now before after rest here there awake.none (blocks.effect now.first.path now.first.values) q in
+    subst (λ (w : Option ℕ). PairedFor path (waits blocks m.first.path w) (waits other m.second.path m.second.waiting) met
+    (turn_lines path met before after (own_turn blocks path (with_reads blocks stamps m)).turn ++ rest)) (sym awake.none)
+    (subst (λ (r : TurnResult). PairedFor path None (waits other m.second.path m.second.waiting) met (turn_lines path met before after r.turn ++ rest)) (sym awake.same) done)
+
+-- the open wait of a path of a machine
+abbrev open_in : Tapes → Path → MachineView → Option OpenWait
+open_in tapes path m = waits (tape_of tapes path) (path_in path m) (own_first path m).first.waiting
+
+abbrev turn_after : Tapes → Path → List ℕ → MachineView → Turn
+turn_after tapes path stamps m = (own_turn (tape_of tapes path) path (with_reads (tape_of tapes path) stamps (own_first path m))).turn
+
+abbrev machine_after : Tapes → Path → List ℕ → MachineView → MachineView
+machine_after tapes path stamps m = own_first path (behind_step (tape_of tapes path) path stamps (own_first path m))
+
+entry_on : (tapes : Tapes) (path : Path) (kind : EntryKind) (stamps : List ℕ) (met : ℕ) (m : MachineView) (after : Look) (rest : List TraceLine)
+    → IsStep (tape_of tapes path) path (own_first path m) kind stamps
+    → ArePaired (open_in tapes One (machine_after tapes path stamps m)) (open_in tapes Two (machine_after tapes path stamps m))
+    (met_after met (turn_after tapes path stamps m)) rest
+    → ArePaired (open_in tapes One m) (open_in tapes Two m) met (turn_lines path met (standing_of tapes path m) after (turn_after tapes path stamps m) ++ rest)
+entry_on tapes One kind stamps met m after rest step p =
+    step_on tapes.first tapes.second One kind stamps met m (standing_of tapes One m) after rest refl refl step p
+entry_on tapes Two kind stamps met m after rest step p =
+    step_on tapes.second tapes.first Two kind stamps met (own_first Two m) (standing_of tapes Two m) after rest refl refl step p
+
+-- from any machine on
+paired_from : (tapes : Tapes) (met : ℕ) (m : MachineView) (entries : List Entry) → IsLegal tapes m entries
+    → ArePaired (open_in tapes One m) (open_in tapes Two m) met (traced tapes met m entries)
+unfolding traced
+paired_from tapes met m [] legal = tt
+paired_from tapes met m (e ∷ entries) legal =
+    entry_on tapes e.path e.kind e.stamps met m (look_of (path_in e.path (behind_entry tapes e m)))
+    (traced tapes (met_after met (turn_of_entry tapes e m)) (behind_entry tapes e m) entries) legal.0
+    (paired_from tapes (met_after met (turn_of_entry tapes e m)) (behind_entry tapes e m) entries legal.1)
+
+pub paired : (tapes : Tapes) (first second : PathView) (entries : List Entry) → IsLegal tapes (opening first second) entries
+    → ArePaired None None 0 (traced tapes 0 (opening first second) entries)
+paired tapes first second entries legal = paired_from tapes 0 (opening first second) entries legal

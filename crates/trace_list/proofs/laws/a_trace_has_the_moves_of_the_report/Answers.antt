@@ -1,0 +1,5 @@
+use Rattle.trace_list.proofs.SameMoves.{same_moves}
+use Rattle.trace_list.proofs.laws.a_trace_has_the_moves_of_the_report.Goals as goal
+
+pub returns : goal.returns
+returns c = same_moves

@@ -1,0 +1,7 @@
+use Rattle.trace_list.proofs.Followed.{follows}
+use Rattle.trace_list.proofs.laws.the_waits_of_a_trace_are_the_labels.Goals as goal
+
+pub returns : goal.returns
+returns c = λ left right pair.
+    follows left right (c.each_step_keeps_the_labels.ensures left.order pair.accepted.left_unforked)
+    (c.each_step_keeps_the_labels.ensures right.order pair.accepted.right_unforked) pair

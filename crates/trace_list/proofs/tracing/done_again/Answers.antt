@@ -1,0 +1,5 @@
+use Rattle.move_list.proofs.DoneAgain.{is_done}
+use Rattle.trace_list.proofs.tracing.done_again.Goals as goal
+
+pub unwrap-requires : goal.unwrap-requires
+unwrap-requires c = is_done _ _ _ _ _ c.apply.ensures.refused c.requires.legal

@@ -1,0 +1,6 @@
+use Rattle.trace_list.specs.TraceText.{At}
+use Rattle.trace_list.proofs.InParts.{one_line}
+use Rattle.trace_list.proofs.tracing.put_at.Goals as goal
+
+pub returns : goal.returns
+returns g c = one_line _ _ (At c.args.path c.args.at) _ (rw (c.at_line.ensures) at c.put_piece.ensures)

@@ -1,0 +1,6 @@
+use Rattle.trace_list.specs.TraceText.{Shift}
+use Rattle.trace_list.proofs.InParts.{one_line}
+use Rattle.trace_list.proofs.tracing.put_first_shift.Goals as goal
+
+pub returns : goal.returns
+returns g c = one_line _ _ (Shift c.args.path 0 c.args.by) _ (rw (c.shift_line.ensures) at c.put_piece.ensures)

@@ -1,0 +1,5 @@
+use Rattle.move_list.proofs.InPieces.{none_put}
+use Rattle.trace_list.proofs.tracing.put_trace.Goals as goal
+
+pub returns-in-Err : goal.returns-in-Err
+returns-in-Err g c = none_put _ _

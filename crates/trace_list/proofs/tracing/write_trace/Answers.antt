@@ -1,0 +1,8 @@
+use Rattle.trace_list.proofs.tracing.write_trace.Goals as goal
+
+pub put_trace-requires-clause-legal : goal.put_trace-requires-clause-legal
+put_trace-requires-clause-legal g c =
+    rw (c.left.ensures.same, c.right.ensures.same, c.settings.ensures) c.requires.legal
+
+pub returns : goal.returns
+returns g c = rw (c.left.ensures.same, c.right.ensures.same, c.settings.ensures) at c.put_trace.ensures

@@ -1,0 +1,16 @@
+-- What a trace says of one path, or of the meetings alone.
+use Rattle.std.specs.Prelude.{ℕ, if◌then◌else◌, List, [], ◌∷◌, ◌++◌}
+use Rattle.std.specs.List.{flat_map}
+use Rattle.nc_number.specs.declared.path.Path.{Path}
+use Rattle.nc_outside.specs.declared.lined_move.LinedMove.{LinedMove}
+use Rattle.two_path.specs.Histories.{is_same}
+use Rattle.trace_list.specs.TraceText.{TraceLine, At, Home, Shift, Spindle, Moved, Wait, Met, Raised, Ended}
+
+-- the move of a line, if it is one of this path
+abbrev pub move_of : Path → TraceLine → List LinedMove
+move_of path (Moved of made) = if is_same path of then made ∷ [] else []
+move_of path other = []
+
+-- the moves of a path in a trace, in order
+abbrev pub moves_traced : Path → List TraceLine → List LinedMove
+moves_traced path lines = flat_map (move_of path) lines

@@ -1,0 +1,5 @@
+pub mod TraceText
+pub mod Trace
+pub mod Laws
+pub mod Meetings
+pub mod Stops

@@ -1,0 +1,122 @@
+-- The trace of a history: its events in their order, and the text of all.
+use Rattle.std.specs.Prelude.{ℕ, ◌+◌, ◌==◌, ◌&&◌, ◌||◌, Bool, true, false, if◌then◌else◌, List, [], ◌∷◌, ◌++◌, length, map}
+use Rattle.std.specs.List.{list_any}
+use Rattle.std.specs.Ordering.{int_eq}
+use Rattle.nc_number.specs.declared.path.Path.{Path}
+use Rattle.nc_number.specs.declared.path.Path.TheVariants.{One, Two}
+use Rattle.nc_number.specs.declared.point.Point.{Point}
+use Rattle.nc_moves.specs.declared.motion.Move.{Move}
+use Rattle.nc_moves.specs.declared.motion.Move.TheVariants as move
+use Rattle.nc_moves.specs.declared.motion.Moves.{Moves}
+use Rattle.nc_outside.specs.Lined.{lined_move}
+use Rattle.run_records.specs.declared.entry.Entry.{Entry}
+use Rattle.path_state.specs.View.{PathView}
+use Rattle.path_state.specs.Looks.{shift_now}
+use Rattle.two_path.specs.declared.turn.Turn.{Turn}
+use Rattle.two_path.specs.declared.turn.Turn.TheVariants as turn
+use Rattle.two_path.specs.Machine.{MachineView, own_first}
+use Rattle.two_path.specs.Turns.{Tapes, tape_of}
+use Rattle.two_path.specs.Histories.{behind_entry}
+use Rattle.two_path.specs.Again.{turn_of_entry}
+use Rattle.move_list.specs.declared.end_line.Reason.{Reason}
+use Rattle.move_list.specs.EndText.{end_text}
+use Rattle.trace_list.specs.declared.looking.Look.{Look}
+use Rattle.trace_list.specs.declared.looking.Standing.{Standing}
+use Rattle.trace_list.specs.TraceText.{TraceLine, At, Home, Shift, Spindle, Moved, Wait, Met, Raised, Ended, head_text, lines_text}
+
+-- the state of a path
+abbrev pub path_in : Path → MachineView → PathView
+path_in path m = (own_first path m).first.path
+
+-- the line of its tape at which a path stands
+abbrev pub line_of : Tapes → Path → MachineView → ℕ
+line_of tapes path m = (tape_of tapes path).line (path_in path m).place
+
+-- what a trace looks at of a path: its shift, and whether its spindle keeps a surface speed
+abbrev pub look_of : PathView → Look
+look_of path = record { shift = shift_now path; surface = path.modal.g02 == 96 }
+
+-- and before a record of this path
+abbrev pub standing_of : Tapes → Path → MachineView → Standing
+standing_of tapes path m = record { one = line_of tapes One m; two = line_of tapes Two m; look = look_of (path_in path m) }
+
+-- the line at which a path stands
+abbrev pub line_here : Path → Standing → ℕ
+line_here One standing = standing.one
+line_here Two standing = standing.two
+
+abbrev pub is_same_point : Point → Point → Bool
+is_same_point a b = int_eq a.x b.x && int_eq a.z b.z
+
+abbrev pub is_same_way : Bool → Bool → Bool
+is_same_way true b = b
+is_same_way false true = false
+is_same_way false false = true
+
+-- a block that says the speed of the spindle says its way with it
+abbrev pub is_speed : Move → Bool
+is_speed (move.Speed surface s) = true
+is_speed other = false
+
+abbrev pub says_speed : List Move → Bool
+says_speed moves = list_any is_speed moves
+
+-- the shift, if a block changed it; and the way of the spindle, if a block changed it without a speed
+abbrev pub shift_lines : Path → ℕ → Point → Point → List TraceLine
+shift_lines path line before after = if is_same_point before after then [] else Shift path line after ∷ []
+
+abbrev pub spindle_lines : Path → Moves → Bool → Bool → List TraceLine
+spindle_lines path moves before after =
+    if is_same_way before after || says_speed moves.list then [] else Spindle path moves.line after ∷ []
+
+-- the moves of a block, each with its line
+abbrev pub moved_lines : Path → ℕ → List Move → List TraceLine
+moved_lines path line moves = map (λ (what : Move). Moved path (lined_move line what)) moves
+
+-- a block: what it changed, and then its moves
+abbrev pub block_lines : Path → Moves → Look → Look → List TraceLine
+block_lines path moves before after =
+    shift_lines path moves.line before.shift after.shift
+    ++ (spindle_lines path moves before.surface after.surface ++ moved_lines path moves.line moves.list)
+
+-- a turn of a path, after so many meetings, by what stood before it and what is in force after it
+abbrev pub turn_lines : Path → ℕ → Standing → Look → Turn → List TraceLine
+turn_lines path met before after (turn.Read variable stamp) = []
+turn_lines path met before after (turn.Did moves) = block_lines path moves before.look after
+turn_lines path met before after (turn.Arrived code) = Wait path (line_here path before) code ∷ []
+turn_lines path met before after (turn.Met code) =
+    Wait path (line_here path before) code ∷ Met (met + 1) code before.one before.two ∷ []
+turn_lines path met before after (turn.Ended moves) = block_lines path moves before.look after ++ Ended path moves.line ∷ []
+turn_lines path met before after (turn.Waiting code) = []
+turn_lines path met before after turn.Finished = []
+turn_lines path met before after (turn.Alarm alarm) = Raised alarm ∷ []
+turn_lines path met before after (turn.Halted alarm) = []
+
+-- how many meetings there were after a turn
+abbrev pub met_after : ℕ → Turn → ℕ
+met_after met (turn.Met code) = met + 1
+met_after met other = met
+
+-- what a record adds, after so many meetings
+abbrev pub lines_of : Tapes → ℕ → MachineView → Entry → List TraceLine
+lines_of tapes met m e =
+    turn_lines e.path met (standing_of tapes e.path m) (look_of (path_in e.path (behind_entry tapes e m))) (turn_of_entry tapes e m)
+
+-- the events of a history, from a machine on at which there were so many meetings
+unfoldable pub traced : Tapes → ℕ → MachineView → List Entry → List TraceLine
+traced tapes met m [] = []
+traced tapes met m (e ∷ entries) =
+    lines_of tapes met m e ++ traced tapes (met_after met (turn_of_entry tapes e m)) (behind_entry tapes e m) entries
+
+-- how a path begins that has this reference position
+abbrev pub begin_lines : Path → Point → PathView → List TraceLine
+begin_lines path home at = At path at.position ∷ Home path home ∷ Shift path 0 (shift_now at) ∷ []
+
+-- how both paths begin
+abbrev pub start_lines : MachineView → List TraceLine
+start_lines m = begin_lines One m.first.path.fixed.home m.first.path ++ begin_lines Two m.second.path.fixed.home m.second.path
+
+-- the trace of a history from a machine on, which ended so
+unfoldable pub trace_text : Tapes → MachineView → List Entry → Reason → List ℕ
+trace_text tapes m entries reason =
+    head_text ++ (lines_text (start_lines m ++ traced tapes 0 m entries) ++ end_text (length entries) reason)

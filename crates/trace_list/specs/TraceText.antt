@@ -1,0 +1,72 @@
+-- The lines of a trace, and how they are printed.
+use Rattle.std.specs.Prelude.{ℕ, Bool, if◌then◌else◌, List, ◌++◌, codes, decimal}
+use Rattle.std.specs.List.{flat_map}
+use Rattle.nc_number.specs.declared.path.Path.{Path}
+use Rattle.nc_number.specs.declared.point.Point.{Point}
+use Rattle.nc_number.specs.Path.{number_of}
+use Rattle.nc_moves.specs.declared.alarm.Alarm.{Alarm}
+use Rattle.nc_outside.specs.declared.lined_move.LinedMove.{LinedMove}
+use Rattle.move_text.specs.Pieces.{code_text, point_text}
+use Rattle.move_list.specs.EndText.{cause_of, given_text, name_text}
+use Rattle.move_list.specs.Report.{lined_text}
+
+-- An event of a run. Lines are lines of the path's tape; line 0 is before its first block.
+pub data TraceLine : Type 0 where
+  -- where the turret of a path begins, in machine coordinates, and its reference position
+  At : (path : Path) (at : Point) → TraceLine
+  Home : (path : Path) (at : Point) → TraceLine
+  -- machine minus work coordinates of a path, from this line on
+  Shift : (path : Path) (line : ℕ) (by : Point) → TraceLine
+  -- whether the spindle of a path keeps a surface speed, from this line on
+  Spindle : (path : Path) (line : ℕ) (surface : Bool) → TraceLine
+  Moved : (path : Path) (made : LinedMove) → TraceLine
+  -- a path comes to its wait; both paths meet at their waits, for the first, second .. time, and go on
+  Wait : (path : Path) (line : ℕ) (code : ℕ) → TraceLine
+  Met : (number : ℕ) (code : ℕ) (one : ℕ) (two : ℕ) → TraceLine
+  Raised : (alarm : Alarm) → TraceLine
+  Ended : (path : Path) (line : ℕ) → TraceLine
+
+-- the number of an alarm and its name, and of a macro alarm what it was given
+unfoldable pub cause_text : Alarm → List ℕ
+cause_text alarm = decimal alarm.cause ++ name_text (cause_of alarm.cause) ++ given_text alarm
+
+-- the path of a line, and with it the line of its tape
+unfoldable pub path_text : Path → List ℕ
+path_text path = decimal (number_of path) ++ codes " "
+
+unfoldable pub event_text : Path → ℕ → List ℕ
+event_text path line = decimal (number_of path) ++ codes " " ++ decimal line
+
+-- a line of a point
+unfoldable pub point_line : Path → ℕ → List ℕ → Point → List ℕ
+point_line path line word at = event_text path line ++ word ++ point_text at ++ codes "\n"
+
+-- a meeting, and the lines of its waits
+unfoldable pub met_text : ℕ → ℕ → List ℕ
+met_text number code = codes "met " ++ decimal number ++ codes " M" ++ code_text code
+
+unfoldable pub numbered : List ℕ → ℕ → List ℕ
+numbered word line = word ++ decimal line
+
+unfoldable pub waits_text : ℕ → ℕ → List ℕ
+waits_text one two = numbered (codes " path 1 line ") one ++ numbered (codes " path 2 line ") two ++ codes "\n"
+
+unfoldable pub trace_line_text : TraceLine → List ℕ
+trace_line_text (At path at) = point_line path 0 (codes " at") at
+trace_line_text (Home path at) = point_line path 0 (codes " home") at
+trace_line_text (Shift path line by) = point_line path line (codes " shift") by
+trace_line_text (Spindle path line surface) =
+    event_text path line ++ (if surface then codes " spindle G96\n" else codes " spindle G97\n")
+trace_line_text (Moved path made) = path_text path ++ lined_text made
+trace_line_text (Wait path line code) = event_text path line ++ codes " wait M" ++ code_text code ++ codes "\n"
+trace_line_text (Met number code one two) = met_text number code ++ waits_text one two
+trace_line_text (Raised alarm) = event_text alarm.path alarm.line ++ codes " alarm " ++ cause_text alarm ++ codes "\n"
+trace_line_text (Ended path line) = event_text path line ++ codes " end\n"
+
+-- the lines of events, in order
+abbrev pub lines_text : List TraceLine → List ℕ
+lines_text lines = flat_map trace_line_text lines
+
+-- the first line of a trace
+unfoldable pub head_text : List ℕ
+head_text = codes "trace 1\n"

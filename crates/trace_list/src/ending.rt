@@ -1,0 +1,124 @@
+//! How many records there are, how a run ended, and the cause of an alarm: as a report says them.
+ghost use Rattle.std.specs.Prelude.{◌≡◌, ◌+◌, ◌≤◌, ◌++◌, length};
+ghost use Rattle.move_list.specs.EndText.{alarm_text, cause_of, end_text, given_text, name_text, reason_text, records_text, turret_text};
+ghost use Rattle.trace_list.specs.TraceText.{cause_text};
+
+use move_list::Reason;
+use move_text::Piece;
+use nc_moves::Alarm;
+use nc_number::{Cause, Path};
+
+/// The cause of a number.
+fn cause_of(number: u8) -> Option<Cause>
+    ensures { result ≡ cause_of number }
+{
+    Cause::of_number(number)
+}
+
+/// The name of a cause, if there is one.
+#[tactic(auto, using(move_list::proofs::NameRoom::name_room), unfolding(move_list::specs::EndText::name_text))]
+fn add_name(piece: &mut Piece, cause: Option<Cause>)
+    requires { length piece.old + 20 ≤ 512 }
+    ensures text { piece.new ≡ piece.old ++ name_text cause }
+    ensures size { length piece.new ≤ length piece.old + 20 }
+{
+    if let Some(cause) = cause {
+        piece.add(b" ");
+        piece.add(cause.name().as_bytes());
+    }
+}
+
+/// What a macro alarm was given.
+#[tactic(auto, unfolding(move_list::specs::EndText::given_text))]
+fn add_given(piece: &mut Piece, alarm: &Alarm)
+    requires { length piece.old + 25 ≤ 512 }
+    ensures text { piece.new ≡ piece.old ++ given_text alarm.now }
+    ensures size { length piece.new ≤ length piece.old + 25 }
+{
+    if alarm.cause == Cause::MacroAlarm.number() {
+        piece.add(b" ");
+        piece.add_value(alarm.value);
+    }
+}
+
+/// The number of an alarm and its name, and of a macro alarm what it was given.
+#[tactic(auto, unfolding(crate::specs::TraceText::cause_text))]
+pub(crate) fn add_cause(piece: &mut Piece, alarm: &Alarm)
+    requires { length piece.old + 65 ≤ 512 }
+    ensures text { piece.new ≡ piece.old ++ cause_text alarm.now }
+    ensures size { length piece.new ≤ length piece.old + 65 }
+{
+    piece.add_number(u64::from(alarm.cause));
+    add_name(piece, cause_of(alarm.cause));
+    add_given(piece, alarm);
+}
+
+/// An alarm: its path and line, its number and its name.
+#[tactic(auto, unfolding(move_list::specs::EndText::alarm_text))]
+fn add_alarm(piece: &mut Piece, alarm: &Alarm)
+    requires { length piece.old + 140 ≤ 512 }
+    ensures text { piece.new ≡ piece.old ++ alarm_text alarm.now }
+    ensures size { length piece.new ≤ length piece.old + 140 }
+{
+    piece.add(b"alarm ");
+    piece.add_path(alarm.path);
+    piece.add(b" line ");
+    piece.add_number(u64::from(alarm.line));
+    piece.add(b" cause ");
+    piece.add_number(u64::from(alarm.cause));
+    add_name(piece, cause_of(alarm.cause));
+    add_given(piece, alarm);
+}
+
+/// The turret of a path failed.
+#[tactic(auto, unfolding(move_list::specs::EndText::turret_text))]
+fn add_turret_fault(piece: &mut Piece, path: Path)
+    requires { length piece.old + 38 ≤ 512 }
+    ensures text { piece.new ≡ piece.old ++ turret_text path }
+    ensures size { length piece.new ≤ length piece.old + 38 }
+{
+    piece.add(b"turret fault ");
+    piece.add_path(path);
+}
+
+/// Why a run ended.
+#[tactic(auto, unfolding(move_list::specs::EndText::reason_text))]
+fn add_reason(piece: &mut Piece, reason: &Reason)
+    requires { length piece.old + 140 ≤ 512 }
+    ensures text { piece.new ≡ piece.old ++ reason_text reason.now }
+    ensures size { length piece.new ≤ length piece.old + 140 }
+{
+    match reason {
+        Reason::Done => piece.add(b"done"),
+        Reason::Alarm(alarm) => add_alarm(piece, alarm),
+        Reason::Stopped => piece.add(b"stopped"),
+        Reason::Full => piece.add(b"full"),
+        Reason::DiskFault => piece.add(b"disk fault"),
+        Reason::TurretFault(path) => add_turret_fault(piece, *path),
+    }
+}
+
+/// The line that says how many records there are.
+#[tactic(auto, unfolding(move_list::specs::EndText::records_text))]
+fn records_line(count: u64) -> Piece
+    ensures text { result ≡ records_text count }
+    ensures size { length result ≤ 29 }
+{
+    let mut piece = Piece::empty();
+    piece.add(b"records ");
+    piece.add_number(count);
+    piece.add(b"\n");
+    piece
+}
+
+/// The last two lines of a report.
+#[tactic(auto, unfolding(move_list::specs::EndText::end_text))]
+pub(crate) fn end_lines(count: u64, reason: &Reason) -> Piece
+    ensures { result ≡ end_text count reason.now }
+{
+    let mut piece = records_line(count);
+    piece.add(b"end ");
+    add_reason(&mut piece, reason);
+    piece.add(b"\n");
+    piece
+}

@@ -1,0 +1,20 @@
+//! The trace of a run: the text of a whole history, with each event in its place.
+//!
+//! [`write_trace`] does the records of a legal history again, once, and puts a line for each event in the order of the
+//! history: where both turrets begin, each change of a shift, each move, each wait and meeting, an alarm, and the ends.
+//! The layer above leans on this: on Ok the sink holds what it held, followed by exactly that text; on an error it
+//! holds a part of it, from its start.
+#![tactic(auto)]
+
+mod blocks;
+mod ending;
+mod laws;
+mod lines;
+mod looking;
+mod tracing;
+
+pub use laws::{
+    a_trace_has_the_moves_of_the_report, meetings_are_numbered_and_paired,
+    the_waits_of_a_trace_are_the_labels,
+};
+pub use tracing::write_trace;

@@ -1,0 +1,99 @@
+//! What a trace looks at between two records.
+ghost use Rattle.std.specs.Prelude.{◌≡◌};
+ghost use Rattle.two_path.specs.Turns.{tapes_of};
+ghost use Rattle.trace_list.specs.Trace.{is_same_point, is_same_way, line_here, look_of, standing_of};
+ghost use Rattle.path_state.specs.Looks.{shift_now};
+
+use code_tables::SPINDLE_GROUP;
+use nc_number::{Path, Point};
+use path_state::PathState;
+use tape_flow::Flow;
+use two_path::Machine;
+
+/// The code of a constant surface speed.
+const SURFACE: u16 = 96;
+
+/// What blocks of a path change without a move.
+#[derive(Clone, Copy, Debug, PartialEq, Eq)]
+pub(crate) struct Look {
+    /// Machine minus work coordinates, in 0.001 mm.
+    pub(crate) shift: Point,
+    /// Whether the spindle keeps a surface speed.
+    pub(crate) surface: bool,
+}
+
+/// What a trace looks at before a record of a path.
+#[derive(Clone, Copy, Debug, PartialEq, Eq)]
+pub(crate) struct Standing {
+    /// The line of its tape at which path 1 stands.
+    pub(crate) one: u32,
+    /// The line of its tape at which path 2 stands.
+    pub(crate) two: u32,
+    /// What is in force for the path of the record.
+    pub(crate) look: Look,
+}
+
+impl Standing {
+    /// The line at which the path stands.
+    pub(crate) fn line(&self, path: Path) -> u32
+        ensures { result ≡ line_here path self.now }
+    {
+        match path {
+            Path::One => self.one,
+            Path::Two => self.two,
+        }
+    }
+}
+
+/// Machine minus work coordinates of a path, by the offsets in force.
+fn shift_of(path: &PathState) -> Point
+    ensures { result ≡ shift_now path.now }
+{
+    let modal = path.modal();
+    path.offsets().shift(modal.work(), modal.offset())
+}
+
+/// Whether the spindle of a path keeps a surface speed.
+fn keeps_surface_speed(path: &PathState) -> bool
+    ensures { result ≡ (look_of path.now).surface }
+{
+    match path.modal().code(SPINDLE_GROUP) {
+        Some(code) => code == SURFACE,
+        None => false,
+    }
+}
+
+/// What is in force for a path.
+pub(crate) fn look_of(path: &PathState) -> Look
+    ensures { result ≡ look_of path.now }
+{
+    Look {
+        shift: shift_of(path),
+        surface: keeps_surface_speed(path),
+    }
+}
+
+/// Where both paths stand, and what is in force for one of them.
+pub(crate) fn standing_of(machine: &Machine, left: &Flow, right: &Flow, path: Path) -> Standing
+    ensures { result ≡ standing_of (tapes_of left.now right.now) path machine.now.machine }
+{
+    Standing {
+        one: machine.path(Path::One).line(left),
+        two: machine.path(Path::Two).line(right),
+        look: look_of(machine.path(path)),
+    }
+}
+
+/// Whether both are one point.
+pub(crate) fn is_same_point(a: Point, b: Point) -> bool
+    ensures { result ≡ is_same_point a b }
+{
+    a.x == b.x && a.z == b.z
+}
+
+/// Whether a spindle keeps a surface speed both times, or neither time.
+pub(crate) fn is_same_way(a: bool, b: bool) -> bool
+    ensures { result ≡ is_same_way a b }
+{
+    if a { b } else { !b }
+}

@@ -1,0 +1,178 @@
+-- A turn of a path makes a record, or reads, or is passed over; and a path is passed over only while the other goes on. So there
+-- are only so many turns.
+use Rattle.std.proofs.Common.{◌≡◌, ◌⊎◌, inl, inr, ℕ, ◌+◌, ◌-◌, ◌*◌, ◌≤◌, ◌<◌, ◌==◌, ◌||◌, ◌&&◌, Bool, true, false, List, [], ◌∷◌, ◌++◌, length, refl, ◌∙◌, ap, subst, arith, length-append, Option, Some, None, is_some}
+use Rattle.std.specs.Prelude.{if◌then◌else◌}
+use Rattle.nc_number.specs.declared.path.Path.{Path}
+use Rattle.nc_number.specs.declared.path.Path.TheVariants.{One, Two}
+use Rattle.nc_number.specs.declared.value.Var.{Var}
+use Rattle.nc_number.specs.Path.{other_of}
+use Rattle.nc_moves.specs.declared.alarm.Alarm.{Alarm}
+use Rattle.path_state.specs.View.{PathView}
+use Rattle.path_state.specs.Effect.{Effect, Need, Done, AtWait, AtEnd, effect_of}
+use Rattle.path_state.specs.Effect as effect
+use Rattle.path_state.specs.Controlled.{AsksForShared}
+use Rattle.run_records.specs.declared.entry.Entry.{Entry}
+use Rattle.run_records.specs.declared.entry.EntryKind.{EntryKind}
+use Rattle.run_records.specs.declared.entry.EntryKind.TheVariants as kind
+use Rattle.tape_flow.specs.declared.flow.Flow.{Flow}
+use Rattle.two_path.specs.Machine.{MachineView, own_first, without_reads}
+use Rattle.two_path.specs.Turns.{Blocks, Tapes, TurnResult, blocks_of, tapes_of, result_at_wait, result_by, unless_idle, block_turn, own_turn, turn_of, kind_of, entry_with, entry_of}
+use Rattle.two_path.specs.Histories.{list_of, is_idle, AsksFrom, and_next, IsLawful, AreLawful}
+use Rattle.two_path.specs.Stuck.{IsStuck}
+
+-- how many reads blocks have made that are not done
+abbrev pub reads_of : MachineView → ℕ
+reads_of m = length m.first.stamps + length m.second.stamps
+
+-- So many turns come at most, the next one for this path: each makes a record, or one of 32 reads of its block, or is passed over,
+-- and of two turns one at most is.
+abbrev pub turns_left : ℕ → Path → MachineView → ℕ
+turns_left limit path m =
+    2 * (65 * ((limit - m.count) + 1) - reads_of m) + (if is_idle (own_first path m).first then 1 else 0)
+
+-- a block makes 32 reads at most
+abbrev AsksFew : Blocks → Type 0
+AsksFew blocks = (path : PathView) (reads : List Var) (variable : ℕ) → blocks.effect path reads ≡ Need variable → length reads < 32
+
+asks_few : (blocks : Blocks) → AsksFew blocks → (path : PathView) (writes : _) (values : List Var) (stamps : List ℕ)
+    → AsksFrom blocks path writes values stamps → length values ≤ 32 → length values + length stamps ≤ 32
+asks_few blocks most path writes values [] asks few = omega (arith, few)
+asks_few blocks most path writes values (stamp ∷ stamps) asks few =
+    let less = most path values asks.0.0 asks.0.1 in
+    let one : length (and_next blocks path writes stamp values) ≡ length values + 1 = length-append values _ in
+    let rest = asks_few blocks most path writes (and_next blocks path writes stamp values) stamps asks.1 (omega (arith, less, one)) in
+    omega (arith, one, rest)
+
+lawful_few : (blocks : Blocks) (m : MachineView) → AsksFew blocks → IsLawful blocks m → length m.first.stamps ≤ 32
+lawful_few blocks m most lawful = omega (arith, asks_few blocks most m.first.path m.writes [] m.first.stamps lawful.may.asks (omega arith))
+
+flow_asks_few : ((flow : Flow) (path : PathView) (reads : List Var) → AsksForShared path reads (effect_of flow path reads)) → (flow : Flow) → AsksFew (blocks_of flow)
+flow_asks_few law flow path reads variable is = (subst (AsksForShared path reads) is (law flow path reads)).1
+
+pub few_reads : ((flow : Flow) (path : PathView) (reads : List Var) → AsksForShared path reads (effect_of flow path reads)) → (left right : Flow) (m : MachineView)
+    → AreLawful (tapes_of left right) m → reads_of m ≤ 64
+few_reads law left right m lawful =
+    omega (arith, lawful_few (blocks_of left) m (flow_asks_few law left) lawful.first, lawful_few (blocks_of right) (own_first Two m) (flow_asks_few law right) lawful.second)
+
+-- what a turn of the first path comes to
+data Went (m : MachineView) (r : TurnResult) : Type 0 where
+  over : is_idle m.first ≡ true → r.machine ≡ m → kind_of r.turn ≡ None → Went m r
+  read : kind_of r.turn ≡ None → reads_of r.machine ≡ reads_of m + 1 → r.machine.count ≡ m.count → Went m r
+  made : (kind : EntryKind) → kind_of r.turn ≡ Some kind → r.machine.count ≡ m.count + 1 → Went m r
+
+wait_went : (path : Path) (line : ℕ) (m : MachineView) (code : ℕ) (o : Option ℕ) → Went m (result_at_wait path line m code o)
+wait_went path line m code None = made kind.Arrived refl refl
+wait_went path line m code (Some there) = go (code == there) refl
+  where
+    go : (b : Bool) → (code == there) ≡ b → Went m (result_at_wait path line m code (Some there))
+    go true e = rw e (made kind.Met refl refl)
+    go false e = rw e (made kind.Alarmed refl refl)
+
+by_went : (path : Path) (line : ℕ) (m : MachineView) (e : Effect) → Went m (result_by path line m e)
+by_went path line m (Need variable) =
+    let one : length (m.first.stamps ++ m.count ∷ []) ≡ length m.first.stamps + 1 = length-append m.first.stamps (m.count ∷ []) in
+    read refl (omega (arith, one)) refl
+by_went path line m (Done after write moves) = made kind.Did refl refl
+by_went path line m (AtWait code) = wait_went path line m code m.second.waiting
+by_went path line m (AtEnd after moves) = made kind.Ended refl refl
+by_went path line m (effect.Alarm number value) = made kind.Alarmed refl refl
+
+went_by : (m : MachineView) (a : Option Alarm) (f : Bool) (w : Option ℕ) (rest : TurnResult) → a ≡ None → m.first.finished ≡ f → m.first.waiting ≡ w
+    → Went m rest → Went m (unless_idle m a f w rest)
+went_by m (Some alarm) f w rest calm ends waits goes = absurd cc
+went_by m None true w rest calm ends waits goes = over (ap (λ b. b || is_some m.first.waiting) ends) refl refl
+went_by m None false (Some code) rest calm ends waits goes =
+    over (ap (λ b. b || is_some m.first.waiting) ends ∙ ap (λ (o : Option ℕ). is_some o) waits) refl refl
+went_by m None false None rest calm ends waits goes = goes
+
+own_went : (blocks : Blocks) (path : Path) (m : MachineView) → m.alarm ≡ None → Went m (own_turn blocks path m)
+own_went blocks path m calm =
+    went_by m m.alarm m.first.finished m.first.waiting (block_turn blocks path m) calm refl refl
+    (by_went path (blocks.line m.first.path.place) m (blocks.effect m.first.path m.first.values))
+
+-- what a turn of either path comes to
+pub data Gave (path : Path) (before after : MachineView) (made : List Entry) : Type 0 where
+  passed : is_idle (own_first path before).first ≡ true → after ≡ before → length made ≡ 0 → Gave path before after made
+  has_read : length made ≡ 0 → reads_of after ≡ reads_of before + 1 → after.count ≡ before.count → Gave path before after made
+  recorded : length made ≡ 1 → after.count ≡ before.count + 1 → Gave path before after made
+
+made_by : (path : Path) (stamps : List ℕ) (k k' : Option EntryKind) → k ≡ k' → length (list_of (entry_with path stamps k)) ≡ length (list_of (entry_with path stamps k'))
+made_by path stamps k k' is = ap (λ (o : Option EntryKind). length (list_of (entry_with path stamps o))) is
+
+one_gave : (tapes : Tapes) (m : MachineView) → Went m (own_turn tapes.first One m)
+    → Gave One m (turn_of tapes One m).machine (list_of (entry_of tapes One m))
+one_gave tapes m (over idle same none) = passed idle same (made_by One m.first.stamps _ None none)
+one_gave tapes m (read none more still) = has_read (made_by One m.first.stamps _ None none) more still
+one_gave tapes m (made kind is more) = recorded (made_by One m.first.stamps _ (Some kind) is) more
+
+two_gave : (tapes : Tapes) (m : MachineView) → Went (own_first Two m) (own_turn tapes.second Two (own_first Two m))
+    → Gave Two m (turn_of tapes Two m).machine (list_of (entry_of tapes Two m))
+two_gave tapes m (over idle same none) = passed idle (ap (own_first Two) same) (made_by Two m.second.stamps _ None none)
+two_gave tapes m (read none more still) = has_read (made_by Two m.second.stamps _ None none) (omega (arith, more)) still
+two_gave tapes m (made kind is more) = recorded (made_by Two m.second.stamps _ (Some kind) is) more
+
+pub gave : (tapes : Tapes) (path : Path) (m : MachineView) → m.alarm ≡ None
+    → Gave path m (turn_of tapes path m).machine (list_of (entry_of tapes path m))
+gave tapes One m calm = one_gave tapes m (own_went tapes.first One m calm)
+gave tapes Two m calm = two_gave tapes m (own_went tapes.second Two (own_first Two m) calm)
+
+-- the other path goes on
+awake : (b : Bool) → (b ≡ true → ⊥) → b ≡ false
+awake true never = absurd (never refl)
+awake false never = refl
+
+unfinished : (first second : Bool) → (first && second) ≡ false → (first ≡ false) ⊎ (second ≡ false)
+unfinished true second is = inr is
+unfinished false second is = inl refl
+
+other_awake : (path : Path) (m : MachineView) → (IsStuck (without_reads m) → ⊥) → m.alarm ≡ None → (m.first.finished && m.second.finished) ≡ false
+    → is_idle (own_first path m).first ≡ true → is_idle (own_first (other_of path) m).first ≡ false
+other_awake One m free calm some idle =
+    awake (is_idle m.second) (λ both. free (record { calm = calm; unfinished = unfinished m.first.finished m.second.finished some; first = idle; second = both }))
+other_awake Two m free calm some idle =
+    awake (is_idle m.first) (λ both. free (record { calm = calm; unfinished = unfinished m.first.finished m.second.finished some; first = both; second = idle }))
+
+-- how many turns are left
+abbrev left : ℕ → ℕ → ℕ → ℕ
+left budget reads flag = 2 * (65 * (budget + 1) - reads) + flag
+
+left_passed : (budget budget' reads reads' flag flag' : ℕ) → budget' ≡ budget → reads' ≡ reads → reads ≤ 64 → flag ≡ 1 → flag' ≡ 0
+    → left budget' reads' flag' < left budget reads flag
+left_passed budget budget' reads reads' flag flag' b r few one none = omega (arith, b, r, few, one, none)
+
+left_read : (budget budget' reads reads' flag flag' : ℕ) → budget' ≡ budget → reads' ≡ reads + 1 → reads ≤ 64 → flag' ≤ 1
+    → left budget' reads' flag' < left budget reads flag
+left_read budget budget' reads reads' flag flag' b r few most = omega (arith, b, r, few, most)
+
+left_made : (budget budget' reads reads' flag flag' : ℕ) → budget' + 1 ≡ budget → reads ≤ 64 → flag' ≤ 1
+    → left budget' reads' flag' < left budget reads flag
+left_made budget budget' reads reads' flag flag' b few most = omega (arith, b, few, most)
+
+abbrev flag : Bool → ℕ
+flag idle = if idle then 1 else 0
+
+flag_most : (b : Bool) → flag b ≤ 1
+flag_most true = omega arith
+flag_most false = omega arith
+
+-- behind a turn fewer are left
+module _ (limit : ℕ) (path : Path) (m after : MachineView) (unstuck : IsStuck (without_reads m) → ⊥) (calm : m.alarm ≡ None)
+    (some : (m.first.finished && m.second.finished) ≡ false) (few : reads_of m ≤ 64) (below : m.count < limit) where
+  pub fewer : (entries : List Entry) → Gave path m after entries → turns_left limit (other_of path) after < turns_left limit path m
+  fewer entries (passed idle same none) =
+      let other = ap (λ (x : MachineView). is_idle (own_first (other_of path) x).first) same ∙ other_awake path m unstuck calm some idle in
+      left_passed (limit - m.count) (limit - after.count) (reads_of m) (reads_of after) (flag (is_idle (own_first path m).first))
+      (flag (is_idle (own_first (other_of path) after).first)) (ap (λ (x : MachineView). limit - x.count) same)
+      (ap reads_of same) few (ap flag idle) (ap flag other)
+  fewer entries (has_read none more still) =
+      left_read (limit - m.count) (limit - after.count) (reads_of m) (reads_of after) (flag (is_idle (own_first path m).first))
+      (flag (is_idle (own_first (other_of path) after).first)) (ap (λ n. limit - n) still) more few (flag_most (is_idle (own_first (other_of path) after).first))
+  fewer entries (recorded one more) =
+      left_made (limit - m.count) (limit - after.count) (reads_of m) (reads_of after) (flag (is_idle (own_first path m).first))
+      (flag (is_idle (own_first (other_of path) after).first)) (omega (arith, more, below)) few (flag_most (is_idle (own_first (other_of path) after).first))
+
+-- a turn makes one record at most
+pub made_few : (path : Path) (m after : MachineView) (entries : List Entry) → Gave path m after entries → length entries ≤ 1
+made_few path m after entries (passed idle same none) = omega (arith, none)
+made_few path m after entries (has_read none more still) = omega (arith, none)
+made_few path m after entries (recorded one more) = omega (arith, one)

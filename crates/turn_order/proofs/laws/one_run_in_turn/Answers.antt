@@ -1,0 +1,5 @@
+use Rattle.turn_order.proofs.OneRun.{one_run}
+use Rattle.turn_order.proofs.laws.one_run_in_turn.Goals as goal
+
+pub returns : goal.returns
+returns c = λ tapes first second limit one two a b. one_run tapes first second limit (c.histories_are_runs.ensures tapes first second) one two a b

@@ -1,0 +1,32 @@
+-- The run of a pair whose paths take turns.
+use Rattle.std.specs.Prelude.{◌≡◌, ℕ, zero, suc, ◌≤◌, List, [], ◌∷◌, length, None}
+use Rattle.nc_number.specs.declared.path.Path.{Path}
+use Rattle.nc_number.specs.declared.path.Path.TheVariants.{One, Two}
+use Rattle.nc_number.specs.Path.{other_of}
+use Rattle.nc_verify.specs.declared.verified.Verified.{Verified}
+use Rattle.run_records.specs.declared.entry.Entry.{Entry}
+use Rattle.path_state.specs.Opening.{opening_path}
+use Rattle.two_path.specs.Machine.{MachineView, opening}
+use Rattle.two_path.specs.Turns.{Tapes, tapes_of}
+use Rattle.two_path.specs.Histories.{Event, TurnOf, history, fold}
+use Rattle.turn_order.specs.Ending.{end_of}
+
+-- the tapes of an accepted pair, and its machine before the first turn
+abbrev pub tapes_in : Verified → Tapes
+tapes_in verified = tapes_of verified.left verified.right
+
+abbrev pub start_of : Verified → MachineView
+start_of verified =
+    opening (opening_path verified.left verified.settings One) (opening_path verified.right verified.settings Two)
+
+-- so many turns, of this path and the other one in turn
+abbrev pub in_turn : Path → ℕ → List Event
+in_turn path zero = []
+in_turn path (suc n) = TurnOf path ∷ in_turn (other_of path) n
+
+-- The records of a run whose paths take turns, from path 1 on: it has no more than so many, and only a run that has ended has fewer.
+pub record IsInTurn (tapes : Tapes) (start : MachineView) (limit : ℕ) (entries : List Entry) : Type 0 where
+  pub turns : ℕ
+  pub records : history tapes start (in_turn One turns) ≡ entries
+  pub within : length entries ≤ limit
+  pub ended : end_of (fold tapes start entries) ≡ None → length entries ≡ limit
