@@ -1,4 +1,5 @@
 pub mod Building
+pub mod FromMatches
 pub mod Readings
 pub mod Steps
 pub mod Stories

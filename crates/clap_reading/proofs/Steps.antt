@@ -10,8 +10,8 @@ use Rattle.clap.specs.Simple.{Shape, filled, new_shape}
 use Rattle.clap.specs.Walk.{Held, Row, Rule, Text, Waiting, Walk, action_of, arg_by_id, arg_by_index, arg_by_long, arg_by_short, idle, is_append, is_empty, most_values, option, positional, settled_rows, subcommand_met, takes_several, takes_values, used, walked, with_values, without, word_met}
 use Rattle.clap.specs.declared.builder.value_parser.Reading.TheVariants.{AsWritten}
 use Rattle.clap.specs.declared.parser.matches.ValueSource.TheVariants.{CommandLine}
-use Rattle.clap_reading.specs.Grammar.{limit_rule}
-use Rattle.clap_reading.proofs.Uses.{Used, has_row-uses, row_of_use, used-uses, value_in}
+use Rattle.clap_reading.specs.Grammar.{option_rule}
+use Rattle.clap_reading.proofs.Uses.{Used, has_row-uses, row_of_use, same_bytes, used-uses, value_in}
 
 -- a subcommand that is built
 abbrev pub leaf : Text → List Rule → Shape
@@ -146,67 +146,67 @@ pub dashes_walk : (c : List Rule) (done : List Used) (last : Option Used) (posit
 unfolding walked
 dashes_walk c done last position word dashes = rw dashes refl
 
--- `--blocks` and an attached text
+-- an option and an attached text
 
-abbrev pub limit_at : Rule
-limit_at = filled limit_rule
+abbrev pub option_at : Text → Rule
+option_at id = filled (option_rule id)
 
-pub attached_turn : (name : Text) (c : List Rule) (done : List Used) (last : Option Used) (position : ℕ) (word text : Text) → bytes_eq word (codes "--") ≡ false
-    → long_of word ≡ Some (codes "blocks", Some text) → arg_by_long c (codes "blocks") ≡ Some limit_at
+pub attached_turn : (name : Text) (c : List Rule) (opt : Text) (done : List Used) (last : Option Used) (position : ℕ) (word text : Text) → bytes_eq word (codes "--") ≡ false
+    → long_of word ≡ Some (opt, Some text) → arg_by_long c opt ≡ Some (option_at opt)
     → turn_fault (leaf name c) [] (at_rest done last position false) word
-    ≡ or_else (or_else (settle_fault c false (held_at done last)) (use_fault false limit_at (text ∷ []) (rows_at_rest c done last))) []
-attached_turn name c done last position word text no_dashes long found = rw (no_dashes, long, found) refl
+    ≡ or_else (or_else (settle_fault c false (held_at done last)) (use_fault false (option_at opt) (text ∷ []) (rows_at_rest c done last))) []
+attached_turn name c opt done last position word text no_dashes long found = rw (no_dashes, long, found) refl
 
-pub attached_walk : (c : List Rule) (done : List Used) (last : Option Used) (position : ℕ) (word text : Text) → bytes_eq word (codes "--") ≡ false
-    → long_of word ≡ Some (codes "blocks", Some text) → arg_by_long c (codes "blocks") ≡ Some limit_at
-    → (uses : List Used) → used limit_at (text ∷ []) (rows_at_rest c done last) ≡ map row_of_use uses
+pub attached_walk : (c : List Rule) (opt : Text) (done : List Used) (last : Option Used) (position : ℕ) (word text : Text) → bytes_eq word (codes "--") ≡ false
+    → long_of word ≡ Some (opt, Some text) → arg_by_long c opt ≡ Some (option_at opt)
+    → (uses : List Used) → used (option_at opt) (text ∷ []) (rows_at_rest c done last) ≡ map row_of_use uses
     → walked c [] (at_rest done last position false) word ≡ at_rest uses None position false
 unfolding walked
-attached_walk c done last position word text no_dashes long found uses rows = rw (no_dashes, long, found, rows) refl
+attached_walk c opt done last position word text no_dashes long found uses rows = rw (no_dashes, long, found, rows) refl
 
--- `--blocks` alone, which waits for its text
+-- an option alone, which waits for its text
 
-abbrev pub held_waiting : List Used → Held
-held_waiting uses = record { rows = map row_of_use uses; pending = Some (codes "blocks", []); skip = 0 }
+abbrev pub held_waiting : Text → List Used → Held
+held_waiting opt uses = record { rows = map row_of_use uses; pending = Some (opt, []); skip = 0 }
 
-abbrev pub at_limit : List Used → ℕ → Walk
-at_limit uses position =
-    record { held = held_waiting uses; waiting = option (codes "blocks"); position = position; is_trailing = false; stopped = None }
+abbrev pub at_option : Text → List Used → ℕ → Walk
+at_option opt uses position =
+    record { held = held_waiting opt uses; waiting = option opt; position = position; is_trailing = false; stopped = None }
 
-pub limit_turn : (name : Text) (c : List Rule) (done : List Used) (last : Option Used) (position : ℕ) (word : Text) → bytes_eq word (codes "--") ≡ false
-    → long_of word ≡ Some (codes "blocks", None) → arg_by_long c (codes "blocks") ≡ Some limit_at
+pub option_turn : (name : Text) (c : List Rule) (opt : Text) (done : List Used) (last : Option Used) (position : ℕ) (word : Text) → bytes_eq word (codes "--") ≡ false
+    → long_of word ≡ Some (opt, None) → arg_by_long c opt ≡ Some (option_at opt)
     → turn_fault (leaf name c) [] (at_rest done last position false) word ≡ or_else (settle_fault c false (held_at done last)) []
-limit_turn name c done last position word no_dashes long found = rw (no_dashes, long, found) refl
+option_turn name c opt done last position word no_dashes long found = rw (no_dashes, long, found) refl
 
-pub limit_walk : (c : List Rule) (done : List Used) (last : Option Used) (position : ℕ) (word : Text) → bytes_eq word (codes "--") ≡ false
-    → long_of word ≡ Some (codes "blocks", None) → arg_by_long c (codes "blocks") ≡ Some limit_at
+pub option_walk : (c : List Rule) (opt : Text) (done : List Used) (last : Option Used) (position : ℕ) (word : Text) → bytes_eq word (codes "--") ≡ false
+    → long_of word ≡ Some (opt, None) → arg_by_long c opt ≡ Some (option_at opt)
     → (uses : List Used) → rows_at_rest c done last ≡ map row_of_use uses
-    → walked c [] (at_rest done last position false) word ≡ at_limit uses position
+    → walked c [] (at_rest done last position false) word ≡ at_option opt uses position
 unfolding walked
-limit_walk c done last position word no_dashes long found uses rows = rw (no_dashes, long, found, rows) refl
+option_walk c opt done last position word no_dashes long found uses rows = rw (no_dashes, long, found, rows) refl
 
-pub text_turn : (name : Text) (c : List Rule) (uses : List Used) (position : ℕ) (word : Text) → IsNameWord word
-    → turn_fault (leaf name c) [] (at_limit uses position) word ≡ []
-text_turn name c uses position word goes = rw (goes.no_dashes, goes.no_long, goes.no_short) refl
+pub text_turn : (name : Text) (c : List Rule) (opt : Text) (uses : List Used) (position : ℕ) (word : Text) → IsNameWord word
+    → turn_fault (leaf name c) [] (at_option opt uses position) word ≡ []
+text_turn name c opt uses position word goes = rw (goes.no_dashes, goes.no_long, goes.no_short) refl
 
-pub text_walk : (c : List Rule) (uses : List Used) (position : ℕ) (word : Text) → IsNameWord word
-    → arg_by_id c (codes "blocks") ≡ Some limit_at
-    → walked c [] (at_limit uses position) word ≡ at_rest uses (Some (codes "blocks", word)) position false
+pub text_walk : (c : List Rule) (opt : Text) (uses : List Used) (position : ℕ) (word : Text) → IsNameWord word
+    → arg_by_id c opt ≡ Some (option_at opt)
+    → walked c [] (at_option opt uses position) word ≡ at_rest uses (Some (opt, word)) position false
 unfolding walked
-text_walk c uses position word goes found = rw (goes.no_dashes, goes.no_long, goes.no_short, found) refl
+text_walk c opt uses position word goes found = rw (goes.no_dashes, goes.no_long, goes.no_short, found, same_bytes opt) refl
 
 -- `--` where a text is waited for
-abbrev pub at_limit_trailing : List Used → ℕ → Walk
-at_limit_trailing uses position = record (at_limit uses position) { is_trailing = true }
+abbrev pub at_option_trailing : Text → List Used → ℕ → Walk
+at_option_trailing opt uses position = record (at_option opt uses position) { is_trailing = true }
 
-pub waiting_dashes_turn : (name : Text) (c : List Rule) (uses : List Used) (position : ℕ) (word : Text) → bytes_eq word (codes "--") ≡ true
-    → turn_fault (leaf name c) [] (at_limit uses position) word ≡ []
-waiting_dashes_turn name c uses position word dashes = rw dashes refl
+pub waiting_dashes_turn : (name : Text) (c : List Rule) (opt : Text) (uses : List Used) (position : ℕ) (word : Text) → bytes_eq word (codes "--") ≡ true
+    → turn_fault (leaf name c) [] (at_option opt uses position) word ≡ []
+waiting_dashes_turn name c opt uses position word dashes = rw dashes refl
 
-pub waiting_dashes_walk : (c : List Rule) (uses : List Used) (position : ℕ) (word : Text) → bytes_eq word (codes "--") ≡ true
-    → walked c [] (at_limit uses position) word ≡ at_limit_trailing uses position
+pub waiting_dashes_walk : (c : List Rule) (opt : Text) (uses : List Used) (position : ℕ) (word : Text) → bytes_eq word (codes "--") ≡ true
+    → walked c [] (at_option opt uses position) word ≡ at_option_trailing opt uses position
 unfolding walked
-waiting_dashes_walk c uses position word dashes = rw dashes refl
+waiting_dashes_walk c opt uses position word dashes = rw dashes refl
 
 -- Any walk that goes on, and a word that is no name
 

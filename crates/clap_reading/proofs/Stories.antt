@@ -1,25 +1,24 @@
--- What the words behind a subcommand come to: the names and limits that are read, and the uses that the parse holds.
-use Rattle.std.proofs.Common.{◌≡◌, ℕ, zero, suc, ◌<◌, ◌≤◌, false, List, [], ◌∷◌, ◌++◌, map, filter, length, Option, Some, None, refl, sym, ap, ◌∙◌, arith, append_assoc, length-append, codes, inl, inr}
+-- What the words behind a subcommand come to: the names and options that are read, and the uses that the parse holds.
+use Rattle.std.proofs.Common.{◌≡◌, ℕ, zero, suc, ◌<◌, ◌≤◌, true, false, List, [], ◌∷◌, ◌++◌, map, filter, length, Option, Some, None, refl, sym, ap, ◌∙◌, arith, append_assoc, length-append, inl, inr}
 use Rattle.std.specs.Prelude.{◌⊎◌}
 use Rattle.std.specs.List.{slice_get, zip}
-use Rattle.std.specs.Str.{bytes_eq}
 use Rattle.std.proofs.lemmas.List.{append-nil}
 use Rattle.std.proofs.lemmas.List.Elements.{filter-append}
 use Rattle.clap.specs.Kinds.{Kinds}
 use Rattle.clap.specs.Walk.{Row, Text, is_empty}
-use Rattle.command_words.specs.Listed.{Given, with_limit, with_name}
-use Rattle.clap_reading.proofs.Uses.{Used, is_limit, is_name, limit_use, row_of_use, value_in, value_in-limits, value_in-names}
+use Rattle.command_words.specs.Listed.{Given, stand_once, with_name, with_text}
+use Rattle.clap_reading.proofs.Uses.{Used, is_known, is_marked, is_name, once_push, row_of_use, stands_twice, value_in, value_in-marked, value_in-names}
 
--- the uses are those of these names, one for each argument in turn, and of these limits
-pub record Story (ids : List Text) (most : ℕ) (uses : List Used) (names limits : List Text) : Type 0 where
-  pub names_are : filter is_name uses ≡ zip ids names
-  pub limits_are : filter is_limit uses ≡ map limit_use limits
+-- the uses are those of these names, one for each argument in turn, and of these options, each once at most
+pub record Story (ids options : List Text) (uses : List Used) (names : List Text) (marked : List Used) : Type 0 where
+  pub names_are : filter (is_name options) uses ≡ zip ids names
+  pub marked_are : filter (is_marked options) uses ≡ marked
   pub few_names : length names ≤ length ids
-  pub few_limits : length limits ≤ most
+  pub once : stand_once marked ≡ true
 
-pub begun : (ids : List Text) (most : ℕ) → Story ids most [] [] []
-begun [] most = record { names_are = refl; limits_are = refl; few_names = omega arith; few_limits = omega arith }
-begun (id ∷ ids) most = record { names_are = refl; limits_are = refl; few_names = omega arith; few_limits = omega arith }
+pub begun : (ids options : List Text) → Story ids options [] [] []
+begun [] options = record { names_are = refl; marked_are = refl; few_names = omega arith; once = refl }
+begun (id ∷ ids) options = record { names_are = refl; marked_are = refl; few_names = omega arith; once = refl }
 
 zip_push : (ids names : List Text) (id word : Text) → slice_get ids (length names) ≡ Some id → zip ids (names ++ word ∷ []) ≡ zip ids names ++ (id, word) ∷ []
 zip_push [] [] id word at = cc
@@ -36,61 +35,64 @@ some_at [] n less = absurd (omega arith)
 some_at (i ∷ ids) zero less = (i, refl)
 some_at (i ∷ ids) (suc n) less = some_at ids n (omega arith)
 
-pub one_name : (ids : List Text) (most : ℕ) (uses : List Used) (names limits : List Text) (id word : Text) → Story ids most uses names limits
-    → slice_get ids (length names) ≡ Some id → length names < length ids → bytes_eq id (codes "blocks") ≡ false
-    → Story ids most (uses ++ (id, word) ∷ []) (names ++ word ∷ []) limits
-one_name ids most uses names limits id word story at more other = record {
-  names_are = filter-append is_name uses ((id, word) ∷ []) ∙ rw other (ap (λ front. front ++ (id, word) ∷ []) story.names_are ∙ sym (zip_push ids names id word at));
-  limits_are = filter-append is_limit uses ((id, word) ∷ []) ∙ rw other (append-nil (filter is_limit uses) ∙ story.limits_are);
+pub one_name : (ids options : List Text) (uses : List Used) (names : List Text) (marked : List Used) (id word : Text) → Story ids options uses names marked
+    → slice_get ids (length names) ≡ Some id → length names < length ids → is_known options id ≡ false
+    → Story ids options (uses ++ (id, word) ∷ []) (names ++ word ∷ []) marked
+one_name ids options uses names marked id word story at more other = record {
+  names_are = filter-append (is_name options) uses ((id, word) ∷ []) ∙ rw other (ap (λ front. front ++ (id, word) ∷ []) story.names_are ∙ sym (zip_push ids names id word at));
+  marked_are = filter-append (is_marked options) uses ((id, word) ∷ []) ∙ rw other (append-nil (filter (is_marked options) uses) ∙ story.marked_are);
   few_names = omega (arith, length-append names (word ∷ []), more);
-  few_limits = story.few_limits;
+  once = story.once;
 }
 
-pub one_limit : (ids : List Text) (most : ℕ) (uses : List Used) (names : List Text) (text : Text) → Story ids most uses names [] → 1 ≤ most
-    → Story ids most (uses ++ (codes "blocks", text) ∷ []) names (text ∷ [])
-one_limit ids most uses names text story some = record {
-  names_are = filter-append is_name uses ((codes "blocks", text) ∷ []) ∙ (append-nil (filter is_name uses) ∙ story.names_are);
-  limits_are = filter-append is_limit uses ((codes "blocks", text) ∷ []) ∙ ap (λ front. front ++ (codes "blocks", text) ∷ []) story.limits_are;
+pub one_option : (ids options : List Text) (uses : List Used) (names : List Text) (marked : List Used) (id text : Text) → Story ids options uses names marked
+    → is_known options id ≡ true → value_in id marked ≡ None
+    → Story ids options (uses ++ (id, text) ∷ []) names (marked ++ (id, text) ∷ [])
+one_option ids options uses names marked id text story is fresh = record {
+  names_are = filter-append (is_name options) uses ((id, text) ∷ []) ∙ rw is (append-nil (filter (is_name options) uses) ∙ story.names_are);
+  marked_are = filter-append (is_marked options) uses ((id, text) ∷ []) ∙ rw is (ap (λ front. front ++ (id, text) ∷ []) story.marked_are);
   few_names = story.few_names;
-  few_limits = some;
+  once = once_push id text marked fresh story.once;
 }
 
-pub value_of_name : (ids : List Text) (most : ℕ) (uses : List Used) (names limits : List Text) (id : Text) → Story ids most uses names limits
-    → bytes_eq id (codes "blocks") ≡ false → value_in id uses ≡ value_in id (zip ids names)
-value_of_name ids most uses names limits id story other = value_in-names id other uses ∙ ap (value_in id) story.names_are
+pub value_of_name : (ids options : List Text) (uses : List Used) (names : List Text) (marked : List Used) (id : Text) → Story ids options uses names marked
+    → is_known options id ≡ false → value_in id uses ≡ value_in id (zip ids names)
+value_of_name ids options uses names marked id story other = value_in-names options id other uses ∙ ap (value_in id) story.names_are
 
-pub value_of_limit : (ids : List Text) (most : ℕ) (uses : List Used) (names limits : List Text) → Story ids most uses names limits
-    → value_in (codes "blocks") uses ≡ value_in (codes "blocks") (map limit_use limits)
-value_of_limit ids most uses names limits story = value_in-limits uses ∙ ap (value_in (codes "blocks")) story.limits_are
+pub value_of_option : (ids options : List Text) (uses : List Used) (names : List Text) (marked : List Used) (id : Text) → Story ids options uses names marked
+    → is_known options id ≡ true → value_in id uses ≡ value_in id marked
+value_of_option ids options uses names marked id story is = value_in-marked options id is uses ∙ ap (value_in id) story.marked_are
 
--- How a parse ends that reads these names and limits: it fails where there are too many, and else the last checks decide, over the rows of the uses
-pub data Ending (ids : List Text) (most : ℕ) (check : List Row → Kinds) (fault : Kinds) (rows : List Row) (names limits : List Text) : Type 0 where
-  faulty : is_empty fault ≡ false → (length ids < length names) ⊎ (most < length limits) → Ending ids most check fault rows names limits
-  checked : (uses : List Used) → Story ids most uses names limits → fault ≡ check (map row_of_use uses) → rows ≡ map row_of_use uses → Ending ids most check fault rows names limits
+-- How a parse ends that reads these names and options: it fails where there are too many names or an option stands twice, and
+-- else the last checks decide, over the rows of the uses
+pub data Ending (ids options : List Text) (check : List Row → Kinds) (fault : Kinds) (rows : List Row) (names : List Text) (marked : List Used) : Type 0 where
+  faulty : is_empty fault ≡ false → (length ids < length names) ⊎ (stand_once marked ≡ false) → Ending ids options check fault rows names marked
+  checked : (uses : List Used) → Story ids options uses names marked → fault ≡ check (map row_of_use uses) → rows ≡ map row_of_use uses
+      → Ending ids options check fault rows names marked
 
--- the same behind names and limits that are read already
-abbrev pub Outcome : List Text → ℕ → (List Row → Kinds) → Kinds → List Row → List Text → List Text → Option Given → Type 0
-Outcome ids most check fault rows names limits None = is_empty fault ≡ false
-Outcome ids most check fault rows names limits (Some g) = Ending ids most check fault rows (names ++ g.names) (limits ++ g.limits)
+-- the same behind names and options that are read already
+abbrev pub Outcome : List Text → List Text → (List Row → Kinds) → Kinds → List Row → List Text → List Used → Option Given → Type 0
+Outcome ids options check fault rows names marked None = is_empty fault ≡ false
+Outcome ids options check fault rows names marked (Some g) = Ending ids options check fault rows (names ++ g.names) (marked ++ g.marked)
 
-pub behind_name : (ids : List Text) (most : ℕ) (check : List Row → Kinds) (fault : Kinds) (rows : List Row) (names limits : List Text) (word : Text) (g : Option Given)
-    → Outcome ids most check fault rows (names ++ word ∷ []) limits g → Outcome ids most check fault rows names limits (with_name word g)
-behind_name ids most check fault rows names limits word None outcome = outcome
-behind_name ids most check fault rows names limits word (Some g) outcome = rw (← append_assoc names (word ∷ []) g.names) outcome
+pub behind_name : (ids options : List Text) (check : List Row → Kinds) (fault : Kinds) (rows : List Row) (names : List Text) (marked : List Used) (word : Text) (g : Option Given)
+    → Outcome ids options check fault rows (names ++ word ∷ []) marked g → Outcome ids options check fault rows names marked (with_name word g)
+behind_name ids options check fault rows names marked word None outcome = outcome
+behind_name ids options check fault rows names marked word (Some g) outcome = rw (← append_assoc names (word ∷ []) g.names) outcome
 
-pub behind_limit : (ids : List Text) (most : ℕ) (check : List Row → Kinds) (fault : Kinds) (rows : List Row) (names : List Text) (text : Text) (g : Option Given)
-    → Outcome ids most check fault rows names (text ∷ []) g → Outcome ids most check fault rows names [] (with_limit text g)
-behind_limit ids most check fault rows names text None outcome = outcome
-behind_limit ids most check fault rows names text (Some g) outcome = outcome
+pub behind_option : (ids options : List Text) (check : List Row → Kinds) (fault : Kinds) (rows : List Row) (names : List Text) (marked : List Used) (id text : Text) (g : Option Given)
+    → Outcome ids options check fault rows names (marked ++ (id, text) ∷ []) g → Outcome ids options check fault rows names marked (with_text id text g)
+behind_option ids options check fault rows names marked id text None outcome = outcome
+behind_option ids options check fault rows names marked id text (Some g) outcome = rw (← append_assoc marked ((id, text) ∷ []) g.marked) outcome
 
--- where a second limit is given
-pub too_many_limits : (ids : List Text) (most : ℕ) (check : List Row → Kinds) (fault : Kinds) (rows : List Row) (names limits : List Text) (text : Text) (g : Option Given)
-    → is_empty fault ≡ false → most ≤ length limits → Outcome ids most check fault rows names limits (with_limit text g)
-too_many_limits ids most check fault rows names limits text None fails full = fails
-too_many_limits ids most check fault rows names limits text (Some g) fails full = faulty fails (inr (omega (arith, length-append limits (text ∷ g.limits))))
+-- where an option is given again
+pub option_again : (ids options : List Text) (check : List Row → Kinds) (fault : Kinds) (rows : List Row) (names : List Text) (marked : List Used) (id text earlier : Text)
+    (g : Option Given) → is_empty fault ≡ false → value_in id marked ≡ Some earlier → Outcome ids options check fault rows names marked (with_text id text g)
+option_again ids options check fault rows names marked id text earlier None fails taken = fails
+option_again ids options check fault rows names marked id text earlier (Some g) fails taken = faulty fails (inr (stands_twice id text earlier marked g.marked taken))
 
 -- where a name too many is given
-pub too_many_names : (ids : List Text) (most : ℕ) (check : List Row → Kinds) (fault : Kinds) (rows : List Row) (names limits : List Text) (word : Text) (g : Option Given)
-    → is_empty fault ≡ false → length ids ≤ length names → Outcome ids most check fault rows names limits (with_name word g)
-too_many_names ids most check fault rows names limits word None fails full = fails
-too_many_names ids most check fault rows names limits word (Some g) fails full = faulty fails (inl (omega (arith, length-append names (word ∷ g.names))))
+pub too_many_names : (ids options : List Text) (check : List Row → Kinds) (fault : Kinds) (rows : List Row) (names : List Text) (marked : List Used) (word : Text) (g : Option Given)
+    → is_empty fault ≡ false → length ids ≤ length names → Outcome ids options check fault rows names marked (with_name word g)
+too_many_names ids options check fault rows names marked word None fails full = fails
+too_many_names ids options check fault rows names marked word (Some g) fails full = faulty fails (inl (omega (arith, length-append names (word ∷ g.names))))

@@ -1,9 +1,9 @@
 -- The arguments of each subcommand, and how its reading ends.
-use Rattle.std.proofs.Common.{◌≡◌, ℕ, suc, ◌+◌, ◌≤◌, ◌<◌, inl, inr, Bool, true, false, not, cond, List, [], ◌∷◌, map, length, Option, Some, None, is_some, refl, ap, subst, ◌∙◌, arith, codes}
+use Rattle.std.proofs.Common.{◌≡◌, ℕ, suc, ◌+◌, ◌≤◌, ◌<◌, inl, inr, Bool, true, false, ◌&&◌, ◌||◌, not, cond, List, [], ◌∷◌, map, length, Option, Some, None, is_some, refl, sym, ap, subst, ◌∙◌, arith, codes}
 use Rattle.std.proofs.Math.Bool.{or-true}
 use Rattle.std.specs.Prelude.{nat_eq}
 use Rattle.std.specs.Option.{option_map_or}
-use Rattle.std.specs.List.{find, fold, list_all, slice_get, zip}
+use Rattle.std.specs.List.{find, fold, list_all, list_any, slice_get, zip}
 use Rattle.std.specs.Str.{bytes_eq}
 use Rattle.std.proofs.lemmas.Bool.{and_parts}
 use Rattle.std.proofs.lemmas.Bool.Decides.{eqb_tells}
@@ -11,19 +11,18 @@ use Rattle.clap.specs.Kinds.{Kinds, or_else}
 use Rattle.clap.specs.Faults.{default_fault, defaults_fault}
 use Rattle.clap.specs.Simple.{filled, with_index}
 use Rattle.clap.specs.Takes.{is_given}
-use Rattle.clap.specs.Walk.{Row, Rule, Text, first_of, has_row, is_empty, takes_several, with_default}
-use Rattle.clap_reading.specs.ClapReading.{command_from, command_in}
+use Rattle.clap.specs.Walk.{Row, Rule, Text, arg_by_id, arg_by_index, arg_by_long, arg_by_short, first_of, has_row, is_empty, takes_several, with_default}
+use Rattle.clap_reading.specs.ClapReading.{command_from, command_in, names_in, text_at, texts_at}
 use Rattle.clap_reading.specs.Grammar.{name_rule}
-use Rattle.command_words.specs.Listed.{command_given, command_with}
-use Rattle.command_words.specs.Table.{Listing, listing, listings, pair_words}
+use Rattle.command_words.specs.Listed.{OptionTextsView, command_given, command_of, text_for, text_in, texts_for}
+use Rattle.command_words.specs.Table.{Listing, listing, pair_words}
+use Rattle.command_words.specs.declared.table.Journal.{Journal}
 use Rattle.command_words.specs.declared.table.Task.{Task}
-use Rattle.command_words.specs.declared.table.Task.TheVariants as task
 use Rattle.command_words.specs.declared.command.Command.{Command}
-use Rattle.command_words.specs.declared.command.Command.TheVariants.{Moves, State}
 use Rattle.clap_reading.proofs.Readings.{check_of}
-use Rattle.clap_reading.proofs.Steps.{IsOnce, limit_at, or_else-none}
-use Rattle.clap_reading.proofs.Stories.{Ending, Story, checked, faulty, value_of_limit, value_of_name}
-use Rattle.clap_reading.proofs.Uses.{Used, first_of-uses, flipped, is_given-uses, limit_use, row_of_use, value_in}
+use Rattle.clap_reading.proofs.Steps.{IsOnce, option_at, or_else-none}
+use Rattle.clap_reading.proofs.Stories.{Ending, Story, checked, faulty, value_of_name, value_of_option}
+use Rattle.clap_reading.proofs.Uses.{Used, first_of-uses, is_given-uses, is_known, row_of_use, same_text, unknown_differs, value_in}
 use Rattle.clap_reading.proofs.Walks.{Arguments, RuleAt}
 
 abbrev pub name_at : ℕ → Text → Rule
@@ -78,34 +77,93 @@ defaults_pass [] none rows = refl
 defaults_pass (a ∷ c) none rows =
     ap (λ first. or_else first (defaults_fault (with_default rows a) c)) (default_passes rows a none.0) ∙ defaults_pass c none.1 (with_default rows a)
 
--- The rules
+-- The rules of the options
 
-abbrev pub verify_rules : List Rule
-verify_rules = name_at 1 (codes "left") ∷ name_at 2 (codes "right") ∷ name_at 3 (codes "settings") ∷ []
+-- the options of a subcommand, behind its words
+abbrev pub option_rules : List Text → List Rule
+option_rules options = map option_at options
 
-abbrev pub run_rules : List Rule
-run_rules = name_at 1 (codes "left") ∷ name_at 2 (codes "right") ∷ name_at 3 (codes "settings") ∷ limit_at ∷ []
+by_long : (options : List Text) (id : Text) → is_known options id ≡ true → arg_by_long (option_rules options) id ≡ Some (option_at id)
+by_long [] id is = cc
+by_long (own ∷ options) id is = here (by_long options id) (bytes_eq own id) refl is
+  where
+    here : (is_known options id ≡ true → arg_by_long (option_rules options) id ≡ Some (option_at id)) → (b : Bool) → bytes_eq own id ≡ b → (b || is_known options id) ≡ true
+        → arg_by_long (option_rules (own ∷ options)) id ≡ Some (option_at id)
+    here again true same _ = rw same (ap (λ x. Some (option_at x)) (same_text own id same))
+    here again false other later = rw other (again later)
 
-abbrev pub resume_rules : List Rule
-resume_rules = limit_at ∷ []
+by_no_long : (options : List Text) (id : Text) → is_known options id ≡ false → arg_by_long (option_rules options) id ≡ None
+by_no_long [] id other = refl
+by_no_long (own ∷ options) id other = here (by_no_long options id) (bytes_eq own id) refl other
+  where
+    here : (is_known options id ≡ false → arg_by_long (option_rules options) id ≡ None) → (b : Bool) → bytes_eq own id ≡ b → (b || is_known options id) ≡ false
+        → arg_by_long (option_rules (own ∷ options)) id ≡ None
+    here again true same never = cc
+    here again false other later = rw other (again later)
 
-abbrev pub make_rules : List Rule
-make_rules = name_at 1 (codes "number") ∷ []
+by_id : (options : List Text) (id : Text) → is_known options id ≡ true → arg_by_id (option_rules options) id ≡ Some (option_at id)
+by_id [] id is = cc
+by_id (own ∷ options) id is = here (by_id options id) (bytes_eq own id) refl is
+  where
+    here : (is_known options id ≡ true → arg_by_id (option_rules options) id ≡ Some (option_at id)) → (b : Bool) → bytes_eq own id ≡ b → (b || is_known options id) ≡ true
+        → arg_by_id (option_rules (own ∷ options)) id ≡ Some (option_at id)
+    here again true same _ = rw same (ap (λ x. Some (option_at x)) (same_text own id same))
+    here again false other later = rw other (again later)
+
+by_index : (options : List Text) (position : ℕ) → arg_by_index (option_rules options) position ≡ None
+by_index [] position = refl
+by_index (own ∷ options) position = by_index options position
+
+by_short : (options : List Text) (x : ℕ) → arg_by_short (option_rules options) x ≡ None
+by_short [] x = refl
+by_short (own ∷ options) x = by_short options x
+
+single : (options : List Text) → list_all (λ a. not (takes_several a)) (option_rules options) ≡ true
+single [] = refl
+single (own ∷ options) = single options
+
+no_defaults : (options : List Text) → NoDefaults (option_rules options)
+no_defaults [] = tt
+no_defaults (own ∷ options) = (refl, no_defaults options)
+
+-- none of them has to be there
+none_required : (options : List Text) (rows : List Row) → list_any (λ a. a.required && not (is_given a.id rows)) (option_rules options) ≡ false
+none_required [] rows = refl
+none_required (own ∷ options) rows = none_required options rows
+
+-- The rules of the words
 
 abbrev pub pair_ids : List Text
 pair_ids = pair_words
 
-abbrev pub number_ids : List Text
-number_ids = codes "number" ∷ []
+abbrev pub pair_rules : List Text → List Rule
+pair_rules options = name_at 1 (codes "left") ∷ name_at 2 (codes "right") ∷ name_at 3 (codes "settings") ∷ option_rules options
+
+-- no option has the name of one of the words
+pub record ArePairNames (options : List Text) : Type 0 where
+  pub left : is_known options (codes "left") ≡ false
+  pub right : is_known options (codes "right") ≡ false
+  pub settings : is_known options (codes "settings") ≡ false
+
+abbrev pub one_id : Text → List Text
+one_id id = id ∷ []
+
+abbrev pub one_rules : Text → List Text → List Rule
+one_rules id options = name_at 1 id ∷ option_rules options
+
+-- what a word is called that is none of the options
+pub record IsWordName (options : List Text) (id : Text) : Type 0 where
+  pub own : bytes_eq id id ≡ true
+  pub free : is_known options id ≡ false
 
 as_id : (P : Text → Type 0) (a b : Text) → Some a ≡ Some b → P a → P b
 as_id P a b e p = let same : a ≡ b = cc in subst P same p
 
-pair_named : (names : List Text) (id : Text) → slice_get pair_ids (length names) ≡ Some id → bytes_eq id (codes "blocks") ≡ false
-pair_named [] id e = as_id (λ id. bytes_eq id (codes "blocks") ≡ false) (codes "left") id e refl
-pair_named (a ∷ []) id e = as_id (λ id. bytes_eq id (codes "blocks") ≡ false) (codes "right") id e refl
-pair_named (a ∷ b ∷ []) id e = as_id (λ id. bytes_eq id (codes "blocks") ≡ false) (codes "settings") id e refl
-pair_named (a ∷ b ∷ c ∷ names) id e = cc
+pair_named : (options : List Text) → ArePairNames options → (names : List Text) (id : Text) → slice_get pair_ids (length names) ≡ Some id → is_known options id ≡ false
+pair_named options free [] id e = as_id (λ id. is_known options id ≡ false) (codes "left") id e free.left
+pair_named options free (a ∷ []) id e = as_id (λ id. is_known options id ≡ false) (codes "right") id e free.right
+pair_named options free (a ∷ b ∷ []) id e = as_id (λ id. is_known options id ≡ false) (codes "settings") id e free.settings
+pair_named options free (a ∷ b ∷ c ∷ names) id e = cc
 
 pair_fresh : (names : List Text) (id : Text) → slice_get pair_ids (length names) ≡ Some id → value_in id (zip pair_ids names) ≡ None
 pair_fresh [] id e = refl
@@ -113,321 +171,212 @@ pair_fresh (a ∷ []) id e = as_id (λ id. value_in id (zip pair_ids (a ∷ []))
 pair_fresh (a ∷ b ∷ []) id e = as_id (λ id. value_in id (zip pair_ids (a ∷ b ∷ [])) ≡ None) (codes "settings") id e refl
 pair_fresh (a ∷ b ∷ c ∷ names) id e = cc
 
-verify_at : (names : List Text) (id : Text) → slice_get pair_ids (length names) ≡ Some id → RuleAt verify_rules id (length names + 1)
-verify_at [] id e = as_id (λ id. RuleAt verify_rules id 1) (codes "left") id e (record { rule = name_at 1 (codes "left"); at = refl; same = refl; once = name_once 1 (codes "left"); found = refl })
-verify_at (a ∷ []) id e = as_id (λ id. RuleAt verify_rules id 2) (codes "right") id e (record { rule = name_at 2 (codes "right"); at = refl; same = refl; once = name_once 2 (codes "right"); found = refl })
-verify_at (a ∷ b ∷ []) id e = as_id (λ id. RuleAt verify_rules id 3) (codes "settings") id e (record { rule = name_at 3 (codes "settings"); at = refl; same = refl; once = name_once 3 (codes "settings"); found = refl })
-verify_at (a ∷ b ∷ c ∷ names) id e = cc
+pair_at : (options names : List Text) (id : Text) → slice_get pair_ids (length names) ≡ Some id → RuleAt (pair_rules options) id (length names + 1)
+pair_at options [] id e = as_id (λ id. RuleAt (pair_rules options) id 1) (codes "left") id e (record { rule = name_at 1 (codes "left"); at = refl; same = refl; once = name_once 1 (codes "left"); found = refl })
+pair_at options (a ∷ []) id e = as_id (λ id. RuleAt (pair_rules options) id 2) (codes "right") id e (record { rule = name_at 2 (codes "right"); at = refl; same = refl; once = name_once 2 (codes "right"); found = refl })
+pair_at options (a ∷ b ∷ []) id e = as_id (λ id. RuleAt (pair_rules options) id 3) (codes "settings") id e (record { rule = name_at 3 (codes "settings"); at = refl; same = refl; once = name_once 3 (codes "settings"); found = refl })
+pair_at options (a ∷ b ∷ c ∷ names) id e = cc
 
-run_at : (names : List Text) (id : Text) → slice_get pair_ids (length names) ≡ Some id → RuleAt run_rules id (length names + 1)
-run_at [] id e = as_id (λ id. RuleAt run_rules id 1) (codes "left") id e (record { rule = name_at 1 (codes "left"); at = refl; same = refl; once = name_once 1 (codes "left"); found = refl })
-run_at (a ∷ []) id e = as_id (λ id. RuleAt run_rules id 2) (codes "right") id e (record { rule = name_at 2 (codes "right"); at = refl; same = refl; once = name_once 2 (codes "right"); found = refl })
-run_at (a ∷ b ∷ []) id e = as_id (λ id. RuleAt run_rules id 3) (codes "settings") id e (record { rule = name_at 3 (codes "settings"); at = refl; same = refl; once = name_once 3 (codes "settings"); found = refl })
-run_at (a ∷ b ∷ c ∷ names) id e = cc
-
-make_at : (names : List Text) (id : Text) → slice_get number_ids (length names) ≡ Some id → RuleAt make_rules id (length names + 1)
-make_at [] id e = as_id (λ id. RuleAt make_rules id 1) (codes "number") id e (record { rule = name_at 1 (codes "number"); at = refl; same = refl; once = name_once 1 (codes "number"); found = refl })
-make_at (a ∷ names) id e = cc
-
-make_named : (names : List Text) (id : Text) → slice_get number_ids (length names) ≡ Some id → bytes_eq id (codes "blocks") ≡ false
-make_named [] id e = as_id (λ id. bytes_eq id (codes "blocks") ≡ false) (codes "number") id e refl
-make_named (a ∷ names) id e = cc
-
-pub verify_arguments : Arguments verify_rules pair_ids false
-verify_arguments = record {
-  at = verify_at;
-  full = λ names e. rw e refl;
+pub pair_arguments : (options : List Text) → ArePairNames options → Arguments (pair_rules options) pair_ids options
+pair_arguments options free = record {
+  at = pair_at options;
+  full = λ names e. rw e (by_index options (length names + 1));
   fresh = pair_fresh;
-  named = pair_named;
-  limit_long = λ never. cc;
-  limit_id = λ never. cc;
-  no_long = λ long_name other. refl;
-  no_short = λ x. refl;
-  once_at = λ position a found. once_found (at_position position) verify_rules a refl found;
+  named = pair_named options free;
+  option_long = by_long options;
+  option_id = λ id is. rw (
+    unknown_differs options (codes "left") id free.left is,
+    unknown_differs options (codes "right") id free.right is,
+    unknown_differs options (codes "settings") id free.settings is,
+  ) (by_id options id is);
+  no_long = by_no_long options;
+  no_short = by_short options;
+  once_at = λ position a found. once_found (at_position position) (pair_rules options) a (single options) found;
   few = omega arith;
-  no_default = defaults_stay verify_rules (refl, (refl, (refl, tt)));
-  no_default_fault = defaults_pass verify_rules (refl, (refl, (refl, tt)));
+  no_default = defaults_stay (pair_rules options) (refl, (refl, (refl, no_defaults options)));
+  no_default_fault = defaults_pass (pair_rules options) (refl, (refl, (refl, no_defaults options)));
 }
 
-pub run_arguments : Arguments run_rules pair_ids true
-run_arguments = record {
-  at = run_at;
-  full = λ names e. rw e refl;
-  fresh = pair_fresh;
-  named = pair_named;
-  limit_long = λ limited. refl;
-  limit_id = λ limited. refl;
-  no_long = λ long_name other. rw (flipped long_name (codes "blocks") (other refl)) refl;
-  no_short = λ x. refl;
-  once_at = λ position a found. once_found (at_position position) run_rules a refl found;
-  few = omega arith;
-  no_default = defaults_stay run_rules (refl, (refl, (refl, (refl, tt))));
-  no_default_fault = defaults_pass run_rules (refl, (refl, (refl, (refl, tt))));
-}
-
-pub resume_arguments : Arguments resume_rules [] true
-resume_arguments = record {
+pub alone_arguments : (options : List Text) → Arguments (option_rules options) [] options
+alone_arguments options = record {
   at = λ names id e. cc;
-  full = λ names e. refl;
+  full = λ names e. by_index options (length names + 1);
   fresh = λ names id e. cc;
   named = λ names id e. cc;
-  limit_long = λ limited. refl;
-  limit_id = λ limited. refl;
-  no_long = λ long_name other. rw (flipped long_name (codes "blocks") (other refl)) refl;
-  no_short = λ x. refl;
-  once_at = λ position a found. once_found (at_position position) resume_rules a refl found;
+  option_long = by_long options;
+  option_id = by_id options;
+  no_long = by_no_long options;
+  no_short = by_short options;
+  once_at = λ position a found. once_found (at_position position) (option_rules options) a (single options) found;
   few = omega arith;
-  no_default = defaults_stay resume_rules (refl, tt);
-  no_default_fault = defaults_pass resume_rules (refl, tt);
+  no_default = defaults_stay (option_rules options) (no_defaults options);
+  no_default_fault = defaults_pass (option_rules options) (no_defaults options);
 }
 
-pub no_arguments : Arguments [] [] false
-no_arguments = record {
-  at = λ names id e. cc;
-  full = λ names e. refl;
-  fresh = λ names id e. cc;
-  named = λ names id e. cc;
-  limit_long = λ never. cc;
-  limit_id = λ never. cc;
-  no_long = λ long_name other. refl;
-  no_short = λ x. refl;
-  once_at = λ position a found. cc;
-  few = omega arith;
-  no_default = λ rows. refl;
-  no_default_fault = defaults_pass [] tt;
-}
+one_at : (options : List Text) (id : Text) → IsWordName options id → (names : List Text) (x : Text) → slice_get (one_id id) (length names) ≡ Some x → RuleAt (one_rules id options) x (length names + 1)
+one_at options id is [] x e = as_id (λ x. RuleAt (one_rules id options) x 1) id x e (record { rule = name_at 1 id; at = refl; same = refl; once = name_once 1 id; found = rw is.own refl })
+one_at options id is (a ∷ names) x e = cc
 
-pub make_arguments : Arguments make_rules number_ids false
-make_arguments = record {
-  at = make_at;
-  full = λ names e. rw e refl;
-  fresh = make_fresh;
-  named = make_named;
-  limit_long = λ never. cc;
-  limit_id = λ never. cc;
-  no_long = λ long_name other. refl;
-  no_short = λ x. refl;
-  once_at = λ position a found. once_found (at_position position) make_rules a refl found;
+one_named : (options : List Text) (id : Text) → IsWordName options id → (names : List Text) (x : Text) → slice_get (one_id id) (length names) ≡ Some x → is_known options x ≡ false
+one_named options id is [] x e = as_id (λ x. is_known options x ≡ false) id x e is.free
+one_named options id is (a ∷ names) x e = cc
+
+pub one_arguments : (options : List Text) (id : Text) → IsWordName options id → Arguments (one_rules id options) (one_id id) options
+one_arguments options id is = record {
+  at = one_at options id is;
+  full = λ names e. rw e (by_index options (length names + 1));
+  fresh = one_fresh id;
+  named = one_named options id is;
+  option_long = by_long options;
+  option_id = λ x known. rw (unknown_differs options id x is.free known) (by_id options x known);
+  no_long = by_no_long options;
+  no_short = by_short options;
+  once_at = λ position a found. once_found (at_position position) (one_rules id options) a (single options) found;
   few = omega arith;
-  no_default = defaults_stay make_rules (refl, tt);
-  no_default_fault = defaults_pass make_rules (refl, tt);
+  no_default = defaults_stay (one_rules id options) (refl, no_defaults options);
+  no_default_fault = defaults_pass (one_rules id options) (refl, no_defaults options);
 }
   where
-    make_fresh : (names : List Text) (id : Text) → slice_get number_ids (length names) ≡ Some id → value_in id (zip number_ids names) ≡ None
-    make_fresh [] id e = refl
-    make_fresh (a ∷ names) id e = cc
-
--- The rows
-
-abbrev pub verify_row : Listing
-verify_row = listing (codes "verify") pair_words false task.Verify
-
-abbrev pub run_row : Listing
-run_row = listing (codes "run") pair_words true task.Run
-
-abbrev pub resume_row : Listing
-resume_row = listing (codes "resume") [] true task.Resume
-
-abbrev pub moves_row : Listing
-moves_row = listing (codes "moves") [] false task.Moves
-
-abbrev pub state_row : Listing
-state_row = listing (codes "state") [] false task.State
-
-abbrev pub make_row : Listing
-make_row = listing (codes "make") number_ids false task.Make
-
-named_verify : (given : List Row) → command_in (codes "verify") given ≡ command_from given verify_row
-unfolding command_in listings
-named_verify given = refl
-
-named_run : (given : List Row) → command_in (codes "run") given ≡ command_from given run_row
-unfolding command_in listings
-named_run given = refl
-
-named_resume : (given : List Row) → command_in (codes "resume") given ≡ command_from given resume_row
-unfolding command_in listings
-named_resume given = refl
-
-named_moves : (given : List Row) → command_in (codes "moves") given ≡ Some Moves
-unfolding command_in listings
-named_moves given = refl
-
-named_state : (given : List Row) → command_in (codes "state") given ≡ Some State
-unfolding command_in listings
-named_state given = refl
-
-named_make : (given : List Row) → command_in (codes "make") given ≡ command_from given make_row
-unfolding command_in listings
-named_make given = refl
+    one_fresh : (id : Text) (names : List Text) (x : Text) → slice_get (one_id id) (length names) ≡ Some x → value_in x (zip (one_id id) names) ≡ None
+    one_fresh id [] x e = refl
+    one_fresh id (a ∷ names) x e = cc
 
 -- How each subcommand ends: the last checks and the rows against the listed command
 
-abbrev pub listed_by : Listing → List Text → List Text → Option Command
-listed_by row names limits = command_given row (record { names = names; limits = limits })
+abbrev pub listed_by : Listing → List Text → List Used → Option Command
+listed_by row names marked = command_given row (record { names = names; marked = marked })
 
--- where no limit may be given none is read
-abbrev pub Ends : Listing → List Rule → ℕ → Type 0
-Ends row c most = (fault : Kinds) (rows : List Row) (names limits : List Text) → (most ≡ 0 → limits ≡ [])
-    → Ending row.words most (check_of row.name c) fault rows names limits
-    → cond (is_empty fault) (command_in row.name rows) None ≡ listed_by row names limits
+abbrev pub Ends : Listing → List Rule → Type 0
+Ends row c = (fault : Kinds) (rows : List Row) (names : List Text) (marked : List Used)
+    → Ending row.words row.options (check_of row.name c) fault rows names marked
+    → cond (is_empty fault) (command_in row.name rows) None ≡ listed_by row names marked
 
-none_fits : {A : Type 0} → (text : Text) (limits : List Text) → text ∷ limits ≡ [] → A
-none_fits text limits e = absurd (let bad : suc (length limits) ≡ 0 = ap length e in omega (arith, bad))
-
-longer : (row : Listing) (names limits : List Text) → length row.words < length names → None ≡ listed_by row names limits
-longer row names limits more =
+longer : (row : Listing) (names : List Text) (marked : List Used) → length row.words < length names → None ≡ listed_by row names marked
+longer row names marked more =
     elim (eqb_tells (length names) (length row.words)) [ inl same ↦ absurd (omega (arith, same.1, more)) | inr other ↦ rw other.0 refl ]
 
 fails : (fault : Kinds) (command answer : Option Command) → is_empty fault ≡ false → None ≡ answer → cond (is_empty fault) command None ≡ answer
 fails fault command answer e f = rw e f
 
-given_name : (ids : List Text) (most : ℕ) (uses : List Used) (names limits : List Text) (id : Text) → Story ids most uses names limits → bytes_eq id (codes "blocks") ≡ false
+given_name : (ids options : List Text) (uses : List Used) (names : List Text) (marked : List Used) (id : Text) → Story ids options uses names marked → is_known options id ≡ false
     → is_given id (map row_of_use uses) ≡ is_some (value_in id (zip ids names))
-given_name ids most uses names limits id story other = is_given-uses id uses ∙ ap is_some (value_of_name ids most uses names limits id story other)
+given_name ids options uses names marked id story other = is_given-uses id uses ∙ ap is_some (value_of_name ids options uses names marked id story other)
 
-first_name : (ids : List Text) (most : ℕ) (uses : List Used) (names limits : List Text) (id : Text) → Story ids most uses names limits → bytes_eq id (codes "blocks") ≡ false
+first_name : (ids options : List Text) (uses : List Used) (names : List Text) (marked : List Used) (id : Text) → Story ids options uses names marked → is_known options id ≡ false
     → first_of id (map row_of_use uses) ≡ value_in id (zip ids names)
-first_name ids most uses names limits id story other = first_of-uses id uses ∙ value_of_name ids most uses names limits id story other
+first_name ids options uses names marked id story other = first_of-uses id uses ∙ value_of_name ids options uses names marked id story other
 
-first_limit : (ids : List Text) (most : ℕ) (uses : List Used) (names limits : List Text) → Story ids most uses names limits
-    → first_of (codes "blocks") (map row_of_use uses) ≡ value_in (codes "blocks") (map limit_use limits)
-first_limit ids most uses names limits story = first_of-uses (codes "blocks") uses ∙ value_of_limit ids most uses names limits story
+-- the text of an option, as the rows have it and as the words do
+text_same : (row : Listing) (uses : List Used) (names : List Text) (marked : List Used) (id : Text) → Story row.words row.options uses names marked
+    → text_at row id (map row_of_use uses) ≡ text_for row id marked
+text_same row uses names marked id story = here (is_known row.options id) refl
+  where
+    here : (b : Bool) → is_known row.options id ≡ b → cond b (first_of id (map row_of_use uses)) None ≡ cond b (text_in id marked) None
+    here true is = first_of-uses id uses ∙ value_of_option row.words row.options uses names marked id story is
+    here false other = refl
+
+three : (a b c d e f : Option Text) → a ≡ d → b ≡ e → c ≡ f
+    → ◌≡◌ {A = OptionTextsView} (record { blocks = a; turret1 = b; turret2 = c }) (record { blocks = d; turret1 = e; turret2 = f })
+three a b c d e f x y z = rw (x, y, z) refl
+
+texts_same : (row : Listing) (uses : List Used) (names : List Text) (marked : List Used) → Story row.words row.options uses names marked
+    → texts_at row (map row_of_use uses) ≡ texts_for row marked
+texts_same row uses names marked story =
+    three _ _ _ _ _ _ (text_same row uses names marked (codes "blocks") story) (text_same row uses names marked (codes "turret1") story)
+    (text_same row uses names marked (codes "turret2") story)
+
+-- the command of a row whose words and options were read
+reads_as : (row : Listing) (uses : List Used) (names : List Text) (marked : List Used) → Story row.words row.options uses names marked
+    → ((given : List Row) → command_in row.name given ≡ command_from given row) → names_in (map row_of_use uses) row.words ≡ Some names
+    → nat_eq (length names) (length row.words) ≡ true → command_in row.name (map row_of_use uses) ≡ listed_by row names marked
+reads_as row uses names marked story is all many =
+    let listed : listed_by row names marked ≡ command_of row.task names (texts_for row marked) = rw (many, story.once) refl in
+    is (map row_of_use uses)
+    ∙ (rw all refl ∙ (ap (command_of row.task names) (texts_same row uses names marked story) ∙ sym listed))
 
 checked_as : (id : Text) (c : List Rule) (fault : Kinds) (rows uses_rows : List Row) (answer : Option Command) → fault ≡ check_of id c uses_rows → rows ≡ uses_rows
     → cond (is_empty (check_of id c uses_rows)) (command_in id uses_rows) None ≡ answer → cond (is_empty fault) (command_in id rows) None ≡ answer
 checked_as id c fault rows uses_rows answer e f end = rw (e, f) end
 
-verify_reads : (uses : List Used) (a b d : Text) → Story pair_ids 0 uses (a ∷ b ∷ d ∷ []) [] → command_in (codes "verify") (map row_of_use uses) ≡ listed_by verify_row (a ∷ b ∷ d ∷ []) []
-verify_reads uses a b d story =
-    named_verify (map row_of_use uses)
-    ∙ rw (
-      first_name pair_ids 0 uses (a ∷ b ∷ d ∷ []) [] (codes "left") story refl,
-      first_name pair_ids 0 uses (a ∷ b ∷ d ∷ []) [] (codes "right") story refl,
-      first_name pair_ids 0 uses (a ∷ b ∷ d ∷ []) [] (codes "settings") story refl,
-    ) refl
+-- a command of a pair
+abbrev pub pair_row : Text → List Text → Journal → Task → Listing
+pair_row name options kept what = listing name pair_words options kept what
 
-pub verify_ends : Ends verify_row verify_rules 0
-verify_ends fault rows [] limits fits (faulty bad many) = fails fault _ _ bad refl
-verify_ends fault rows (a ∷ []) limits fits (faulty bad many) = fails fault _ _ bad refl
-verify_ends fault rows (a ∷ b ∷ []) limits fits (faulty bad many) = fails fault _ _ bad refl
-verify_ends fault rows (a ∷ b ∷ d ∷ []) [] fits (faulty bad many) = absurd (omega arith)
-verify_ends fault rows (a ∷ b ∷ d ∷ []) (l ∷ limits) fits (faulty bad many) = none_fits l limits (fits refl)
-verify_ends fault rows (a ∷ b ∷ d ∷ e ∷ names) limits fits (faulty bad many) = fails fault _ _ bad (longer verify_row (a ∷ b ∷ d ∷ e ∷ names) limits (omega arith))
-verify_ends fault rows [] limits fits (checked uses story f g) =
-    checked_as (codes "verify") verify_rules fault rows (map row_of_use uses) None f g (rw (given_name pair_ids 0 uses [] limits (codes "left") story refl) refl)
-verify_ends fault rows (a ∷ []) limits fits (checked uses story f g) =
-    checked_as (codes "verify") verify_rules fault rows (map row_of_use uses) None f g
-    (rw (given_name pair_ids 0 uses (a ∷ []) limits (codes "left") story refl, given_name pair_ids 0 uses (a ∷ []) limits (codes "right") story refl) refl)
-verify_ends fault rows (a ∷ b ∷ []) limits fits (checked uses story f g) =
-    checked_as (codes "verify") verify_rules fault rows (map row_of_use uses) None f g
+pub pair_ends : (name : Text) (options : List Text) (kept : Journal) (what : Task) → ArePairNames options
+    → ((given : List Row) → command_in name given ≡ command_from given (pair_row name options kept what)) → Ends (pair_row name options kept what) (pair_rules options)
+pair_ends name options kept what free is fault rows [] marked (faulty bad many) = fails fault _ _ bad refl
+pair_ends name options kept what free is fault rows (a ∷ []) marked (faulty bad many) = fails fault _ _ bad refl
+pair_ends name options kept what free is fault rows (a ∷ b ∷ []) marked (faulty bad many) = fails fault _ _ bad refl
+pair_ends name options kept what free is fault rows (a ∷ b ∷ d ∷ []) marked (faulty bad (inl many)) = absurd (omega (arith, many))
+pair_ends name options kept what free is fault rows (a ∷ b ∷ d ∷ []) marked (faulty bad (inr twice)) = fails fault _ _ bad (rw twice refl)
+pair_ends name options kept what free is fault rows (a ∷ b ∷ d ∷ e ∷ names) marked (faulty bad many) =
+    fails fault _ _ bad (longer (pair_row name options kept what) (a ∷ b ∷ d ∷ e ∷ names) marked (omega arith))
+pair_ends name options kept what free is fault rows [] marked (checked uses story f g) =
+    checked_as name (pair_rules options) fault rows (map row_of_use uses) None f g (rw (given_name pair_ids options uses [] marked (codes "left") story free.left) refl)
+pair_ends name options kept what free is fault rows (a ∷ []) marked (checked uses story f g) =
+    checked_as name (pair_rules options) fault rows (map row_of_use uses) None f g
     (rw (
-      given_name pair_ids 0 uses (a ∷ b ∷ []) limits (codes "left") story refl,
-      given_name pair_ids 0 uses (a ∷ b ∷ []) limits (codes "right") story refl,
-      given_name pair_ids 0 uses (a ∷ b ∷ []) limits (codes "settings") story refl,
+      given_name pair_ids options uses (a ∷ []) marked (codes "left") story free.left,
+      given_name pair_ids options uses (a ∷ []) marked (codes "right") story free.right,
     ) refl)
-verify_ends fault rows (a ∷ b ∷ d ∷ []) [] fits (checked uses story f g) =
-    checked_as (codes "verify") verify_rules fault rows (map row_of_use uses) (listed_by verify_row (a ∷ b ∷ d ∷ []) []) f g
+pair_ends name options kept what free is fault rows (a ∷ b ∷ []) marked (checked uses story f g) =
+    checked_as name (pair_rules options) fault rows (map row_of_use uses) None f g
     (rw (
-      given_name pair_ids 0 uses (a ∷ b ∷ d ∷ []) [] (codes "left") story refl,
-      given_name pair_ids 0 uses (a ∷ b ∷ d ∷ []) [] (codes "right") story refl,
-      given_name pair_ids 0 uses (a ∷ b ∷ d ∷ []) [] (codes "settings") story refl,
-    ) (verify_reads uses a b d story))
-verify_ends fault rows (a ∷ b ∷ d ∷ []) (l ∷ limits) fits (checked uses story f g) = absurd (omega (arith, story.few_limits))
-verify_ends fault rows (a ∷ b ∷ d ∷ e ∷ names) limits fits (checked uses story f g) = absurd (omega (arith, story.few_names))
-
-run_reads : (uses : List Used) (a b d : Text) (limits : List Text) → length limits ≤ 1 → Story pair_ids 1 uses (a ∷ b ∷ d ∷ []) limits
-    → command_in (codes "run") (map row_of_use uses) ≡ listed_by run_row (a ∷ b ∷ d ∷ []) limits
-run_reads uses a b d [] few story =
-    named_run (map row_of_use uses)
-    ∙ rw (
-      first_name pair_ids 1 uses (a ∷ b ∷ d ∷ []) [] (codes "left") story refl,
-      first_name pair_ids 1 uses (a ∷ b ∷ d ∷ []) [] (codes "right") story refl,
-      first_name pair_ids 1 uses (a ∷ b ∷ d ∷ []) [] (codes "settings") story refl,
-      first_limit pair_ids 1 uses (a ∷ b ∷ d ∷ []) [] story,
-    ) refl
-run_reads uses a b d (l ∷ []) few story =
-    named_run (map row_of_use uses)
-    ∙ rw (
-      first_name pair_ids 1 uses (a ∷ b ∷ d ∷ []) (l ∷ []) (codes "left") story refl,
-      first_name pair_ids 1 uses (a ∷ b ∷ d ∷ []) (l ∷ []) (codes "right") story refl,
-      first_name pair_ids 1 uses (a ∷ b ∷ d ∷ []) (l ∷ []) (codes "settings") story refl,
-      first_limit pair_ids 1 uses (a ∷ b ∷ d ∷ []) (l ∷ []) story,
-    ) refl
-run_reads uses a b d (l ∷ m ∷ limits) few story = absurd (omega (arith, few))
-
-pub run_ends : Ends run_row run_rules 1
-run_ends fault rows [] limits fits (faulty bad many) = fails fault _ _ bad refl
-run_ends fault rows (a ∷ []) limits fits (faulty bad many) = fails fault _ _ bad refl
-run_ends fault rows (a ∷ b ∷ []) limits fits (faulty bad many) = fails fault _ _ bad refl
-run_ends fault rows (a ∷ b ∷ d ∷ []) [] fits (faulty bad many) = absurd (omega arith)
-run_ends fault rows (a ∷ b ∷ d ∷ []) (l ∷ []) fits (faulty bad many) = absurd (omega arith)
-run_ends fault rows (a ∷ b ∷ d ∷ []) (l ∷ m ∷ limits) fits (faulty bad many) = fails fault _ _ bad refl
-run_ends fault rows (a ∷ b ∷ d ∷ e ∷ names) limits fits (faulty bad many) = fails fault _ _ bad (longer run_row (a ∷ b ∷ d ∷ e ∷ names) limits (omega arith))
-run_ends fault rows [] limits fits (checked uses story f g) =
-    checked_as (codes "run") run_rules fault rows (map row_of_use uses) None f g (rw (given_name pair_ids 1 uses [] limits (codes "left") story refl) refl)
-run_ends fault rows (a ∷ []) limits fits (checked uses story f g) =
-    checked_as (codes "run") run_rules fault rows (map row_of_use uses) None f g
-    (rw (given_name pair_ids 1 uses (a ∷ []) limits (codes "left") story refl, given_name pair_ids 1 uses (a ∷ []) limits (codes "right") story refl) refl)
-run_ends fault rows (a ∷ b ∷ []) limits fits (checked uses story f g) =
-    checked_as (codes "run") run_rules fault rows (map row_of_use uses) None f g
-    (rw (
-      given_name pair_ids 1 uses (a ∷ b ∷ []) limits (codes "left") story refl,
-      given_name pair_ids 1 uses (a ∷ b ∷ []) limits (codes "right") story refl,
-      given_name pair_ids 1 uses (a ∷ b ∷ []) limits (codes "settings") story refl,
+      given_name pair_ids options uses (a ∷ b ∷ []) marked (codes "left") story free.left,
+      given_name pair_ids options uses (a ∷ b ∷ []) marked (codes "right") story free.right,
+      given_name pair_ids options uses (a ∷ b ∷ []) marked (codes "settings") story free.settings,
     ) refl)
-run_ends fault rows (a ∷ b ∷ d ∷ []) limits fits (checked uses story f g) =
-    checked_as (codes "run") run_rules fault rows (map row_of_use uses) (listed_by run_row (a ∷ b ∷ d ∷ []) limits) f g
+pair_ends name options kept what free is fault rows (a ∷ b ∷ d ∷ []) marked (checked uses story f g) =
+    let row = pair_row name options kept what in
+    let names = a ∷ b ∷ d ∷ [] in
+    let all : names_in (map row_of_use uses) pair_words ≡ Some names
+    = rw (
+      first_name pair_ids options uses names marked (codes "left") story free.left,
+      first_name pair_ids options uses names marked (codes "right") story free.right,
+      first_name pair_ids options uses names marked (codes "settings") story free.settings,
+    ) refl in
+    checked_as name (pair_rules options) fault rows (map row_of_use uses) (listed_by row names marked) f g
     (rw (
-      given_name pair_ids 1 uses (a ∷ b ∷ d ∷ []) limits (codes "left") story refl,
-      given_name pair_ids 1 uses (a ∷ b ∷ d ∷ []) limits (codes "right") story refl,
-      given_name pair_ids 1 uses (a ∷ b ∷ d ∷ []) limits (codes "settings") story refl,
-    ) (run_reads uses a b d limits story.few_limits story))
-run_ends fault rows (a ∷ b ∷ d ∷ e ∷ names) limits fits (checked uses story f g) = absurd (omega (arith, story.few_names))
+      given_name pair_ids options uses names marked (codes "left") story free.left,
+      given_name pair_ids options uses names marked (codes "right") story free.right,
+      given_name pair_ids options uses names marked (codes "settings") story free.settings,
+      none_required options (map row_of_use uses),
+    ) (reads_as row uses names marked story is all refl))
+pair_ends name options kept what free is fault rows (a ∷ b ∷ d ∷ e ∷ names) marked (checked uses story f g) = absurd (omega (arith, story.few_names))
 
-resume_reads : (uses : List Used) (limits : List Text) → length limits ≤ 1 → Story [] 1 uses [] limits → command_in (codes "resume") (map row_of_use uses) ≡ listed_by resume_row [] limits
-resume_reads uses [] few story = named_resume (map row_of_use uses) ∙ rw (first_limit [] 1 uses [] [] story) refl
-resume_reads uses (l ∷ []) few story = named_resume (map row_of_use uses) ∙ rw (first_limit [] 1 uses [] (l ∷ []) story) refl
-resume_reads uses (l ∷ m ∷ limits) few story = absurd (omega (arith, few))
+-- a command without words
+abbrev pub alone_row : Text → List Text → Journal → Task → Listing
+alone_row name options kept what = listing name [] options kept what
 
-pub resume_ends : Ends resume_row resume_rules 1
-resume_ends fault rows [] [] fits (faulty bad many) = absurd (omega arith)
-resume_ends fault rows [] (l ∷ []) fits (faulty bad many) = absurd (omega arith)
-resume_ends fault rows [] (l ∷ m ∷ limits) fits (faulty bad many) = fails fault _ _ bad refl
-resume_ends fault rows (a ∷ names) limits fits (faulty bad many) = fails fault _ _ bad (longer resume_row (a ∷ names) limits (omega arith))
-resume_ends fault rows [] limits fits (checked uses story f g) =
-    checked_as (codes "resume") resume_rules fault rows (map row_of_use uses) (listed_by resume_row [] limits) f g (resume_reads uses limits story.few_limits story)
-resume_ends fault rows (a ∷ names) limits fits (checked uses story f g) = absurd (omega (arith, story.few_names))
+pub alone_ends : (name : Text) (options : List Text) (kept : Journal) (what : Task)
+    → ((given : List Row) → command_in name given ≡ command_from given (alone_row name options kept what)) → Ends (alone_row name options kept what) (option_rules options)
+alone_ends name options kept what is fault rows [] marked (faulty bad (inl many)) = absurd (omega (arith, many))
+alone_ends name options kept what is fault rows [] marked (faulty bad (inr twice)) = fails fault _ _ bad (rw twice refl)
+alone_ends name options kept what is fault rows (a ∷ names) marked (faulty bad many) =
+    fails fault _ _ bad (longer (alone_row name options kept what) (a ∷ names) marked (omega arith))
+alone_ends name options kept what is fault rows [] marked (checked uses story f g) =
+    let row = alone_row name options kept what in
+    checked_as name (option_rules options) fault rows (map row_of_use uses) (listed_by row [] marked) f g
+    (rw (none_required options (map row_of_use uses)) (reads_as row uses [] marked story is refl refl))
+alone_ends name options kept what is fault rows (a ∷ names) marked (checked uses story f g) = absurd (omega (arith, story.few_names))
 
-alone_ends : (id : Text) (what : Task) (command : Command) → ((given : List Row) → command_in id given ≡ Some command) → command_with what [] 100000 ≡ Some command
-    → Ends (listing id [] false what) [] 0
-alone_ends id what command is makes fault rows [] [] fits (faulty bad many) = absurd (omega arith)
-alone_ends id what command is makes fault rows [] (l ∷ limits) fits (faulty bad many) = none_fits l limits (fits refl)
-alone_ends id what command is makes fault rows (a ∷ names) limits fits (faulty bad many) =
-    fails fault _ _ bad (longer (listing id [] false what) (a ∷ names) limits (omega arith))
-alone_ends id what command is makes fault rows [] [] fits (checked uses story f g) =
-    rw makes (checked_as id [] fault rows (map row_of_use uses) (Some command) f g (is (map row_of_use uses)))
-alone_ends id what command is makes fault rows [] (l ∷ limits) fits (checked uses story f g) = absurd (omega (arith, story.few_limits))
-alone_ends id what command is makes fault rows (a ∷ names) limits fits (checked uses story f g) = absurd (omega (arith, story.few_names))
+-- a command of one word, which is called so
+abbrev pub one_row : Text → Text → List Text → Journal → Task → Listing
+one_row name id options kept what = listing name (one_id id) options kept what
 
-pub moves_ends : Ends moves_row [] 0
-moves_ends = alone_ends (codes "moves") task.Moves Moves named_moves refl
-
-pub state_ends : Ends state_row [] 0
-state_ends = alone_ends (codes "state") task.State State named_state refl
-
-make_reads : (uses : List Used) (a : Text) → Story number_ids 0 uses (a ∷ []) [] → command_in (codes "make") (map row_of_use uses) ≡ listed_by make_row (a ∷ []) []
-make_reads uses a story = named_make (map row_of_use uses) ∙ rw (first_name number_ids 0 uses (a ∷ []) [] (codes "number") story refl) refl
-
-pub make_ends : Ends make_row make_rules 0
-make_ends fault rows [] limits fits (faulty bad many) = fails fault _ _ bad refl
-make_ends fault rows (a ∷ []) [] fits (faulty bad many) = absurd (omega arith)
-make_ends fault rows (a ∷ []) (l ∷ limits) fits (faulty bad many) = none_fits l limits (fits refl)
-make_ends fault rows (a ∷ b ∷ names) limits fits (faulty bad many) = fails fault _ _ bad (longer make_row (a ∷ b ∷ names) limits (omega arith))
-make_ends fault rows [] limits fits (checked uses story f g) =
-    checked_as (codes "make") make_rules fault rows (map row_of_use uses) None f g (rw (given_name number_ids 0 uses [] limits (codes "number") story refl) refl)
-make_ends fault rows (a ∷ []) [] fits (checked uses story f g) =
-    checked_as (codes "make") make_rules fault rows (map row_of_use uses) (listed_by make_row (a ∷ []) []) f g
-    (rw (given_name number_ids 0 uses (a ∷ []) [] (codes "number") story refl) (make_reads uses a story))
-make_ends fault rows (a ∷ []) (l ∷ limits) fits (checked uses story f g) = absurd (omega (arith, story.few_limits))
-make_ends fault rows (a ∷ b ∷ names) limits fits (checked uses story f g) = absurd (omega (arith, story.few_names))
+pub one_ends : (name id : Text) (options : List Text) (kept : Journal) (what : Task) → IsWordName options id
+    → ((given : List Row) → command_in name given ≡ command_from given (one_row name id options kept what)) → Ends (one_row name id options kept what) (one_rules id options)
+one_ends name id options kept what word is fault rows [] marked (faulty bad many) = fails fault _ _ bad refl
+one_ends name id options kept what word is fault rows (a ∷ []) marked (faulty bad (inl many)) = absurd (omega (arith, many))
+one_ends name id options kept what word is fault rows (a ∷ []) marked (faulty bad (inr twice)) = fails fault _ _ bad (rw twice refl)
+one_ends name id options kept what word is fault rows (a ∷ b ∷ names) marked (faulty bad many) =
+    fails fault _ _ bad (longer (one_row name id options kept what) (a ∷ b ∷ names) marked (omega arith))
+one_ends name id options kept what word is fault rows [] marked (checked uses story f g) =
+    checked_as name (one_rules id options) fault rows (map row_of_use uses) None f g (rw (given_name (one_id id) options uses [] marked id story word.free) refl)
+one_ends name id options kept what word is fault rows (a ∷ []) marked (checked uses story f g) =
+    let row = one_row name id options kept what in
+    let all : names_in (map row_of_use uses) (one_id id) ≡ Some (a ∷ []) = rw (first_name (one_id id) options uses (a ∷ []) marked id story word.free, word.own) refl in
+    checked_as name (one_rules id options) fault rows (map row_of_use uses) (listed_by row (a ∷ []) marked) f g
+    (rw (given_name (one_id id) options uses (a ∷ []) marked id story word.free, word.own, none_required options (map row_of_use uses))
+    (reads_as row uses (a ∷ []) marked story is all refl))
+one_ends name id options kept what word is fault rows (a ∷ b ∷ names) marked (checked uses story f g) = absurd (omega (arith, story.few_names))

@@ -10,17 +10,21 @@ use Rattle.clap.specs.Faults.{check_fault, defaults_fault, entered_fault, settle
 use Rattle.clap.specs.Simple.{App, Shape, entered, label_of, names_of, new_shape}
 use Rattle.clap.specs.Walk.{Names, Row, Rule, Text, Walk, answers_to, finished, idle, is_empty, nothing_held, settled, subcommand_met, walk_from, walked, word_met}
 use Rattle.clap.proofs.FaultLemmas.{stopped_fault}
-use Rattle.clap_reading.specs.ClapReading.{command_in, clap_command}
+use Rattle.clap_reading.specs.ClapReading.{command_from, command_in, clap_command, line_command}
 use Rattle.clap_reading.specs.Grammar.{program_app}
-use Rattle.command_words.specs.Listed.{Given, command_behind, command_given, given, is_option, listed_command, with_name}
-use Rattle.command_words.specs.Table.{Listing, listings, row_in}
+use Rattle.command_words.specs.Listed.{Given, command_behind, command_given, given, listed_command}
+use Rattle.command_words.specs.Table.{Listing, block_options, listings, row_in, run_options, turret_options}
 use Rattle.command_words.specs.declared.command.Command.{Command}
+use Rattle.command_words.specs.declared.table.Journal.{Journal}
+use Rattle.command_words.specs.declared.table.Journal.TheVariants as journal
+use Rattle.command_words.specs.declared.table.Task.{Task}
+use Rattle.command_words.specs.declared.table.Task.TheVariants as task
 use Rattle.clap_reading.proofs.Readings.{check_of, reads_all}
 use Rattle.clap_reading.proofs.Steps.{at_rest, bundle_fails, first_some, going, leaf, or_else-none}
 use Rattle.clap_reading.proofs.Stories.{Outcome, begun}
-use Rattle.clap_reading.proofs.Subcommands.{Ends, make_arguments, make_ends, make_row, make_rules, moves_ends, moves_row, no_arguments, resume_arguments, resume_ends, resume_row, resume_rules, run_arguments, run_ends, run_row, run_rules, state_ends, state_row, verify_arguments, verify_ends, verify_row, verify_rules}
+use Rattle.clap_reading.proofs.Subcommands.{ArePairNames, Ends, IsWordName, alone_arguments, alone_ends, alone_row, one_arguments, one_ends, one_row, one_rules, option_rules, pair_arguments, pair_ends, pair_row, pair_rules}
 use Rattle.clap_reading.proofs.Walks.{AllTexts, Arguments, end_of, rest_fault}
-use Rattle.clap_reading.proofs.WordKinds.{WordKind, dashes, kind_of_word, limit, long, name, short}
+use Rattle.clap_reading.proofs.WordKinds.{WordKind, dashes, kind_of_word, listed, long, name, short}
 
 -- the program's command, built
 
@@ -36,8 +40,8 @@ top_shape = record (new_shape (codes "twin_lathe")) {
 abbrev built_program : App
 built_program = record {
   top = top_shape;
-  subs = leaf (codes "verify") verify_rules ∷ leaf (codes "run") run_rules ∷ leaf (codes "resume") resume_rules ∷ leaf (codes "moves") []
-      ∷ leaf (codes "state") [] ∷ leaf (codes "make") make_rules ∷ [];
+  subs = leaf (codes "verify") (pair_rules []) ∷ leaf (codes "trace") (pair_rules block_options) ∷ leaf (codes "run") (pair_rules run_options) ∷ leaf (codes "resume") (option_rules run_options)
+      ∷ leaf (codes "moves") (option_rules []) ∷ leaf (codes "state") (option_rules []) ∷ leaf (codes "make") (one_rules (codes "number") turret_options) ∷ [];
 }
 
 abbrev names_top : Names
@@ -53,7 +57,7 @@ answer fault w =
     (option_and_then (λ met. command_in met.0 met.1) (entered built_program w.stopped)) None
 
 clap_command_is : (words : List Text) → clap_command words ≡ answer (walk_fault top_shape names_top start words) (fold (walked [] names_top) start words)
-unfolding clap_command program_app listings
+unfolding line_command program_app listings
 clap_command_is words = refl
 
 -- a known first word: the rest goes to the subcommand
@@ -86,41 +90,19 @@ known id c rest first none found =
     ∙ ap₂ answer (known_fault id rest first none) (ap (λ w. fold (walked [] names_top) w rest) first ∙ stays_stopped id [] rest)
     ∙ rw (found, or_else-none) refl
 
--- a command that takes no `--blocks` is given none
+-- how a subcommand ends, from the outcome of its words
 
-abbrev limits_read : Option Given → List Text
-limits_read None = []
-limits_read (Some all) = all.limits
-
-with_name_reads : (word : Text) (g : Option Given) → limits_read (with_name word g) ≡ limits_read g
-with_name_reads word None = refl
-with_name_reads word (Some all) = refl
-
-none_read : (rest : List Text) → limits_read (given false rest) ≡ []
-unfolding given
-none_read [] = refl
-none_read (word ∷ rest) =
-    let here : (b d : Bool) → limits_read (cond b (Some (record { names = rest; limits = [] })) (cond d None (with_name word (given false rest)))) ≡ []
-    = elim [ true ↦ λ d. refl | false ↦ elim [ true ↦ refl | false ↦ with_name_reads word (given false rest) ∙ none_read rest ] ] in
-    here (bytes_eq word (codes "--")) (is_option word)
-
-fits_in : (limited : Bool) (most : ℕ) → (limited ≡ true → 1 ≤ most) → (rest : List Text) (all : Given) → given limited rest ≡ Some all → most ≡ 0 → all.limits ≡ []
-fits_in true most some rest all e none = absurd (omega (arith, some refl, none))
-fits_in false most some rest all e none = sym (ap limits_read e) ∙ none_read rest
-
-from_outcome : (row : Listing) (c : List Rule) (most : ℕ) → Ends row c most
-    → (fault : Kinds) (rows : List Row) (g : Option Given) → ((all : Given) → g ≡ Some all → most ≡ 0 → all.limits ≡ [])
-    → Outcome row.words most (check_of row.name c) fault rows [] [] g
+from_outcome : (row : Listing) (c : List Rule) → Ends row c → (fault : Kinds) (rows : List Row) (g : Option Given)
+    → Outcome row.words row.options (check_of row.name c) fault rows [] [] g
     → cond (is_empty fault) (command_in row.name rows) None ≡ option_and_then (command_given row) g
-from_outcome row c most ends fault rows None fits outcome = rw outcome refl
-from_outcome row c most ends fault rows (Some g) fits outcome = ends fault rows g.names g.limits (fits g refl) outcome
+from_outcome row c ends fault rows None outcome = rw outcome refl
+from_outcome row c ends fault rows (Some g) outcome = ends fault rows g.names g.marked outcome
 
-subcommand_is : (row : Listing) (c : List Rule) (most : ℕ) → Ends row c most → Arguments c row.words row.takes_blocks
-    → (row.takes_blocks ≡ true → 1 ≤ most) → most ≤ 1 → (rest : List Text) → AllTexts rest → answer_of row.name c rest ≡ command_behind rest row
-subcommand_is row c most ends arguments some once rest texts =
-    from_outcome row c most ends (rest_fault row.name c (at_rest [] None 1 false) rest) (finished c (end_of c (at_rest [] None 1 false) rest)) (given row.takes_blocks rest)
-    (fits_in row.takes_blocks most some rest)
-    ((reads_all row.name c row.words row.takes_blocks most arguments some once rest texts).0 [] None [] [] false tt (begun row.words most))
+subcommand_is : (row : Listing) (c : List Rule) → Ends row c → Arguments c row.words row.options → (rest : List Text) → AllTexts rest
+    → answer_of row.name c rest ≡ command_behind rest row
+subcommand_is row c ends arguments rest texts =
+    from_outcome row c ends (rest_fault row.name c (at_rest [] None 1 false) rest) (finished c (end_of c (at_rest [] None 1 false) rest)) (given row.options rest)
+    ((reads_all row.name c row.words row.options arguments rest texts).0 [] None [] [] false tt (begun row.words row.options))
 
 -- an unknown first word
 
@@ -134,13 +116,13 @@ IsUnknown word (row ∷ rows) = (bytes_eq row.name word ≡ false) × IsUnknown 
 
 meets_none : (word : Text) → IsUnknown word listings → subcommand_met names_top idle word ≡ None
 unfolding listings
-meets_none word u = rw (u.0, u.1.0, u.1.1.0, u.1.1.1.0, u.1.1.1.1.0, u.1.1.1.1.1.0) refl
+meets_none word u = rw (u.0, u.1.0, u.1.1.0, u.1.1.1.0, u.1.1.1.1.0, u.1.1.1.1.1.0, u.1.1.1.1.1.1.0) refl
 
-unknown_turn_fails : (word : Text) → subcommand_met names_top idle word ≡ None → WordKind false word → bytes_eq word (codes "--") ≡ false
+unknown_turn_fails : (word : Text) → subcommand_met names_top idle word ≡ None → WordKind [] word → bytes_eq word (codes "--") ≡ false
     → is_empty (turn_fault top_shape names_top start word) ≡ false
 unknown_turn_fails word none (dashes e) no_dashes = absurd (let bad : true ≡ false = sym e ∙ no_dashes in cc)
 unknown_turn_fails word none (name goes a b) no_dashes = rw (none, goes.no_dashes, goes.no_long, goes.no_short) refl
-unknown_turn_fails word none (limit e never read a b) no_dashes = cc
+unknown_turn_fails word none (listed opt e never read a b) no_dashes = cc
 unknown_turn_fails word none (long long_name text e read other a b) no_dashes = rw (none, e, read) refl
 unknown_turn_fails word none (short flags first e no_long flags_are char some a b) no_dashes =
     first_some (word_fault top_shape names_top false idle word nothing_held)
@@ -201,15 +183,9 @@ unknown word rest utf8 u = go (bytes_eq word (codes "--")) refl
   where
     go : (is_dashes : Bool) → bytes_eq word (codes "--") ≡ is_dashes → clap_command (word ∷ rest) ≡ None
     go true e = dashes_first word rest (meets_none word u) e
-    go false e = first_refused word rest (unknown_turn_fails word (meets_none word u) (kind_of_word false word utf8) e)
+    go false e = first_refused word rest (unknown_turn_fails word (meets_none word u) (kind_of_word [] word utf8) e)
 
 -- each subcommand
-
-never_limited : false ≡ true → 1 ≤ 0
-never_limited e = cc
-
-one_limited : true ≡ true → 1 ≤ 1
-one_limited e = omega arith
 
 -- a first word that is a row's name
 abbrev IsKnown : Listing → Type 0
@@ -219,39 +195,56 @@ abbrev AreKnown : List Listing → Type 0
 AreKnown [] = Unit {0}
 AreKnown (row ∷ rows) = IsKnown row × AreKnown rows
 
-verify_is : IsKnown verify_row
-unfolding walked
-verify_is rest texts = known (codes "verify") verify_rules rest refl refl refl
-    ∙ subcommand_is verify_row verify_rules 0 verify_ends verify_arguments never_limited (omega arith) rest texts
+-- the first word is the name of this subcommand
+pub record IsMet (called : Text) (c : List Rule) : Type 0 where
+  pub first : walked [] names_top start called ≡ record start { stopped = Some (called, []) }
+  pub none : turn_fault top_shape names_top start called ≡ []
+  pub found : find (λ s. answers_to called (label_of s)) built_program.subs ≡ Some (leaf called c)
 
-run_is : IsKnown run_row
-unfolding walked
-run_is rest texts = known (codes "run") run_rules rest refl refl refl
-    ∙ subcommand_is run_row run_rules 1 run_ends run_arguments one_limited (omega arith) rest texts
+-- its row is the one of its name
+abbrev IsRowOf : Text → Listing → Type 0
+IsRowOf called row = (given : List Row) → command_in called given ≡ command_from given row
 
-resume_is : IsKnown resume_row
-unfolding walked
-resume_is rest texts = known (codes "resume") resume_rules rest refl refl refl
-    ∙ subcommand_is resume_row resume_rules 1 resume_ends resume_arguments one_limited (omega arith) rest texts
+pair_is : (called : Text) (options : List Text) (kept : Journal) (what : Task) → ArePairNames options → IsMet called (pair_rules options)
+    → IsRowOf called (pair_row called options kept what) → IsKnown (pair_row called options kept what)
+pair_is called options kept what free met is rest texts = known called (pair_rules options) rest met.first met.none met.found
+    ∙ subcommand_is (pair_row called options kept what) (pair_rules options) (pair_ends called options kept what free is) (pair_arguments options free) rest texts
 
-moves_is : IsKnown moves_row
-unfolding walked
-moves_is rest texts = known (codes "moves") [] rest refl refl refl
-    ∙ subcommand_is moves_row [] 0 moves_ends no_arguments never_limited (omega arith) rest texts
+alone_is : (called : Text) (options : List Text) (kept : Journal) (what : Task) → IsMet called (option_rules options)
+    → IsRowOf called (alone_row called options kept what) → IsKnown (alone_row called options kept what)
+alone_is called options kept what met is rest texts = known called (option_rules options) rest met.first met.none met.found
+    ∙ subcommand_is (alone_row called options kept what) (option_rules options) (alone_ends called options kept what is) (alone_arguments options) rest texts
 
-state_is : IsKnown state_row
-unfolding walked
-state_is rest texts = known (codes "state") [] rest refl refl refl
-    ∙ subcommand_is state_row [] 0 state_ends no_arguments never_limited (omega arith) rest texts
+one_is : (called id : Text) (options : List Text) (kept : Journal) (what : Task) → IsWordName options id → IsMet called (one_rules id options)
+    → IsRowOf called (one_row called id options kept what) → IsKnown (one_row called id options kept what)
+one_is called id options kept what word met is rest texts = known called (one_rules id options) rest met.first met.none met.found
+    ∙ subcommand_is (one_row called id options kept what) (one_rules id options) (one_ends called id options kept what word is) (one_arguments options id word) rest texts
 
-make_is : IsKnown make_row
-unfolding walked
-make_is rest texts = known (codes "make") make_rules rest refl refl refl
-    ∙ subcommand_is make_row make_rules 0 make_ends make_arguments never_limited (omega arith) rest texts
-
+-- The rows. A further one is a line here.
 all_known : AreKnown listings
-unfolding listings
-all_known = (verify_is, (run_is, (resume_is, (moves_is, (state_is, (make_is, tt))))))
+unfolding listings command_in walked
+all_known = (
+  pair_is (codes "verify") [] journal.None task.Verify (record { left = refl; right = refl; settings = refl }) (record { first = refl; none = refl; found = refl }) (λ given. refl),
+  (
+    pair_is (codes "trace") block_options journal.None task.Trace (record { left = refl; right = refl; settings = refl }) (record { first = refl; none = refl; found = refl }) (λ given. refl),
+    (
+      pair_is (codes "run") run_options journal.Write task.Run (record { left = refl; right = refl; settings = refl }) (record { first = refl; none = refl; found = refl }) (λ given. refl),
+      (
+        alone_is (codes "resume") run_options journal.Write task.Resume (record { first = refl; none = refl; found = refl }) (λ given. refl),
+        (
+          alone_is (codes "moves") [] journal.Look task.Moves (record { first = refl; none = refl; found = refl }) (λ given. refl),
+          (
+            alone_is (codes "state") [] journal.Look task.State (record { first = refl; none = refl; found = refl }) (λ given. refl),
+            (
+              one_is (codes "make") (codes "number") turret_options journal.Write task.Make (record { own = refl; free = refl }) (record { first = refl; none = refl; found = refl }) (λ given. refl),
+              tt,
+            ),
+          ),
+        ),
+      ),
+    ),
+  ),
+)
 
 -- all the words: the first one names the first row of that name, or none
 

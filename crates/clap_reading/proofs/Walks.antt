@@ -10,9 +10,9 @@ use Rattle.clap.specs.Lexer.{long_of}
 use Rattle.clap.specs.Faults.{check_fault, defaults_fault, option_fault, positional_fault, settle_fault, step_fault, stray_fault, turn_fault, use_fault, walk_fault, word_fault}
 use Rattle.clap.specs.Walk.{Held, Row, Rule, Text, Waiting, Walk, arg_by_id, arg_by_index, arg_by_long, arg_by_short, finished, idle, is_empty, settled, takes_several, walked, with_default, word_met}
 use Rattle.command_words.specs.Listed.{option_text}
-use Rattle.clap_reading.proofs.Steps.{IsNameWord, IsOnce, dashes_going, first_some, going, leaf, limit_at, no_subcommand, or_else-none, short_turn, unknown_turn}
-use Rattle.clap_reading.proofs.Uses.{value_in}
-use Rattle.clap_reading.proofs.WordKinds.{WordKind, dashes, kind_of_word, limit, long, name, short}
+use Rattle.clap_reading.proofs.Steps.{IsNameWord, IsOnce, dashes_going, first_some, going, leaf, no_subcommand, option_at, or_else-none, short_turn, unknown_turn}
+use Rattle.clap_reading.proofs.Uses.{is_known, value_in}
+use Rattle.clap_reading.proofs.WordKinds.{WordKind, dashes, kind_of_word, listed, long, name, short}
 
 -- what is left of a parse, from a walk on
 
@@ -56,22 +56,22 @@ pub record RuleAt (c : List Rule) (id : Text) (position : ℕ) : Type 0 where
   pub once : IsOnce rule
   pub found : arg_by_id c id ≡ Some rule
 
-pub record Arguments (c : List Rule) (ids : List Text) (limited : Bool) : Type 0 where
+pub record Arguments (c : List Rule) (ids options : List Text) : Type 0 where
   pub at : (names : List Text) (id : Text) → slice_get ids (length names) ≡ Some id → RuleAt c id (length names + 1)
   pub full : (names : List Text) → length names ≡ length ids → arg_by_index c (length names + 1) ≡ None
   pub fresh : (names : List Text) (id : Text) → slice_get ids (length names) ≡ Some id → value_in id (zip ids names) ≡ None
-  pub named : (names : List Text) (id : Text) → slice_get ids (length names) ≡ Some id → bytes_eq id (codes "blocks") ≡ false
-  pub limit_long : limited ≡ true → arg_by_long c (codes "blocks") ≡ Some limit_at
-  pub limit_id : limited ≡ true → arg_by_id c (codes "blocks") ≡ Some limit_at
-  pub no_long : (long_name : Text) → (limited ≡ true → bytes_eq long_name (codes "blocks") ≡ false) → arg_by_long c long_name ≡ None
+  pub named : (names : List Text) (id : Text) → slice_get ids (length names) ≡ Some id → is_known options id ≡ false
+  pub option_long : (id : Text) → is_known options id ≡ true → arg_by_long c id ≡ Some (option_at id)
+  pub option_id : (id : Text) → is_known options id ≡ true → arg_by_id c id ≡ Some (option_at id)
+  pub no_long : (id : Text) → is_known options id ≡ false → arg_by_long c id ≡ None
   pub no_short : (x : ℕ) → arg_by_short c x ≡ None
   pub once_at : (position : ℕ) (a : Rule) → arg_by_index c position ≡ Some a → takes_several a ≡ false
   pub few : length ids ≤ 3
   pub no_default : (rows : List Row) → fold with_default rows c ≡ rows
   pub no_default_fault : (rows : List Row) → defaults_fault rows c ≡ []
 
-pub limit_once : IsOnce limit_at
-limit_once = record {
+pub option_once : (id : Text) → IsOnce (option_at id)
+option_once id = record {
   takes = λ text rows. refl;
   faults = λ text rows. or_else-none _;
   needs = λ rows. refl;
@@ -110,37 +110,37 @@ name_fails : (id : Text) (c : List Rule) (held : Held) (position : ℕ) (word : 
     → is_empty (turn_fault (leaf id c) [] (going held idle position false) word) ≡ false
 name_fails id c held position word goes stuck once = rw (goes.no_dashes, goes.no_long, goes.no_short) (value_fails id c held position stuck once)
 
-pub limit_fails : (id : Text) (c : List Rule) (held : Held) (waiting : Waiting) (position : ℕ) (word : Text) (text : Option Text) → bytes_eq word (codes "--") ≡ false
-    → long_of word ≡ Some (codes "blocks", text) → arg_by_long c (codes "blocks") ≡ Some limit_at → is_empty (settle_fault c false held) ≡ false
+pub option_fails : (id : Text) (c : List Rule) (opt : Text) (held : Held) (waiting : Waiting) (position : ℕ) (word : Text) (text : Option Text) → bytes_eq word (codes "--") ≡ false
+    → long_of word ≡ Some (opt, text) → arg_by_long c opt ≡ Some (option_at opt) → is_empty (settle_fault c false held) ≡ false
     → is_empty (turn_fault (leaf id c) [] (going held waiting position false) word) ≡ false
-limit_fails id c held waiting position word text no_dashes read found stuck =
+option_fails id c opt held waiting position word text no_dashes read found stuck =
     first_some (word_fault (leaf id c) [] false waiting word held)
     (step_fault (leaf id c) position (word_met c [] false waiting position word held).0 (word_met c [] false waiting position word held).1)
     (rw (no_subcommand waiting word, no_dashes, read, found) (by_text text))
   where
-    by_text : (text : Option Text) → is_empty (option_fault c false limit_at text held) ≡ false
+    by_text : (text : Option Text) → is_empty (option_fault c false (option_at opt) text held) ≡ false
     by_text None = stuck
-    by_text (Some t) = first_some (settle_fault c false held) (use_fault false limit_at (t ∷ []) (settled c held).rows) stuck
+    by_text (Some t) = first_some (settle_fault c false held) (use_fault false (option_at opt) (t ∷ []) (settled c held).rows) stuck
 
-pub stuck_fails : (id : Text) (c : List Rule) (ids : List Text) (limited : Bool) → Arguments c ids limited → (held : Held) → held.skip ≡ 0
+pub stuck_fails : (id : Text) (c : List Rule) (ids options : List Text) → Arguments c ids options → (held : Held) → held.skip ≡ 0
     → is_empty (settle_fault c false held) ≡ false → (rest : List Text) → AllTexts rest → (waiting : Waiting) (position : ℕ) (trailing : Bool) → GoesOn waiting trailing
     → is_empty (rest_fault id c (going held waiting position trailing) rest) ≡ false
 unfolding walk_fault
-stuck_fails id c ids limited arguments held skip stuck [] texts waiting position trailing goes =
+stuck_fails id c ids options arguments held skip stuck [] texts waiting position trailing goes =
     first_some (settle_fault c false held) (or_else (defaults_fault (settled c held).rows c) (check_fault (leaf id c) (finished c held) false)) stuck
-stuck_fails id c ids limited arguments held skip stuck (word ∷ rest) texts waiting position true goes =
+stuck_fails id c ids options arguments held skip stuck (word ∷ rest) texts waiting position true goes =
     fails_now id c (going held waiting position true) word rest (trailing_fails id c held waiting position word stuck arguments.once_at)
-stuck_fails id c ids limited arguments held skip stuck (word ∷ rest) texts waiting position false (inr never) = cc
-stuck_fails id c ids limited arguments held skip stuck (word ∷ rest) texts waiting position false (inl quiet) =
-    let again = stuck_fails id c ids limited arguments held skip stuck rest texts.1 idle position true (inr refl) in
-    rw quiet (by_kind (kind_of_word limited word texts.0) again)
+stuck_fails id c ids options arguments held skip stuck (word ∷ rest) texts waiting position false (inr never) = cc
+stuck_fails id c ids options arguments held skip stuck (word ∷ rest) texts waiting position false (inl quiet) =
+    let again = stuck_fails id c ids options arguments held skip stuck rest texts.1 idle position true (inr refl) in
+    rw quiet (by_kind (kind_of_word options word texts.0) again)
   where
-    by_kind : WordKind limited word → is_empty (rest_fault id c (going held idle position true) rest) ≡ false
+    by_kind : WordKind options word → is_empty (rest_fault id c (going held idle position true) rest) ≡ false
         → is_empty (rest_fault id c (going held idle position false) (word ∷ rest)) ≡ false
     by_kind (dashes e) again = fails_later id c (going held idle position false) (going held idle position true) word rest (rw e refl) (dashes_going c held position word e) again
     by_kind (name goes a b) again = fails_now id c (going held idle position false) word rest (name_fails id c held position word goes stuck arguments.once_at)
-    by_kind (limit no_dashes is_limited read a b) again =
-        fails_now id c (going held idle position false) word rest (limit_fails id c held idle position word (option_text word) no_dashes read (arguments.limit_long is_limited) stuck)
+    by_kind (listed opt no_dashes is read a b) again =
+        fails_now id c (going held idle position false) word rest (option_fails id c opt held idle position word (option_text word) no_dashes read (arguments.option_long opt is) stuck)
     by_kind (long long_name text no_dashes read other a b) again =
         fails_now id c (going held idle position false) word rest (unknown_turn id c held idle position word long_name text no_dashes read (arguments.no_long long_name other))
     by_kind (short flags first no_dashes read flags_are char some a b) again =

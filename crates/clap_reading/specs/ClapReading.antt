@@ -1,10 +1,14 @@
 use Rattle.std.specs.Prelude.{List, [], ◌∷◌, Option, Some, None, codes, if◌then◌else◌, option_and_then, option_map}
 use Rattle.clap.specs.Walk.{is_empty}
 use Rattle.clap.specs.Words.{Row, fault_of, first_of, subcommand_of}
+use Rattle.clap.specs.declared.error.kind.ErrorKind.{ErrorKind}
+use Rattle.clap.specs.declared.error.kind.ErrorKind.TheVariants as kind
 use Rattle.clap_reading.specs.Grammar.{program_app}
-use Rattle.command_words.specs.Listed.{command_with, only_limit}
-use Rattle.command_words.specs.Table.{Listing, Text, row_of}
+use Rattle.command_words.specs.Listed.{OptionTextsView, command_of}
+use Rattle.command_words.specs.Table.{Listing, Text, row_of, takes_option}
 use Rattle.command_words.specs.declared.command.Command.{Command}
+use Rattle.command_words.specs.declared.fault.WordsFault.{WordsFault}
+use Rattle.command_words.specs.declared.fault.WordsFault.TheVariants.{NoMemory, Usage}
 
 -- The command that the words give, as the `clap` command reads them: over the same list of commands.
 
@@ -14,30 +18,40 @@ names_in given [] = Some []
 names_in given (id ∷ ids) =
     option_and_then (λ first. option_map (λ rest. first ∷ rest) (names_in given ids)) (first_of id given)
 
-abbrev pub limits_of : Option Text → List Text
-limits_of None = []
-limits_of (Some text) = text ∷ []
+-- the text of an option, where the command takes it and it was given
+abbrev pub text_at : Listing → Text → List Row → Option Text
+text_at row id given = if takes_option row id then first_of id given else None
 
--- the text of `--blocks`, where the command takes one and it was given
-abbrev pub limits_in : Listing → List Row → List Text
-limits_in row given = if row.takes_blocks then limits_of (first_of (codes "blocks") given) else []
+abbrev pub texts_at : Listing → List Row → OptionTextsView
+texts_at row given = record {
+  blocks = text_at row (codes "blocks") given;
+  turret1 = text_at row (codes "turret1") given;
+  turret2 = text_at row (codes "turret2") given;
+}
 
 abbrev pub command_from : List Row → Listing → Option Command
 command_from given row =
-    option_and_then (λ names. option_and_then (command_with row.task names) (only_limit (limits_in row given)))
-    (names_in given row.words)
+    option_and_then (λ names. command_of row.task names (texts_at row given)) (names_in given row.words)
 
 -- the command of the subcommand that was met and of what it was given
 unfoldable pub command_in : Text → List Row → Option Command
 command_in name given = option_and_then (command_from given) (row_of name)
 
+abbrev pub command_met : Option (Text × List Row) → Option Command
+command_met = option_and_then (λ met. command_in met.0 met.1)
+
+-- the command of a line: where `clap` takes it, that of the subcommand and its arguments
+unfoldable pub line_command : List Text → Option Command
+line_command line = if is_empty (fault_of program_app line) then command_met (subcommand_of program_app line) else None
+
 -- the words with the program's name before them
 abbrev pub line_of : List Text → List Text
 line_of words = codes "twin_lathe" ∷ words
 
--- the command of the words: where `clap` takes them, that of the subcommand and its arguments
-unfoldable pub clap_command : List Text → Option Command
-clap_command words =
-    if is_empty (fault_of program_app (line_of words))
-    then option_and_then (λ met. command_in met.0 met.1) (subcommand_of program_app (line_of words))
-    else None
+abbrev pub clap_command : List Text → Option Command
+clap_command words = line_command (line_of words)
+
+-- why there is no command where `clap` ends with an error of this kind
+abbrev pub fault_by : ErrorKind → WordsFault
+fault_by kind.OutOfMemory = NoMemory
+fault_by _ = Usage

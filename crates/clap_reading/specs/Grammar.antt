@@ -1,4 +1,4 @@
-use Rattle.std.specs.Prelude.{◌≡◌, true, false, Some, codes, fold, if◌then◌else◌}
+use Rattle.std.specs.Prelude.{◌≡◌, true, false, Some, codes, fold}
 use Rattle.clap.specs.Simple.{new_shape}
 use Rattle.clap.specs.Words.{App, Rule, Text, app_of, new_app, new_rule, with_rule, with_subcommand}
 use Rattle.clap.specs.declared.builder.command.Command.{Command}
@@ -11,9 +11,9 @@ use Rattle.command_words.specs.Table.{Listing, listings}
 abbrev pub name_rule : Text → Rule
 name_rule id = record (new_rule id) { required = true }
 
--- the option `--blocks`
-abbrev pub limit_rule : Rule
-limit_rule = record (new_rule (codes "blocks")) { long = Some (codes "blocks") }
+-- an option with a text, which is called by its name
+abbrev pub option_rule : Text → Rule
+option_rule id = record (new_rule id) { long = Some id }
 
 abbrev pub with_name_rule : App → Text → App
 with_name_rule app id = with_rule app (name_rule id)
@@ -21,9 +21,12 @@ with_name_rule app id = with_rule app (name_rule id)
 abbrev pub with_names : Listing → App
 with_names row = fold with_name_rule (new_app row.name) row.words
 
--- the subcommand of a row
+abbrev pub with_option_rule : App → Text → App
+with_option_rule app id = with_rule app (option_rule id)
+
+-- the subcommand of a row: its words, and behind them its options
 abbrev pub app_of_row : Listing → App
-app_of_row row = if row.takes_blocks then with_rule (with_names row) limit_rule else with_names row
+app_of_row row = fold with_option_rule (with_names row) row.options
 
 -- a command that wants a subcommand, and offers neither help nor a version
 abbrev pub bare_app : App

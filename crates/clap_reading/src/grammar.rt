@@ -1,6 +1,6 @@
 ghost use Rattle.std.specs.Prelude.{◌≡◌, IfOk, false};
 ghost use Rattle.clap.specs.Words.{rule_of};
-ghost use Rattle.clap_reading.specs.Grammar.{IsRead, app_of_row, bare_app, limit_rule, name_rule, program_app, with_names};
+ghost use Rattle.clap_reading.specs.Grammar.{IsRead, app_of_row, bare_app, name_rule, option_rule, program_app, with_names};
 ghost use Rattle.command_words.specs.Table.{row_seen};
 
 use clap::{Arg, Command};
@@ -32,12 +32,11 @@ fn bare<'a>(alloc: Global) -> Command<'a>
 fn subcommand<'a>(alloc: Global, row: &Row) -> Result<Command<'a>, AllocError>
     ensures { IfOk result (IsRead (app_of_row (row_seen row.now))) }
 {
-    let named = named(alloc, row)?;
-    if row.takes_blocks {
-        named.arg(limit(alloc))
-    } else {
-        Ok(named)
+    let mut command = named(alloc, row)?;
+    for id in row.options {
+        command = command.arg(optional(alloc, id))?;
     }
+    Ok(command)
 }
 
 /// A command that wants the words of a row.
@@ -59,10 +58,10 @@ fn wanted<'a>(alloc: Global, id: &'a str) -> Arg<'a>
     Arg::new(alloc, id).required(true)
 }
 
-/// The option `--blocks`.
-fn limit<'a>(alloc: Global) -> Arg<'a>
-    ensures rule { rule_of result ≡ limit_rule }
+/// An option with a text, which is called by its name.
+fn optional<'a>(alloc: Global, id: &'a str) -> Arg<'a>
+    ensures rule { rule_of result ≡ option_rule id.entry.now }
     ensures local { result.global ≡ false }
 {
-    Arg::new(alloc, "blocks").long("blocks")
+    Arg::new(alloc, id).long(id)
 }

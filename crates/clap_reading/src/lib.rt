@@ -1,12 +1,16 @@
-//! That `clap` reads the command line as it is listed.
+//! The words of the command line, read by `clap`.
 //!
-//! `command_words` reads the program's words by its list of commands. Here the same list is made into one `clap` command
-//! with one level of subcommands, and a law says that what this command reads in any words, as `clap`'s contracts have
-//! it, is what the list reads. Nothing stands on this crate.
+//! The rows of `command_words` are made into one `clap` command with one level of subcommands, and `read_words` reads the
+//! program's words through it. A law says that what this command reads in any words, as `clap`'s contracts have it, is what
+//! the listed grammar reads, so `read_words` promises the command of that grammar.
 #![tactic(auto)]
 
 mod grammar;
 mod law;
+mod reading;
+#[cfg(test)]
+mod tests;
 
 pub use grammar::program;
 pub use law::law_of_clap;
+pub use reading::read_words;

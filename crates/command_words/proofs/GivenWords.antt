@@ -1,49 +1,48 @@
 -- The listed reading, word by word.
 use Rattle.std.proofs.Common.{◌≡◌, ℕ, Bool, true, false, ◌&&◌, ◌||◌, List, [], ◌∷◌, take, Option, Some, None, refl, sym, ap, subst, ◌∙◌, arith, suc, codes, inl, inr}
-use Rattle.std.proofs.Math.Bool.{and-false}
 use Rattle.std.specs.Prelude.{nat_eq, length, nat_le}
 use Rattle.std.specs.List.{before_first, list_any, position_or_len}
 use Rattle.std.specs.Str.{bytes_eq}
 use Rattle.std.proofs.lemmas.Bool.{le-leb}
 use Rattle.std.proofs.lemmas.Bool.Decides.{eqb_tells}
 use Rattle.std.proofs.lemmas.Slice.Eq.{bytes_eq-Decides}
-use Rattle.command_words.specs.Listed.{given, is_option, limit_given, limit_then, option_name, option_text, takes_as_limit, with_limit, with_name}
+use Rattle.command_words.specs.Listed.{given, is_option, long_word, option_name, option_of, option_text, text_given, text_then, with_name, with_text}
 use Rattle.command_words.specs.Table.{Text}
 
-pub given_nothing : (limited : Bool) → given limited [] ≡ Some (record { names = []; limits = [] })
+pub given_nothing : (options : List Text) → given options [] ≡ Some (record { names = []; marked = [] })
 unfolding given
-given_nothing limited = refl
+given_nothing options = refl
 
-pub given_dashes : (limited : Bool) (word : Text) (rest : List Text) → bytes_eq word (codes "--") ≡ true → given limited (word ∷ rest) ≡ Some (record { names = rest; limits = [] })
+pub given_dashes : (options : List Text) (word : Text) (rest : List Text) → bytes_eq word (codes "--") ≡ true → given options (word ∷ rest) ≡ Some (record { names = rest; marked = [] })
 unfolding given
-given_dashes limited word rest e = rw e refl
+given_dashes options word rest e = rw e refl
 
-pub given_name : (limited : Bool) (word : Text) (rest : List Text) → bytes_eq word (codes "--") ≡ false → takes_as_limit limited word ≡ false → is_option word ≡ false
-    → given limited (word ∷ rest) ≡ with_name word (given limited rest)
+pub given_name : (options : List Text) (word : Text) (rest : List Text) → bytes_eq word (codes "--") ≡ false → option_of options word ≡ None → is_option word ≡ false
+    → given options (word ∷ rest) ≡ with_name word (given options rest)
 unfolding given
-given_name limited word rest a b d = rw (a, b, d) refl
+given_name options word rest a b d = rw (a, b, d) refl
 
-pub given_limit : (limited : Bool) (word : Text) (rest : List Text) → bytes_eq word (codes "--") ≡ false → takes_as_limit limited word ≡ true
-    → given limited (word ∷ rest) ≡ limit_given (option_text word) (given limited rest) (limit_then limited rest)
+pub given_option : (options : List Text) (word id : Text) (rest : List Text) → bytes_eq word (codes "--") ≡ false → option_of options word ≡ Some id
+    → given options (word ∷ rest) ≡ text_given (option_text word) id (given options rest) (text_then options rest id)
 unfolding given
-given_limit limited word rest a b = rw (a, b) refl
+given_option options word id rest a b = rw (a, b) refl
 
-pub given_none : (limited : Bool) (word : Text) (rest : List Text) → bytes_eq word (codes "--") ≡ false → takes_as_limit limited word ≡ false → is_option word ≡ true
-    → given limited (word ∷ rest) ≡ None
+pub given_none : (options : List Text) (word : Text) (rest : List Text) → bytes_eq word (codes "--") ≡ false → option_of options word ≡ None → is_option word ≡ true
+    → given options (word ∷ rest) ≡ None
 unfolding given
-given_none limited word rest a b d = rw (a, b, d) refl
+given_none options word rest a b d = rw (a, b, d) refl
 
-pub waits_in_vain : (limited : Bool) → limit_then limited [] ≡ None
-unfolding limit_then
-waits_in_vain limited = refl
+pub waits_in_vain : (options : List Text) (id : Text) → text_then options [] id ≡ None
+unfolding text_then
+waits_in_vain options id = refl
 
-pub waits_for_name : (limited : Bool) (word : Text) (rest : List Text) → is_option word ≡ false → limit_then limited (word ∷ rest) ≡ with_limit word (given limited rest)
-unfolding limit_then
-waits_for_name limited word rest e = rw e refl
+pub waits_for_name : (options : List Text) (id word : Text) (rest : List Text) → is_option word ≡ false → text_then options (word ∷ rest) id ≡ with_text id word (given options rest)
+unfolding text_then
+waits_for_name options id word rest e = rw e refl
 
-pub waits_for_option : (limited : Bool) (word : Text) (rest : List Text) → is_option word ≡ true → limit_then limited (word ∷ rest) ≡ None
-unfolding limit_then
-waits_for_option limited word rest e = rw e refl
+pub waits_for_option : (options : List Text) (id word : Text) (rest : List Text) → is_option word ≡ true → text_then options (word ∷ rest) id ≡ None
+unfolding text_then
+waits_for_option options id word rest e = rw e refl
 
 pub dashes_are_option : (word : Text) → bytes_eq word (codes "--") ≡ true → is_option word ≡ true
 dashes_are_option word e = rw ((bytes_eq-Decides word (codes "--")).0 e) refl
@@ -63,31 +62,33 @@ before-equals x xs e =
     let none : position_or_len is_equals (x ∷ xs) ≡ 0 = rw e refl in
     ap (λ n. take n (x ∷ xs)) none
 
--- an option's name begins with `-`, so the limit does not stand in a word that begins otherwise
-pub no_limit : (b : ℕ) (rest : Text) → nat_eq b 45 ≡ false → bytes_eq (option_name (b ∷ rest)) (codes "--blocks") ≡ false
-no_limit b rest other = go (is_equals b) refl
+-- an option's name begins with `-`, so no option stands in a word that begins otherwise
+pub begins_no_option : (b : ℕ) (rest id : Text) → nat_eq b 45 ≡ false → bytes_eq (option_name (b ∷ rest)) (long_word id) ≡ false
+begins_no_option b rest id other = go (is_equals b) refl
   where
-    go : (e : Bool) → is_equals b ≡ e → bytes_eq (option_name (b ∷ rest)) (codes "--blocks") ≡ false
+    go : (e : Bool) → is_equals b ≡ e → bytes_eq (option_name (b ∷ rest)) (long_word id) ≡ false
     go true e = rw (before-equals b rest e) refl
     go false e = rw (before-cons b rest e, other) refl
 
-pub limited_false : (limited : Bool) (b : Bool) → b ≡ false → (limited && b) ≡ false
-limited_false limited b e = rw e (and-false limited)
+-- a word whose name is that of no option is none of them
+pub none_of : (options : List Text) (word : Text) → ((id : Text) → bytes_eq (option_name word) (long_word id) ≡ false) → option_of options word ≡ None
+none_of [] word none = refl
+none_of (own ∷ options) word none = rw (none own) (none_of options word none)
 
 pub two : (rest : Text) (b c : ℕ) → nat_le 2 (length (b ∷ c ∷ rest)) ≡ true
 two rest b c = le-leb 2 (length (b ∷ c ∷ rest)) (omega arith)
 
-not_limit : (limited : Bool) (word : Text) → is_option word ≡ false → takes_as_limit limited word ≡ false
-not_limit limited [] plain = and-false limited
-not_limit limited (b ∷ []) plain =
+not_option : (options : List Text) (word : Text) → is_option word ≡ false → option_of options word ≡ None
+not_option options [] plain = none_of options [] (λ id. refl)
+not_option options (b ∷ []) plain =
     elim (eqb_tells b 45) [
-      | inl dash ↦ let family : ℕ → Type 0 = λ n. takes_as_limit limited (n ∷ []) ≡ false in subst family (sym dash.1) (and-false limited)
-      | inr other ↦ limited_false limited (bytes_eq (option_name (b ∷ [])) (codes "--blocks")) (no_limit b [] other.0)
+      | inl dash ↦ let family : ℕ → Type 0 = λ n. option_of options (n ∷ []) ≡ None in subst family (sym dash.1) (none_of options (45 ∷ []) (λ id. refl))
+      | inr other ↦ none_of options (b ∷ []) (λ id. begins_no_option b [] id other.0)
     ]
-not_limit limited (b ∷ c ∷ rest) plain =
+not_option options (b ∷ c ∷ rest) plain =
     elim (eqb_tells b 45) [
       | inl dash ↦ let bad : true ≡ false = sym (two rest b c) ∙ both (nat_eq b 45) (nat_le 2 (length (b ∷ c ∷ rest))) dash.0 plain in absurd (let never : true ≡ false = bad in cc)
-      | inr other ↦ limited_false limited (bytes_eq (option_name (b ∷ c ∷ rest)) (codes "--blocks")) (no_limit b (c ∷ rest) other.0)
+      | inr other ↦ none_of options (b ∷ c ∷ rest) (λ id. begins_no_option b (c ∷ rest) id other.0)
     ]
   where
     both : (x y : Bool) → x ≡ true → (x && y) ≡ false → y ≡ false
@@ -101,16 +102,5 @@ no_dashes word plain = go (bytes_eq word (codes "--")) refl
     go true e = sym (dashes_are_option word e) ∙ plain
     go false e = refl
 
-pub name_then : (limited : Bool) (word : Text) (rest : List Text) → is_option word ≡ false → given limited (word ∷ rest) ≡ with_name word (given limited rest)
-name_then limited word rest plain = given_name limited word rest (no_dashes word plain) (not_limit limited word plain) plain
-
--- where the first that passes is looked for in vain, none passes
-pub none_stands : {X : Type 0} → (p : X → Bool) (xs : List X) → position_or_len p xs ≡ length xs → list_any p xs ≡ false
-none_stands p [] e = refl
-none_stands p (x ∷ xs) e =
-    let here : (b : Bool) → p x ≡ b → (b || list_any p xs) ≡ false
-    = elim [
-      | true ↦ λ passes. let first : position_or_len p (x ∷ xs) ≡ 0 = rw passes refl in absurd (omega (arith, first, e))
-      | false ↦ λ fails. let later : position_or_len p (x ∷ xs) ≡ suc (position_or_len p xs) = rw fails (omega arith) in none_stands p xs (omega (arith, later, e))
-    ] in
-    here (p x) refl
+pub name_then : (options : List Text) (word : Text) (rest : List Text) → is_option word ≡ false → given options (word ∷ rest) ≡ with_name word (given options rest)
+name_then options word rest plain = given_name options word rest (no_dashes word plain) (not_option options word plain) plain

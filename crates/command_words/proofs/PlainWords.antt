@@ -1,38 +1,51 @@
--- Words that are names, and where `--` and `--blocks` stand among them.
-use Rattle.std.proofs.Common.{◌≡◌, Bool, true, false, List, [], ◌∷◌, ◌++◌, Option, Some, refl, sym, ap, ◌∙◌, codes}
-use Rattle.command_words.specs.Listed.{AreNames, IsName, Given, given, is_option, with_limit, with_name}
-use Rattle.command_words.specs.Table.{Text}
-use Rattle.command_words.proofs.GivenWords.{given_dashes, given_limit, given_nothing, name_then, waits_for_name}
+-- Words that are names, and where `--` and the options stand among them.
+use Rattle.std.proofs.Common.{◌≡◌, List, [], ◌∷◌, ◌++◌, Option, Some, refl, ap, ◌∙◌, codes}
+use Rattle.std.specs.Str.{bytes_eq}
+use Rattle.command_words.specs.Listed.{AreNames, IsName, IsOptionOf, Given, Marked, given, is_option, long_word, option_of, option_text, text_given, text_then, with_name, with_text}
+use Rattle.command_words.specs.Table.{Text, run_options, turret_options}
+use Rattle.command_words.proofs.GivenWords.{given_dashes, given_nothing, given_option, name_then, waits_for_name}
 
-abbrev pub just : List Text → List Text → Option Given
-just words limits = Some (record { names = words; limits = limits })
+abbrev pub just : List Text → List Marked → Option Given
+just words marked = Some (record { names = words; marked = marked })
 
 -- names before any words come before their names
-names_before : (limited : Bool) (before rest names limits : List Text) → AreNames before → given limited rest ≡ just names limits
-    → given limited (before ++ rest) ≡ just (before ++ names) limits
-names_before limited [] rest names limits plain e = e
-names_before limited (word ∷ before) rest names limits plain e =
-    name_then limited word (before ++ rest) plain.0.1
-    ∙ ap (with_name word) (names_before limited before rest names limits plain.1 e)
+names_before : (options before rest names : List Text) (marked : List Marked) → AreNames before → given options rest ≡ just names marked
+    → given options (before ++ rest) ≡ just (before ++ names) marked
+names_before options [] rest names marked plain e = e
+names_before options (word ∷ before) rest names marked plain e =
+    name_then options word (before ++ rest) plain.0.1
+    ∙ ap (with_name word) (names_before options before rest names marked plain.1 e)
 
-pub names_alone : (limited : Bool) (words : List Text) → AreNames words → given limited words ≡ just words []
-names_alone limited [] plain = given_nothing limited
-names_alone limited (word ∷ words) plain =
-    name_then limited word words plain.0.1 ∙ ap (with_name word) (names_alone limited words plain.1)
+pub names_alone : (options words : List Text) → AreNames words → given options words ≡ just words []
+names_alone options [] plain = given_nothing options
+names_alone options (word ∷ words) plain =
+    name_then options word words plain.0.1 ∙ ap (with_name word) (names_alone options words plain.1)
 
-pub behind_dashes : (limited : Bool) (before after : List Text) → AreNames before → given limited (before ++ codes "--" ∷ after) ≡ just (before ++ after) []
-behind_dashes limited before after plain = names_before limited before (codes "--" ∷ after) after [] plain (given_dashes limited (codes "--") after refl)
+pub behind_dashes : (options before after : List Text) → AreNames before → given options (before ++ codes "--" ∷ after) ≡ just (before ++ after) []
+behind_dashes options before after plain = names_before options before (codes "--" ∷ after) after [] plain (given_dashes options (codes "--") after refl)
 
-pub limit_apart : (before after : List Text) (text : Text) → AreNames before → IsName text → AreNames after
-    → given true (before ++ codes "--blocks" ∷ text ∷ after) ≡ just (before ++ after) (text ∷ [])
-limit_apart before after text plain is_name later =
-    names_before true before (codes "--blocks" ∷ text ∷ after) after (text ∷ []) plain
-    (given_limit true (codes "--blocks") (text ∷ after) refl refl
-    ∙ waits_for_name true text after is_name.1
-    ∙ ap (with_limit text) (names_alone true after later))
+pub option_apart : (options before after : List Text) (id text : Text) → IsOptionOf options id → AreNames before → IsName text → AreNames after
+    → given options (before ++ long_word id ∷ text ∷ after) ≡ just (before ++ after) ((id, text) ∷ [])
+option_apart options before after id text is plain is_name later =
+    names_before options before (long_word id ∷ text ∷ after) after ((id, text) ∷ []) plain
+    (given_option options (long_word id) id (text ∷ after) is.named is.own
+    ∙ ap (λ t. text_given t id (given options (text ∷ after)) (text_then options (text ∷ after) id)) is.alone
+    ∙ waits_for_name options id text after is_name.1
+    ∙ ap (with_text id text) (names_alone options after later))
 
-pub limit_attached : (before after : List Text) (text : Text) → AreNames before → AreNames after
-    → given true (before ++ (codes "--blocks=" ++ text) ∷ after) ≡ just (before ++ after) (text ∷ [])
-limit_attached before after text plain later =
-    names_before true before ((codes "--blocks=" ++ text) ∷ after) after (text ∷ []) plain
-    (given_limit true (codes "--blocks=" ++ text) after refl refl ∙ ap (with_limit text) (names_alone true after later))
+pub option_attached : (options before after : List Text) (id text : Text) → IsOptionOf options id → AreNames before → AreNames after
+    → given options (before ++ (long_word id ++ 61 ∷ text) ∷ after) ≡ just (before ++ after) ((id, text) ∷ [])
+option_attached options before after id text is plain later =
+    names_before options before ((long_word id ++ 61 ∷ text) ∷ after) after ((id, text) ∷ []) plain
+    (given_option options (long_word id ++ 61 ∷ text) id after (is.with text).0 (is.with text).1
+    ∙ ap (λ t. text_given t id (given options after) (text_then options after id)) (is.with text).2
+    ∙ ap (with_text id text) (names_alone options after later))
+
+pub blocks_is : IsOptionOf run_options (codes "blocks")
+blocks_is = record { named = refl; own = refl; alone = refl; with = λ text. (refl, refl, refl) }
+
+pub turret1_is : IsOptionOf run_options (codes "turret1") × IsOptionOf turret_options (codes "turret1")
+turret1_is = (record { named = refl; own = refl; alone = refl; with = λ text. (refl, refl, refl) }, record { named = refl; own = refl; alone = refl; with = λ text. (refl, refl, refl) })
+
+pub turret2_is : IsOptionOf run_options (codes "turret2") × IsOptionOf turret_options (codes "turret2")
+turret2_is = (record { named = refl; own = refl; alone = refl; with = λ text. (refl, refl, refl) }, record { named = refl; own = refl; alone = refl; with = λ text. (refl, refl, refl) })

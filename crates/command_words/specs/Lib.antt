@@ -1,4 +1,4 @@
 pub mod Listed
+pub mod Making
 pub mod Number
-pub mod Reading
 pub mod Table

@@ -1,27 +1,32 @@
-use Rattle.std.specs.Prelude.{◌≡◌, ℕ, Bool, true, false, ◌&&◌, ◌==◌, if◌then◌else◌, List, [], ◌∷◌, length, nat_le, Option, Some, None, option_and_then, option_map, codes}
+use Rattle.std.specs.Prelude.{◌≡◌, ℕ, Bool, true, false, ◌&&◌, ◌==◌, not, if◌then◌else◌, List, [], ◌∷◌, ◌++◌, find, length, nat_le, Option, Some, None, is_some, map, option_and_then, option_map, codes}
 use Rattle.std.specs.List.{after_first, before_first, list_any, slice_index}
 use Rattle.std.specs.Str.{IsUtf8, bytes_eq}
 use Rattle.command_words.specs.Number.{number_of}
-use Rattle.command_words.specs.Table.{Listing, Text, row_of}
+use Rattle.command_words.specs.Table.{Listing, Text, row_of, takes_option}
 use Rattle.command_words.specs.declared.command.Command.{Command}
 use Rattle.command_words.specs.declared.command.Command.TheVariants as command
+use Rattle.command_words.specs.declared.command.TurretFiles.{TurretFiles}
 use Rattle.command_words.specs.declared.table.Task.{Task}
 use Rattle.command_words.specs.declared.table.Task.TheVariants as task
 
 -- The grammar of the command line, word by word, over the list of commands.
 
--- what stands behind a command's name: names, and the texts of `--blocks`
+-- an option's name and its text
+abbrev pub Marked : Type 0
+Marked = Text × Text
+
+-- what stands behind a command's name: names, and the options with their texts
 pub record Given : Type 0 where
   pub names : List Text
-  pub limits : List Text
+  pub marked : List Marked
 
 abbrev pub with_name : Text → Option Given → Option Given
 with_name word None = None
 with_name word (Some given) = Some (record given { names = word ∷ given.names })
 
-abbrev pub with_limit : Text → Option Given → Option Given
-with_limit text None = None
-with_limit text (Some given) = Some (record given { limits = text ∷ given.limits })
+abbrev pub with_text : Text → Text → Option Given → Option Given
+with_text id text None = None
+with_text id text (Some given) = Some (record given { marked = (id, text) ∷ given.marked })
 
 -- a word of two bytes or more that begins with `-` (45)
 abbrev pub is_option : Text → Bool
@@ -42,54 +47,132 @@ option_name word = before_first (λ b. b == 61) word
 abbrev pub option_text : Text → Option Text
 option_text word = if list_any (λ b. b == 61) word then Some (after_first (λ b. b == 61) word) else None
 
-abbrev pub takes_as_limit : Bool → Text → Bool
-takes_as_limit limited word = limited && bytes_eq (option_name word) (codes "--blocks")
+-- an option as a word
+abbrev pub long_word : Text → Text
+long_word id = 45 ∷ 45 ∷ id
 
--- the text of `--blocks` is attached to it, or is the next word
-abbrev pub limit_given : Option Text → Option Given → Option Given → Option Given
-limit_given (Some text) here next = with_limit text here
-limit_given None here next = next
+-- which of these options a word is
+abbrev pub option_of : List Text → Text → Option Text
+option_of options word = find (λ id. bytes_eq (option_name word) (long_word id)) options
 
--- The words behind a command's name, `limited` where it takes `--blocks`. Behind `--` every word is a name as it is, a
--- second `--` too. Before it a word that begins with `-` is `--blocks` or is refused, except for `-` itself.
+-- the text of an option is attached to it, or is the next word
+abbrev pub text_given : Option Text → Text → Option Given → Option Given → Option Given
+text_given (Some text) id here next = with_text id text here
+text_given None id here next = next
+
+-- a word that is one of the options, or none of them
+abbrev pub word_given : Option Text → Text → Option Given → (Text → Option Given) → Option Given
+word_given (Some id) word here next = text_given (option_text word) id here (next id)
+word_given None word here next = if is_option word then None else with_name word here
+
+-- The words behind the name of a command that takes these options. Behind `--` every word is a name as it is, a second `--`
+-- too. Before it a word that begins with `-` is one of the options or is refused, except for `-` itself.
 unfoldable mutual
-  pub given : Bool → List Text → Option Given
-  given limited [] = Some (record { names = []; limits = [] })
-  given limited (word ∷ rest) =
-      if bytes_eq word (codes "--") then Some (record { names = rest; limits = [] })
-      else (if takes_as_limit limited word then limit_given (option_text word) (given limited rest) (limit_then limited rest)
-      else (if is_option word then None else with_name word (given limited rest)))
+  pub given : List Text → List Text → Option Given
+  given options [] = Some (record { names = []; marked = [] })
+  given options (word ∷ rest) =
+      if bytes_eq word (codes "--") then Some (record { names = rest; marked = [] })
+      else word_given (option_of options word) word (given options rest) (λ id. text_then options rest id)
 
-  -- a `--blocks` that waits for its text
-  pub limit_then : Bool → List Text → Option Given
-  limit_then limited [] = None
-  limit_then limited (text ∷ rest) = if is_option text then None else with_limit text (given limited rest)
+  -- an option that waits for its text
+  pub text_then : List Text → List Text → Text → Option Given
+  text_then options [] id = None
+  text_then options (text ∷ rest) id = if is_option text then None else with_text id text (given options rest)
 
--- 100,000 blocks where no limit is given, and no two limits
-abbrev pub only_limit : List Text → Option ℕ
-only_limit [] = Some 100000
-only_limit (text ∷ []) = number_of 1 1000000 text
-only_limit (text ∷ other ∷ more) = None
+-- the first text of an option
+abbrev pub text_in : Text → List Marked → Option Text
+text_in id [] = None
+text_in id (one ∷ marked) = if bytes_eq one.0 id then Some one.1 else text_in id marked
 
--- the command that a task makes of its words and of the most blocks to run
-abbrev pub command_with : Task → List Text → ℕ → Option Command
-command_with task.Verify (left ∷ right ∷ settings ∷ []) blocks = Some (command.Verify left right settings)
-command_with task.Run (left ∷ right ∷ settings ∷ []) blocks = Some (command.Run left right settings blocks)
-command_with task.Resume [] blocks = Some (command.Resume blocks)
-command_with task.Moves [] blocks = Some command.Moves
-command_with task.State [] blocks = Some command.State
-command_with task.Make (number ∷ []) blocks = option_map command.Make (number_of 0 999999 number)
-command_with _ _ _ = None
+-- no option stands twice
+abbrev pub stand_once : List Marked → Bool
+stand_once [] = true
+stand_once (one ∷ marked) = not (is_some (text_in one.0 marked)) && stand_once marked
 
--- a row takes as many words as it has names for
+-- the texts of the options, where they were given
+pub record OptionTextsView : Type 0 where
+  pub blocks : Option Text
+  pub turret1 : Option Text
+  pub turret2 : Option Text
+
+-- 100,000 blocks where no limit is given
+abbrev pub limit_of : Option Text → Option ℕ
+limit_of None = Some 100000
+limit_of (Some text) = number_of 1 1000000 text
+
+-- a file's name has a byte
+abbrev pub file_of : Option Text → Option (Option Text)
+file_of None = Some None
+file_of (Some []) = None
+file_of (Some (b ∷ text)) = Some (Some (b ∷ text))
+
+abbrev pub turret_files : Option Text → Option Text → TurretFiles
+turret_files one two = record { one = one; two = two }
+
+-- the files of the turrets
+abbrev pub files_of : OptionTextsView → Option TurretFiles
+files_of texts =
+    option_and_then (λ one. option_map (λ two. turret_files one two) (file_of texts.turret2)) (file_of texts.turret1)
+
+-- the command that a task makes of its words, of the most blocks to run, and of the files of the turrets
+abbrev pub command_with : Task → List Text → ℕ → TurretFiles → Option Command
+command_with task.Verify (left ∷ right ∷ settings ∷ []) blocks files = Some (command.Verify left right settings)
+command_with task.Trace (left ∷ right ∷ settings ∷ []) blocks files = Some (command.Trace left right settings blocks)
+command_with task.Run (left ∷ right ∷ settings ∷ []) blocks files = Some (command.Run left right settings blocks files)
+command_with task.Resume [] blocks files = Some (command.Resume blocks files)
+command_with task.Moves [] blocks files = Some command.Moves
+command_with task.State [] blocks files = Some command.State
+command_with task.Make (number ∷ []) blocks files = option_map (λ n. command.Make n files) (number_of 0 999999 number)
+command_with _ _ _ _ = None
+
+-- the same, of the texts of the options
+abbrev pub command_of : Task → List Text → OptionTextsView → Option Command
+command_of what words texts =
+    option_and_then (λ blocks. option_and_then (command_with what words blocks) (files_of texts)) (limit_of texts.blocks)
+
+-- the text of an option, where a row takes it
+abbrev pub text_for : Listing → Text → List Marked → Option Text
+text_for row id marked = if takes_option row id then text_in id marked else None
+
+-- the texts of the options that a row takes
+abbrev pub texts_for : Listing → List Marked → OptionTextsView
+texts_for row marked = record {
+  blocks = text_for row (codes "blocks") marked;
+  turret1 = text_for row (codes "turret1") marked;
+  turret2 = text_for row (codes "turret2") marked;
+}
+
+-- a row takes as many words as it has names for, and each of its options once at most
 abbrev pub command_given : Listing → Given → Option Command
 command_given row all =
-    if length all.names == length row.words
-    then option_and_then (command_with row.task all.names) (only_limit all.limits)
+    if length all.names == length row.words && stand_once all.marked
+    then command_of row.task all.names (texts_for row all.marked)
     else None
 
 abbrev pub command_behind : List Text → Listing → Option Command
-command_behind rest row = option_and_then (command_given row) (given row.takes_blocks rest)
+command_behind rest row = option_and_then (command_given row) (given row.options rest)
+
+-- a word that is one of these options, alone or with a text attached
+pub record IsOptionOf (options : List Text) (id : Text) : Type 0 where
+  pub named : bytes_eq (long_word id) (codes "--") ≡ false
+  pub own : option_of options (long_word id) ≡ Some id
+  pub alone : option_text (long_word id) ≡ None
+  pub with : (text : Text) → (bytes_eq (long_word id ++ 61 ∷ text) (codes "--") ≡ false)
+      × (option_of options (long_word id ++ 61 ∷ text) ≡ Some id) × (option_text (long_word id ++ 61 ∷ text) ≡ Some text)
+
+-- whether a row gives a command for as many words `1` as it names
+abbrev pub gives_a_command : Listing → Bool
+gives_a_command row = is_some (command_given row (record { names = map (λ _. codes "1") row.words; marked = [] }))
+
+-- the files of the turrets that a command names, where it may name any
+abbrev pub files_in : Command → Option TurretFiles
+files_in (command.Verify left right settings) = None
+files_in (command.Trace left right settings blocks) = None
+files_in (command.Run left right settings blocks files) = Some files
+files_in (command.Resume blocks files) = Some files
+files_in command.Moves = None
+files_in command.State = None
+files_in (command.Make number files) = Some files
 
 -- the command of the words: the first names the row, and the row says how the others are read
 unfoldable pub listed_command : List Text → Option Command

@@ -1,9 +1,11 @@
-use Rattle.std.specs.Prelude.{ℕ, Bool, true, false, ◌&&◌, not, List, [], ◌∷◌, map, find, Option, codes}
+use Rattle.std.specs.Prelude.{ℕ, Bool, true, false, ◌&&◌, not, List, [], ◌∷◌, map, find, Option, Some, None, codes}
 use Rattle.std.specs.List.{list_any}
 use Rattle.std.specs.Str.{bytes_eq}
+use Rattle.command_words.specs.declared.table.Journal.{Journal}
+use Rattle.command_words.specs.declared.table.Journal.TheVariants as journal
 use Rattle.command_words.specs.declared.table.Row.{Row}
 use Rattle.command_words.specs.declared.table.Task.{Task}
-use Rattle.command_words.specs.declared.table.Task.TheVariants.{Verify, Run, Resume, Moves, State, Make}
+use Rattle.command_words.specs.declared.table.Task.TheVariants.{Verify, Trace, Run, Resume, Moves, State, Make}
 
 -- The commands of the program.
 
@@ -11,32 +13,52 @@ use Rattle.command_words.specs.declared.table.Task.TheVariants.{Verify, Run, Res
 abbrev pub Text : Type 0
 Text = List ℕ
 
--- a command: the word that it begins with, what its words are called, whether it takes `--blocks`, and what it asks for
+-- a command: the word that it begins with, what its words are called, which options it takes, what it does with the
+-- journal, and what it asks for
 pub record Listing : Type 0 where
   pub name : Text
   pub words : List Text
-  pub takes_blocks : Bool
+  pub options : List Text
+  pub journal : Journal
   pub task : Task
 
-abbrev pub listing : Text → List Text → Bool → Task → Listing
-listing name words takes_blocks task = record { name = name; words = words; takes_blocks = takes_blocks; task = task }
+abbrev pub listing : Text → List Text → List Text → Journal → Task → Listing
+listing name words options journal task =
+    record { name = name; words = words; options = options; journal = journal; task = task }
 
 -- the two tapes and the settings
 abbrev pub pair_words : List Text
 pair_words = codes "left" ∷ codes "right" ∷ codes "settings" ∷ []
 
+-- the most blocks to run
+abbrev pub block_options : List Text
+block_options = codes "blocks" ∷ []
+
+-- the files to which the turrets write what they get
+abbrev pub turret_options : List Text
+turret_options = codes "turret1" ∷ codes "turret2" ∷ []
+
+-- the most blocks to run besides
+abbrev pub run_options : List Text
+run_options = codes "blocks" ∷ turret_options
+
 unfoldable pub listings : List Listing
 listings =
-    listing (codes "verify") pair_words false Verify
-    ∷ listing (codes "run") pair_words true Run
-    ∷ listing (codes "resume") [] true Resume
-    ∷ listing (codes "moves") [] false Moves
-    ∷ listing (codes "state") [] false State
-    ∷ listing (codes "make") (codes "number" ∷ []) false Make ∷ []
+    listing (codes "verify") pair_words [] journal.None Verify
+    ∷ listing (codes "trace") pair_words block_options journal.None Trace
+    ∷ listing (codes "run") pair_words run_options journal.Write Run
+    ∷ listing (codes "resume") [] run_options journal.Write Resume
+    ∷ listing (codes "moves") [] [] journal.Look Moves
+    ∷ listing (codes "state") [] [] journal.Look State
+    ∷ listing (codes "make") (codes "number" ∷ []) turret_options journal.Write Make ∷ []
 
 -- a row of the code, as clauses see it
 abbrev pub row_seen : Row → Listing
-row_seen row = listing row.name.now (map (λ word. word.now) row.words.now) row.takes_blocks row.task
+row_seen row = listing row.name.now (map (λ word. word.now) row.words.now) (map (λ id. id.now) row.options.now) row.journal row.task
+
+-- whether a row takes the option
+abbrev pub takes_option : Listing → Text → Bool
+takes_option row id = list_any (λ own. bytes_eq own id) row.options
 
 -- the first row that has the name
 abbrev pub row_in : List Listing → Text → Option Listing
@@ -45,6 +67,15 @@ row_in rows name = find (λ row. bytes_eq row.name name) rows
 -- the command that a word names
 abbrev pub row_of : Text → Option Listing
 row_of name = row_in listings name
+
+-- what the command that the words name does with the journal: nothing, where they name none
+abbrev pub journal_in : Option Listing → Journal
+journal_in None = journal.None
+journal_in (Some row) = row.journal
+
+abbrev pub journal_of : List Text → Journal
+journal_of [] = journal.None
+journal_of (name ∷ rest) = journal_in (row_of name)
 
 -- whether no later command has the name of an earlier one
 abbrev pub names_stand_once : List Listing → Bool

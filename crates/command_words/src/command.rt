@@ -1,4 +1,4 @@
-ghost use Rattle.std.specs.Prelude.{◌≡◌, ℕ, List, IfOk, string_bytes};
+ghost use Rattle.std.specs.Prelude.{◌≡◌, ℕ, List, IfOk, option_map, string_bytes};
 
 use std::alloc::{AllocError, Global};
 use std::marker::Model;
@@ -37,19 +37,47 @@ impl Name {
     }
 }
 
+/// The files to which the turrets write what they get, if they were named. Neither name is empty.
+#[derive(Debug, Drop)]
+pub struct TurretFiles {
+    pub one: Option<Name>,
+    pub two: Option<Name>,
+}
+
 /// What the program is asked to do. Tapes are named before the settings, path 1 first.
 #[derive(Debug, Drop)]
 pub enum Command {
     /// Judge a pair of tapes under settings.
     Verify(Name, Name, Name),
+    /// Trace the run of a pair of tapes under settings, of at most this many blocks.
+    Trace(Name, Name, Name, u32),
     /// Run a pair of tapes under settings, for at most this many blocks.
-    Run(Name, Name, Name, u32),
+    Run(Name, Name, Name, u32, TurretFiles),
     /// Go on with the run in the journal, for at most this many blocks.
-    Resume(u32),
+    Resume(u32, TurretFiles),
     /// Print the moves of the run in the journal.
     Moves,
     /// Print the state of the run in the journal.
     State,
     /// Make the pair of tapes of this number and run it.
-    Make(u32),
+    Make(u32, TurretFiles),
+}
+
+impl Command {
+    ghost use Rattle.command_words.specs.Listed.{files_in};
+
+    /// The files of the turrets, if the command is one that takes any.
+    pub fn turret_files(&self) -> Option<&TurretFiles>
+        ensures { option_map (λ files. files.now) result ≡ files_in self.now }
+    {
+        match self {
+            Command::Run(_, _, _, _, files) => Some(files),
+            Command::Resume(_, files) => Some(files),
+            Command::Make(_, files) => Some(files),
+            Command::Verify(_, _, _) => None,
+            Command::Trace(_, _, _, _) => None,
+            Command::Moves => None,
+            Command::State => None,
+        }
+    }
 }

@@ -1,28 +1,36 @@
 //! Laws of the command words, each the contract of a function that does nothing.
-ghost use Rattle.std.specs.Prelude.{◌≡◌, ℕ, Bool, true, List, [], ◌∷◌, ◌++◌, Some, codes};
-ghost use Rattle.command_words.specs.Listed.{AreNames, IsName, given};
-ghost use Rattle.command_words.specs.Table.{Listing, listings, names_stand_once};
+ghost use Rattle.std.specs.Prelude.{◌≡◌, ℕ, true, List, [], ◌∷◌, ◌++◌, Some, codes};
+ghost use Rattle.std.specs.List.{list_all};
+ghost use Rattle.command_words.specs.Listed.{AreNames, IsName, IsOptionOf, given, gives_a_command, long_word};
+ghost use Rattle.command_words.specs.Table.{listings, names_stand_once, run_options, turret_options};
 
-/// No two commands have the same name.
+/// No two commands have the same name, and each gives a command for as many words as it names.
 pub fn law_of_rows()
-    ensures { names_stand_once listings ≡ true }
+    ensures names { names_stand_once listings ≡ true }
+    ensures commands { list_all gives_a_command listings ≡ true }
 {}
 
 /// Behind a command's name, words that do not begin with `-` are names, and so is `-` itself; behind `--` every word is a
 /// name.
 pub fn law_of_names()
-    ensures names { (limited : Bool) (words : List (List ℕ)) → AreNames words
-        → given limited words ≡ Some (record { names = words; limits = [] }) }
-    ensures dashes { (limited : Bool) (before after : List (List ℕ)) → AreNames before
-        → given limited (before ++ codes "--" ∷ after) ≡ Some (record { names = before ++ after; limits = [] }) }
+    ensures names { (options words : List (List ℕ)) → AreNames words
+        → given options words ≡ Some (record { names = words; marked = [] }) }
+    ensures dashes { (options before after : List (List ℕ)) → AreNames before
+        → given options (before ++ codes "--" ∷ after) ≡ Some (record { names = before ++ after; marked = [] }) }
 {}
 
-/// `--blocks` may stand anywhere among the names, with its text as the next word or behind `=`.
-pub fn law_of_limits()
-    ensures apart { (before after : List (List ℕ)) (text : List ℕ) → AreNames before → IsName text → AreNames after
-        → given true (before ++ codes "--blocks" ∷ text ∷ after)
-        ≡ Some (record { names = before ++ after; limits = text ∷ [] }) }
-    ensures attached { (before after : List (List ℕ)) (text : List ℕ) → AreNames before → AreNames after
-        → given true (before ++ (codes "--blocks=" ++ text) ∷ after)
-        ≡ Some (record { names = before ++ after; limits = text ∷ [] }) }
+/// An option may stand anywhere among the names, with its text as the next word or behind `=`. `--blocks`, `--turret1` and
+/// `--turret2` are such options.
+pub fn law_of_options()
+    ensures apart { (options before after : List (List ℕ)) (id text : List ℕ) → IsOptionOf options id
+        → AreNames before → IsName text → AreNames after
+        → given options (before ++ long_word id ∷ text ∷ after)
+        ≡ Some (record { names = before ++ after; marked = (id, text) ∷ [] }) }
+    ensures attached { (options before after : List (List ℕ)) (id text : List ℕ) → IsOptionOf options id
+        → AreNames before → AreNames after
+        → given options (before ++ (long_word id ++ 61 ∷ text) ∷ after)
+        ≡ Some (record { names = before ++ after; marked = (id, text) ∷ [] }) }
+    ensures blocks { IsOptionOf run_options (codes "blocks") }
+    ensures turret1 { IsOptionOf run_options (codes "turret1") × IsOptionOf turret_options (codes "turret1") }
+    ensures turret2 { IsOptionOf run_options (codes "turret2") × IsOptionOf turret_options (codes "turret2") }
 {}

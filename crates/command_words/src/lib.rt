@@ -1,22 +1,21 @@
 //! The words of the command line.
 //!
-//! The commands of the program stand in one list of rows: a command's name, what its words are called, whether it takes
-//! `--blocks`, and what it asks for. `read_words` reads any words by these rows, exactly as the grammar in `specs/` says
-//! that they are read, so a further command is a row and the arm that makes it.
+//! The commands of the program stand in one list of rows: a command's name, what its words are called, the options
+//! that it takes, what it does with the journal, and what it asks for. The grammar in `specs/` says by these rows which command
+//! any words give. A crate above reads them, so a further command is a row and the arm that makes it.
 #![tactic(auto)]
 
 mod command;
 mod fault;
-mod given;
 mod laws;
+mod making;
 mod number;
-mod reading;
+mod option_texts;
 mod table;
-#[cfg(test)]
-mod tests;
 
-pub use command::{Command, Name};
+pub use command::{Command, Name, TurretFiles};
 pub use fault::WordsFault;
-pub use laws::{law_of_limits, law_of_names, law_of_rows};
-pub use reading::read_words;
-pub use table::{Row, Task, rows};
+pub use laws::{law_of_names, law_of_options, law_of_rows};
+pub use making::command_of;
+pub use option_texts::OptionTexts;
+pub use table::{Journal, Row, Task, journal_of, row_named, rows, takes_option};

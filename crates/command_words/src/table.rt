@@ -1,15 +1,29 @@
-ghost use Rattle.std.specs.Prelude.{◌≡◌, map, option_map};
-ghost use Rattle.command_words.specs.Table.{listings, row_in, row_of, row_seen};
+ghost use Rattle.std.specs.Prelude.{◌≡◌, map, option_map, string_bytes};
+ghost use Rattle.std.specs.List.{list_any};
+ghost use Rattle.std.specs.Str.{bytes_eq};
+ghost use Rattle.command_words.specs.Table.{journal_of, listings, row_in, row_of, row_seen, takes_option};
 
 /// What a command asks for.
 #[derive(Clone, Copy, Debug, PartialEq, Eq)]
 pub enum Task {
     Verify,
+    Trace,
     Run,
     Resume,
     Moves,
     State,
     Make,
+}
+
+/// What a command does with the journal of a run.
+#[derive(Clone, Copy, Debug, PartialEq, Eq)]
+pub enum Journal {
+    /// It leaves the journal alone.
+    None,
+    /// It reads the journal and changes nothing.
+    Look,
+    /// It may write to the journal.
+    Write,
 }
 
 /// A command of the program.
@@ -19,38 +33,75 @@ pub struct Row {
     pub name: &'static str,
     /// What the words behind it are called. It takes just as many.
     pub words: &'static [&'static str],
-    /// Whether it takes `--blocks`.
-    pub takes_blocks: bool,
+    /// The options that it takes, each once at most, with a text: `--NAME TEXT` or `--NAME=TEXT`.
+    pub options: &'static [&'static str],
+    pub journal: Journal,
     pub task: Task,
 }
 
-// The rows of the table: a command's name, what its words are called, whether it takes `--blocks`, and its task.
+// The rows of the table: a command's name, what its words are called, the options that it takes, what it does with
+// the journal, and its task.
 macro_rules! command_rows {
-    ($($name:literal [$($word:literal),*] $takes_blocks:literal $task:ident;)+) => {
+    ($($name:literal [$($word:literal),*] [$($option:literal),*] $journal:ident $task:ident;)+) => {
         [$(Row {
             name: $name,
             words: &[$($word),*],
-            takes_blocks: $takes_blocks,
+            options: &[$($option),*],
+            journal: Journal::$journal,
             task: Task::$task,
         }),+]
     };
 }
 
 /// The commands of the program.
-const ROWS: [Row; 6] = command_rows! {
-    "verify" ["left", "right", "settings"] false Verify;
-    "run" ["left", "right", "settings"] true Run;
-    "resume" [] true Resume;
-    "moves" [] false Moves;
-    "state" [] false State;
-    "make" ["number"] false Make;
+const ROWS: [Row; 7] = command_rows! {
+    "verify" ["left", "right", "settings"] [] None Verify;
+    "trace" ["left", "right", "settings"] ["blocks"] None Trace;
+    "run" ["left", "right", "settings"] ["blocks", "turret1", "turret2"] Write Run;
+    "resume" [] ["blocks", "turret1", "turret2"] Write Resume;
+    "moves" [] [] Look Moves;
+    "state" [] [] Look State;
+    "make" ["number"] ["turret1", "turret2"] Write Make;
 };
 
+/// What the command that the words name does with the journal: nothing, if they name none. They do not hold the
+/// program's own name.
+pub fn journal_of(words: &[String]) -> Journal
+    ensures { result ≡ journal_of (map string_bytes words.now) }
+{
+    let Some(name) = words.first() else {
+        return Journal::None;
+    };
+    match row_named(name.as_str()) {
+        Some(row) => row.journal,
+        None => Journal::None,
+    }
+}
+
 /// The row of the command that the word names.
-pub(crate) fn row_named(name: &str) -> Option<Row>
+pub fn row_named(name: &str) -> Option<Row>
     ensures { option_map row_seen result ≡ row_of name.now }
 {
     row_in(rows(), name)
+}
+
+/// Whether a row takes the option of this name.
+pub fn takes_option(row: &Row, id: &str) -> bool
+    ensures { result ≡ takes_option (row_seen row.now) id.now }
+{
+    is_among(row.options, id)
+}
+
+/// Whether the text is one of these.
+fn is_among(texts: &[&str], id: &str) -> bool
+    ensures { result ≡ list_any (λ own. bytes_eq own id.now) (map (λ s. s.now) texts.now) }
+{
+    for own in texts {
+        if *own == id {
+            return true;
+        }
+    }
+    false
 }
 
 /// The commands of the program.

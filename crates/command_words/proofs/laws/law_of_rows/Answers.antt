@@ -1,7 +1,12 @@
 use Rattle.std.proofs.Common.{refl}
+use Rattle.command_words.specs.Number.{number_of}
 use Rattle.command_words.specs.Table.{listings}
 use Rattle.command_words.proofs.laws.law_of_rows.Goals as goal
 
-pub returns : goal.returns
+pub returns-clause-names : goal.returns-clause-names
 unfolding listings
-returns c = refl
+returns-clause-names c = refl
+
+pub returns-clause-commands : goal.returns-clause-commands
+unfolding listings number_of
+returns-clause-commands c = refl

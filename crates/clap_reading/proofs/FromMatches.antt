@@ -1,0 +1,118 @@
+-- From what `clap` answers to the listed command, step by step.
+use Rattle.std.proofs.Common.{◌≡◌, ℕ, zero, suc, true, false, List, [], ◌∷◌, ◌++◌, map, length, Option, Some, None, option_map, Result, Ok, Err, refl, sym, ap, subst, ◌∙◌, arith, append_assoc, inl, inr}
+use Rattle.std.specs.Prelude.{IfOk, IsErrOf, string_bytes, option_and_then}
+use Rattle.std.specs.List.{All}
+use Rattle.std.specs.Str.{IsUtf8}
+use Rattle.std.specs.declared.string.String.{String}
+use Rattle.std.proofs.lemmas.Str.{IsUtf8-string_bytes}
+use Rattle.clap.specs.Kinds.{HasKind, IsAmong, Kinds}
+use Rattle.clap.specs.Faults.{fault_of, is_simple_and_free}
+use Rattle.clap.specs.Simple.{HasMatchesOf, app_of, is_simple, subcommand_of, subcommand_rows_of}
+use Rattle.clap.specs.Values.{kind_of}
+use Rattle.clap.specs.Walk.{Row, Text, first_of, is_empty}
+use Rattle.clap.specs.declared.builder.command.Command.{Command as Parser}
+use Rattle.clap.specs.declared.error.Error.{Error}
+use Rattle.clap.specs.declared.error.kind.ErrorKind.{ErrorKind}
+use Rattle.clap.specs.declared.parser.matches.ArgMatches.{ArgMatches}
+use Rattle.command_words.specs.Listed.{OptionTextsView, command_of, listed_command}
+use Rattle.command_words.specs.Making.{Answers}
+use Rattle.command_words.specs.Table.{Listing, listings, row_of}
+use Rattle.command_words.specs.declared.command.Command.{Command}
+use Rattle.command_words.specs.declared.fault.WordsFault.{WordsFault}
+use Rattle.command_words.specs.declared.fault.WordsFault.TheVariants.{Usage, NoMemory}
+use Rattle.clap_reading.specs.ClapReading.{command_from, command_in, command_met, fault_by, line_command, names_in, texts_at}
+use Rattle.clap_reading.specs.Grammar.{IsRead, program_app}
+
+-- the names that a row's words were given, one by one
+
+pub one_name_more : (rows : List Row) (before : List Text) (id text : Text) (ids : List Text) → first_of id rows ≡ Some text
+    → option_map (λ rest. (before ++ text ∷ []) ++ rest) (names_in rows ids) ≡ option_map (λ rest. before ++ rest) (names_in rows (id ∷ ids))
+one_name_more rows before id text ids e = rw e (go (names_in rows ids))
+  where
+    go : (later : Option (List Text)) → option_map (λ rest. (before ++ text ∷ []) ++ rest) later ≡ option_map (λ rest. before ++ rest) (option_map (λ rest. text ∷ rest) later)
+    go None = refl
+    go (Some rest) = ap Some (append_assoc before (text ∷ []) rest)
+
+pub one_name_lacks : (rows : List Row) (before : List Text) (id : Text) (ids : List Text) → first_of id rows ≡ None
+    → option_map (λ rest. before ++ rest) (names_in rows (id ∷ ids)) ≡ None
+one_name_lacks rows before id ids e = rw e refl
+
+-- the command of a row, and of its name
+
+pub from_names : (rows : List Row) (row : Listing) (names : List Text) (texts : OptionTextsView) (r : Result Command WordsFault)
+    → names_in rows row.words ≡ Some names → texts_at row rows ≡ texts → Answers (command_of row.task names texts) r → Answers (command_from rows row) r
+from_names rows row names texts r e l a = rw e (subst (λ t. Answers (command_of row.task names t) r) (sym l) a)
+
+pub in_row : (rows : List Row) (name : Text) (row : Listing) (r : Result Command WordsFault) → row_of name ≡ Some row → Answers (command_from rows row) r
+    → Answers (command_in name rows) r
+unfolding command_in
+in_row rows name row r e a = rw e a
+
+pub in_no_row : (rows : List Row) (name : Text) → row_of name ≡ None → command_in name rows ≡ None
+unfolding command_in
+in_no_row rows name e = rw e refl
+
+-- the command of a line
+
+program_is_free : is_simple_and_free program_app ≡ true
+unfolding program_app listings
+program_is_free = refl
+
+program_is_simple : is_simple program_app ≡ true
+unfolding program_app listings
+program_is_simple = refl
+
+pub line_taken : (line : List Text) (program : Parser) (found : ArgMatches) (r : Result Command WordsFault) → IsRead program_app program
+    → (is_simple_and_free (app_of program) ≡ true → fault_of (app_of program) line ≡ []) → HasMatchesOf (app_of program) line found
+    → Answers (command_met (subcommand_rows_of found)) r → Answers (line_command line) r
+unfolding line_command
+line_taken line program found r read free matches a =
+    let none : fault_of program_app line ≡ []
+    = subst (λ app. fault_of app line ≡ []) read.same (free (subst (λ app. is_simple_and_free app ≡ true) (sym read.same) program_is_free)) in
+    let met : subcommand_rows_of found ≡ subcommand_of program_app line
+    = subst (λ app. subcommand_rows_of found ≡ subcommand_of app line) read.same (matches (subst (λ app. is_simple app ≡ true) (sym read.same) program_is_simple)).1 in
+    rw (none, ← met) a
+
+among_some : (kind : ErrorKind) (kinds : Kinds) → IsAmong kind kinds → is_empty kinds ≡ false
+among_some kind [] among = absurd among
+among_some kind (k ∷ kinds) among = grind arith
+
+answers_none : (fault : WordsFault) → Answers {T = Command} None (Err fault)
+answers_none Usage = refl
+answers_none NoMemory = tt
+
+no_command : (line : List Text) → is_empty (fault_of program_app line) ≡ false → line_command line ≡ None
+unfolding line_command
+no_command line some = rw some refl
+
+pub line_refused : (line : List Text) (program : Parser) (error : Error) (fault : WordsFault) → IsRead program_app program
+    → (is_simple_and_free (app_of program) ≡ true → HasKind (fault_of (app_of program) line) error) → fault ≡ fault_by (kind_of error)
+    → Answers (line_command line) (Err fault)
+line_refused line program error fault read free by =
+    let fails : HasKind (fault_of program_app line) error
+    = subst (λ app. HasKind (fault_of app line) error) read.same (free (subst (λ app. is_simple_and_free app ≡ true) (sym read.same) program_is_free)) in
+    elim fails [
+      | inl memory ↦
+          let short : fault ≡ NoMemory = by ∙ ap fault_by memory in
+          subst (λ f. Answers (line_command line) (Err f)) (sym short) tt
+      | inr among ↦
+          let none : line_command line ≡ None = no_command line (among_some (kind_of error) (fault_of program_app line) among) in
+          subst (λ value. Answers value (Err fault)) (sym none) (answers_none fault)
+    ]
+
+-- the command of the words
+
+pub words_are_texts : {Z : Type 0} → (words : List (String Z)) → All IsUtf8 (map string_bytes words)
+words_are_texts [] k d less = absurd (omega arith)
+words_are_texts (word ∷ words) zero d less = IsUtf8-string_bytes word
+words_are_texts (word ∷ words) (suc k) d less = words_are_texts words k d (omega arith)
+
+pub answer_ok : (value listed : Option Command) (r : Result Command WordsFault) → value ≡ listed → Answers value r → IfOk r (λ command. listed ≡ Some command)
+answer_ok value listed (Ok command) e a = sym e ∙ a
+answer_ok value listed (Err Usage) e a = tt
+answer_ok value listed (Err NoMemory) e a = tt
+
+pub answer_usage : (value listed : Option Command) (r : Result Command WordsFault) → value ≡ listed → Answers value r → IsErrOf r Usage → listed ≡ None
+answer_usage value listed (Ok command) e a f = cc
+answer_usage value listed (Err Usage) e a f = sym e ∙ a
+answer_usage value listed (Err NoMemory) e a f = cc

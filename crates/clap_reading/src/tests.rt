@@ -1,0 +1,214 @@
+//! Word lists with the commands that they give.
+
+use crate::reading::read_words;
+use command_words::{Command, TurretFiles, WordsFault};
+use std::alloc::{AllocError, Global};
+use std::test::Fail;
+
+/// Words, each one space behind the one before, and what they give. Two spaces hold an empty word. A file of a turret stands
+/// behind a `>`, as `1>a`.
+const ROWS: &str = "verify l r s -> verify [l] [r] [s]
+verify -> usage
+verify l -> usage
+verify l r -> usage
+verify l r s t -> usage
+verify  r s -> verify [] [r] [s]
+verify    -> verify [] [] []
+verify - - - -> verify [-] [-] [-]
+verify verify run moves -> verify [verify] [run] [moves]
+verify help state make -> verify [help] [state] [make]
+verify a=b c.d é -> verify [a=b] [c.d] [é]
+verify -- l r s -> verify [l] [r] [s]
+verify l -- r s -> verify [l] [r] [s]
+verify l r s -- -> verify [l] [r] [s]
+verify -- --help -x --blocks -> verify [--help] [-x] [--blocks]
+verify -- l -- s -> verify [l] [--] [s]
+verify -- l r -> usage
+verify -- l r s t -> usage
+verify l r s -- -- -> usage
+-- verify l r s -> usage
+verify l r s --blocks 5 -> usage
+verify l r s --blocks=5 -> usage
+verify l r -x -> usage
+verify l r --x -> usage
+verify --help -> usage
+verify l r s -h -> usage
+verify l r s --version -> usage
+verify l r s -V -> usage
+Verify l r s -> usage
+verif l r s -> usage
+trace l r s -> trace [l] [r] [s] 100000
+trace l r -> usage
+trace l r s t -> usage
+trace l r s --blocks 7 -> trace [l] [r] [s] 7
+trace --blocks=1000000 l r s -> trace [l] [r] [s] 1000000
+trace l r s --blocks 1000001 -> usage
+trace l r s --blocks 0 -> usage
+trace l r s --turret1 a -> usage
+trace -- l r --blocks -> trace [l] [r] [--blocks] 100000
+run l r s -> run [l] [r] [s] 100000
+run l r -> usage
+run l r s t -> usage
+run l r s --blocks 1 -> run [l] [r] [s] 1
+run l r s --blocks 1000000 -> run [l] [r] [s] 1000000
+run l r s --blocks 1000001 -> usage
+run l r s --blocks 0 -> usage
+run l r s --blocks 0000001 -> run [l] [r] [s] 1
+run l r s --blocks 00000001 -> usage
+run l r s --blocks 10000000 -> usage
+run l r s --blocks=50 -> run [l] [r] [s] 50
+run l r s --blocks= -> usage
+run l r s --blocks  -> usage
+run l r s --blocks -> usage
+run --blocks 5 l r s -> run [l] [r] [s] 5
+run l --blocks 5 r s -> run [l] [r] [s] 5
+run l r --blocks=5 s -> run [l] [r] [s] 5
+run --blocks l r s -> usage
+run --blocks 5 --blocks 6 l r s -> usage
+run --blocks 5 l r s --blocks=5 -> usage
+run --blocks=5 --blocks=5 l r s -> usage
+run --blocks 5 -- l r s -> run [l] [r] [s] 5
+run l r --blocks 5 -- s -> run [l] [r] [s] 5
+run -- l r s --blocks 5 -> usage
+run -- l --blocks 5 -> run [l] [--blocks] [5] 100000
+run l r -- --blocks=5 -> run [l] [r] [--blocks=5] 100000
+run --blocks -- l r s -> usage
+run -- -- -- -- -> run [--] [--] [--] 100000
+run --blocks=5 -- -- --blocks -h -> run [--] [--blocks] [-h] 5
+run l r s --blocks -5 -> usage
+run l r s --blocks=-5 -> usage
+run l r s --blocks - -> usage
+run l r s --blocks +5 -> usage
+run l r s --blocks 5x -> usage
+run l r s --blocks 5.0 -> usage
+run l r s --blocks=5=5 -> usage
+run l r s --block 5 -> usage
+run l r s --Blocks 5 -> usage
+run l r s -blocks 5 -> usage
+run l r s -b5 -> usage
+--blocks 5 run l r s -> usage
+run l r s --turret1 a -> run [l] [r] [s] 100000 1>a
+run l r s --turret2=b -> run [l] [r] [s] 100000 2>b
+run --turret2 b l --turret1=a r s --blocks 5 -> run [l] [r] [s] 5 1>a 2>b
+run l r s --turret1=a=b --turret2 - -> run [l] [r] [s] 100000 1>a=b 2>-
+run l r s --turret1 a --turret1 a -> usage
+run l r s --turret1=a --blocks 5 --turret1 b -> usage
+run l r s --turret1= -> usage
+run l r s --turret2  -> usage
+run l r s --turret1 -> usage
+run l r s --turret1 --turret2 b -> usage
+run l r s --turret3 c -> usage
+run l r s --turret a -> usage
+run l r s -turret1 a -> usage
+run l r s -- --turret1 a -> usage
+run -- l r --turret1=a -> run [l] [r] [--turret1=a] 100000
+verify l r s --turret1 a -> usage
+resume -> resume 100000
+resume --turret1 a --blocks=7 --turret2 b -> resume 7 1>a 2>b
+resume --blocks 50 -> resume 50
+resume --blocks=50 -> resume 50
+resume -- -> resume 100000
+resume --blocks 50 -- -> resume 50
+resume -- --blocks 50 -> usage
+resume 50 -> usage
+resume --blocks 50 --blocks 50 -> usage
+moves -> moves
+moves x -> usage
+moves --blocks 5 -> usage
+moves --turret1 a -> usage
+state -> state
+state state -> usage
+make 0 -> make 0
+make 0000007 -> make 7
+make 999999 -> make 999999
+make 1000000 -> usage
+make 00000007 -> usage
+make -7 -> usage
+make -- 7 -> make 7
+make -- -7 -> usage
+make -- -- -> usage
+make -> usage
+make 7 --blocks 5 -> usage
+make --turret1=a 7 --turret2 b -> make 7 1>a 2>b
+help -> usage
+--help -> usage
+codes -> usage
+ -> usage";
+
+#[test]
+fn commands_of_words(rt: HostRuntime) -> Result<(), Fail> {
+    for line in ROWS.lines() {
+        let (row, want) = line.split_once(" -> ").ok_or("a row")?;
+        let words = words_of(rt.alloc(), row)?;
+        let answer = shown(rt.alloc(), read_words(rt.alloc(), words.as_slice()))?;
+        assert_eq!(rt; answer.as_str(), want, "{row}");
+    }
+    Ok(())
+}
+
+fn words_of(alloc: Global, row: &str) -> Result<Vec<String>, AllocError> {
+    let mut words = Vec::new(alloc);
+    for word in row.split(' ') {
+        words.push(String::from_str(alloc, word)?)?;
+    }
+    Ok(words)
+}
+
+fn shown(alloc: Global, answer: Result<Command, WordsFault>) -> Result<String, AllocError> {
+    match answer {
+        Ok(Command::Verify(left, right, settings)) => {
+            let left = left.as_str();
+            let right = right.as_str();
+            let settings = settings.as_str();
+            format!(in alloc; "verify [{left}] [{right}] [{settings}]")
+        }
+        Ok(Command::Trace(left, right, settings, blocks)) => {
+            let left = left.as_str();
+            let right = right.as_str();
+            let settings = settings.as_str();
+            format!(in alloc; "trace [{left}] [{right}] [{settings}] {blocks}")
+        }
+        Ok(Command::Run(left, right, settings, blocks, files)) => {
+            let left = left.as_str();
+            let right = right.as_str();
+            let settings = settings.as_str();
+            let files = files_shown(alloc, &files)?;
+            let files = files.as_str();
+            format!(in alloc; "run [{left}] [{right}] [{settings}] {blocks}{files}")
+        }
+        Ok(Command::Resume(blocks, files)) => {
+            let files = files_shown(alloc, &files)?;
+            let files = files.as_str();
+            format!(in alloc; "resume {blocks}{files}")
+        }
+        Ok(Command::Moves) => String::from_str(alloc, "moves"),
+        Ok(Command::State) => String::from_str(alloc, "state"),
+        Ok(Command::Make(number, files)) => {
+            let files = files_shown(alloc, &files)?;
+            let files = files.as_str();
+            format!(in alloc; "make {number}{files}")
+        }
+        Err(WordsFault::Usage) => String::from_str(alloc, "usage"),
+        Err(WordsFault::NoMemory) => String::from_str(alloc, "no memory"),
+    }
+}
+
+fn files_shown(alloc: Global, files: &TurretFiles) -> Result<String, AllocError> {
+    let mut shown = String::new(alloc);
+    if let Some(one) = &files.one {
+        shown.push_str(" 1>")?;
+        shown.push_str(one.as_str())?;
+    }
+    if let Some(two) = &files.two {
+        shown.push_str(" 2>")?;
+        shown.push_str(two.as_str())?;
+    }
+    Ok(shown)
+}
+
+#[test]
+fn no_words_are_no_command(rt: HostRuntime) {
+    let words: Vec<String> = Vec::new(rt.alloc());
+    let answer = read_words(rt.alloc(), words.as_slice());
+    assert!(rt; matches!(answer, Err(WordsFault::Usage)));
+}

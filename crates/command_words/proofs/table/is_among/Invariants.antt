@@ -1,0 +1,9 @@
+-- None of the texts so far is the one.
+use Rattle.std.proofs.Common.{◌≡◌, drop, map}
+use Rattle.std.specs.List.{list_any}
+use Rattle.std.specs.Str.{bytes_eq}
+use Rattle.command_words.proofs.table.is_among.Given as goal
+
+abbrev pub invariant-loop-own : goal.invariant-loop-own
+invariant-loop-own l =
+    list_any (λ own. bytes_eq own l.id) (map (λ s. s.now) l.texts) ≡ list_any (λ own. bytes_eq own l.id) (map (λ s. s.now) (drop l.own-index l.texts))

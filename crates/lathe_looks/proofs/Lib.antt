@@ -1,0 +1,6 @@
+pub mod Ended
+pub mod NotHad
+pub mod Judging
+pub mod TextsShown
+pub mod TurnsTold
+pub mod BadJournal

@@ -1,0 +1,21 @@
+-- What is shown of a run that was found.
+use Rattle.std.proofs.Common.{◌≡◌, List, ℕ, refl, sym, ap, ◌∙◌}
+use Rattle.move_list.specs.declared.end_line.Reason.{Reason}
+use Rattle.move_list.specs.State.{IsMachineOf, state_text}
+use Rattle.disk_model.specs.Device.{DiskState}
+use Rattle.nc_restart.specs.Pair.{tapes_in, opening_of, machine_behind}
+use Rattle.nc_restart.specs.Recovered.{IsRecovered}
+use Rattle.nc_verify.specs.declared.verified.Verified.{Verified}
+use Rattle.run_journal.specs.Kept.{Log}
+use Rattle.run_records.specs.declared.entry.Entry.{Entry}
+use Rattle.run_records.specs.declared.header.Header.{Header}
+use Rattle.two_path.specs.Machine.{MachineView}
+use Rattle.lathe_looks.specs.Standing.{reason_of, report_of, moves_text, state_of}
+
+pub moves_are : (pair : Verified) (entries : List Entry) (machine : MachineView) (reason : Reason) → machine ≡ machine_behind pair entries
+    → reason ≡ reason_of machine → report_of pair entries reason ≡ moves_text pair entries
+moves_are pair entries machine reason folds same = ap (report_of pair entries) (same ∙ ap reason_of folds)
+
+pub state_is : (pair : Verified) (entries : List Entry) (machine : MachineView) → machine ≡ machine_behind pair entries
+    → state_text (tapes_in pair) machine ≡ state_of pair entries
+state_is pair entries machine folds = ap (state_text (tapes_in pair)) folds

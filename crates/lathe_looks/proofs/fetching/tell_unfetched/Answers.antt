@@ -1,0 +1,11 @@
+use Rattle.std.proofs.Common.{sym, subst, ap}
+use Rattle.lathe_looks.specs.Answers.{Ends, IsJust}
+use Rattle.lathe_looks.specs.Fetched.{unfetched}
+use Rattle.lathe_looks.proofs.Ended.{ends_by, ends_untold}
+use Rattle.lathe_looks.proofs.fetching.tell_unfetched.Goals as goal
+
+pub returns-in-Fault : goal.returns-in-Fault
+returns-in-Fault g c = rw c.in-Fault.is c.tell_fault.ensures
+
+pub returns-in-NoMemory : goal.returns-in-NoMemory
+returns-in-NoMemory g c = ends_untold _ (sym (ap unfetched c.in-NoMemory.is))

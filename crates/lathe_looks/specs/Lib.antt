@@ -1,0 +1,11 @@
+-- What callers read.
+pub mod Statuses
+pub mod Answers
+pub mod Named
+pub mod Fetched
+pub mod Judged
+pub mod Standing
+pub mod Shown
+pub mod Traced
+-- Words of the inside.
+pub mod Texts

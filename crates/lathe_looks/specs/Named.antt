@@ -1,0 +1,31 @@
+-- The files that a command names.
+use Rattle.std.specs.Prelude.{ℕ, List, [], ◌∷◌}
+use Rattle.nc_verify.specs.Verdict.{Texts}
+use Rattle.lathe_looks.specs.declared.files.CommandFile.{CommandFile}
+use Rattle.lathe_looks.specs.declared.files.CommandFile.TheVariants.{Left, Right, Settings}
+
+-- a file of a command: which of them it is, and its name
+pub record Named : Type 0 where
+  pub file : CommandFile
+  pub name : List ℕ
+
+abbrev pub named : CommandFile → List ℕ → Named
+named file name = record { file = file; name = name }
+
+-- the most bytes that a file of a command may have
+abbrev pub most_bytes : CommandFile → ℕ
+most_bytes Left = 4194304
+most_bytes Right = 4194304
+most_bytes Settings = 65536
+
+-- the files of both tapes
+abbrev pub tapes_of : List ℕ → List ℕ → List Named
+tapes_of left right = named Left left ∷ named Right right ∷ []
+
+-- the files of a pair of tapes and the settings, in the order in which they are fetched
+abbrev pub files_of : List ℕ → List ℕ → List ℕ → List Named
+files_of left right settings = named Left left ∷ named Right right ∷ named Settings settings ∷ []
+
+-- the texts of these files, in their order
+abbrev pub listed : Texts → List (List ℕ)
+listed texts = texts.left ∷ texts.right ∷ texts.settings ∷ []

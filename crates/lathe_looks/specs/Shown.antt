@@ -1,0 +1,43 @@
+-- What a command answers that shows what the journal on a disk holds.
+use Rattle.std.specs.Prelude.{◌≡◌, ℕ, List, ◌++◌, codes, decimal, Result, Ok, Err}
+use Rattle.disk_model.specs.Device.{DiskState}
+use Rattle.nc_restart.specs.declared.fault.RestartFault.{RestartFault}
+use Rattle.nc_restart.specs.declared.fault.RestartFault.TheVariants as restart
+use Rattle.nc_restart.specs.Pair.{texts_of, IsPairOf}
+use Rattle.nc_restart.specs.History.{IsHistory}
+use Rattle.nc_restart.specs.Recovered.{FoundRun, Recovers}
+use Rattle.nc_verify.specs.declared.verified.Verified.{Verified}
+use Rattle.run_records.specs.declared.entry.Entry.{Entry}
+use Rattle.lathe_looks.specs.declared.showing.Showing.{Showing}
+use Rattle.lathe_looks.specs.declared.showing.Showing.TheVariants.{Moves, State}
+use Rattle.lathe_looks.specs.Answers.{Answer, tells, nothing}
+use Rattle.lathe_looks.specs.Standing.{moves_text, state_of}
+use Rattle.lathe_looks.specs.Statuses as exit
+
+-- an offset of the journal
+abbrev pub at_text : ℕ → List ℕ
+at_text offset = codes " at " ++ decimal offset
+
+-- the line of a journal that is bad at an offset
+abbrev pub bad_text : ℕ → List ℕ
+bad_text offset = codes "bad journal" ++ at_text offset ++ codes "\n"
+
+-- what is told where no run is found: the disk failed, or there is no run, or the journal is bad; nothing for want of memory
+abbrev pub unfound : RestartFault → Answer
+unfound restart.DiskFault = tells exit.disk_fault (codes "disk fault\n")
+unfound restart.NoRun = tells exit.run_or_none (codes "no run\n")
+unfound (restart.Cut at) = tells exit.bad_journal (bad_text at)
+unfound (restart.BadRecord offset cause) = tells exit.bad_journal (bad_text offset)
+unfound restart.NoMemory = nothing
+
+-- the text of a history that is shown
+abbrev pub shown_text : Showing → Verified → List Entry → List ℕ
+shown_text Moves = moves_text
+shown_text State = state_of
+
+-- What a command answers that looks for a run on the disk and shows its history by this text: why none is found, or that text. It
+-- writes nothing to the disk.
+pub data IsShown (text_of : Verified → List Entry → List ℕ) (old new : DiskState) : Answer → Type 0 where
+  unshown : (fault : RestartFault) → Recovers old new (Err fault) → IsShown text_of old new (unfound fault)
+  shown : (found : FoundRun) (pair : Verified) → IsPairOf (texts_of found.header) pair → IsHistory pair found.entries
+      → Recovers old new (Ok found) → IsShown text_of old new (tells exit.done (text_of pair found.entries))

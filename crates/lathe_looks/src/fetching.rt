@@ -1,0 +1,180 @@
+//! The texts of the files of a command, or the first of them that is not had.
+ghost use Rattle.std.specs.Prelude.{◌≡◌, ◌≤◌, [], ◌∷◌, ◌++◌, OnOk, IfOk, IfErr};
+ghost use Rattle.block_order.specs.Answers.{IfFault};
+ghost use Rattle.nc_outside.specs.Files.{HoldsOn};
+ghost use Rattle.lathe_looks.specs.Answers.{Ends, IsJust, tells};
+ghost use Rattle.lathe_looks.specs.Named.{listed, named, tapes_of};
+ghost use Rattle.lathe_looks.specs.Texts.{files_in, texts_of};
+ghost use Rattle.lathe_looks.specs.Fetched.{AreAsked, AreHad, FileCause, IsText, IsUnfetched, fault_status, fault_text, file_of, unfetched};
+
+use crate::ending::{Status, write_text};
+use crate::files::{CommandFile, FileNames};
+use crate::printing::push_bytes;
+use nc_number::{Failing, NoMemory};
+use nc_outside::{FetchFault, Shelf, Sink};
+use std::alloc::Global;
+
+/// Why a file is not had.
+#[derive(Clone, Copy, Debug, PartialEq, Eq)]
+pub enum FileFault {
+    /// The shelf failed.
+    Failed,
+    /// There is no file of the name.
+    Absent,
+    /// The file has more bytes than a file of its kind may have.
+    TooLong,
+}
+
+/// A file that is not had, by the name that the command gives it, and why.
+#[derive(Clone, Copy, Debug)]
+pub struct Unfetched<'a> {
+    pub file: CommandFile,
+    pub name: &'a str,
+    pub fault: FileFault,
+}
+
+/// The texts of both tapes.
+#[derive(Drop)]
+struct Tapes {
+    pub left: Vec<u8>,
+    pub right: Vec<u8>,
+}
+
+/// The texts of both tapes and of the settings.
+#[derive(Drop)]
+pub struct Texts {
+    pub left: Vec<u8>,
+    pub right: Vec<u8>,
+    pub settings: Vec<u8>,
+}
+
+/// The text of a file.
+fn fetch<'a, H: Shelf>(
+    alloc: Global,
+    shelf: &mut H,
+    file: CommandFile,
+    name: &'a str,
+) -> Result<Vec<u8>, Failing<Unfetched<'a>>>
+    ensures text { IfOk result (λ text. IsText (H.state shelf.old).files (named file name.now) text.items) }
+    ensures not_had { IfErr result (λ error. IfFault error (λ unfetched. (file_of unfetched ≡ named file name.now)
+        × FileCause (H.state shelf.old) (H.state shelf.new) (named file name.now) unfetched.fault)) }
+    ensures files { HoldsOn (H.state shelf.old) (H.state shelf.new) }
+    ensures asked { AreAsked (H.state shelf.old).asked (H.state shelf.new).asked (named file name.now ∷ []) }
+    ensures later { (H.state shelf.old).faults ≤ (H.state shelf.new).faults }
+{
+    let mut text = Vec::new(alloc);
+    match shelf.fetch(name, &mut text, file.most_bytes()) {
+        Ok(()) => Ok(text),
+        Err(FetchFault::Failed) => Err(not_had(file, name, FileFault::Failed)),
+        Err(FetchFault::Absent) => Err(not_had(file, name, FileFault::Absent)),
+        Err(FetchFault::TooLong) => Err(not_had(file, name, FileFault::TooLong)),
+        Err(FetchFault::NoMemory) => Err(Failing::NoMemory),
+    }
+}
+
+fn not_had(file: CommandFile, name: &str, fault: FileFault) -> Failing<Unfetched<'_>>
+    ensures { IfFault result (λ unfetched. (file_of unfetched ≡ named file name.now) × (unfetched.fault ≡ fault)) }
+{
+    Failing::Fault(Unfetched { file, name, fault })
+}
+
+/// The texts of both tapes, path 1's first.
+fn fetch_tapes<'a, H: Shelf>(
+    alloc: Global,
+    shelf: &mut H,
+    left: &'a str,
+    right: &'a str,
+) -> Result<Tapes, Failing<Unfetched<'a>>>
+    ensures texts { IfOk result (λ tapes. AreHad (H.state shelf.old) (H.state shelf.new)
+        (tapes_of left.now right.now) (tapes.left.items ∷ tapes.right.items ∷ [])) }
+    ensures not_had { IfErr result (IsUnfetched (H.state shelf.old) (H.state shelf.new) (tapes_of left.now right.now)) }
+    ensures files { HoldsOn (H.state shelf.old) (H.state shelf.new) }
+    ensures later { (H.state shelf.old).faults ≤ (H.state shelf.new).faults }
+{
+    let left = match fetch(alloc, shelf, CommandFile::Left, left) {
+        Ok(text) => text,
+        Err(error) => return Err(error),
+    };
+    let right = match fetch(alloc, shelf, CommandFile::Right, right) {
+        Ok(text) => text,
+        Err(error) => return Err(error),
+    };
+    Ok(Tapes { left, right })
+}
+
+/// The texts of both tapes, and then of the settings.
+pub fn fetch_texts<'a, H: Shelf>(
+    alloc: Global,
+    shelf: &mut H,
+    names: &FileNames<'a>,
+) -> Result<Texts, Failing<Unfetched<'a>>>
+    ensures texts { IfOk result (λ texts. AreHad (H.state shelf.old) (H.state shelf.new) (files_in names.now)
+        (listed (texts_of texts))) }
+    ensures not_had { IfErr result (IsUnfetched (H.state shelf.old) (H.state shelf.new) (files_in names.now)) }
+{
+    let tapes = match fetch_tapes(alloc, shelf, names.left, names.right) {
+        Ok(tapes) => tapes,
+        Err(error) => return Err(error),
+    };
+    let Tapes { left, right } = tapes;
+    match fetch(alloc, shelf, CommandFile::Settings, names.settings) {
+        Ok(settings) => Ok(Texts {
+            left,
+            right,
+            settings,
+        }),
+        Err(error) => Err(error),
+    }
+}
+
+/// Writes the line of a file that is not had, and gives its status. Where memory was lacking nothing is written.
+pub fn tell_unfetched<K: Sink>(alloc: Global, error: &Failing<Unfetched<'_>>, out: &mut K) -> u8
+    ensures { Ends (IsJust (unfetched error.now)) (K.state out.old) (K.state out.new) result }
+{
+    match error {
+        Failing::Fault(missing) => tell_fault(alloc, missing, out),
+        Failing::NoMemory => Status::NoMemory as u8,
+    }
+}
+
+/// Writes the line of a file that is not had, and gives its status.
+fn tell_fault<K: Sink>(alloc: Global, missing: &Unfetched<'_>, out: &mut K) -> u8
+    ensures { Ends (IsJust (tells (fault_status missing.now.fault) (fault_text missing.now.name.now missing.now.fault)))
+        (K.state out.old) (K.state out.new) result }
+{
+    let mut text = Vec::new(alloc);
+    if push_fault(&mut text, missing.name, missing.fault).is_err() {
+        return Status::NoMemory as u8;
+    }
+    write_text(out, text.as_slice(), fault_status(missing.fault))
+}
+
+fn fault_status(fault: FileFault) -> u8
+    ensures { result ≡ fault_status fault }
+{
+    let status = match fault {
+        FileFault::Failed => Status::ShelfFault,
+        FileFault::Absent | FileFault::TooLong => Status::NoFile,
+    };
+    status as u8
+}
+
+/// Puts the line of a file of this name that is not had.
+#[tactic(auto, unfolding(crate::specs::Fetched::fault_text))]
+fn push_fault(text: &mut Vec<u8>, name: &str, fault: FileFault) -> Result<(), NoMemory>
+    ensures { OnOk result (text.new.items ≡ text.old.items ++ fault_text name.now fault) }
+{
+    match fault {
+        FileFault::Failed => push_bytes(text, b"shelf fault\n"),
+        FileFault::Absent => {
+            push_bytes(text, b"no file ")?;
+            push_bytes(text, name.as_bytes())?;
+            push_bytes(text, b"\n")
+        }
+        FileFault::TooLong => {
+            push_bytes(text, b"too long ")?;
+            push_bytes(text, name.as_bytes())?;
+            push_bytes(text, b"\n")
+        }
+    }
+}

@@ -1,0 +1,21 @@
+//! Text in memory.
+ghost use Rattle.std.specs.Prelude.{◌≡◌, ◌++◌, OnOk, decimal};
+
+use itoa::Buffer;
+use nc_number::NoMemory;
+
+/// Puts bytes as they are behind what a text holds.
+pub(crate) fn push_bytes(text: &mut Vec<u8>, piece: &[u8]) -> Result<(), NoMemory>
+    ensures { OnOk result (text.new.items ≡ text.old.items ++ piece.now) }
+{
+    text.extend_from_slice(piece)?;
+    Ok(())
+}
+
+/// Puts a whole number in decimal digits.
+pub(crate) fn push_number(text: &mut Vec<u8>, number: u64) -> Result<(), NoMemory>
+    ensures { OnOk result (text.new.items ≡ text.old.items ++ decimal number) }
+{
+    let mut buffer = Buffer::new();
+    push_bytes(text, buffer.format(number).as_bytes())
+}

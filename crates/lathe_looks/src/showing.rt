@@ -1,0 +1,75 @@
+//! The commands that show what the journal on the disk holds. They write nothing to it.
+ghost use Rattle.std.specs.Prelude.{◌≡◌};
+ghost use Rattle.nc_restart.specs.Recovered.{IsRecovered};
+ghost use Rattle.nc_verify.specs.Printed.{IsPut};
+ghost use Rattle.lathe_looks.specs.Answers.{Ends};
+ghost use Rattle.lathe_looks.specs.Shown.{IsShown, shown_text};
+
+use crate::ending::{Status, status_behind};
+use crate::refusing::tell_unfound;
+use crate::standing::reason_of;
+use disk_model::Disk;
+use move_list::{write_report, write_state};
+use nc_outside::{PutFault, Sink};
+use nc_restart::{Recovered, recover};
+use std::alloc::Global;
+
+/// What is shown of a run.
+#[derive(Clone, Copy, Debug, PartialEq, Eq)]
+pub enum Showing {
+    /// The report of its history.
+    Moves,
+    /// The state of its machine.
+    State,
+}
+
+/// The status of a call that has no part in the turrets, and the disk that was handed in.
+#[derive(Drop)]
+pub struct Shown<D: Disk> {
+    pub status: u8,
+    pub disk: D,
+}
+
+/// Writes the text that is asked for of the run whose journal the disk has, or why there is none.
+pub fn show<D: Disk, K: Sink>(alloc: Global, showing: Showing, disk: D, out: &mut K) -> Shown<D>
+    ensures { Ends (IsShown (shown_text showing) (D.state disk) (D.state result.disk))
+        (K.state out.old) (K.state out.new) result.status }
+{
+    match recover(alloc, disk) {
+        Ok(found) => {
+            let status = status_behind(put(alloc, showing, &found, out), Status::Done as u8);
+            Shown {
+                status,
+                disk: found.journal.into_disk(),
+            }
+        }
+        Err((disk, fault)) => Shown {
+            status: tell_unfound(alloc, fault, out),
+            disk,
+        },
+    }
+}
+
+/// Puts the text that is asked for of a run that was found.
+fn put<D: Disk, K: Sink>(
+    alloc: Global,
+    showing: Showing,
+    found: &Recovered<D>,
+    out: &mut K,
+) -> Result<(), PutFault>
+    requires { IsRecovered D.state found.now.header found.now.verified found.now.machine.machine
+        found.now.entries.items found.now.journal }
+    ensures { IsPut (K.state out.old) (K.state out.new)
+        (shown_text showing found.now.verified found.now.entries.items) result }
+{
+    match showing {
+        Showing::Moves => write_report(
+            alloc,
+            &found.verified,
+            &found.entries,
+            reason_of(&found.machine),
+            out,
+        ),
+        Showing::State => write_state(&found.verified, &found.machine, out),
+    }
+}
