@@ -1,40 +1,74 @@
--- Where the shelf and the disk tell what they hold and did not fail, one status is due.
-use Rattle.std.proofs.Common.{◌≡◌, ℕ, Option, Some, None, List, length, take, refl, sym, ap, subst, arith, ◌∙◌}
+-- Where the outside tells what it holds and did not fail, one status and one text are due.
+use Rattle.std.proofs.Common.{◌≡◌, ℕ, ◌+◌, ◌++◌, Option, Some, None, List, ◌∷◌, [], length, map, take, refl, sym, ap, subst, arith, ◌∙◌, Err}
+use Rattle.std.specs.Prelude.{codes}
 use Rattle.std.proofs.Math.Seq.{take-length}
+use Rattle.std.specs.Prelude.{min}
+use Rattle.std.proofs.lemmas.List.{length-map}
+use Rattle.std.proofs.lemmas.List.Sums.{sum_by-cons}
+use Rattle.block_forms.specs.Blocks.{block_form}
 use Rattle.cell_settings.specs.Cell.{Cell}
 use Rattle.command_words.specs.declared.command.Command.{Command}
 use Rattle.command_words.specs.declared.command.Command.TheVariants as command
-use Rattle.disk_model.specs.Device.{IsCoherent, Reads}
+use Rattle.disk_model.specs.Device.{DiskState, IsCoherent, Reads}
 use Rattle.disk_model.specs.Device.{Rose as DiskRose}
+use Rattle.gate_file.specs.declared.fault.GateFault.{GateFault}
+use Rattle.gate_file.specs.declared.fault.GateFault.TheVariants as gate
 use Rattle.move_list.specs.declared.end_line.Reason.{Reason}
+use Rattle.move_list.specs.Report.{report_text}
+use Rattle.move_list.specs.State.{state_text}
+use Rattle.move_list.specs.Summary.{block_count, number_line, numbers_line, outcome_text, pair_text, summary_text}
+use Rattle.nc_number.specs.declared.cause.Cause.{Cause}
 use Rattle.nc_number.specs.declared.path.Path.{Path}
+use Rattle.nc_number.proofs.CauseTable.{number_has_one_cause}
 use Rattle.nc_outside.specs.Faults.{Rose}
 use Rattle.nc_outside.specs.Files.{Files, ShelfState}
 use Rattle.nc_verify.specs.declared.refusal.Refusal.{Refusal}
 use Rattle.nc_verify.specs.declared.verified.Verified.{Verified}
+use Rattle.nc_verify.specs.Printed.{IsCauseOf, IsVerdictText, refused_text}
 use Rattle.nc_verify.specs.Verdict.{Texts, AreAccepted, IsRefusalOf}
 use Rattle.run_records.specs.declared.entry.Entry.{Entry}
 use Rattle.run_records.specs.declared.header.Header.{Header}
 use Rattle.run_journal.specs.Meaning.{Meaning, no_run, cut_at, bad_at, a_run, StandsFor}
 use Rattle.run_journal.specs.Stands.{Stands}
 use Rattle.run_table.specs.Recording.{StandsForPrefix}
-use Rattle.tape_flow.specs.Forms.{ProgramForm}
+use Rattle.tape_flow.specs.Forms.{ProgramForm, program_form}
+use Rattle.tape_flow.specs.declared.program.FlowProgram.{FlowProgram}
 use Rattle.turret_run.specs.Runs.{turret_for}
-use Rattle.two_path.specs.Machine.{MachineView}
+use Rattle.path_state.specs.View.{PathView}
+use Rattle.trace_list.specs.Trace.{trace_text}
+use Rattle.turn_order.specs.Ending.{end_told}
+use Rattle.turn_order.specs.InTurn.{IsInTurn}
+use Rattle.two_path.specs.Machine.{MachineView, opening}
+use Rattle.two_path.specs.Turns.{Tapes}
 use Rattle.two_path.specs.Histories.{fold}
-use Rattle.nc_restart.specs.Pair.{texts_of, IsPairOf, IsSamePair, machine_behind}
+use Rattle.nc_restart.specs.declared.fault.RestartFault.{RestartFault}
+use Rattle.nc_restart.specs.declared.fault.RestartFault.TheVariants as restart
+use Rattle.nc_restart.specs.Pair.{texts_of, IsPairOf, IsSamePair, machine_behind, opening_of, tapes_in}
 use Rattle.nc_restart.specs.Meaning.{StandsForRun}
-use Rattle.lathe_top.specs.Named.{Named, files_of, listed}
-use Rattle.lathe_top.specs.Fetched.{AreTexts}
-use Rattle.lathe_top.specs.Judged.{IsJudged, accepted, refused}
-use Rattle.lathe_top.specs.Lathe.{LatheState, AreAtRest}
-use Rattle.lathe_top.specs.Made.{made_text, made_texts}
-use Rattle.lathe_top.specs.Session.{Session, EndsBy, over, full, stopped, disk_failed, turret_failed, IsLeast, IsSession, are_finished, is_over, reason_of, reason_status, report_of}
-use Rattle.lathe_top.specs.Kept.{Opening, KeepsSession, made_limit}
+use Rattle.nc_restart.specs.Recovered.{Recovers}
+use Rattle.lathe_looks.specs.Answers.{Answer, tells, nothing}
+use Rattle.lathe_looks.specs.declared.showing.Showing.{Showing}
+use Rattle.lathe_looks.specs.declared.showing.Showing.TheVariants.{Moves, State}
+use Rattle.lathe_looks.specs.Fetched.{AreTexts, FileCause, IsOfFiles, not_had, unread, answers, fault_status, fault_text}
+use Rattle.lathe_looks.specs.Judged as judged
+use Rattle.lathe_looks.specs.Judged.{IsJudged}
+use Rattle.lathe_looks.specs.Named.{Named, files_of, listed}
+use Rattle.lathe_looks.specs.Shown.{IsShown, shown, unshown, unfound, bad_text, shown_text}
+use Rattle.lathe_looks.specs.Standing.{are_finished, is_over, reason_of, report_of}
+use Rattle.lathe_looks.specs.Traced as traced
+use Rattle.lathe_looks.specs.Traced.{IsTraceOf, IsTraced, end_of, end_reason, end_status}
+use Rattle.lathe_looks.specs.Statuses as exit
+use Rattle.lathe_looks.proofs.NotHad.{all_had, fault_once, missing_once, texts_once}
+use Rattle.lathe_top.specs.Lathe.{LatheState}
+use Rattle.lathe_top.specs.Made.{made_limit, made_text, made_texts}
+use Rattle.lathe_top.specs.Session.{Session, EndsBy, over, full, stopped, disk_failed, turret_failed, IsLeast, IsSession, reason_status}
+use Rattle.lathe_top.specs.Kept.{Opening, HadNoRun, IsRefusedBeginning, KeepsSession, RestsWhole}
+use Rattle.lathe_top.specs.Kinds.{kind_of, named_by}
 use Rattle.lathe_top.specs.Ran as run
-use Rattle.lathe_top.specs.Ran.{TextOf, IsRun, IsReported, reported, IsNotFound, IsResumed, IsShown}
-use Rattle.lathe_top.specs.Answer.{Call, command_of, IsDue, usage, commanded, IsDueTo, IsOfFiles, not_had, answers, Serves, ServesFiles}
-use Rattle.lathe_top.proofs.NotHad.{all_had, calm_status, texts_once}
+use Rattle.lathe_top.specs.Ran.{TextOf, IsRun, IsReported, reported, IsResumed, unbegun}
+use Rattle.lathe_top.specs.Done as done
+use Rattle.lathe_top.specs.Done.{Call, command_of, IsDue, IsDueTo, Serves, ServesFiles, ServesKind}
+use Rattle.lathe_top.proofs.Agreed.{Agree, agree_nothing}
 use Rattle.lathe_top.proofs.RunsFound.{least_is}
 
 -- no three texts are both accepted and refused
@@ -53,33 +87,95 @@ OneJournal = (image : List ℕ) (a b : Meaning) → StandsFor a image → Stands
 abbrev pub OneMachine : Type 0
 OneMachine = (texts : Texts) (pair other : Verified) → IsPairOf texts pair → IsPairOf texts other → IsSamePair pair other
 
-judged_once : NotBoth → (texts : Texts) (s : ℕ) (t : List ℕ) (s' : ℕ) (t' : List ℕ) → IsJudged texts s t → IsJudged texts s' t' → s ≡ s'
-judged_once law texts s t s' t' (accepted a v) (accepted b w) = refl
-judged_once law texts s t s' t' (accepted {cell} {left} {right} a v) (refused {refusal} b w) = absurd (law texts cell left right refusal a b)
-judged_once law texts s t s' t' (refused {refusal} a v) (accepted {cell} {left} {right} b w) = absurd (law texts cell left right refusal b a)
-judged_once law texts s t s' t' (refused a v) (refused b w) = refl
+-- and one refusal
+abbrev pub OneRefusal : Type 0
+OneRefusal = (texts : Texts) (refusal other : Refusal) → IsRefusalOf texts refusal → IsRefusalOf texts other → refusal ≡ other
+
+-- a number has one cause, or none
+one_cause : (number : ℕ) (a b : Option Cause) → IsCauseOf number a → IsCauseOf number b → a ≡ b
+one_cause number None None is also = refl
+one_cause number None (Some b) is also = absurd (is b also)
+one_cause number (Some a) None is also = absurd (also a is)
+one_cause number (Some a) (Some b) is also = ap Some (number_has_one_cause a b (is ∙ sym also))
+
+-- a refusal has one line
+line_once : (refusal other : Refusal) (text line : List ℕ) → refusal ≡ other → IsVerdictText (Some refusal) text → IsVerdictText (Some other) line
+    → text ≡ line
+line_once refusal other text line same is also =
+    let cause : is.0 ≡ also.0 = one_cause other.number is.0 also.0 (subst (λ (r : Refusal). IsCauseOf r.number is.0) same is.1) also.1 in
+    is.2 ∙ (λ i. refused_text (cause i) (same i)) ∙ sym also.2
+
+judged_once : NotBoth → OneRefusal → (texts : Texts) (a b : Answer) → IsJudged texts a → IsJudged texts b → Agree a b
+judged_once law one texts a b (judged.accepted are v) (judged.accepted too w) = (refl, v ∙ sym w)
+judged_once law one texts a b (judged.accepted {cell} {left} {right} are v) (judged.refused {refusal} is w) =
+    absurd (law texts cell left right refusal are is)
+judged_once law one texts a b (judged.refused {refusal} is v) (judged.accepted {cell} {left} {right} are w) =
+    absurd (law texts cell left right refusal are is)
+judged_once law one texts a b (judged.refused {refusal} {text} is v) (judged.refused {refusal = other} {text = line} too w) =
+    (refl, line_once refusal other text line (one texts refusal other is too) v w)
+judged_once law one texts a b (judged.accepted are v) judged.unjudged = tt
+judged_once law one texts a b (judged.refused is v) judged.unjudged = tt
+judged_once law one texts a b judged.unjudged other = tt
+
+same_texts : (texts others : Texts) → listed texts ≡ listed others → texts ≡ others
+same_texts texts others same =
+    let left : texts.left ≡ others.left = cc in
+    let right : texts.right ≡ others.right = cc in
+    let settings : texts.settings ≡ others.settings = cc in λ i. record { left = left i; right = right i; settings = settings i }
+
+-- one run of a pair takes turns
+abbrev pub OneInTurn : Type 0
+OneInTurn = (tapes : Tapes) (first second : PathView) (limit : ℕ) (one two : List Entry) → IsInTurn tapes (opening first second) limit one
+    → IsInTurn tapes (opening first second) limit two → one ≡ two
+
+trace_once : OneInTurn → (limit : ℕ) (pair other : Verified) (a b : Answer) → IsSamePair pair other → IsTraceOf limit pair a → IsTraceOf limit other b → Agree a b
+trace_once law limit pair other a b same (traced.ran entries run) (traced.ran others run') =
+    let there : IsInTurn (tapes_in other) (opening_of other) (min limit other.settings.records) entries =
+    subst (λ n. IsInTurn (tapes_in other) (opening_of other) (min limit n) entries) same.records
+    (subst (λ (m : MachineView). IsInTurn (tapes_in other) m (min limit pair.settings.records) entries) same.opening
+    (subst (λ (t : Tapes). IsInTurn t (opening_of pair) (min limit pair.settings.records) entries) same.tapes run)) in
+    let one : entries ≡ others = law (tapes_in other) _ _ (min limit other.settings.records) entries others there run' in (
+      (λ i. end_status (end_told (same.tapes i) (same.opening i) (same.records i) (one i))),
+      (λ i. trace_text (same.tapes i) (same.opening i) (one i) (end_reason (end_told (same.tapes i) (same.opening i) (same.records i) (one i)))),
+    )
+trace_once law limit pair other a b same (traced.ran entries run) traced.unran = tt
+trace_once law limit pair other a b same traced.unran other_trace = tt
+
+traced_once : NotBoth → OneRefusal → OneMachine → OneInTurn → (limit : ℕ) (texts : Texts) (a b : Answer) → IsTraced limit texts a → IsTraced limit texts b → Agree a b
+traced_once law once machine run limit texts a b (traced.traced pair is one) (traced.traced other is' two) =
+    trace_once run limit pair other a b (machine texts pair other is is') one two
+traced_once law once machine run limit texts a b (traced.traced pair is one) (traced.refused {refusal} denied w) =
+    absurd (law texts _ _ _ refusal is denied)
+traced_once law once machine run limit texts a b (traced.traced pair is one) traced.untraced = agree_nothing a
+traced_once law once machine run limit texts a b (traced.refused {refusal} denied w) (traced.traced pair is two) =
+    absurd (law texts _ _ _ refusal is denied)
+traced_once law once machine run limit texts a b (traced.refused {refusal} {text} denied v) (traced.refused {refusal = other} {text = line} too w) =
+    (refl, line_once refusal other text line (once texts refusal other denied too) v w)
+traced_once law once machine run limit texts a b (traced.refused denied v) traced.untraced = tt
+traced_once law once machine run limit texts a b traced.untraced other = tt
 
 -- what follows of files that are had
-files_once : (told : Files) (files : List Named) (Rests : Type 0) (Answer : Texts → ℕ → List ℕ → Type 0) (old new : ShelfState) → old.files ≡ Some told
-    → (Rose old.faults new.faults → ⊥)
-    → ((texts : Texts) (s : ℕ) (t : List ℕ) (s' : ℕ) (t' : List ℕ) → Answer texts s t → Answer texts s' t' → s ≡ s')
-    → (s : ℕ) (t : List ℕ) (s' : ℕ) (t' : List ℕ) → IsOfFiles files Rests Answer old new s t
-    → IsOfFiles files Rests Answer old new s' t' → s ≡ s'
-files_once told files Rests Answer old new tells calm once s t s' t' (not_had {file} {fault} a rest) (not_had {file = file'} {fault = fault'} b other) =
-    calm_status old new file fault calm a.cause ∙ sym (calm_status old new file' fault' calm b.cause)
-files_once told files Rests Answer old new tells calm once s t s' t' (not_had {file} {fault} a rest) (answers texts are from) =
-    absurd (all_had told old new files file fault (listed texts) tells calm are a)
-files_once told files Rests Answer old new tells calm once s t s' t' (answers texts are from) (not_had {file} {fault} b rest) =
-    absurd (all_had told old new files file fault (listed texts) tells calm are b)
-files_once told files Rests Answer old new tells calm once s t s' t' (answers {status} {text} texts are from) (answers {status = status'} {text = text'} texts' are' from') =
+files_once : (told : Files) (files : List Named) (Rests : Type 0) (IsAnswer : Texts → Answer → Type 0) (old new : ShelfState) → old.files ≡ Some told
+    → (Rose old.faults new.faults → ⊥) → ((texts : Texts) (a b : Answer) → IsAnswer texts a → IsAnswer texts b → Agree a b)
+    → (a b : Answer) → IsOfFiles listed files Rests IsAnswer old new a → IsOfFiles listed files Rests IsAnswer old new b → Agree a b
+files_once told files Rests IsAnswer old new holds calm once a b (not_had {file} {fault} one rest) (not_had {file = file'} {fault = fault'} two other) =
+    let same = missing_once told old new files file file' fault fault' one.before two.before holds calm one.reached two.reached one.cause two.cause in
+    let why =
+    fault_once told old new file' fault fault' holds calm (subst (λ (f : Named). FileCause old new f fault) same one.cause) two.cause in
+    (ap fault_status why, λ i. fault_text (same i).name (why i))
+files_once told files Rests IsAnswer old new holds calm once a b (not_had one rest) (unread some other) = tt
+files_once told files Rests IsAnswer old new holds calm once a b (not_had {file} {fault} one rest) (answers texts are from) =
+    absurd (all_had told old new files file fault (listed texts) holds calm are.each one)
+files_once told files Rests IsAnswer old new holds calm once a b (unread some rest) other = tt
+files_once told files Rests IsAnswer old new holds calm once a b (answers texts are from) (not_had {file} {fault} two rest) =
+    absurd (all_had told old new files file fault (listed texts) holds calm are.each two)
+files_once told files Rests IsAnswer old new holds calm once a b (answers texts are from) (unread some rest) = agree_nothing a
+files_once told files Rests IsAnswer old new holds calm once a b (answers texts are from) (answers texts' are' from') =
     let P : Option Files → List (List ℕ) → Type 0 = λ v list. AreTexts v files list in
     let same : listed texts ≡ listed texts' =
-    texts_once told files (listed texts) (listed texts') (subst (λ v. P v (listed texts)) tells are) (subst (λ v. P v (listed texts')) tells are') in
-    let left : texts.left ≡ texts'.left = cc in
-    let right : texts.right ≡ texts'.right = cc in
-    let settings : texts.settings ≡ texts'.settings = cc in
-    let all : texts ≡ texts' = λ i. record { left = left i; right = right i; settings = settings i } in
-    once texts' status text status' text' (subst (λ (x : Texts). Answer x status text) all from) from'
+    texts_once told files (listed texts) (listed texts') (subst (λ v. P v (listed texts)) holds are.each)
+    (subst (λ v. P v (listed texts')) holds are'.each) in
+    once texts' a b (subst (λ (x : Texts). IsAnswer x a) (same_texts texts texts' same) from) from'
 
 -- the same pair has the same machine behind the same records
 machine_same : (pair other : Verified) (entries others : List Entry) → IsSamePair pair other → entries ≡ others
@@ -91,6 +187,51 @@ all_left : (header : Header) (history : List Entry) (c : List ℕ) → StandsFor
 all_left header history c stands =
     let all : stands.0 ≡ length history = omega (arith, stands.1, stands.2) in
     subst (λ (l : List Entry). Stands header l c) (ap (λ n. take n history) all ∙ take-length history) stands.3
+
+-- a text of a history hangs on the machine of its pair, and on what its tapes say
+abbrev pub HangsOnPair : TextOf → Type 0
+HangsOnPair text_of = (pair other : Verified) → IsSamePair pair other → (entries : List Entry) (reason : Reason)
+    → text_of pair entries reason ≡ text_of other entries reason
+
+report_hangs : HangsOnPair report_of
+report_hangs pair other same entries reason = λ i. report_text (same.tapes i) (same.opening i) entries reason
+
+-- how many blocks the programs have, by what they say
+abbrev count_said : List ProgramForm → ℕ
+count_said [] = 0
+count_said (form ∷ forms) = length form.blocks + count_said forms
+
+counts : (programs : List FlowProgram) → block_count programs ≡ count_said (map program_form programs)
+counts [] = refl
+counts (program ∷ programs) =
+    let more = sum_by-cons (λ (p : FlowProgram). length p.blocks) program programs in
+    omega (arith, more, counts programs, length-map program.blocks block_form)
+
+blocks_same : (programs others : List FlowProgram) → map program_form programs ≡ map program_form others → block_count programs ≡ block_count others
+blocks_same programs others same = counts programs ∙ ap count_said same ∙ sym (counts others)
+
+summary_hangs : (number : ℕ) (pair other : Verified) → IsSamePair pair other → (entries : List Entry)
+    → summary_text number pair.left pair.right pair.settings entries ≡ summary_text number other.left other.right other.settings entries
+unfolding summary_text pair_text
+summary_hangs number pair other same entries =
+    let left = blocks_same pair.left.programs other.left.programs same.left in
+    let right = blocks_same pair.right.programs other.right.programs same.right in
+    λ i. (number_line (codes "make ") number ++ numbers_line (codes "blocks ") (left i) (right i)) ++ outcome_text (same.tapes i) (same.opening i) entries
+
+made_hangs : (number : ℕ) → HangsOnPair (made_text number)
+made_hangs number pair other same entries Reason.Done = summary_hangs number pair other same entries
+made_hangs number pair other same entries (Reason.Alarm alarm) = report_hangs pair other same entries (Reason.Alarm alarm)
+made_hangs number pair other same entries Reason.Stopped = report_hangs pair other same entries Reason.Stopped
+made_hangs number pair other same entries Reason.Full = report_hangs pair other same entries Reason.Full
+made_hangs number pair other same entries Reason.DiskFault = report_hangs pair other same entries Reason.DiskFault
+made_hangs number pair other same entries (Reason.TurretFault path) = report_hangs pair other same entries (Reason.TurretFault path)
+
+-- what is shown of a history does too
+shown_hangs : (showing : Showing) (pair other : Verified) → IsSamePair pair other → (entries : List Entry)
+    → shown_text showing pair entries ≡ shown_text showing other entries
+shown_hangs Moves pair other same entries =
+    λ i. report_text (same.tapes i) (same.opening i) entries (reason_of (fold (same.tapes i) (same.opening i) entries))
+shown_hangs State pair other same entries = λ i. state_text (same.tapes i) (fold (same.tapes i) (same.opening i) entries)
 
 -- the header and the records of a run
 abbrev pub header_in : Header → Meaning → Header
@@ -105,49 +246,124 @@ entries_in others (cut_at at) = others
 entries_in others (bad_at offset cause) = others
 entries_in others (a_run header entries) = entries
 
+-- the offset at which a journal is bad
+abbrev offset_in : Meaning → ℕ
+offset_in no_run = 0
+offset_in (cut_at at) = at
+offset_in (bad_at offset cause) = offset
+offset_in (a_run header entries) = 0
+
+-- two runs with one header have one pair
+pairs_same : OneMachine → (header other : Header) (pair pair' : Verified) → header ≡ other → IsPairOf (texts_of header) pair
+    → IsPairOf (texts_of other) pair' → IsSamePair pair pair'
+pairs_same one_machine header other pair pair' same is also =
+    one_machine (texts_of other) pair pair' (subst (λ (h : Header). IsPairOf (texts_of h) pair) same is) also
+
 -- Two answers over a disk that told its bytes and did not fail.
-module _ (both : NotBoth) (one_run : OneRun) (one_journal : OneJournal) (one_machine : OneMachine) (old new : LatheState)
-    (coherent : IsCoherent new.disk) (bytes : List ℕ) (tells : Reads old.disk bytes) (calm : DiskRose old.disk.faults new.disk.faults → ⊥)
+module _ (one_run : OneRun) (one_machine : OneMachine) (old new : DiskState) (bytes : List ℕ) (holds : Reads old bytes) (calm : DiskRose old.faults new.faults → ⊥) where
+  -- what is no run is one thing, and no run
+  unfound_once : (f g : RestartFault) → Recovers old new (Err f) → Recovers old new (Err g) → Agree (unfound f) (unfound g)
+  unfound_once restart.DiskFault g one two = absurd (calm one.refused)
+  unfound_once restart.NoMemory g one two = tt
+  unfound_once restart.NoRun restart.DiskFault one two = absurd (calm two.refused)
+  unfound_once restart.NoRun restart.NoRun one two = (refl, refl)
+  unfound_once restart.NoRun (restart.Cut at) one two =
+      let e = one_run bytes no_run (cut_at at) (one.refused.1 bytes holds) (two.refused.1 bytes holds) in absurd (cc)
+  unfound_once restart.NoRun (restart.BadRecord offset cause) one two =
+      let e = one_run bytes no_run (bad_at offset cause) (one.refused.1 bytes holds) (two.refused.1 bytes holds) in absurd (cc)
+  unfound_once restart.NoRun restart.NoMemory one two = tt
+  unfound_once (restart.Cut at) restart.DiskFault one two = absurd (calm two.refused)
+  unfound_once (restart.Cut at) restart.NoRun one two =
+      let e = one_run bytes no_run (cut_at at) (two.refused.1 bytes holds) (one.refused.1 bytes holds) in absurd (cc)
+  unfound_once (restart.Cut at) (restart.Cut other) one two =
+      let e = one_run bytes (cut_at at) (cut_at other) (one.refused.1 bytes holds) (two.refused.1 bytes holds) in
+      (refl, ap bad_text (ap offset_in e))
+  unfound_once (restart.Cut at) (restart.BadRecord offset cause) one two =
+      let e = one_run bytes (cut_at at) (bad_at offset cause) (one.refused.1 bytes holds) (two.refused.1 bytes holds) in absurd (cc)
+  unfound_once (restart.Cut at) restart.NoMemory one two = tt
+  unfound_once (restart.BadRecord offset cause) restart.DiskFault one two = absurd (calm two.refused)
+  unfound_once (restart.BadRecord offset cause) restart.NoRun one two =
+      let e = one_run bytes no_run (bad_at offset cause) (two.refused.1 bytes holds) (one.refused.1 bytes holds) in absurd (cc)
+  unfound_once (restart.BadRecord offset cause) (restart.Cut other) one two =
+      let e = one_run bytes (bad_at offset cause) (cut_at other) (one.refused.1 bytes holds) (two.refused.1 bytes holds) in absurd (cc)
+  unfound_once (restart.BadRecord offset cause) (restart.BadRecord place other) one two =
+      let e = one_run bytes (bad_at offset cause) (bad_at place other) (one.refused.1 bytes holds) (two.refused.1 bytes holds) in
+      (refl, ap bad_text (ap offset_in e))
+  unfound_once (restart.BadRecord offset cause) restart.NoMemory one two = tt
+
+  -- where there is a run nothing is told of none
+  none_found : (f : RestartFault) (header : Header) (entries : List Entry) → Recovers old new (Err f) → StandsForRun (a_run header entries) bytes
+      → unfound f ≡ nothing
+  none_found restart.DiskFault header entries one stands = absurd (calm one.refused)
+  none_found restart.NoRun header entries one stands =
+      let e = one_run bytes no_run (a_run header entries) (one.refused.1 bytes holds) stands in absurd (cc)
+  none_found (restart.Cut at) header entries one stands =
+      let e = one_run bytes (cut_at at) (a_run header entries) (one.refused.1 bytes holds) stands in absurd (cc)
+  none_found (restart.BadRecord offset cause) header entries one stands =
+      let e = one_run bytes (bad_at offset cause) (a_run header entries) (one.refused.1 bytes holds) stands in absurd (cc)
+  none_found restart.NoMemory header entries one stands = refl
+
+  shown_once : (showing : Showing) (a b : Answer) → IsShown (shown_text showing) old new a → IsShown (shown_text showing) old new b → Agree a b
+  shown_once showing a b (unshown f one) (unshown g two) = unfound_once f g one two
+  shown_once showing a b (unshown f one) (shown found pair is history two) =
+      subst (λ x. Agree x b) (sym (none_found f found.header found.entries one (two.found.means bytes holds))) tt
+  shown_once showing a b (shown found pair is history one) (unshown g two) =
+      subst (Agree a) (sym (none_found g found.header found.entries two (one.found.means bytes holds))) tt
+  shown_once showing a b (shown found pair is history one) (shown found' pair' is' history' two) =
+      let same : a_run found.header found.entries ≡ a_run found'.header found'.entries =
+      one_run bytes (a_run found.header found.entries) (a_run found'.header found'.entries) (one.found.means bytes holds) (two.found.means bytes holds) in
+      let header : found.header ≡ found'.header = ap (header_in found.header) same in
+      let entries : found.entries ≡ found'.entries = ap (entries_in found.entries) same in
+      let pairs = pairs_same one_machine found.header found'.header pair pair' header is is' in
+      (refl, shown_hangs showing pair pair' pairs found.entries ∙ ap (shown_text showing pair') entries)
+
+-- and of a run, while no turret failed
+module _ {D : Type 0} (state : D → DiskState) (both : NotBoth) (one_refusal : OneRefusal) (one_run : OneRun) (one_journal : OneJournal)
+    (one_machine : OneMachine) (old new : LatheState) (coherent : IsCoherent new.disk) (bytes : List ℕ) (holds : Reads old.disk bytes)
+    (calm : DiskRose old.disk.faults new.disk.faults → ⊥)
     (at_work : (path : Path) → Rose (turret_for path old.turrets).faults (turret_for path new.turrets).faults → ⊥) where
   -- the disk holds all records of a session that ended for another reason than a fault
   holds_all : (opening : Opening) (limit : ℕ) (s : Session) (least : ℕ) {reason : Reason} → EndsBy limit s old new reason → IsLeast reason s least
-      → KeepsSession opening s least old.disk new.disk → (c : List ℕ) → new.disk.image c → Stands s.header s.history c
-  holds_all opening limit s least (over is) enough keeps c image = all_left s.header s.history c
+      → KeepsSession state opening s least old.disk new.disk → (c : List ℕ) → new.disk.image c → Stands s.header s.history c
+  holds_all opening limit s least (over is well) enough keeps c image = all_left s.header s.history c
       (subst (λ n. StandsForPrefix s.header n s.history c)
-      (least_is s least (machine_behind s.pair s.history).alarm (are_finished (machine_behind s.pair s.history)) enough) (keeps.left bytes tells c image))
-  holds_all opening limit s least (full unended is) enough keeps c image =
-      all_left s.header s.history c (subst (λ n. StandsForPrefix s.header n s.history c) enough (keeps.left bytes tells c image))
-  holds_all opening limit s least (stopped unended is less) enough keeps c image =
-      all_left s.header s.history c (subst (λ n. StandsForPrefix s.header n s.history c) enough (keeps.left bytes tells c image))
+      (least_is s least (machine_behind s.pair s.history).alarm (are_finished (machine_behind s.pair s.history)) enough) (keeps.left bytes holds c image))
+  holds_all opening limit s least (full unended is well) enough keeps c image =
+      all_left s.header s.history c (subst (λ n. StandsForPrefix s.header n s.history c) enough (keeps.left bytes holds c image))
+  holds_all opening limit s least (stopped unended is less well) enough keeps c image =
+      all_left s.header s.history c (subst (λ n. StandsForPrefix s.header n s.history c) enough (keeps.left bytes holds c image))
   holds_all opening limit s least (disk_failed rose) enough keeps c image = absurd (calm rose)
-  holds_all opening limit s least (turret_failed path rose) enough keeps c image = absurd (at_work path rose)
+  holds_all opening limit s least (turret_failed path rose well) enough keeps c image = absurd (at_work path rose)
 
   -- both sessions have one machine, as many records, and the same limit of records
-  status_once : (limit : ℕ) (s s' : Session) {r r' : Reason} → machine_behind s.pair s.history ≡ machine_behind s'.pair s'.history
+  reason_once : (limit : ℕ) (s s' : Session) {r r' : Reason} → machine_behind s.pair s.history ≡ machine_behind s'.pair s'.history
       → length s.history ≡ length s'.history → s.pair.settings.records ≡ s'.pair.settings.records
-      → EndsBy limit s old new r → EndsBy limit s' old new r' → reason_status r ≡ reason_status r'
-  status_once limit s s' m h n (over is) (over is') = ap (λ (x : MachineView). reason_status (reason_of x)) m
-  status_once limit s s' m h n (over is) (full un is') = let e = ap is_over m in absurd (cc)
-  status_once limit s s' m h n (over is) (stopped un is' less) = let e = ap is_over m in absurd (cc)
-  status_once limit s s' m h n (over is) (disk_failed rose) = absurd (calm rose)
-  status_once limit s s' m h n (full un is) (over is') = let e = ap is_over m in absurd (cc)
-  status_once limit s s' m h n (full un is) (full un' is') = refl
-  status_once limit s s' m h n (full un is) (stopped un' is' less) = absurd (less (sym h ∙ is ∙ n))
-  status_once limit s s' m h n (full un is) (disk_failed rose) = absurd (calm rose)
-  status_once limit s s' m h n (stopped un is less) (over is') = let e = ap is_over m in absurd (cc)
-  status_once limit s s' m h n (stopped un is less) (full un' is') = absurd (less (h ∙ is' ∙ sym n))
-  status_once limit s s' m h n (stopped un is less) (stopped un' is' less') = refl
-  status_once limit s s' m h n (stopped un is less) (disk_failed rose) = absurd (calm rose)
-  status_once limit s s' m h n (disk_failed rose) by = absurd (calm rose)
-  status_once limit s s' m h n (over is) (turret_failed path rose) = absurd (at_work path rose)
-  status_once limit s s' m h n (full un is) (turret_failed path rose) = absurd (at_work path rose)
-  status_once limit s s' m h n (stopped un is less) (turret_failed path rose) = absurd (at_work path rose)
-  status_once limit s s' m h n (turret_failed path rose) by = absurd (at_work path rose)
+      → EndsBy limit s old new r → EndsBy limit s' old new r' → r ≡ r'
+  reason_once limit s s' m h n (over is well) (over is' well') = ap reason_of m
+  reason_once limit s s' m h n (over is well) (full un is' well') = let e = ap is_over m in absurd (cc)
+  reason_once limit s s' m h n (over is well) (stopped un is' less well') = let e = ap is_over m in absurd (cc)
+  reason_once limit s s' m h n (over is well) (disk_failed rose) = absurd (calm rose)
+  reason_once limit s s' m h n (over is well) (turret_failed path rose well') = absurd (at_work path rose)
+  reason_once limit s s' m h n (full un is well) (over is' well') = let e = ap is_over m in absurd (cc)
+  reason_once limit s s' m h n (full un is well) (full un' is' well') = refl
+  reason_once limit s s' m h n (full un is well) (stopped un' is' less well') = absurd (less (sym h ∙ is ∙ n))
+  reason_once limit s s' m h n (full un is well) (disk_failed rose) = absurd (calm rose)
+  reason_once limit s s' m h n (full un is well) (turret_failed path rose well') = absurd (at_work path rose)
+  reason_once limit s s' m h n (stopped un is less well) (over is' well') = let e = ap is_over m in absurd (cc)
+  reason_once limit s s' m h n (stopped un is less well) (full un' is' well') = absurd (less (h ∙ is' ∙ sym n))
+  reason_once limit s s' m h n (stopped un is less well) (stopped un' is' less' well') = refl
+  reason_once limit s s' m h n (stopped un is less well) (disk_failed rose) = absurd (calm rose)
+  reason_once limit s s' m h n (stopped un is less well) (turret_failed path rose well') = absurd (at_work path rose)
+  reason_once limit s s' m h n (disk_failed rose) by = absurd (calm rose)
+  reason_once limit s s' m h n (turret_failed path rose well) by = absurd (at_work path rose)
 
-  reported_once : (opening : Opening) (limit : ℕ) (text_of : TextOf) (s s' : Session) (st : ℕ) (t : List ℕ) (st' : ℕ) (t' : List ℕ)
-      → IsSession s → IsSession s' → IsReported opening limit text_of s old new st t → IsReported opening limit text_of s' old new st' t' → st ≡ st'
-  reported_once opening limit text_of s s' st t st' t' is is' (reported least ends keeps) (reported least' ends' keeps') =
-      let told = keeps.uses.told bytes tells in
+  reported_once : (opening : Opening) (limit : ℕ) (text_of : TextOf) → HangsOnPair text_of → (s s' : Session) (a b : Answer) → IsSession s
+      → IsSession s'
+      → IsReported state opening limit text_of s old new a → IsReported state opening limit text_of s' old new b → Agree a b
+  reported_once opening limit text_of hangs s s' a b is is' (run.unprepared least none keeps) other = tt
+  reported_once opening limit text_of hangs s s' a b is is' (reported least ends keeps) (run.unprepared least' none keeps') = tt
+  reported_once opening limit text_of hangs s s' a b is is' (reported least ends keeps) (reported least' ends' keeps') =
+      let told = keeps.uses.told bytes holds in
       let image : new.disk.image told.0 = coherent.as_read told.0 told.1 in
       let same : a_run s.header s.history ≡ a_run s'.header s'.history =
       one_journal told.0 (a_run s.header s.history) (a_run s'.header s'.history)
@@ -155,132 +371,113 @@ module _ (both : NotBoth) (one_run : OneRun) (one_journal : OneJournal) (one_mac
       (holds_all opening limit s' least' ends'.cause ends'.enough keeps' told.0 image) in
       let header : s.header ≡ s'.header = ap (header_in s.header) same in
       let entries : s.history ≡ s'.history = ap (entries_in s.history) same in
-      let pairs : IsSamePair s.pair s'.pair =
-      one_machine (texts_of s'.header) s.pair s'.pair (subst (λ (h : Header). IsPairOf (texts_of h) s.pair) header is.accepted) is'.accepted in
-      status_once limit s s' (machine_same s.pair s'.pair s.history s'.history pairs entries) (ap length entries) pairs.records ends.cause ends'.cause
+      let pairs = pairs_same one_machine s.header s'.header s.pair s'.pair header is.accepted is'.accepted in
+      let reason =
+      reason_once limit s s' (machine_same s.pair s'.pair s.history s'.history pairs entries) (ap length entries) pairs.records ends.cause ends'.cause in
+      (ap reason_status reason, hangs s.pair s'.pair pairs s.history _ ∙ (λ i. text_of s'.pair (entries i) (reason i)))
 
-  run_once : (limit : ℕ) (text_of : TextOf) (texts : Texts) (s : ℕ) (t : List ℕ) (s' : ℕ) (t' : List ℕ) → IsRun limit text_of texts old new s t
-      → IsRun limit text_of texts old new s' t' → s ≡ s'
-  run_once limit text_of texts s t s' t' (run.refused a v rest) (run.refused b w rest') = refl
-  run_once limit text_of texts s t s' t' (run.refused {refusal} a v rest) (run.run_there pair b had rest') = absurd (both texts _ _ _ refusal b a)
-  run_once limit text_of texts s t s' t' (run.refused a v rest) (run.not_begun pair b rose rest') = absurd (calm rose)
-  run_once limit text_of texts s t s' t' (run.refused {refusal} a v rest) (run.ran x is same had report) =
-      absurd (both texts _ _ _ refusal (subst (λ (y : Texts). IsPairOf y x.pair) same is.accepted) a)
-  run_once limit text_of texts s t s' t' (run.run_there pair b had rest) (run.refused {refusal} a v rest') = absurd (both texts _ _ _ refusal b a)
-  run_once limit text_of texts s t s' t' (run.run_there pair a had rest) (run.run_there other b had' rest') = refl
-  run_once limit text_of texts s t s' t' (run.run_there pair a had rest) (run.not_begun other b rose rest') = absurd (calm rose)
-  run_once limit text_of texts s t s' t' (run.run_there pair a there rest) (run.ran x is same had report) =
-      absurd (had.1 bytes tells (there bytes tells))
-  run_once limit text_of texts s t s' t' (run.not_begun pair a rose rest) other = absurd (calm rose)
-  run_once limit text_of texts s t s' t' (run.ran x is same had report) (run.refused {refusal} a v rest) =
-      absurd (both texts _ _ _ refusal (subst (λ (y : Texts). IsPairOf y x.pair) same is.accepted) a)
-  run_once limit text_of texts s t s' t' (run.ran x is same had report) (run.run_there other b there rest) =
-      absurd (had.1 bytes tells (there bytes tells))
-  run_once limit text_of texts s t s' t' (run.ran x is same had report) (run.not_begun other b rose rest) = absurd (calm rose)
-  run_once limit text_of texts s t s' t' (run.ran x is same had report) (run.ran x' is' same' had' report') =
-      reported_once _ limit text_of x x' s t s' t' is is' report report'
+  -- a journal that is not begun, for one cause
+  unbegun_once : (texts : Texts) (f g : GateFault) → IsRefusedBeginning texts f old.disk new.disk → IsRefusedBeginning texts g old.disk new.disk
+      → Agree (unbegun f) (unbegun g)
+  unbegun_once texts gate.DiskFault g one two = absurd (calm one.begins.refused)
+  unbegun_once texts gate.NoRun g one two = tt
+  unbegun_once texts (gate.Cut at) g one two = tt
+  unbegun_once texts gate.NoMemory g one two = tt
+  unbegun_once texts gate.RunThere gate.DiskFault one two = absurd (calm two.begins.refused)
+  unbegun_once texts gate.RunThere gate.RunThere one two = (refl, refl)
+  unbegun_once texts gate.RunThere gate.NoRun one two = tt
+  unbegun_once texts gate.RunThere (gate.Cut at) one two = tt
+  unbegun_once texts gate.RunThere gate.NoMemory one two = tt
 
-  -- what is no run is one thing, and no run
-  unfound_once : (s : ℕ) (t : List ℕ) (s' : ℕ) (t' : List ℕ) → IsNotFound old.disk new.disk s t → IsNotFound old.disk new.disk s' t' → s ≡ s'
-  unfound_once s t s' t' (run.disk_failed rose) other = absurd (calm rose)
-  unfound_once s t s' t' (run.no_run_there a) (run.disk_failed rose) = absurd (calm rose)
-  unfound_once s t s' t' (run.no_run_there a) (run.no_run_there b) = refl
-  unfound_once s t s' t' (run.no_run_there a) (run.cut {at} b) =
-      let e = one_run bytes no_run (cut_at at) (a.1 bytes tells) (b.1 bytes tells) in absurd (cc)
-  unfound_once s t s' t' (run.no_run_there a) (run.bad {offset} {cause} b) =
-      let e = one_run bytes no_run (bad_at offset cause) (a.1 bytes tells) (b.1 bytes tells) in absurd (cc)
-  unfound_once s t s' t' (run.cut a) (run.disk_failed rose) = absurd (calm rose)
-  unfound_once s t s' t' (run.cut {at} a) (run.no_run_there b) =
-      let e = one_run bytes no_run (cut_at at) (b.1 bytes tells) (a.1 bytes tells) in absurd (cc)
-  unfound_once s t s' t' (run.cut a) (run.cut b) = refl
-  unfound_once s t s' t' (run.cut a) (run.bad b) = refl
-  unfound_once s t s' t' (run.bad a) (run.disk_failed rose) = absurd (calm rose)
-  unfound_once s t s' t' (run.bad {offset} {cause} a) (run.no_run_there b) =
-      let e = one_run bytes no_run (bad_at offset cause) (b.1 bytes tells) (a.1 bytes tells) in absurd (cc)
-  unfound_once s t s' t' (run.bad a) (run.cut b) = refl
-  unfound_once s t s' t' (run.bad a) (run.bad b) = refl
+  -- where there was no run nothing is told of one
+  none_there : (texts : Texts) (f : GateFault) → IsRefusedBeginning texts f old.disk new.disk → HadNoRun old.disk → unbegun f ≡ nothing
+  none_there texts gate.DiskFault one had = absurd (calm one.begins.refused)
+  none_there texts gate.NoRun one had = refl
+  none_there texts (gate.Cut at) one had = refl
+  none_there texts gate.NoMemory one had = refl
+  none_there texts gate.RunThere one had = absurd (had bytes holds (one.begins.refused.2 bytes holds))
 
-  none_found : (s : ℕ) (t : List ℕ) (header : Header) (entries : List Entry) → IsNotFound old.disk new.disk s t → StandsForRun (a_run header entries) bytes → ⊥
-  none_found s t header entries (run.disk_failed rose) stands = calm rose
-  none_found s t header entries (run.no_run_there a) stands =
-      let e = one_run bytes no_run (a_run header entries) (a.1 bytes tells) stands in absurd (cc)
-  none_found s t header entries (run.cut {at} a) stands =
-      let e = one_run bytes (cut_at at) (a_run header entries) (a.1 bytes tells) stands in absurd (cc)
-  none_found s t header entries (run.bad {offset} {cause} a) stands =
-      let e = one_run bytes (bad_at offset cause) (a_run header entries) (a.1 bytes tells) stands in absurd (cc)
+  -- texts of which a journal is begun, or refused, are accepted
+  never_refused : (texts of_header : Texts) (pair : Verified) (refusal : Refusal) → IsPairOf of_header pair → of_header ≡ texts
+      → IsRefusalOf texts refusal → ⊥
+  never_refused texts of_header pair refusal accepted same is = both texts _ _ _ refusal (subst (λ (y : Texts). IsPairOf y pair) same accepted) is
 
-  resumed_once : (limit s : ℕ) (t : List ℕ) (s' : ℕ) (t' : List ℕ) → IsResumed limit old new s t → IsResumed limit old new s' t' → s ≡ s'
-  resumed_once limit s t s' t' (run.not_found a rest) (run.not_found b rest') = unfound_once s t s' t' a b
-  resumed_once limit s t s' t' (run.not_found a rest) (run.resumed x is found report) =
-      absurd (none_found s t x.header x.found a (found bytes tells))
-  resumed_once limit s t s' t' (run.resumed x is found report) (run.not_found b rest) =
-      absurd (none_found s' t' x.header x.found b (found bytes tells))
-  resumed_once limit s t s' t' (run.resumed x is found report) (run.resumed x' is' found' report') =
-      reported_once _ limit report_of x x' s t s' t' is is' report report'
+  run_once : (limit : ℕ) (text_of : TextOf) → HangsOnPair text_of → (texts : Texts) (a b : Answer) → IsRun state limit text_of texts old new a
+      → IsRun state limit text_of texts old new b → Agree a b
+  run_once limit text_of hangs texts a b (run.unjudged rests) other = tt
+  run_once limit text_of hangs texts a b (run.refused {refusal} {text} is v rests) (run.refused {refusal = other} {text = line} too w rests') =
+      (refl, line_once refusal other text line (one_refusal texts refusal other is too) v w)
+  run_once limit text_of hangs texts a b (run.refused is v rests) (run.unjudged rests') = tt
+  run_once limit text_of hangs texts a b (run.refused {refusal} is v rests) (run.not_begun g two rest) =
+      absurd (never_refused texts (texts_of two.header) two.pair refusal two.accepted two.same is)
+  run_once limit text_of hangs texts a b (run.refused {refusal} is v rests) (run.ran x sound same had report) =
+      absurd (never_refused texts (texts_of x.header) x.pair refusal sound.accepted same is)
+  run_once limit text_of hangs texts a b (run.not_begun f one rest) (run.refused {refusal} is v rests) =
+      absurd (never_refused texts (texts_of one.header) one.pair refusal one.accepted one.same is)
+  run_once limit text_of hangs texts a b (run.not_begun f one rest) (run.unjudged rests) = agree_nothing a
+  run_once limit text_of hangs texts a b (run.not_begun f one rest) (run.not_begun g two rest') = unbegun_once texts f g one two
+  run_once limit text_of hangs texts a b (run.not_begun f one rest) (run.ran x sound same had report) =
+      subst (λ y. Agree y b) (sym (none_there texts f one had.1)) tt
+  run_once limit text_of hangs texts a b (run.ran x sound same had report) (run.refused {refusal} is v rests) =
+      absurd (never_refused texts (texts_of x.header) x.pair refusal sound.accepted same is)
+  run_once limit text_of hangs texts a b (run.ran x sound same had report) (run.unjudged rests) = agree_nothing a
+  run_once limit text_of hangs texts a b (run.ran x sound same had report) (run.not_begun g two rest) =
+      subst (Agree a) (sym (none_there texts g two had.1)) (agree_nothing a)
+  run_once limit text_of hangs texts a b (run.ran x sound same had report) (run.ran x' sound' same' had' report') =
+      reported_once _ limit text_of hangs x x' a b sound sound' report report'
 
-  shown_once : (text_of : Verified → List Entry → List ℕ) (s : ℕ) (t : List ℕ) (s' : ℕ) (t' : List ℕ) → IsShown text_of old.disk new.disk s t
-      → IsShown text_of old.disk new.disk s' t' → s ≡ s'
-  shown_once text_of s t s' t' (run.unshown a) (run.unshown b) = unfound_once s t s' t' a b
-  shown_once text_of s t s' t' (run.unshown a) (run.shown found pair is history run_found) =
-      absurd (none_found s t found.header found.entries a (run_found.means bytes tells))
-  shown_once text_of s t s' t' (run.shown found pair is history run_found) (run.unshown b) =
-      absurd (none_found s' t' found.header found.entries b (run_found.means bytes tells))
-  shown_once text_of s t s' t' (run.shown found pair is history run_found) (run.shown found' pair' is' history' run_found') = refl
+  resumed_once : (limit : ℕ) (a b : Answer) → IsResumed state limit old new a → IsResumed state limit old new b → Agree a b
+  resumed_once limit a b (run.not_found f one rest) (run.not_found g two rest') =
+      unfound_once one_run one_machine old.disk new.disk bytes holds calm f g one two
+  resumed_once limit a b (run.not_found f one rest) (run.resumed x is found report) =
+      subst (λ y. Agree y b) (sym (none_found one_run one_machine old.disk new.disk bytes holds calm f x.header x.found one (found bytes holds))) tt
+  resumed_once limit a b (run.resumed x is found report) (run.not_found g two rest) =
+      subst (Agree a) (sym (none_found one_run one_machine old.disk new.disk bytes holds calm g x.header x.found two (found bytes holds))) (agree_nothing a)
+  resumed_once limit a b (run.resumed x is found report) (run.resumed x' is' found' report') =
+      reported_once _ limit report_of report_hangs x x' a b is is' report report'
 
--- one status is due to a command, and to a call
-module _ (both : NotBoth) (one_run : OneRun) (one_journal : OneJournal) (one_machine : OneMachine) (call : Call)
-    (coherent : IsCoherent call.after.lathe.disk) (files : Files) (bytes : List ℕ) (serves : Serves call files bytes) where
-  texts_run_once : (limit : ℕ) (text_of : TextOf) (texts : Texts) (s : ℕ) (t : List ℕ) (s' : ℕ) (t' : List ℕ)
-      → IsRun limit text_of texts call.before.lathe call.after.lathe s t → IsRun limit text_of texts call.before.lathe call.after.lathe s' t' → s ≡ s'
-  texts_run_once =
-      run_once both one_run one_journal one_machine call.before.lathe call.after.lathe coherent bytes serves.disk_tells serves.disk_served
-      serves.turrets_served
+-- one answer is due to a command, and to a call
+module _ {D : Type 0} (state : D → DiskState) (both : NotBoth) (one_refusal : OneRefusal) (one_run : OneRun) (one_journal : OneJournal)
+    (one_machine : OneMachine) (in_turn : OneInTurn) (call : Call) (coherent : IsCoherent call.after.lathe.disk) where
+  due_to_once : (asked : Command) (a b : Answer) → ServesFiles (named_by (Some asked)) call → ServesKind (kind_of (Some asked)) call
+      → IsDueTo state asked call.before call.after a → IsDueTo state asked call.before call.after b → Agree a b
+  due_to_once (command.Verify l r c) a b files others one two =
+      files_once files.0.0 (files_of l r c) (Unit {0}) IsJudged call.before.shelf call.after.shelf files.0.1 files.1 (judged_once both one_refusal) a b one.0 two.0
+  due_to_once (command.Trace l r c n) a b files others one two =
+      files_once files.0.0 (files_of l r c) (Unit {0}) (IsTraced n) call.before.shelf call.after.shelf files.0.1 files.1
+      (traced_once both one_refusal one_machine in_turn n) a b one.0 two.0
+  due_to_once (command.Run l r c n turrets) a b files others one two =
+      files_once files.0.0 (files_of l r c) (RestsWhole call.before.lathe call.after.lathe)
+      (λ texts. IsRun state n report_of texts call.before.lathe call.after.lathe) call.before.shelf call.after.shelf files.0.1 files.1
+      (run_once state both one_refusal one_run one_journal one_machine call.before.lathe call.after.lathe coherent others.0.bytes others.0.tells others.0.calm
+      others.1 n report_of report_hangs)
+      a b one two
+  due_to_once (command.Resume n turrets) a b files others one two =
+      resumed_once state both one_refusal one_run one_journal one_machine call.before.lathe call.after.lathe coherent others.0.bytes others.0.tells others.0.calm
+      others.1 n a b one.0 two.0
+  due_to_once command.Moves a b files others one two =
+      shown_once one_run one_machine call.before.lathe.disk call.after.lathe.disk others.bytes others.tells others.calm Moves a b one.0 two.0
+  due_to_once command.State a b files others one two =
+      shown_once one_run one_machine call.before.lathe.disk call.after.lathe.disk others.bytes others.tells others.calm State a b one.0 two.0
+  due_to_once (command.Make n turrets) a b files others one two =
+      run_once state both one_refusal one_run one_journal one_machine call.before.lathe call.after.lathe coherent others.0.bytes others.0.tells others.0.calm
+      others.1 made_limit (made_text n) (made_hangs n) (made_texts n) a b one.0 two.0
 
-  due_to_once : (cmd : Command) (s : ℕ) (t : List ℕ) (s' : ℕ) (t' : List ℕ) → IsDueTo cmd call.before call.after s t
-      → IsDueTo cmd call.before call.after s' t' → s ≡ s'
-  due_to_once (command.Verify l r c) s t s' t' a b =
-      files_once files (files_of l r c) (Unit {0}) IsJudged call.before.shelf call.after.shelf serves.shelf.tells serves.shelf.served (judged_once both)
-      s t s' t' a.0 b.0
-  due_to_once (command.Run l r c n) s t s' t' a b =
-      files_once files (files_of l r c) (AreAtRest call.before.lathe call.after.lathe)
-      (λ texts. IsRun n report_of texts call.before.lathe call.after.lathe) call.before.shelf call.after.shelf
-      serves.shelf.tells serves.shelf.served (texts_run_once n report_of) s t s' t' a b
-  due_to_once (command.Resume n) s t s' t' a b =
-      resumed_once both one_run one_journal one_machine call.before.lathe call.after.lathe coherent bytes serves.disk_tells serves.disk_served
-      serves.turrets_served n s t s' t' a b
-  due_to_once command.Moves s t s' t' a b =
-      shown_once both one_run one_journal one_machine call.before.lathe call.after.lathe coherent bytes serves.disk_tells serves.disk_served
-      serves.turrets_served _ s t s' t' a.0 b.0
-  due_to_once command.State s t s' t' a b =
-      shown_once both one_run one_journal one_machine call.before.lathe call.after.lathe coherent bytes serves.disk_tells serves.disk_served
-      serves.turrets_served _ s t s' t' a.0 b.0
-  due_to_once (command.Make n) s t s' t' a b = texts_run_once made_limit (made_text n) (made_texts n) s t s' t' a b
-
-  pub due_once : (s : ℕ) (t : List ℕ) (s' : ℕ) (t' : List ℕ) → IsDue call s t → IsDue call s' t' → s ≡ s'
-  due_once s t s' t' (usage none rest) (usage again rest') = refl
-  due_once s t s' t' (usage none rest) (commanded some due) = absurd (cc)
-  due_once s t s' t' (commanded some due) (usage none rest) = absurd (cc)
-  due_once s t s' t' (commanded {command = one} is due) (commanded {command = two} is' due') =
+  pub due_once : Serves call → (a b : Answer) → IsDue state call a → IsDue state call b → Agree a b
+  due_once serves a b (done.usage none rests still) (done.usage again rests' still') = (refl, refl)
+  due_once serves a b (done.usage none rests still) (done.unread rests' still') = tt
+  due_once serves a b (done.usage none rests still) (done.commanded some due) = absurd (cc)
+  due_once serves a b (done.unread rests still) other = tt
+  due_once serves a b (done.commanded some due) (done.usage none rests still) = absurd (cc)
+  due_once serves a b (done.commanded some due) (done.unread rests still) = agree_nothing a
+  due_once serves a b (done.commanded {command = one} is due) (done.commanded {command = two} is' due') =
       let same : one ≡ two = cc in
-      due_to_once two s t s' t' (subst (λ (c : Command). IsDueTo c call.before call.after s t) same due) due'
+      due_to_once two a b (subst (λ c. ServesFiles (named_by c) call) is' serves.files) (subst (λ c. ServesKind (kind_of c) call) is' serves.others)
+      (subst (λ (c : Command). IsDueTo state c call.before call.after a) same due) due'
 
 -- words that are no command are due usage alone
-pub usage_once : (call : Call) (s : ℕ) (t : List ℕ) → command_of call ≡ None → IsDue call s t → s ≡ 2
-usage_once call s t none (usage again rest) = refl
-usage_once call s t none (commanded some due) = absurd (cc)
-
--- one status is due to a verdict, whatever the disk tells
-pub judged_due_once : NotBoth → (call : Call) (files : Files) → ServesFiles call files → (left right settings : List ℕ)
-    → command_of call ≡ Some (command.Verify left right settings) → (s : ℕ) (t : List ℕ) (s' : ℕ) (t' : List ℕ) → IsDue call s t
-    → IsDue call s' t' → s ≡ s'
-judged_due_once both call files serves left right settings asked s t s' t' (usage none rest) other = absurd (cc)
-judged_due_once both call files serves left right settings asked s t s' t' (commanded some due) (usage none rest) = absurd (cc)
-judged_due_once both call files serves left right settings asked s t s' t' (commanded {command = one} is due) (commanded {command = two} is' due') =
-    let a : one ≡ command.Verify left right settings = cc in
-    let b : two ≡ command.Verify left right settings = cc in
-    let first : IsDueTo (command.Verify left right settings) call.before call.after s t =
-    subst (λ (c : Command). IsDueTo c call.before call.after s t) a due in
-    let second : IsDueTo (command.Verify left right settings) call.before call.after s' t' =
-    subst (λ (c : Command). IsDueTo c call.before call.after s' t') b due' in
-    files_once files (files_of left right settings) (Unit {0}) IsJudged call.before.shelf call.after.shelf serves.tells serves.served (judged_once both)
-    s t s' t' first.0 second.0
+pub usage_once : {D : Type 0} (state : D → DiskState) (call : Call) (a : Answer) → command_of call ≡ None → IsDue state call a
+    → Agree a (tells exit.usage (codes "usage\n"))
+usage_once state call a none (done.usage again rests still) = (refl, refl)
+usage_once state call a none (done.unread rests still) = tt
+usage_once state call a none (done.commanded some due) = absurd (cc)

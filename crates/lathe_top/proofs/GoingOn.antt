@@ -1,5 +1,5 @@
 -- What going on comes to: from a run with turrets to a session but for its opening.
-use Rattle.std.proofs.Common.{◌≡◌, ℕ, ◌+◌, ◌-◌, ◌*◌, ◌≤◌, max, Bool, true, false, ◌||◌, ◌&&◌, is_some, if◌then◌else◌, List, length, take, drop, Option, Some, None, refl, sym, ◌∙◌, ap, subst, arith}
+use Rattle.std.proofs.Common.{◌≡◌, inl, inr, ℕ, ◌+◌, ◌-◌, ◌*◌, ◌≤◌, max, Bool, true, false, ◌||◌, ◌&&◌, is_some, if◌then◌else◌, List, [], length, take, drop, Option, Some, None, refl, sym, ◌∙◌, ap, subst, arith}
 use Rattle.std.specs.Prelude.{IsTrue}
 use Rattle.std.proofs.Math.Seq.{take-append_seam, drop-append_seam, take-length}
 use Rattle.std.proofs.lemmas.List.{length-append}
@@ -10,8 +10,8 @@ use Rattle.gate_file.specs.Gate.{Gate}
 use Rattle.move_list.specs.declared.end_line.Reason.{Reason}
 use Rattle.nc_number.specs.declared.path.Path.{Path}
 use Rattle.nc_number.specs.Path.{other_of}
-use Rattle.nc_outside.specs.declared.halt.Alarm.{Alarm}
-use Rattle.nc_outside.specs.declared.motion.Got.{Got}
+use Rattle.nc_moves.specs.declared.alarm.Alarm.{Alarm}
+use Rattle.nc_outside.specs.declared.got.Got.{Got}
 use Rattle.nc_verify.specs.declared.verified.Verified.{Verified}
 use Rattle.run_records.specs.declared.entry.Entry.{Entry}
 use Rattle.run_records.specs.declared.header.Header.{Header}
@@ -27,14 +27,15 @@ use Rattle.run_table.specs.Recording.{StandsForPrefix, IsJournaled, sent, most_b
 use Rattle.run_table.specs.Running as running
 use Rattle.run_table.specs.Running.{MayRun, end_by, end_of as machine_end}
 use Rattle.run_table.specs.Since.{Since}
-use Rattle.turret_run.specs.Served.{told, GetsAll, GetsSome, FailsAmong}
-use Rattle.turret_run.specs.Runs.{Turrets, turret_for, place_of, due, GetsAt, GetsBeside}
+use Rattle.turret_run.specs.Served.{told, GetsAll, GetsSome, FailsAmong, Misses}
+use Rattle.turret_run.specs.Runs.{Turrets, turret_for, place_of, due, GetsAt, GetsBeside, StandsBeside, Missed, missed_by, none_missed, Stays}
 use Rattle.two_path.specs.Machine.{MachineView}
 use Rattle.two_path.specs.Histories.{IsKept}
 use Rattle.nc_restart.specs.Pair.{tapes_in, opening_of, machine_behind}
+use Rattle.lathe_looks.specs.Standing.{is_over, reason_by, reason_of}
 use Rattle.lathe_top.specs.Lathe.{LatheState}
-use Rattle.lathe_top.specs.Session.{Session, AreMost, IsLeast, EndsBy, over, full, stopped, disk_failed, turret_failed, GoesOn, is_over, reason_by, reason_of}
-use Rattle.lathe_top.specs.Turrets.{due_to, AreServed, GetTheirs, IsEnding}
+use Rattle.lathe_top.specs.Session.{Session, AreMost, IsLeast, NoneFailed, EndsBy, over, full, stopped, disk_failed, turret_failed, GoesOn}
+use Rattle.lathe_top.specs.Turrets.{due_to, AreServed, AreMissed, GetTheirs, IsEnding}
 use Rattle.lathe_top.specs.Kept.{end_of}
 use Rattle.lathe_top.specs.Going.{KeepsGoing}
 use Rattle.lathe_top.specs.Texts.{run_reason}
@@ -84,7 +85,7 @@ module _ {D : Type 0} (state : D → DiskState) (small : AreSmall state) (limit 
     (kept : IsKept (tapes_in new.verified) (opening_of new.verified) new.recording.history new.machine)
     (few : length new.recording.history ≤ new.verified.settings.records)
     (pending : length new.recording.history ≤ new.recording.flushed + 64)
-    (header : Header) (journaled : IsJournaled state header old.recording) (before after : Turrets) where
+    (header : Header) (journaled : IsJournaled state header old.recording) (before after : Turrets) (missed : Missed) where
   abbrev pub found : List Entry
   found = old.recording.history
 
@@ -98,10 +99,10 @@ module _ {D : Type 0} (state : D → DiskState) (small : AreSmall state) (limit 
   made = since.made
 
   abbrev pub d : LatheState
-  d = record { disk = state old.recording.log.file.disk; turrets = before }
+  d = record { disk = state old.recording.log.file.disk; turrets = before; missed = none_missed }
 
   abbrev pub e : LatheState
-  e = record { disk = state new.recording.log.file.disk; turrets = after }
+  e = record { disk = state new.recording.log.file.disk; turrets = after; missed = missed }
 
   abbrev pub session : Session
   session = record { header = header; pair = new.verified; found = found; history = history }
@@ -127,13 +128,13 @@ module _ {D : Type 0} (state : D → DiskState) (small : AreSmall state) (limit 
   }
 
   -- what the machine of the table says, the machine behind the history says
-  is_ended : (x : RunEnd) → machine_end new.machine ≡ Some x → EndsBy limit session d e (run_reason x)
-  is_ended x is =
+  is_ended : (x : RunEnd) → machine_end new.machine ≡ Some x → NoneFailed d e → EndsBy limit session d e (run_reason x)
+  is_ended x is calm =
       let by = over_by new.machine.alarm (new.machine.first.finished && new.machine.second.finished) x is in
       let here : is_over (machine_behind new.verified history) ≡ true = subst (λ (m : MachineView). is_over m ≡ true) (sym kept.folds) by.0 in
       let says : reason_of (machine_behind new.verified history) ≡ run_reason x =
       subst (λ (m : MachineView). reason_of m ≡ run_reason x) (sym kept.folds) by.1 in
-      subst (EndsBy limit session d e) says (over here)
+      subst (EndsBy limit session d e) says (over here calm)
 
   is_open : machine_end new.machine ≡ None → is_over (machine_behind new.verified history) ≡ false
   is_open is =
@@ -143,12 +144,18 @@ module _ {D : Type 0} (state : D → DiskState) (small : AreSmall state) (limit 
   spent : new.budget ≡ 0 → length history ≡ length found + limit
   spent none = omega (arith, none, longer, since.budget)
 
-  ends_by : (x : RunEnd) → running.EndsBy state old new x → EndsBy limit session d e (run_reason x)
-  ends_by run.Done ends = is_ended run.Done ends.machine
-  ends_by (run.Alarm alarm) ends = is_ended (run.Alarm alarm) ends.machine
-  ends_by run.Full ends = full (is_open ends.0.machine) ends.1
-  ends_by run.Stopped ends = stopped (is_open ends.0.machine) (spent ends.2) ends.1
-  ends_by run.DiskFault ends = disk_failed ends.1
+  -- the journal may be written, and each turret got all that is due
+  calm_by : IsTrue new.recording.log.file.live → ((path : Path) → GetsAll (due path old new) (turret_for path before) (turret_for path after))
+      → NoneFailed d e
+  calm_by live got = record { disk = since.recording.calm live; turrets = λ path. (got path).counted.kept (λ is. absurd cc) }
+
+  ends_by : (x : RunEnd) → running.EndsBy state old new x
+      → ((path : Path) → GetsAt x (due path old new) (turret_for path before) (turret_for path after)) → EndsBy limit session d e (run_reason x)
+  ends_by run.Done ends got = is_ended run.Done ends.machine (calm_by ends.live got)
+  ends_by (run.Alarm alarm) ends got = is_ended (run.Alarm alarm) ends.machine (calm_by ends.live got)
+  ends_by run.Full ends got = full (is_open ends.0.machine) ends.1 (calm_by ends.0.live got)
+  ends_by run.Stopped ends got = stopped (is_open ends.0.machine) (spent ends.2) ends.1 (calm_by ends.0.live got)
+  ends_by run.DiskFault ends got = disk_failed ends.1
 
   no_more : length history ≤ length found + limit
   no_more = omega (arith, longer, since.budget)
@@ -201,22 +208,53 @@ module _ {D : Type 0} (state : D → DiskState) (small : AreSmall state) (limit 
       subst (λ (what : List Got). GetsBeside path what (turret_for other before) (turret_for other after)) (due_is other) got
 
   -- the run did not end before it began
-  theirs : (reason : Reason) → AreServed reason session least before after → GetTheirs reason session least d e
-  theirs reason are = record { over = λ over_now. let open_now = still in absurd (cc); goes_on = λ open_now. are }
+  theirs : (reason : Reason) → AreServed reason session least before after → AreMissed session least d e → GetTheirs reason session least d e
+  theirs reason are miss = record { over = λ over_now. let open_now = still in absurd (cc); goes_on = λ open_now. are; missed = λ open_now. miss }
+
+  abbrev pub Missing : Type 0
+  Missing = (path : Path) → Misses (due path old new) (missed_by path missed) (turret_for path before) (turret_for path after)
+
+  missing : Missing → AreMissed session least d e
+  missing miss = inl (λ path.
+      subst (λ (what : List Got). Misses what (missed_by path missed) (turret_for path before) (turret_for path after)) (due_is path) (miss path))
 
   pub ending : (x : RunEnd) → running.EndsBy state old new x
-      → ((path : Path) → GetsAt x (due path old new) (turret_for path before) (turret_for path after))
+      → ((path : Path) → GetsAt x (due path old new) (turret_for path before) (turret_for path after)) → Missing
       → IsEnding limit (run_reason x) session least d e
-  ending x ends got = record { few = no_more; cause = ends_by x ends; enough = enough x ends; turrets = theirs (run_reason x) (served x got) }
-
-  pub failing : (path : Path) → FailsAmong (due path old new) (turret_for path before) (turret_for path after)
-      → GetsBeside path (due (other_of path) old new) (turret_for (other_of path) before) (turret_for (other_of path) after)
-      → IsEnding limit (Reason.TurretFault path) session least d e
-  failing path failed other = record {
+  ending x ends got miss = record {
     few = no_more;
-    cause = turret_failed path (failed.1.counted.rose refl);
+    cause = ends_by x ends got;
+    enough = enough x ends;
+    turrets = theirs (run_reason x) (served x got) (missing miss);
+  }
+
+  pub failing : (path : Path) → e.disk.faults ≡ d.disk.faults → FailsAmong (due path old new) (turret_for path before) (turret_for path after)
+      → GetsBeside path (due (other_of path) old new) (turret_for (other_of path) before) (turret_for (other_of path) after)
+      → Missing → IsEnding limit (Reason.TurretFault path) session least d e
+  failing path calm failed other miss = record {
+    few = no_more;
+    cause = turret_failed path (failed.1.counted.rose refl) calm;
     enough = most;
-    turrets = theirs (Reason.TurretFault path) (failed_at path failed, got_beside path (other_of path) other);
+    turrets = theirs (Reason.TurretFault path) (inl (failed_at path failed, got_beside path (other_of path) other)) (missing miss);
+  }
+
+  -- a turret that failed at its place
+  pub unplaced : (path : Path) → Stays old new → FailsAmong (told (place_of path old.machine) []) (turret_for path before) (turret_for path after)
+      → StandsBeside path (told (place_of (other_of path) old.machine) []) (turret_for (other_of path) before) (turret_for (other_of path) after)
+      → missed ≡ none_missed → IsEnding limit (Reason.TurretFault path) session least d e
+  unplaced path same failed other none = record {
+    few = no_more;
+    cause = turret_failed path (failed.1.counted.rose refl) (ap (λ (file : Gate D). (state file.disk).faults) same.file);
+    enough = most;
+    turrets = theirs (Reason.TurretFault path)
+        (inr (record {
+          none = same.history;
+          failed =
+              subst (λ (m : MachineView). FailsAmong (told (place_of path m) []) (turret_for path before) (turret_for path after)) machine_is failed;
+          other =
+              subst (λ (m : MachineView). StandsBeside path (told (place_of (other_of path) m) []) (turret_for (other_of path) before)
+              (turret_for (other_of path) after)) machine_is other;
+        })) (inr (same.history, none));
   }
 
   sent_old : sent old.recording ≡ length found

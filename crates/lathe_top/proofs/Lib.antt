@@ -1,11 +1,12 @@
-pub mod Ended
-pub mod NotHad
-pub mod Judging
 pub mod GoingOn
 pub mod GoingReported
 pub mod Opened
 pub mod RunsBegun
 pub mod RunsFound
+pub mod Agreed
 pub mod DueOnce
-pub mod BadJournal
+pub mod FaultsFirst
+pub mod RowsSay
+pub mod DoneLeaves
 pub mod StopsLeave
+pub mod StreamsWritten

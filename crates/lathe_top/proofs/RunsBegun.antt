@@ -1,9 +1,8 @@
 -- What `run` answers behind the beginning of its journal, or behind its refusal.
-use Rattle.std.proofs.Common.{◌≡◌, ℕ, ◌≤◌, false, List, [], length, Ok, Err, refl, sym, ap, subst, arith, ◌∙◌, Option}
+use Rattle.std.proofs.Common.{◌≡◌, ◌⊎◌, inl, inr, ℕ, ◌≤◌, false, List, [], length, Ok, Err, refl, sym, ap, subst, arith, ◌∙◌, Option}
 use Rattle.disk_model.specs.Device.{DiskState}
 use Rattle.gate_file.specs.declared.fault.GateFault.{GateFault}
 use Rattle.gate_file.specs.declared.fault.GateFault.TheVariants as gate
-use Rattle.gate_file.specs.Creation.{RefusesBeginning}
 use Rattle.nc_number.specs.declared.fault.Failing.{Failing}
 use Rattle.nc_number.specs.declared.fault.Failing.TheVariants.{Fault, NoMemory}
 use Rattle.nc_outside.specs.declared.halt.Halt.{Halt}
@@ -18,22 +17,19 @@ use Rattle.run_journal.specs.Beginning.{BeginsRun}
 use Rattle.run_table.specs.Begun.{IsBegun}
 use Rattle.run_table.specs.Kept.{TableView}
 use Rattle.run_table.specs.Running.{MayRun, IsNoneOrAlarm}
-use Rattle.turret_run.specs.Runs.{Turrets}
+use Rattle.turret_run.specs.Runs.{Turrets, none_missed}
 use Rattle.two_path.specs.Machine.{MachineView}
 use Rattle.nc_restart.specs.Pair.{texts_of, IsPairOf, machine_behind}
-use Rattle.lathe_top.specs.Answer.{IsJust}
-use Rattle.lathe_top.specs.Going.{Standing, HasGone, IsReport, report, IsUnbegun}
-use Rattle.lathe_top.specs.Judged.{IsRefusing}
-use Rattle.lathe_top.specs.Kept.{anew, HasSession, IsRefusedBeginning}
-use Rattle.lathe_top.specs.Lathe.{LatheState, AreAtRest}
-use Rattle.lathe_top.specs.Ran.{TextOf, IsRun, refused, run_there, not_begun, ran, reported}
-use Rattle.lathe_top.specs.Session.{Session, is_over}
+use Rattle.lathe_looks.specs.Answers.{Answer, nothing}
+use Rattle.lathe_looks.specs.Judged.{IsRefusing}
+use Rattle.lathe_looks.specs.Standing.{is_over}
+use Rattle.lathe_top.specs.Going.{Standing, IsReport, report, stayed}
+use Rattle.lathe_top.specs.Kept.{IsRefusedBeginning, RestsWhole}
+use Rattle.lathe_top.specs.Lathe.{LatheState}
+use Rattle.lathe_top.specs.Ran.{TextOf, IsRun, refused, unjudged, ran, reported, unprepared, unbegun}
+use Rattle.lathe_top.specs.Session.{Session}
 use Rattle.lathe_top.proofs.GoingReported.{standing}
-use Rattle.lathe_top.proofs.Opened.{NoneIsStuck, begun_keeps, ending_since, has_session, is_session}
-
--- one text that is due
-pub due_by : (Due : ℕ → List ℕ → Type 0) {s : ℕ} {t : List ℕ} (status : ℕ) (text : List ℕ) → IsJust s t status text → Due s t → Due status text
-due_by Due {s} {t} status text is due = subst (λ x. Due x text) (sym is.0) (subst (λ y. Due s y) (sym is.1) due)
+use Rattle.lathe_top.proofs.Opened.{NoneIsStuck, begun_keeps, ending_since, is_session, unprepared_since}
 
 -- a table that was begun may be run, and no path of it has ended
 pub begun_may : {D : Type 0} (pair : Verified) (t : TableView D) → IsBegun pair t → MayRun t
@@ -59,59 +55,56 @@ of_begun Of header pair t begun there =
     subst (λ (l : List Entry). Of (standing header pair l)) begun.history
     (subst (λ (p : Verified). Of (standing header p t.recording.history)) begun.pair there)
 
-module _ {A : Type 0} (law : NoneIsStuck) (limit : ℕ) (header : Header) (pair : Verified) (a b : DiskState) (before : Turrets) (c : LatheState)
-    (answer : A) (begins : BeginsRun {A = A} header a b (Ok answer)) (accepted : IsPairOf (texts_of header) pair) where
-  pub begun_report : (text_of : TextOf) (status : ℕ) (text : List ℕ)
-      → IsReport limit text_of (standing header pair []) (record { disk = b; turrets = before }) c status text
-      → IsRun limit text_of (texts_of header) (record { disk = a; turrets = before }) c status text
-  begun_report text_of status text (report history {reason} least goes ends keeps) =
+module _ {A D : Type 0} (state : D → DiskState) (law : NoneIsStuck) (limit : ℕ) (header : Header) (pair : Verified) (a : DiskState) (begun : D)
+    (before : Turrets) (c : LatheState) (answer : A) (begins : BeginsRun {A = A} header a (state begun) (Ok answer))
+    (accepted : IsPairOf (texts_of header) pair) where
+  pub begun_run : (text_of : TextOf) (told : Answer)
+      → IsReport limit text_of (standing header pair []) (record { disk = state begun; turrets = before; missed = none_missed }) c told
+      → IsRun state limit text_of (texts_of header) (record { disk = a; turrets = before; missed = none_missed }) c told
+  begun_run text_of told (report history {reason} least goes ends keeps) =
       let s : Session = record { header = header; pair = pair; found = []; history = history } in
       ran s (is_session law (standing header pair []) history accepted goes) refl (refl, begins.vacant)
-      (reported least (ending_since limit s a b before c reason least begins.later ends)
-      (begun_keeps header a b c.disk answer begins pair history least keeps))
-
-  pub begun_session : HasGone limit (standing header pair []) (record { disk = b; turrets = before }) c
-      → HasSession anew limit (record { disk = a; turrets = before }) c
-  begun_session gone =
-      has_session law anew limit (standing header pair []) a b before c begins.later accepted gone (refl, begins.vacant)
-      (begun_keeps header a b c.disk answer begins pair gone.history gone.least gone.keeps)
+      (reported least (ending_since limit s a (state begun) before c reason least (begins.calm (λ fault. fault)) ends)
+      (begun_keeps state header a begun c.disk answer begins pair history least keeps))
+  begun_run text_of told (stayed history least goes none keeps) =
+      let s : Session = record { header = header; pair = pair; found = []; history = history } in
+      ran s (is_session law (standing header pair []) history accepted goes) refl (refl, begins.vacant)
+      (unprepared least (unprepared_since s a (state begun) before c least none)
+      (begun_keeps state header a begun c.disk answer begins pair history least keeps))
 
 -- a journal that was not begun
-pub unbegun : (limit : ℕ) (text_of : TextOf) (texts : Texts) (pair : Verified) (a c : LatheState) (fault : GateFault) → IsPairOf texts pair
-    → RefusesBeginning fault a.disk c.disk → AreAtRest a c
-    → (status : ℕ) (text : List ℕ) → IsUnbegun fault status text → IsRun limit text_of texts a c status text
-unbegun limit text_of texts pair a c gate.DiskFault accepted refuses rest status text is =
-    due_by (IsRun limit text_of texts a c) status text is (not_begun pair accepted refuses rest)
-unbegun limit text_of texts pair a c gate.RunThere accepted refuses rest status text is =
-    due_by (IsRun limit text_of texts a c) status text is (run_there pair accepted refuses.2 rest)
-unbegun limit text_of texts pair a c gate.NoRun accepted refuses rest status text is = absurd is
-unbegun limit text_of texts pair a c (gate.Cut at) accepted refuses rest status text is = absurd is
-unbegun limit text_of texts pair a c gate.NoMemory accepted refuses rest status text is = absurd is
-
 pub refused_beginning : {A : Type 0} (header : Header) (pair : Verified) (fault : GateFault) (a c : DiskState) → IsPairOf (texts_of header) pair
-    → BeginsRun {A = A} header a c (Err fault) → IsRefusedBeginning a c
+    → BeginsRun {A = A} header a c (Err fault) → IsRefusedBeginning (texts_of header) fault a c
 refused_beginning header pair fault a c accepted begins = record {
   header = header;
+  same = refl;
   pair = pair;
   accepted = accepted;
-  fault = fault;
   begins = record {
     held = tt;
     vacant = tt;
     spares = begins.spares;
     refused = begins.refused;
     later = begins.later;
+    calm = begins.calm;
     any_moment = begins.any_moment;
     uses = begins.uses;
   };
 }
 
+-- of no other fault is anything told
+pub none_told : (fault : GateFault) → (fault ≡ gate.NoRun) ⊎ (((at : ℕ) × (fault ≡ gate.Cut at)) ⊎ (fault ≡ gate.NoMemory)) → nothing ≡ unbegun fault
+none_told fault (inl is) = sym (ap unbegun is)
+none_told fault (inr (inl is)) = sym (ap unbegun is.1)
+none_told fault (inr (inr is)) = sym (ap unbegun is)
+
 -- texts that are refused
-pub run_refused : (limit : ℕ) (text_of : TextOf) (texts : Texts) (a c : LatheState) (error : Failing Refusal) → AreAtRest a c
-    → IfFault error (IsRefusalOf texts) → (status : ℕ) (text : List ℕ) → IsRefusing error status text → IsRun limit text_of texts a c status text
-run_refused limit text_of texts a c (Fault refusal) rest of_texts status text is =
-    subst (λ s. IsRun limit text_of texts a c s text) (sym is.0) (refused of_texts is.1 rest)
-run_refused limit text_of texts a c NoMemory rest of_texts status text is = elim is [ ]
+pub run_refused : {D : Type 0} (state : D → DiskState) (limit : ℕ) (text_of : TextOf) (texts : Texts) (a c : LatheState) (error : Failing Refusal)
+    → RestsWhole a c → IfFault error (IsRefusalOf texts) → (answer : Answer) → IsRefusing error answer → IsRun state limit text_of texts a c answer
+run_refused state limit text_of texts a c (Fault refusal) rest of_texts answer is =
+    subst (IsRun state limit text_of texts a c) (sym is.2) (refused of_texts is.1 rest)
+run_refused state limit text_of texts a c NoMemory rest of_texts answer is =
+    subst (IsRun state limit text_of texts a c) (sym is) (unjudged rest)
 
 -- a header of these texts has them
 pub header_texts : (header : Header) (texts : Texts) → header.left ≡ texts.left → header.right ≡ texts.right → header.settings ≡ texts.settings

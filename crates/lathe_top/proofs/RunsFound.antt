@@ -1,11 +1,10 @@
--- What is answered behind a recovery, or behind its refusal.
+-- What is answered after a recovery.
 use Rattle.std.proofs.Common.{◌≡◌, ℕ, ◌-◌, ◌*◌, Bool, true, false, List, length, Ok, Some, None, Option, refl, sym, ap, subst, arith, ◌∙◌}
 use Rattle.std.proofs.Math.Seq.{take-length}
 use Rattle.disk_model.specs.Device.{DiskState, IsCoherent, Reads}
 use Rattle.disk_model.proofs.Runs.{no_call, uses_none}
 use Rattle.move_list.specs.declared.end_line.Reason.{Reason}
-use Rattle.move_list.specs.State.{IsMachineOf, state_text}
-use Rattle.nc_outside.specs.declared.halt.Alarm.{Alarm}
+use Rattle.nc_moves.specs.declared.alarm.Alarm.{Alarm}
 use Rattle.nc_verify.specs.declared.verified.Verified.{Verified}
 use Rattle.run_records.specs.declared.entry.Entry.{Entry}
 use Rattle.run_records.specs.declared.header.Header.{Header}
@@ -15,48 +14,36 @@ use Rattle.run_table.specs.Begun.{reason_in}
 use Rattle.run_table.specs.Recording.{StandsForPrefix}
 use Rattle.run_table.specs.Recovered as table
 use Rattle.run_table.specs.Running.{IsNoneOrAlarm}
-use Rattle.turret_run.specs.Runs.{Turrets}
+use Rattle.turret_run.specs.Runs.{Turrets, none_missed}
 use Rattle.two_path.specs.Machine.{MachineView}
-use Rattle.nc_restart.specs.declared.fault.RestartFault.{RestartFault}
-use Rattle.nc_restart.specs.declared.fault.RestartFault.TheVariants as restart
-use Rattle.nc_restart.specs.Pair.{texts_of, IsPairOf, tapes_in, opening_of, machine_behind}
-use Rattle.nc_restart.specs.History.{IsHistory}
-use Rattle.nc_restart.specs.Recovered.{FoundRun, IsRecovered, Recovers, RefusesRecovery}
-use Rattle.lathe_top.specs.Going.{HasGone, IsReport, report, IsUnfound, KeepsGoing}
-use Rattle.lathe_top.specs.Kept.{again, HasSession, end_of}
+use Rattle.nc_restart.specs.Pair.{texts_of, IsPairOf, machine_behind}
+use Rattle.nc_restart.specs.Recovered.{FoundRun, IsRecovered, Recovers}
+use Rattle.lathe_looks.specs.Answers.{Answer}
+use Rattle.lathe_looks.specs.Standing.{are_finished, is_over, reason_by, reason_of, report_of}
+use Rattle.lathe_top.specs.Going.{IsReport, report, stayed, KeepsGoing}
+use Rattle.lathe_top.specs.Kept.{end_of}
 use Rattle.lathe_top.specs.Lathe.{LatheState}
-use Rattle.lathe_top.specs.Ran.{IsNotFound, disk_failed, no_run_there, cut, bad, IsResumed, resumed, reported, IsShown, shown, moves_text, state_of}
-use Rattle.lathe_top.specs.Session.{Session, GoesOn, IsLeast, EndsBy, over, are_finished, is_over, reason_by, reason_of, report_of}
+use Rattle.lathe_top.specs.Ran.{IsResumed, resumed, reported, unprepared}
+use Rattle.lathe_top.specs.Session.{Session, GoesOn, IsLeast, EndsBy, over}
 use Rattle.lathe_top.specs.Turrets.{IsEnding}
 use Rattle.lathe_top.proofs.GoingReported.{standing}
-use Rattle.lathe_top.proofs.Opened.{NoneIsStuck, found_keeps, ending_since, has_session, is_session}
-use Rattle.lathe_top.proofs.RunsBegun.{due_by}
+use Rattle.lathe_top.proofs.Opened.{NoneIsStuck, found_keeps, ending_since, is_session, unprepared_since}
 
--- why nothing is found
-pub unfound : (a c : DiskState) (fault : RestartFault) → RefusesRecovery fault a c → (status : ℕ) (text : List ℕ) → IsUnfound fault status text
-    → IsNotFound a c status text
-unfound a c restart.DiskFault refuses status text is = due_by (IsNotFound a c) status text is (disk_failed refuses)
-unfound a c restart.NoRun refuses status text is = due_by (IsNotFound a c) status text is (no_run_there refuses)
-unfound a c (restart.Cut at) refuses status text is = due_by (IsNotFound a c) status text is (cut refuses)
-unfound a c (restart.BadRecord offset cause) refuses status text is = due_by (IsNotFound a c) status text is (bad refuses)
-unfound a c restart.NoMemory refuses status text is = absurd is
-
-module _ (law : NoneIsStuck) (limit : ℕ) (found : FoundRun) (pair : Verified) (a b : DiskState) (before : Turrets) (c : LatheState)
-    (recovers : Recovers a b (Ok found)) (accepted : IsPairOf (texts_of found.header) pair) where
-  pub found_report : (status : ℕ) (text : List ℕ)
-      → IsReport limit report_of (standing found.header pair found.entries) (record { disk = b; turrets = before }) c status text
-      → IsResumed limit (record { disk = a; turrets = before }) c status text
-  found_report status text (report history {reason} least goes ends keeps) =
+module _ {D : Type 0} (state : D → DiskState) (law : NoneIsStuck) (limit : ℕ) (found : FoundRun) (pair : Verified) (a : DiskState) (begun : D)
+    (before : Turrets) (c : LatheState) (recovers : Recovers a (state begun) (Ok found)) (accepted : IsPairOf (texts_of found.header) pair) where
+  pub found_run : (answer : Answer)
+      → IsReport limit report_of (standing found.header pair found.entries) (record { disk = state begun; turrets = before; missed = none_missed }) c answer
+      → IsResumed state limit (record { disk = a; turrets = before; missed = none_missed }) c answer
+  found_run answer (report history {reason} least goes ends keeps) =
       let s : Session = record { header = found.header; pair = pair; found = found.entries; history = history } in
       resumed s (is_session law (standing found.header pair found.entries) history accepted goes) recovers.found.means
-      (reported least (ending_since limit s a b before c reason least recovers.later ends)
-      (found_keeps found a b c.disk recovers pair history least goes.extends keeps))
-
-  pub found_session : HasGone limit (standing found.header pair found.entries) (record { disk = b; turrets = before }) c
-      → HasSession again limit (record { disk = a; turrets = before }) c
-  found_session gone =
-      has_session law again limit (standing found.header pair found.entries) a b before c recovers.later accepted gone recovers.found.means
-      (found_keeps found a b c.disk recovers pair gone.history gone.least gone.goes_on.extends gone.keeps)
+      (reported least (ending_since limit s a (state begun) before c reason least (recovers.calm (λ fault. fault)) ends)
+      (found_keeps state found a begun c.disk recovers pair history least goes.extends keeps))
+  found_run answer (stayed history least goes none keeps) =
+      let s : Session = record { header = found.header; pair = pair; found = found.entries; history = history } in
+      resumed s (is_session law (standing found.header pair found.entries) history accepted goes) recovers.found.means
+      (unprepared least (unprepared_since s a (state begun) before c least none)
+      (found_keeps state found a begun c.disk recovers pair history least goes.extends keeps))
 
 -- the parts of a recovery as the table takes them
 pub parts_of : {D : Type 0} (state : D → DiskState) (header : Header) (pair : Verified) (machine : MachineView) (entries : List Entry) (log : Log D)
@@ -99,7 +86,7 @@ module _ {D : Type 0} (state : D → DiskState) (coherent : (disk : D) → IsCoh
   disk = state log.file.disk
 
   abbrev pub lathe : LatheState
-  lathe = record { disk = disk; turrets = turrets }
+  lathe = record { disk = disk; turrets = turrets; missed = none_missed }
 
   abbrev pub session : Session
   session = record { header = header; pair = pair; found = entries; history = entries }
@@ -131,30 +118,9 @@ module _ {D : Type 0} (state : D → DiskState) (coherent : (disk : D) → IsCoh
       let by : reason ≡ reason_of (machine_behind pair entries) = same ∙ ap reason_of is.behind.folds in
       record {
         few = omega arith;
-        cause = subst (EndsBy limit session lathe lathe) (sym by) (over there);
+        cause = subst (EndsBy limit session lathe lathe) (sym by) (over there (record { disk = refl; turrets = λ path. refl }));
         enough =
             subst (λ (r : Reason). IsLeast r session (length entries)) (sym by)
             (least_by session (machine_behind pair entries).alarm (are_finished (machine_behind pair entries)));
-        turrets = record { over = λ is_there. refl; goes_on = λ open_there. absurd (cc) };
+        turrets = record { over = λ is_there. (refl, refl); goes_on = λ open_there. absurd (cc); missed = λ open_there. absurd (cc) };
       }
-
--- what is shown of a run that was found
-pub found_shown : (text_of : Verified → List Entry → List ℕ) (found : FoundRun) (pair : Verified) (a c : DiskState) → IsPairOf (texts_of found.header) pair
-    → Recovers a c (Ok found) → IsHistory pair found.entries → IsShown text_of a c 0 (text_of pair found.entries)
-found_shown text_of found pair a c accepted recovers history = shown found pair accepted history recovers.found
-
-pub moves_are : (pair : Verified) (entries : List Entry) (machine : MachineView) (reason : Reason) → machine ≡ machine_behind pair entries
-    → reason ≡ reason_of machine → report_of pair entries reason ≡ moves_text pair entries
-moves_are pair entries machine reason folds same = ap (report_of pair entries) (same ∙ ap reason_of folds)
-
-pub state_is : (pair : Verified) (entries : List Entry) (machine : MachineView) → machine ≡ machine_behind pair entries
-    → state_text (tapes_in pair) machine ≡ state_of pair entries
-state_is pair entries machine folds = ap (state_text (tapes_in pair)) folds
-
-pub machine_is_of : {D : Type 0} (state : D → DiskState) (header : Header) (pair : Verified) (machine : MachineView) (entries : List Entry) (log : Log D)
-    → IsRecovered state header pair machine entries log → IsMachineOf (tapes_in pair) (opening_of pair) machine
-machine_is_of state header pair machine entries log is = record {
-  entries = entries;
-  legal = is.behind.history.legal;
-  folds = sym is.behind.folds ∙ sym is.behind.bare;
-}

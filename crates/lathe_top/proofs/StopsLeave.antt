@@ -1,11 +1,10 @@
 -- What a stop at any moment of a call leaves: no journal that is bad; and where a run was, a history of it that goes on.
-use Rattle.std.proofs.Common.{◌≡◌, ◌⊎◌, inl, inr, ⊎_elim, ℕ, ◌≤◌, ◌<◌, List, [], ◌∷◌, length, take, drop, Option, Some, None, sym, ap, subst, arith, ◌∙◌, length-take, take-append-drop}
+use Rattle.std.proofs.Common.{◌≡◌, ◌⊎◌, inl, inr, ⊎_elim, ℕ, ◌≤◌, ◌<◌, List, [], ◌∷◌, length, take, drop, sym, ap, subst, arith, ◌∙◌, length-take, take-append-drop}
 use Rattle.std.proofs.Math.Seq.{take-length}
 use Rattle.std.proofs.lemmas.List.{take-append-le}
-use Rattle.command_words.specs.declared.command.Command.{Command}
-use Rattle.command_words.specs.declared.command.Command.TheVariants as command
 use Rattle.disk_model.specs.Device.{DiskState, Reads, IsCoherent, Only}
-use Rattle.disk_model.specs.Moments.{Unwritten}
+use Rattle.disk_model.specs.Moments.{LeavesOnly, Unwritten}
+use Rattle.disk_model.proofs.Runs.{joined}
 use Rattle.gate_file.specs.Chain.{IsNoRun, IsRunThere}
 use Rattle.run_records.specs.declared.entry.Entry.{Entry}
 use Rattle.run_records.specs.declared.header.Header.{Header}
@@ -14,10 +13,14 @@ use Rattle.run_journal.specs.Meaning.{no_run, a_run}
 use Rattle.run_journal.specs.Stands.{Stands}
 use Rattle.run_table.specs.Recording.{StandsForPrefix}
 use Rattle.nc_restart.specs.Lives.{AreOneHistory}
+use Rattle.nc_verify.specs.declared.verified.Verified.{Verified}
+use Rattle.nc_restart.specs.Pair.{texts_of, IsPairOf}
 use Rattle.nc_restart.specs.Meaning.{HasHistory, StandsForRun}
 use Rattle.lathe_top.specs.Session.{Session, IsSession}
 use Rattle.lathe_top.specs.Lathe.{LatheState}
-use Rattle.lathe_top.specs.Kept.{Opening, anew, again, made_limit, HasSession, Leaves, IsOfOpening, IsRefusedBeginning, OnlyBegins, OnlyLooks, RestsWhole}
+use Rattle.lathe_top.specs.Kinds as kind
+use Rattle.lathe_top.specs.Kinds.{Kind, kind_of}
+use Rattle.lathe_top.specs.Kept.{Opening, anew, again, HasSession, KeepsSession, Leaves, IsOfOpening, IsRefusedBeginning, OnlyBegins, OnlyLooks, RestsWhole}
 use Rattle.lathe_top.specs.Stops.{GoesOnAs, IsNoneOrRun, CallOver, lathe_before, lathe_behind, StoppedCall, AreStopped, images_of, BecomeOneHistory}
 use Rattle.lathe_top.proofs.DueOnce.{OneRun, header_in, entries_in}
 
@@ -59,6 +62,15 @@ module _ (P : List ℕ → Type 0) where
       → new.disk.image_since old.disk.clock c → P c
   of_rest old new held rests c since = of_unwritten old.disk new.disk held rests.disk.unwritten c since
 
+-- a crash at any moment of a session leaves an image of its opening, or a beginning of its history that has all that was found
+session_leaves : {D : Type 0} (state : D → DiskState) (opening : Opening) (s : Session) (least : ℕ) (old new : DiskState) (bytes : List ℕ)
+    → Reads old bytes → KeepsSession state opening s least old new
+    → LeavesOnly (λ c. IsOfOpening opening s old.image c ⊎ StandsForPrefix s.header (length s.found) s.history c) old new
+session_leaves state opening s least old new bytes reads keeps =
+    joined (IsOfOpening opening s old.image) (StandsForPrefix s.header (length s.found) s.history)
+    (λ c. IsOfOpening opening s old.image c ⊎ StandsForPrefix s.header (length s.found) s.history c) old (state keeps.begun) new
+    (keeps.opens bytes reads) (keeps.goes bytes reads) (λ x is. inl is) (λ x is. inr is)
+
 module _ (never_bad : NeverBad) where
   -- a beginning of a session's history
   prefix_run : (s : Session) → IsSession s → (least : ℕ) (c : List ℕ) → StandsForPrefix s.header least s.history c
@@ -68,68 +80,60 @@ module _ (never_bad : NeverBad) where
       (stands.0, stands.1, stands.2, never_bad s.header s.history stands.0 c has stands.3)
 
   -- no image is bad: neither those before a call nor those that it leaves
-  opening_none : (opening : Opening) (image : List ℕ → Type 0) → ((c : List ℕ) → image c → IsNoneOrRun c) → (c : List ℕ)
-      → IsOfOpening opening image c → IsNoneOrRun c
-  opening_none anew image held c (inl earlier) = held c earlier
-  opening_none anew image held c (inr nothing) = inl nothing
-  opening_none again image held c earlier = held c earlier
+  beginning_none : (header : Header) (pair : Verified) → IsPairOf (texts_of header) pair → (image : List ℕ → Type 0)
+      → ((c : List ℕ) → image c → IsNoneOrRun c) → (c : List ℕ) → IsRunBeginning image header c → IsNoneOrRun c
+  beginning_none header pair accepted image held c (inl earlier) = held c earlier
+  beginning_none header pair accepted image held c (inr (inl nothing)) = inl nothing
+  beginning_none header pair accepted image held c (inr (inr stands)) =
+      let has : HasHistory header [] =
+      record { pair = pair; accepted = accepted; history = record { legal = tt; few = omega arith } } in
+      inr (header, [], never_bad header [] 0 c has stands)
+
+  opening_none : (opening : Opening) (s : Session) → IsSession s → (image : List ℕ → Type 0) → ((c : List ℕ) → image c → IsNoneOrRun c)
+      → (c : List ℕ) → IsOfOpening opening s image c → IsNoneOrRun c
+  opening_none anew s is image held c begun = beginning_none s.header s.pair is.accepted image held c begun
+  opening_none again s is image held c earlier = held c earlier
 
   prefix_none : (s : Session) → IsSession s → (least : ℕ) (c : List ℕ) → StandsForPrefix s.header least s.history c → IsNoneOrRun c
   prefix_none s is least c stands = let p = prefix_run s is least c stands in inr (s.header, take p.0 s.history, p.3)
 
-  session_none : (opening : Opening) (limit : ℕ) (old new : LatheState) (bytes : List ℕ) → Reads old.disk bytes
-      → ((c : List ℕ) → old.disk.image c → IsNoneOrRun c) → HasSession opening limit old new → (c : List ℕ)
+  session_none : {D : Type 0} (state : D → DiskState) (opening : Opening) (limit : ℕ) (old new : LatheState) (bytes : List ℕ) → Reads old.disk bytes
+      → ((c : List ℕ) → old.disk.image c → IsNoneOrRun c) → HasSession state opening limit old new → (c : List ℕ)
       → new.disk.image_since old.disk.clock c → IsNoneOrRun c
-  session_none opening limit old new bytes reads held has c since =
-      ⊎_elim (opening_none opening old.disk.image held c)
-      (prefix_none has.session has.is (length has.session.found) c) ((has.keeps.moments bytes reads).each c since)
-
-  refused_none : (old new : DiskState) → ((c : List ℕ) → old.image c → IsNoneOrRun c) → (refused : IsRefusedBeginning old new) → (c : List ℕ)
-      → IsRunBeginning old.image refused.header c → IsNoneOrRun c
-  refused_none old new held refused c (inl earlier) = held c earlier
-  refused_none old new held refused c (inr (inl nothing)) = inl nothing
-  refused_none old new held refused c (inr (inr stands)) =
-      let has : HasHistory refused.header [] =
-      record { pair = refused.pair; accepted = refused.accepted; history = record { legal = tt; few = omega arith } } in
-      inr (refused.header, [], never_bad refused.header [] 0 c has stands)
+  session_none state opening limit old new bytes reads held has c since =
+      let s = has.session in
+      ⊎_elim (opening_none opening s has.is old.disk.image held c) (prefix_none s has.is (length s.found) c)
+      ((session_leaves state opening s has.least old.disk new.disk bytes reads has.keeps).each c since)
 
   begins_none : (old new : LatheState) (bytes : List ℕ) → Reads old.disk bytes → ((c : List ℕ) → old.disk.image c → IsNoneOrRun c)
       → OnlyBegins old new → (c : List ℕ) → new.disk.image_since old.disk.clock c → IsNoneOrRun c
-  begins_none old new bytes reads held begins c since =
+  begins_none old new bytes reads held only c since =
       ⊎_elim (λ untouched. of_unwritten IsNoneOrRun old.disk new.disk held untouched.unwritten c since)
-      (λ refused. refused_none old.disk new.disk held refused c ((refused.begins.any_moment bytes reads).each c since)) begins.disk
+      (λ refused. beginning_none refused.2.header refused.2.pair refused.2.accepted old.disk.image held c
+      ((refused.2.begins.any_moment bytes reads).each c since)) only.disk
 
-  pub none_or_run : (asked : Option Command) (old new : LatheState) (bytes : List ℕ) → Reads old.disk bytes
-      → ((c : List ℕ) → old.disk.image c → IsNoneOrRun c) → Leaves asked old new → (c : List ℕ)
+  pub none_or_run : {D : Type 0} (state : D → DiskState) (asked : Kind) (old new : LatheState) (bytes : List ℕ) → Reads old.disk bytes
+      → ((c : List ℕ) → old.disk.image c → IsNoneOrRun c) → Leaves state asked old new → (c : List ℕ)
       → new.disk.image_since old.disk.clock c → IsNoneOrRun c
-  none_or_run (Some (command.Run left right settings limit)) old new bytes reads held (inl begins) c since =
-      begins_none old new bytes reads held begins c since
-  none_or_run (Some (command.Run left right settings limit)) old new bytes reads held (inr has) c since =
-      session_none anew limit old new bytes reads held has c since
-  none_or_run (Some (command.Make number)) old new bytes reads held (inl begins) c since =
-      begins_none old new bytes reads held begins c since
-  none_or_run (Some (command.Make number)) old new bytes reads held (inr has) c since =
-      session_none anew made_limit old new bytes reads held has c since
-  none_or_run (Some (command.Resume limit)) old new bytes reads held (inl looks) c since =
-      of_looks IsNoneOrRun old new held looks c since
-  none_or_run (Some (command.Resume limit)) old new bytes reads held (inr has) c since =
-      session_none again limit old new bytes reads held has c since
-  none_or_run (Some command.Moves) old new bytes reads held looks c since = of_looks IsNoneOrRun old new held looks c since
-  none_or_run (Some command.State) old new bytes reads held looks c since = of_looks IsNoneOrRun old new held looks c since
-  none_or_run (Some (command.Verify left right settings)) old new bytes reads held rests c since =
-      of_rest IsNoneOrRun old new held rests c since
-  none_or_run None old new bytes reads held rests c since = of_rest IsNoneOrRun old new held rests c since
+  none_or_run state kind.rests old new bytes reads held leaves c since = of_rest IsNoneOrRun old new held leaves c since
+  none_or_run state kind.looks old new bytes reads held leaves c since = of_looks IsNoneOrRun old new held leaves c since
+  none_or_run state (kind.begins limit) old new bytes reads held (inl only) c since = begins_none old new bytes reads held only c since
+  none_or_run state (kind.begins limit) old new bytes reads held (inr has) c since =
+      session_none state anew limit old new bytes reads held has c since
+  none_or_run state (kind.goes_on limit) old new bytes reads held (inl only) c since = of_looks IsNoneOrRun old new held only c since
+  none_or_run state (kind.goes_on limit) old new bytes reads held (inr has) c since =
+      session_none state again limit old new bytes reads held has c since
 
-module _ (one_run : OneRun) (never_bad : NeverBad) (header : Header) (base : List Entry) where
+module _ {D : Type 0} (state : D → DiskState) (one_run : OneRun) (never_bad : NeverBad) (header : Header) (base : List Entry) where
   -- what a read of a run gives is a run that is there
   goes_there : (bytes : List ℕ) → GoesOnAs header base bytes → IsRunThere bytes
   goes_there bytes goes = run_there bytes (λ none. absurd (let same : no_run ≡ a_run header goes.0 = one_run bytes no_run (a_run header goes.0) none goes.1 in cc))
 
   session_kept : (limit : ℕ) (old new : LatheState) (bytes : List ℕ) → Reads old.disk bytes → ((c : List ℕ) → old.disk.image c → GoesOnAs header base c)
-      → GoesOnAs header base bytes → HasSession again limit old new → (c : List ℕ) → new.disk.image_since old.disk.clock c → GoesOnAs header base c
+      → GoesOnAs header base bytes → HasSession state again limit old new → (c : List ℕ) → new.disk.image_since old.disk.clock c → GoesOnAs header base c
   session_kept limit old new bytes reads held goes has c since =
       ⊎_elim (held c) (λ standing. part (prefix_run never_bad has.session has.is (length has.session.found) c standing))
-      ((has.keeps.moments bytes reads).each c since)
+      ((session_leaves state again has.session has.least old.disk new.disk bytes reads has.keeps).each c since)
     where
       part : (n : ℕ) × (length has.session.found ≤ n) × (n ≤ length has.session.history)
           × StandsForRun (a_run has.session.header (take n has.session.history)) c → GoesOnAs header base c
@@ -147,35 +151,22 @@ module _ (one_run : OneRun) (never_bad : NeverBad) (header : Header) (base : Lis
             front_kept base s.found (take p.0 s.history) first begins,
           )
 
-  run_kept : (limit : ℕ) (old new : LatheState) (bytes : List ℕ) → Reads old.disk bytes → ((c : List ℕ) → old.disk.image c → GoesOnAs header base c)
-      → GoesOnAs header base bytes → OnlyBegins old new ⊎ HasSession anew limit old new → (c : List ℕ)
-      → new.disk.image_since old.disk.clock c → GoesOnAs header base c
-  run_kept limit old new bytes reads held goes (inl begins) c since =
-      ⊎_elim (λ untouched. of_unwritten (GoesOnAs header base) old.disk new.disk held untouched.unwritten c since)
-      (λ refused. of_unwritten (GoesOnAs header base) old.disk new.disk held (refused.begins.spares bytes reads (goes_there bytes goes)) c since)
-      begins.disk
-  run_kept limit old new bytes reads held goes (inr has) c since = absurd (has.opened.1 bytes reads (goes_there bytes goes))
-
   -- a call whose disk reads as a run goes on with it, or leaves it alone
-  kept_by : (asked : Option Command) (old new : LatheState) (bytes : List ℕ) → Reads old.disk bytes
-      → ((c : List ℕ) → old.disk.image c → GoesOnAs header base c) → GoesOnAs header base bytes → Leaves asked old new → (c : List ℕ)
+  kept_by : (asked : Kind) (old new : LatheState) (bytes : List ℕ) → Reads old.disk bytes
+      → ((c : List ℕ) → old.disk.image c → GoesOnAs header base c) → GoesOnAs header base bytes → Leaves state asked old new → (c : List ℕ)
       → new.disk.image_since old.disk.clock c → GoesOnAs header base c
-  kept_by (Some (command.Run left right settings limit)) old new bytes reads held goes leaves c since =
-      run_kept limit old new bytes reads held goes leaves c since
-  kept_by (Some (command.Make number)) old new bytes reads held goes leaves c since =
-      run_kept made_limit old new bytes reads held goes leaves c since
-  kept_by (Some (command.Resume limit)) old new bytes reads held goes (inl looks) c since =
-      of_looks (GoesOnAs header base) old new held looks c since
-  kept_by (Some (command.Resume limit)) old new bytes reads held goes (inr has) c since =
-      session_kept limit old new bytes reads held goes has c since
-  kept_by (Some command.Moves) old new bytes reads held goes looks c since = of_looks (GoesOnAs header base) old new held looks c since
-  kept_by (Some command.State) old new bytes reads held goes looks c since = of_looks (GoesOnAs header base) old new held looks c since
-  kept_by (Some (command.Verify left right settings)) old new bytes reads held goes rests c since =
-      of_rest (GoesOnAs header base) old new held rests c since
-  kept_by None old new bytes reads held goes rests c since = of_rest (GoesOnAs header base) old new held rests c since
+  kept_by kind.rests old new bytes reads held goes leaves c since = of_rest (GoesOnAs header base) old new held leaves c since
+  kept_by kind.looks old new bytes reads held goes leaves c since = of_looks (GoesOnAs header base) old new held leaves c since
+  kept_by (kind.begins limit) old new bytes reads held goes (inl only) c since =
+      ⊎_elim (λ untouched. of_unwritten (GoesOnAs header base) old.disk new.disk held untouched.unwritten c since)
+      (λ refused. of_unwritten (GoesOnAs header base) old.disk new.disk held (refused.2.begins.spares bytes reads (goes_there bytes goes)) c since)
+      only.disk
+  kept_by (kind.begins limit) old new bytes reads held goes (inr has) c since = absurd (has.opened.1 bytes reads (goes_there bytes goes))
+  kept_by (kind.goes_on limit) old new bytes reads held goes (inl only) c since = of_looks (GoesOnAs header base) old new held only c since
+  kept_by (kind.goes_on limit) old new bytes reads held goes (inr has) c since = session_kept limit old new bytes reads held goes has c since
 
-  pub goes_on_as : (asked : Option Command) (old new : LatheState) (bytes : List ℕ) → IsCoherent old.disk → Reads old.disk bytes
-      → ((c : List ℕ) → old.disk.image c → GoesOnAs header base c) → Leaves asked old new → (c : List ℕ)
+  pub goes_on_as : (asked : Kind) (old new : LatheState) (bytes : List ℕ) → IsCoherent old.disk → Reads old.disk bytes
+      → ((c : List ℕ) → old.disk.image c → GoesOnAs header base c) → Leaves state asked old new → (c : List ℕ)
       → new.disk.image_since old.disk.clock c → GoesOnAs header base c
   goes_on_as asked old new bytes coherent reads held leaves c since =
       kept_by asked old new bytes reads held (held bytes (coherent.as_read bytes reads)) leaves c since
@@ -193,7 +184,7 @@ module _ {D : Type 0} (state : D → DiskState) (coherent : (disk : D) → IsCoh
   one_history (stop ∷ stops) bytes header found stands are =
       let call = stop.call in
       let goes : GoesOnAs header found stop.image =
-      goes_on_as one_run never_bad header found call.asked (lathe_before state call) (lathe_behind state call) bytes (coherent call.disk)
+      goes_on_as state one_run never_bad header found (kind_of call.asked) (lathe_before state call) (lathe_behind state call) bytes (coherent call.disk)
       are.0.is.reads (λ c image. alone bytes c header found stands (are.0.settled bytes are.0.is.reads c image)) are.0.is.leaves stop.image are.0.left in
       (goes.0, goes.1, goes.2, one_history stops stop.image header goes.0 goes.1 are.1)
 
@@ -203,7 +194,7 @@ module _ {D : Type 0} (state : D → DiskState) (coherent : (disk : D) → IsCoh
   becomes_one (stop ∷ stops) bytes none are =
       let call = stop.call in
       let left : IsNoneOrRun stop.image =
-      none_or_run never_bad call.asked (lathe_before state call) (lathe_behind state call) bytes are.0.is.reads
+      none_or_run never_bad state (kind_of call.asked) (lathe_before state call) (lathe_behind state call) bytes are.0.is.reads
       (λ c image. inl (subst IsNoRun (sym (are.0.settled bytes are.0.is.reads c image)) none)) are.0.is.leaves stop.image are.0.left in
       ⊎_elim (λ nothing. inl (nothing, becomes_one stops stop.image nothing are.1))
       (λ run. inr (run.0, run.1, run.2, one_history stops stop.image run.0 run.1 run.2 are.1)) left

@@ -2,16 +2,33 @@
 use Rattle.std.specs.Prelude.{◌≡◌}
 use Rattle.disk_model.specs.Device.{DiskState}
 use Rattle.nc_outside.specs.Received.{TurretState}
-use Rattle.turret_run.specs.Runs.{Turrets}
+use Rattle.turret_run.specs.Runs.{Turrets, Missed, none_missed}
+use Rattle.lathe_top.specs.declared.outcome.Lathe.{Lathe}
+use Rattle.lathe_top.specs.declared.outcome.Outcome.{Outcome}
 
--- What a run works on, at one moment: the disk of its journal, and the turrets of both paths.
+-- What a run works on, at one moment: the disk of its journal, and the turrets of both paths; and how many moves of the call's
+-- records that are on the disk each turret has missed.
 pub record LatheState : Type 1 where
   pub disk : DiskState
   pub turrets : Turrets
+  pub missed : Missed
 
+-- before a call no move is missed
 abbrev pub lathe_at : DiskState → TurretState → TurretState → LatheState
-lathe_at disk left right = record { disk = disk; turrets = record { left = left; right = right } }
+lathe_at disk left right = record { disk = disk; turrets = record { left = left; right = right }; missed = none_missed }
 
--- no turret was called
+-- the states of what the code holds
+abbrev pub lathe_of : {D T : Type 0} → (D → DiskState) → (T → TurretState) → Lathe D T → LatheState
+lathe_of disk turret lathe = lathe_at (disk lathe.disk) (turret lathe.left) (turret lathe.right)
+
+-- what a call leaves, with the moves that it counts as missed
+abbrev pub lathe_left : {D T : Type 0} → (D → DiskState) → (T → TurretState) → Outcome D T → LatheState
+lathe_left disk turret outcome = record {
+  disk = disk outcome.lathe.disk;
+  turrets = record { left = turret outcome.lathe.left; right = turret outcome.lathe.right };
+  missed = record { left = outcome.left_missed; right = outcome.right_missed };
+}
+
+-- no turret was called, and none missed a move
 abbrev pub AreAtRest : LatheState → LatheState → Type 0
-AreAtRest old new = new.turrets ≡ old.turrets
+AreAtRest old new = (new.turrets ≡ old.turrets) × (new.missed ≡ none_missed)

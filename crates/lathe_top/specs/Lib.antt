@@ -1,8 +1,6 @@
 -- What callers read.
-pub mod Answer
-pub mod Named
-pub mod Fetched
-pub mod Judged
+pub mod Kinds
+pub mod Done
 pub mod Lathe
 pub mod Session
 pub mod Turrets
@@ -10,6 +8,7 @@ pub mod Kept
 pub mod Ran
 pub mod Made
 pub mod Stops
+pub mod Streams
 -- Words of the inside.
 pub mod Texts
 pub mod Going

@@ -7,7 +7,7 @@ use Rattle.move_list.specs.Summary.{summary_text}
 use Rattle.nc_verify.specs.declared.verified.Verified.{Verified}
 use Rattle.nc_verify.specs.Verdict.{Texts}
 use Rattle.run_records.specs.declared.entry.Entry.{Entry}
-use Rattle.lathe_top.specs.Session.{report_of}
+use Rattle.lathe_looks.specs.Standing.{report_of}
 
 -- both tapes of the number, and settings that say nothing
 abbrev pub made_texts : ℕ → Texts
@@ -22,3 +22,7 @@ is_done other = false
 abbrev pub made_text : ℕ → Verified → List Entry → Reason → List ℕ
 made_text number pair entries reason =
     if is_done reason then summary_text number pair.left pair.right pair.settings entries else report_of pair entries reason
+
+-- the most records that a made pair makes in a call
+abbrev pub made_limit : ℕ
+made_limit = 100000

@@ -1,19 +1,19 @@
 -- A session of a run: what one call made of it, from its opening on.
-use Rattle.std.specs.Prelude.{◌≡◌, ℕ, ◌+◌, ◌≤◌, Bool, true, false, ◌&&◌, ◌||◌, is_some, List, length, take, Option, Some, None}
+use Rattle.std.specs.Prelude.{◌≡◌, ℕ, ◌+◌, ◌≤◌, true, false, List, length, take}
 use Rattle.nc_number.specs.declared.path.Path.{Path}
 use Rattle.disk_model.specs.Device.{Rose}
-use Rattle.nc_outside.specs.declared.halt.Alarm.{Alarm}
 use Rattle.nc_outside.specs.Faults.{Rose as TurretRose}
 use Rattle.move_list.specs.declared.end_line.Reason.{Reason}
-use Rattle.move_list.specs.Report.{report_text}
 use Rattle.nc_verify.specs.declared.verified.Verified.{Verified}
 use Rattle.run_records.specs.declared.entry.Entry.{Entry}
 use Rattle.run_records.specs.declared.header.Header.{Header}
 use Rattle.two_path.specs.Machine.{MachineView}
 use Rattle.two_path.specs.Stuck.{IsFree}
-use Rattle.nc_restart.specs.Pair.{texts_of, IsPairOf, tapes_in, opening_of, machine_behind}
+use Rattle.nc_restart.specs.Pair.{texts_of, IsPairOf, tapes_in, machine_behind}
 use Rattle.nc_restart.specs.History.{IsHistory}
 use Rattle.turret_run.specs.Runs.{turret_for}
+use Rattle.lathe_looks.specs.Standing.{is_over, reason_of}
+use Rattle.lathe_looks.specs.Statuses as exit
 use Rattle.lathe_top.specs.Lathe.{LatheState}
 
 -- the header of the journal, the pair that its texts are, the records that were found at the opening, and those at
@@ -32,22 +32,6 @@ machine_found s = machine_behind s.pair s.found
 abbrev pub machine_of : Session → MachineView
 machine_of s = machine_behind s.pair s.history
 
--- why a machine stands where it does, if nothing else stopped it: an alarm, or both paths have ended, or neither
-abbrev pub reason_by : Option Alarm → Bool → Reason
-reason_by (Some alarm) finished = Reason.Alarm alarm
-reason_by None true = Reason.Done
-reason_by None false = Reason.Stopped
-
-abbrev pub are_finished : MachineView → Bool
-are_finished m = m.first.finished && m.second.finished
-
-abbrev pub reason_of : MachineView → Reason
-reason_of m = reason_by m.alarm (are_finished m)
-
--- the run is over: there is an alarm, or both paths have ended
-abbrev pub is_over : MachineView → Bool
-is_over m = is_some m.alarm || are_finished m
-
 -- The records at the end are a history of the pair, and begin with those that were found. Behind a run that is
 -- over none are made.
 pub record GoesOn (pair : Verified) (found history : List Entry) : Type 0 where
@@ -61,25 +45,31 @@ pub record IsSession (s : Session) : Type 0 where
   pub goes_on : GoesOn s.pair s.found s.history
   pub free : IsFree (tapes_in s.pair) (machine_of s)
 
--- Why a session of at most so many records ended: the run is over; or the journal has as many records as it may
--- have; or the session made as many as it was allowed; or the disk failed; or the turret of this path did.
+-- no call of the disk failed, and none of a turret
+pub record NoneFailed (old new : LatheState) : Type 0 where
+  pub disk : new.disk.faults ≡ old.disk.faults
+  pub turrets : (path : Path) → (turret_for path new.turrets).faults ≡ (turret_for path old.turrets).faults
+
+-- Why a session of at most so many records ended. Where nothing failed: the run is over; or the journal has as many records as it may
+-- have; or the session made as many as it was allowed. Else the disk failed; or the disk did not, and the turret of this path did.
 pub data EndsBy (limit : ℕ) (s : Session) (old new : LatheState) : Reason → Type 0 where
-  over : is_over (machine_of s) ≡ true → EndsBy limit s old new (reason_of (machine_of s))
-  full : is_over (machine_of s) ≡ false → length s.history ≡ s.pair.settings.records → EndsBy limit s old new Reason.Full
+  over : is_over (machine_of s) ≡ true → NoneFailed old new → EndsBy limit s old new (reason_of (machine_of s))
+  full : is_over (machine_of s) ≡ false → length s.history ≡ s.pair.settings.records → NoneFailed old new
+      → EndsBy limit s old new Reason.Full
   stopped : is_over (machine_of s) ≡ false → length s.history ≡ length s.found + limit
-      → (length s.history ≡ s.pair.settings.records → ⊥) → EndsBy limit s old new Reason.Stopped
+      → (length s.history ≡ s.pair.settings.records → ⊥) → NoneFailed old new → EndsBy limit s old new Reason.Stopped
   disk_failed : Rose old.disk.faults new.disk.faults → EndsBy limit s old new Reason.DiskFault
   turret_failed : (path : Path) → TurretRose (turret_for path old.turrets).faults (turret_for path new.turrets).faults
-      → EndsBy limit s old new (Reason.TurretFault path)
+      → new.disk.faults ≡ old.disk.faults → EndsBy limit s old new (Reason.TurretFault path)
 
 -- the status of a reason
 abbrev pub reason_status : Reason → ℕ
-reason_status Reason.Done = 0
-reason_status (Reason.Alarm alarm) = 3
-reason_status Reason.Stopped = 10
-reason_status Reason.Full = 14
-reason_status Reason.DiskFault = 6
-reason_status (Reason.TurretFault path) = 7
+reason_status Reason.Done = exit.done
+reason_status (Reason.Alarm alarm) = exit.alarm
+reason_status Reason.Stopped = exit.stopped
+reason_status Reason.Full = exit.full
+reason_status Reason.DiskFault = exit.disk_fault
+reason_status (Reason.TurretFault path) = exit.turret_fault
 
 -- the disk holds so many records at least: all that were found, and all but 64 at most
 pub record AreMost (s : Session) (least : ℕ) : Type 0 where
@@ -92,7 +82,3 @@ abbrev pub IsLeast : Reason → Session → ℕ → Type 0
 IsLeast Reason.DiskFault s least = AreMost s least
 IsLeast (Reason.TurretFault path) s least = AreMost s least
 IsLeast other s least = least ≡ length s.history
-
--- the report of a history of a pair
-abbrev pub report_of : Verified → List Entry → Reason → List ℕ
-report_of pair entries reason = report_text (tapes_in pair) (opening_of pair) entries reason

@@ -6,9 +6,13 @@ use Rattle.gate_file.specs.Chain.{IsNoRun}
 use Rattle.run_records.specs.declared.entry.Entry.{Entry}
 use Rattle.run_records.specs.declared.header.Header.{Header}
 use Rattle.run_journal.specs.Meaning.{a_run}
-use Rattle.turret_run.specs.Runs.{Turrets}
+use Rattle.turret_run.specs.Runs.{Turrets, Missed, none_missed}
 use Rattle.nc_restart.specs.Lives.{AreOneHistory}
 use Rattle.nc_restart.specs.Meaning.{StandsForRun}
+use Rattle.nc_outside.specs.Files.{ShelfState}
+use Rattle.nc_outside.specs.Written.{SinkState}
+use Rattle.lathe_top.specs.Done.{Call, at}
+use Rattle.lathe_top.specs.Kinds.{kind_of}
 use Rattle.lathe_top.specs.Kept.{Leaves}
 use Rattle.lathe_top.specs.Lathe.{LatheState}
 
@@ -25,24 +29,42 @@ IsSomeRun image = (header : Header) × (history : List Entry) × StandsForRun (a
 abbrev pub IsNoneOrRun : List ℕ → Type 0
 IsNoneOrRun image = IsNoRun image ⊎ IsSomeRun image
 
--- A call of the program: its command, if its words are one, and the disk and the turrets before and behind it.
+-- A call of the program: its command, if its words are one, the disk and the turrets before and behind it, and how many moves each
+-- turret missed.
 pub record CallOver (D : Type 0) : Type 0 where
   pub asked : Option Command
   pub disk : D
   pub after : D
   pub turrets : Turrets
   pub moved : Turrets
+  pub missed : Missed
 
 abbrev pub lathe_before : {D : Type 0} → (D → DiskState) → CallOver D → LatheState
-lathe_before state call = record { disk = state call.disk; turrets = call.turrets }
+lathe_before state call = record { disk = state call.disk; turrets = call.turrets; missed = none_missed }
 
 abbrev pub lathe_behind : {D : Type 0} → (D → DiskState) → CallOver D → LatheState
-lathe_behind state call = record { disk = state call.after; turrets = call.moved }
+lathe_behind state call = record { disk = state call.after; turrets = call.moved; missed = call.missed }
 
--- the disk tells that it reads as these bytes, and the call leaves it and the turrets as its command does
+-- The words of a call, and the shelf and the sink before and after it.
+pub record Around : Type 0 where
+  pub words : List (List ℕ)
+  pub shelf : ShelfState
+  pub shelf_after : ShelfState
+  pub sink : SinkState
+  pub sink_after : SinkState
+
+-- all of the call
+abbrev pub call_in : {D : Type 0} → (D → DiskState) → Around → CallOver D → Call
+call_in state around call = record {
+  words = around.words;
+  before = at around.shelf (lathe_before state call) around.sink;
+  after = at around.shelf_after (lathe_behind state call) around.sink_after;
+}
+
+-- the disk tells that it reads as these bytes, and the call leaves it and the turrets as its kind of command does
 pub record IsCall {D : Type 0} (state : D → DiskState) (bytes : List ℕ) (call : CallOver D) : Type 0 where
   pub reads : Reads (state call.disk) bytes
-  pub leaves : Leaves call.asked (lathe_before state call) (lathe_behind state call)
+  pub leaves : Leaves state (kind_of call.asked) (lathe_before state call) (lathe_behind state call)
 
 -- a stop at some moment of the call leaves this, also one inside a call of the disk
 abbrev pub MayLeave : {D : Type 0} → (D → DiskState) → CallOver D → List ℕ → Type 0

@@ -1,27 +1,15 @@
--- The names and the texts that the code keeps, as clauses see them.
-use Rattle.std.specs.Prelude.{List, Option, Some, None}
-use Rattle.nc_verify.specs.Verdict as verdict
-use Rattle.lathe_top.specs.declared.fetching.Texts.{Texts}
-use Rattle.lathe_top.specs.declared.files.FileNames.{FileNames}
+-- What the code keeps of a run, as clauses see it.
+use Rattle.std.specs.Prelude.{Option, Some, None}
 use Rattle.move_list.specs.declared.end_line.Reason.{Reason}
 use Rattle.run_table.specs.declared.running.RunEnd.{RunEnd}
 use Rattle.run_table.specs.declared.running.RunEnd.TheVariants as run
 use Rattle.turret_run.specs.declared.ending.TurretEnd.{TurretEnd}
 use Rattle.turret_run.specs.declared.ending.TurretEnd.TheVariants as turret
+use Rattle.lathe_looks.specs.Standing.{report_of}
 use Rattle.lathe_top.specs.declared.telling.Telling.{Telling}
 use Rattle.lathe_top.specs.declared.telling.Telling.TheVariants.{Report, Summary}
 use Rattle.lathe_top.specs.Made.{made_text}
 use Rattle.lathe_top.specs.Ran.{TextOf}
-use Rattle.lathe_top.specs.Session.{report_of}
-use Rattle.lathe_top.specs.Named.{Named, files_of}
-
--- the files of these names
-abbrev pub files_in : FileNames → List Named
-files_in names = files_of names.left.now names.right.now names.settings.now
-
--- the texts of a verdict
-abbrev pub texts_of : Texts → verdict.Texts
-texts_of texts = record { left = texts.left.items; right = texts.right.items; settings = texts.settings.items }
 
 -- what is told of a run
 abbrev pub text_by : Telling → TextOf

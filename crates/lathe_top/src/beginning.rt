@@ -1,22 +1,23 @@
 //! The command `run`: a pair, run anew.
-ghost use Rattle.std.specs.Prelude.{◌≡◌, ◌⊎◌, ◌≤◌, length};
-ghost use Rattle.lathe_top.specs.Answer.{Ends, IsOfFiles};
-ghost use Rattle.lathe_top.specs.Kept.{HasSession, OnlyBegins, anew};
-ghost use Rattle.lathe_top.specs.Lathe.{AreAtRest, lathe_at};
+ghost use Rattle.std.specs.Prelude.{◌≡◌, ◌≤◌, length};
+ghost use Rattle.lathe_looks.specs.Answers.{Ends};
+ghost use Rattle.lathe_looks.specs.Fetched.{IsOfFiles};
+ghost use Rattle.lathe_looks.specs.Named.{listed};
+ghost use Rattle.lathe_looks.specs.Standing.{report_of};
+ghost use Rattle.lathe_looks.specs.Texts.{files_in, texts_of};
+ghost use Rattle.lathe_top.specs.Kept.{RestsWhole};
+ghost use Rattle.lathe_top.specs.Lathe.{lathe_of, lathe_left};
 ghost use Rattle.lathe_top.specs.Ran.{IsRun};
-ghost use Rattle.lathe_top.specs.Session.{report_of};
-ghost use Rattle.lathe_top.specs.Texts.{files_in, text_by, texts_of};
+ghost use Rattle.lathe_top.specs.Texts.{text_by};
 ghost use Rattle.nc_restart.specs.Pair.{texts_of as texts_of_header, IsPairOf};
 ghost use Rattle.run_records.specs.Headers.{IsShort};
 
-use crate::fetching::{Texts, fetch_texts, tell};
-use crate::files::FileNames;
 use crate::going::go_on;
-use crate::outcome::{Outcome, Turrets};
+use crate::outcome::{Lathe, Outcome};
 use crate::refusing::tell_unbegun;
 use crate::telling::{Request, Telling};
-use crate::verifying::refuse;
 use disk_model::Disk;
+use lathe_looks::{FileNames, Texts, fetch_texts, refuse, tell_unfetched};
 use nc_number::ByteList;
 use nc_outside::{Shelf, Sink, Turret};
 use nc_restart::no_history_is_stuck;
@@ -35,8 +36,7 @@ pub(crate) fn run<R, H, D, T, K>(
     names: &FileNames<'_>,
     limit: u32,
     shelf: &mut H,
-    disk: D,
-    turrets: Turrets<T>,
+    lathe: Lathe<D, T>,
     out: &mut K,
 ) -> Outcome<D, T>
 where
@@ -45,29 +45,27 @@ where
     D: Disk + Send,
     T: Turret + Send,
     K: Sink,
-    ensures answered { Ends (IsOfFiles (files_in names.now)
-        (AreAtRest (lathe_at (D.state disk) (T.state turrets.left) (T.state turrets.right))
-        (lathe_at (D.state result.disk) (T.state result.left) (T.state result.right)))
-        (λ texts. IsRun limit report_of texts (lathe_at (D.state disk) (T.state turrets.left) (T.state turrets.right))
-        (lathe_at (D.state result.disk) (T.state result.left) (T.state result.right)))
-        (H.state shelf.old) (H.state shelf.new)) (K.state out.old) (K.state out.new) result.status }
-    ensures leaves { OnlyBegins (lathe_at (D.state disk) (T.state turrets.left) (T.state turrets.right))
-        (lathe_at (D.state result.disk) (T.state result.left) (T.state result.right))
-        ⊎ HasSession anew limit (lathe_at (D.state disk) (T.state turrets.left) (T.state turrets.right))
-        (lathe_at (D.state result.disk) (T.state result.left) (T.state result.right)) }
+    ensures { Ends (IsOfFiles listed (files_in names.now)
+        (RestsWhole (lathe_of D.state T.state lathe) (lathe_left D.state T.state result))
+        (λ texts. IsRun D.state limit report_of texts (lathe_of D.state T.state lathe)
+        (lathe_left D.state T.state result)) (H.state shelf.old) (H.state shelf.new))
+        (K.state out.old) (K.state out.new) result.status }
 {
     let asked = Request {
         limit,
         telling: Telling::Report,
     };
     match fetch_texts(alloc, shelf, names) {
-        Ok(texts) => run_texts(rt, alloc, texts, asked, disk, turrets, out),
-        Err(error) => Outcome {
-            status: tell(alloc, &error, out),
-            disk,
-            left: turrets.left,
-            right: turrets.right,
-        },
+        Ok(texts) => run_texts(rt, alloc, texts, asked, lathe, out),
+        Err(error) => {
+            let status = tell_unfetched(alloc, &error, out);
+            Outcome {
+                status,
+                lathe,
+                left_missed: 0,
+                right_missed: 0,
+            }
+        }
     }
 }
 
@@ -77,8 +75,7 @@ pub(crate) fn run_texts<R, D, T, K>(
     alloc: Global,
     texts: Texts,
     asked: Request,
-    disk: D,
-    turrets: Turrets<T>,
+    lathe: Lathe<D, T>,
     out: &mut K,
 ) -> Outcome<D, T>
 where
@@ -89,14 +86,9 @@ where
     requires left { length texts.left.items ≤ 4194304 }
     requires right { length texts.right.items ≤ 4194304 }
     requires settings { length texts.settings.items ≤ 65536 }
-    ensures answered { Ends (IsRun asked.limit (text_by asked.telling) (texts_of texts)
-        (lathe_at (D.state disk) (T.state turrets.left) (T.state turrets.right))
-        (lathe_at (D.state result.disk) (T.state result.left) (T.state result.right)))
+    ensures { Ends (IsRun D.state asked.limit (text_by asked.telling) (texts_of texts)
+        (lathe_of D.state T.state lathe) (lathe_left D.state T.state result))
         (K.state out.old) (K.state out.new) result.status }
-    ensures leaves { OnlyBegins (lathe_at (D.state disk) (T.state turrets.left) (T.state turrets.right))
-        (lathe_at (D.state result.disk) (T.state result.left) (T.state result.right))
-        ⊎ HasSession anew asked.limit (lathe_at (D.state disk) (T.state turrets.left) (T.state turrets.right))
-        (lathe_at (D.state result.disk) (T.state result.left) (T.state result.right)) }
 {
     match verdict(
         alloc,
@@ -104,13 +96,16 @@ where
         texts.right.as_slice(),
         texts.settings.as_slice(),
     ) {
-        Ok(pair) => run_pair(rt, alloc, pair, header_of(texts), asked, disk, turrets, out),
-        Err(error) => Outcome {
-            status: refuse(&error, out),
-            disk,
-            left: turrets.left,
-            right: turrets.right,
-        },
+        Ok(pair) => run_pair(rt, alloc, pair, header_of(texts), asked, lathe, out),
+        Err(error) => {
+            let status = refuse(&error, out);
+            Outcome {
+                status,
+                lathe,
+                left_missed: 0,
+                right_missed: 0,
+            }
+        }
     }
 }
 
@@ -139,8 +134,7 @@ fn run_pair<R, D, T, K>(
     pair: Verified,
     header: Header,
     asked: Request,
-    disk: D,
-    turrets: Turrets<T>,
+    lathe: Lathe<D, T>,
     out: &mut K,
 ) -> Outcome<D, T>
 where
@@ -150,23 +144,19 @@ where
     K: Sink,
     requires accepted { IsPairOf (texts_of_header header) pair }
     requires short { IsShort header }
-    ensures answered { Ends (IsRun asked.limit (text_by asked.telling) (texts_of_header header)
-        (lathe_at (D.state disk) (T.state turrets.left) (T.state turrets.right))
-        (lathe_at (D.state result.disk) (T.state result.left) (T.state result.right)))
+    ensures { Ends (IsRun D.state asked.limit (text_by asked.telling) (texts_of_header header)
+        (lathe_of D.state T.state lathe) (lathe_left D.state T.state result))
         (K.state out.old) (K.state out.new) result.status }
-    ensures leaves { OnlyBegins (lathe_at (D.state disk) (T.state turrets.left) (T.state turrets.right))
-        (lathe_at (D.state result.disk) (T.state result.left) (T.state result.right))
-        ⊎ HasSession anew asked.limit (lathe_at (D.state disk) (T.state turrets.left) (T.state turrets.right))
-        (lathe_at (D.state result.disk) (T.state result.left) (T.state result.right)) }
 {
     no_history_is_stuck();
+    let Lathe { disk, left, right } = lathe;
     match Table::begin(alloc, pair, disk, &header) {
-        Ok(table) => go_on(rt, alloc, table, asked, turrets, out),
+        Ok(table) => go_on(rt, alloc, table, asked, left, right, out),
         Err((disk, fault)) => Outcome {
             status: tell_unbegun(fault, out),
-            disk,
-            left: turrets.left,
-            right: turrets.right,
+            lathe: Lathe { disk, left, right },
+            left_missed: 0,
+            right_missed: 0,
         },
     }
 }

@@ -1,30 +1,29 @@
 //! The call that the program makes: words in, text and status out.
-ghost use Rattle.std.specs.Prelude.{◌≡◌, Some, map};
+ghost use Rattle.std.specs.Prelude.{◌≡◌, map};
 ghost use Rattle.std.specs.String.{string_bytes};
-ghost use Rattle.command_words.specs.Listed.{listed_command};
-ghost use Rattle.lathe_top.specs.Answer.{Ends, GetsItsStatus, IsAnswered, IsDueTo, at};
-ghost use Rattle.lathe_top.specs.Kept.{Leaves};
-ghost use Rattle.lathe_top.specs.Lathe.{lathe_at};
-ghost use Rattle.lathe_top.specs.Named.{files_of};
-ghost use Rattle.lathe_top.specs.Texts.{files_in};
+ghost use Rattle.lathe_looks.specs.Answers.{Ends};
+ghost use Rattle.lathe_looks.specs.Named.{files_of};
+ghost use Rattle.lathe_looks.specs.Texts.{files_in};
+ghost use Rattle.lathe_top.specs.Done.{GetsItsStatus, IsDone, IsDueTo, at};
+ghost use Rattle.lathe_top.specs.Lathe.{lathe_of, lathe_left};
 
 use crate::beginning::run;
-use crate::ending::{Status, write_text};
-use crate::files::FileNames;
+use crate::looking::{judge, look, trace_pair};
 use crate::making::make;
-use crate::outcome::{Outcome, Shown, Turrets};
+use crate::outcome::{Lathe, Outcome};
 use crate::resuming::resume;
-use crate::showing::{show_moves, show_state};
-use crate::verifying::verify;
-use command_words::{Command, Name, WordsFault, read_words};
+use clap_reading::read_words;
+use command_words::{Command, Name, WordsFault};
 use disk_model::Disk;
+use lathe_looks::{FileNames, Showing, Status, tell_usage};
 use nc_outside::{Shelf, Sink, Turret};
 use nc_restart::{a_machine_hangs_on_its_texts, an_image_stands_for_one_run};
-use nc_verify::accepted_texts_are_not_refused;
+use nc_verify::{accepted_texts_are_not_refused, texts_have_one_refusal};
 use run_journal::a_journal_stands_for_one_thing;
 use std::alloc::Global;
 use std::sync::Wait;
 use std::thread::Threads;
+use turn_order::one_run_in_turn;
 
 /// Does what the words say with the files of the shelf, the journal on the disk and the turrets of both paths,
 /// writes the answer to `out`, and gives the status, the disk and the turrets.
@@ -43,9 +42,7 @@ pub fn top<R, H, D, T, K>(
     alloc: Global,
     words: &[String],
     shelf: &mut H,
-    disk: D,
-    left: T,
-    right: T,
+    lathe: Lathe<D, T>,
     out: &mut K,
 ) -> Outcome<D, T>
 where
@@ -54,41 +51,36 @@ where
     D: Disk + Send,
     T: Turret + Send,
     K: Sink,
-    // The text and the status, each for its cause, and what the turrets got.
-    ensures answered { IsAnswered (record {
+    // What was told and its status, each for its cause; what the disk is now, and what a stop at any moment leaves of it; and what
+    // the turrets got. All of one command and of the texts of its files, whatever the status.
+    ensures done { IsDone D.state (record {
       words = map string_bytes words.now;
-      before = at (H.state shelf.old) (lathe_at (D.state disk) (T.state left) (T.state right)) (K.state out.old);
-      after = at (H.state shelf.new) (lathe_at (D.state result.disk) (T.state result.left) (T.state result.right))
-          (K.state out.new);
+      before = at (H.state shelf.old) (lathe_of D.state T.state lathe) (K.state out.old);
+      after = at (H.state shelf.new) (lathe_left D.state T.state result) (K.state out.new);
     }) result.status }
     // Where a cause holds its status comes.
-    ensures due { GetsItsStatus (record {
+    ensures due { GetsItsStatus D.state (record {
       words = map string_bytes words.now;
-      before = at (H.state shelf.old) (lathe_at (D.state disk) (T.state left) (T.state right)) (K.state out.old);
-      after = at (H.state shelf.new) (lathe_at (D.state result.disk) (T.state result.left) (T.state result.right))
-          (K.state out.new);
+      before = at (H.state shelf.old) (lathe_of D.state T.state lathe) (K.state out.old);
+      after = at (H.state shelf.new) (lathe_left D.state T.state result) (K.state out.new);
     }) result.status }
-    // What the disk is at return, what a stop at any moment leaves of it, and what the turrets got, whatever
-    // the status.
-    ensures leaves { Leaves (listed_command (map string_bytes words.now))
-        (lathe_at (D.state disk) (T.state left) (T.state right))
-        (lathe_at (D.state result.disk) (T.state result.left) (T.state result.right)) }
 {
     accepted_texts_are_not_refused();
+    texts_have_one_refusal();
     an_image_stands_for_one_run();
     a_journal_stands_for_one_thing();
     a_machine_hangs_on_its_texts();
-    respond(rt, alloc, words, shelf, disk, Turrets { left, right }, out)
+    one_run_in_turn();
+    respond(rt, alloc, words, shelf, lathe, out)
 }
 
-/// Writes the answer, and gives the status, the disk and the turrets.
+/// Does what the words say, and gives the status, the disk and the turrets.
 fn respond<R, H, D, T, K>(
     rt: &R,
     alloc: Global,
     words: &[String],
     shelf: &mut H,
-    disk: D,
-    turrets: Turrets<T>,
+    lathe: Lathe<D, T>,
     out: &mut K,
 ) -> Outcome<D, T>
 where
@@ -97,30 +89,25 @@ where
     D: Disk + Send,
     T: Turret + Send,
     K: Sink,
-    ensures answered { IsAnswered (record {
+    ensures { IsDone D.state (record {
       words = map string_bytes words.now;
-      before = at (H.state shelf.old)
-          (lathe_at (D.state disk) (T.state turrets.left) (T.state turrets.right)) (K.state out.old);
-      after = at (H.state shelf.new) (lathe_at (D.state result.disk) (T.state result.left) (T.state result.right))
-          (K.state out.new);
+      before = at (H.state shelf.old) (lathe_of D.state T.state lathe) (K.state out.old);
+      after = at (H.state shelf.new) (lathe_left D.state T.state result) (K.state out.new);
     }) result.status }
-    ensures leaves { Leaves (listed_command (map string_bytes words.now))
-        (lathe_at (D.state disk) (T.state turrets.left) (T.state turrets.right))
-        (lathe_at (D.state result.disk) (T.state result.left) (T.state result.right)) }
 {
     match read_words(alloc, words) {
-        Ok(command) => perform(rt, alloc, &command, shelf, disk, turrets, out),
+        Ok(command) => perform(rt, alloc, &command, shelf, lathe, out),
         Err(WordsFault::Usage) => Outcome {
-            status: write_text(out, b"usage\n", Status::Usage as u8),
-            disk,
-            left: turrets.left,
-            right: turrets.right,
+            status: tell_usage(out),
+            lathe,
+            left_missed: 0,
+            right_missed: 0,
         },
         Err(WordsFault::NoMemory) => Outcome {
             status: Status::NoMemory as u8,
-            disk,
-            left: turrets.left,
-            right: turrets.right,
+            lathe,
+            left_missed: 0,
+            right_missed: 0,
         },
     }
 }
@@ -131,8 +118,7 @@ fn perform<R, H, D, T, K>(
     alloc: Global,
     command: &Command,
     shelf: &mut H,
-    disk: D,
-    turrets: Turrets<T>,
+    lathe: Lathe<D, T>,
     out: &mut K,
 ) -> Outcome<D, T>
 where
@@ -141,51 +127,33 @@ where
     D: Disk + Send,
     T: Turret + Send,
     K: Sink,
-    ensures answered { Ends (IsDueTo command.now
-        (at (H.state shelf.old)
-        (lathe_at (D.state disk) (T.state turrets.left) (T.state turrets.right)) (K.state out.old))
-        (at (H.state shelf.new) (lathe_at (D.state result.disk) (T.state result.left) (T.state result.right))
-        (K.state out.new))) (K.state out.old) (K.state out.new) result.status }
-    ensures leaves { Leaves (Some command.now) (lathe_at (D.state disk) (T.state turrets.left) (T.state turrets.right))
-        (lathe_at (D.state result.disk) (T.state result.left) (T.state result.right)) }
+    ensures { Ends (IsDueTo D.state command.now
+        (at (H.state shelf.old) (lathe_of D.state T.state lathe) (K.state out.old))
+        (at (H.state shelf.new) (lathe_left D.state T.state result) (K.state out.new)))
+        (K.state out.old) (K.state out.new) result.status }
 {
     match command {
-        Command::Verify(left, right, settings) => Outcome {
-            status: verify(alloc, &names_of(left, right, settings), shelf, out),
-            disk,
-            left: turrets.left,
-            right: turrets.right,
-        },
-        Command::Run(left, right, settings, blocks) => run(
-            rt,
-            alloc,
-            &names_of(left, right, settings),
-            *blocks,
-            shelf,
-            disk,
-            turrets,
-            out,
-        ),
-        Command::Resume(blocks) => resume(rt, alloc, *blocks, disk, turrets, out),
-        Command::Moves => {
-            let Shown { status, disk } = show_moves(alloc, disk, out);
-            Outcome {
-                status,
-                disk,
-                left: turrets.left,
-                right: turrets.right,
-            }
+        Command::Verify(left, right, settings) => {
+            judge(alloc, &names_of(left, right, settings), shelf, lathe, out)
         }
-        Command::State => {
-            let Shown { status, disk } = show_state(alloc, disk, out);
-            Outcome {
-                status,
-                disk,
-                left: turrets.left,
-                right: turrets.right,
-            }
+        Command::Trace(left, right, settings, blocks) => {
+            trace_pair(
+                alloc,
+                &names_of(left, right, settings),
+                *blocks,
+                shelf,
+                lathe,
+                out,
+            )
         }
-        Command::Make(number) => make(rt, alloc, *number, disk, turrets, out),
+        Command::Run(left, right, settings, blocks, _) => {
+            let names = names_of(left, right, settings);
+            run(rt, alloc, &names, *blocks, shelf, lathe, out)
+        }
+        Command::Resume(blocks, _) => resume(rt, alloc, *blocks, lathe, out),
+        Command::Moves => look(alloc, Showing::Moves, lathe, out),
+        Command::State => look(alloc, Showing::State, lathe, out),
+        Command::Make(number, _) => make(rt, alloc, *number, lathe, out),
     }
 }
 

@@ -5,16 +5,16 @@ ghost use Rattle.run_table.specs.Recording.{IsJournaled};
 ghost use Rattle.run_table.specs.Running.{MayRun};
 ghost use Rattle.two_path.specs.Histories.{IsLegal};
 ghost use Rattle.nc_restart.specs.Pair.{tapes_in, opening_of, machine_behind};
-ghost use Rattle.lathe_top.specs.Answer.{Ends};
-ghost use Rattle.lathe_top.specs.Going.{HasGone, IsReport, IsTold};
-ghost use Rattle.lathe_top.specs.Lathe.{lathe_at};
-ghost use Rattle.lathe_top.specs.Session.{is_over};
+ghost use Rattle.lathe_looks.specs.Answers.{Ends, IsJust};
+ghost use Rattle.lathe_looks.specs.Standing.{is_over};
+ghost use Rattle.lathe_top.specs.Going.{IsReport, told_of};
+ghost use Rattle.lathe_top.specs.Lathe.{lathe_at, lathe_left};
 ghost use Rattle.lathe_top.specs.Texts.{end_reason, run_reason, text_by};
 
-use crate::ending::Status;
-use crate::outcome::{Outcome, Turrets};
+use crate::outcome::{Lathe, Outcome};
 use crate::telling::{Request, Telling, tell_end};
 use disk_model::Disk;
+use lathe_looks::Status;
 use move_list::Reason;
 use nc_outside::{Sink, Turret};
 use nc_verify::Verified;
@@ -32,7 +32,8 @@ pub(crate) fn go_on<R, D, T, K>(
     alloc: Global,
     table: Table<D>,
     asked: Request,
-    turrets: Turrets<T>,
+    left: T,
+    right: T,
     out: &mut K,
 ) -> Outcome<D, T>
 where
@@ -43,24 +44,20 @@ where
     requires may { MayRun table }
     requires behind { table.machine ≡ machine_behind table.verified table.recording.history }
     requires unended { is_over table.machine ≡ false }
-    ensures answered { (header : Header) → IsJournaled D.state header table.recording
+    ensures { (header : Header) → IsJournaled D.state header table.recording
         → Ends (IsReport asked.limit (text_by asked.telling)
         (record { header = header; pair = table.verified; found = table.recording.history })
-        (lathe_at (D.state table.recording.log.file.disk) (T.state turrets.left) (T.state turrets.right))
-        (lathe_at (D.state result.disk) (T.state result.left) (T.state result.right)))
-        (K.state out.old) (K.state out.new) result.status }
-    ensures leaves { (header : Header) → IsJournaled D.state header table.recording
-        → HasGone asked.limit (record { header = header; pair = table.verified; found = table.recording.history })
-        (lathe_at (D.state table.recording.log.file.disk) (T.state turrets.left) (T.state turrets.right))
-        (lathe_at (D.state result.disk) (T.state result.left) (T.state result.right)) }
+        (lathe_at (D.state table.recording.log.file.disk) (T.state left) (T.state right))
+        (lathe_left D.state T.state result)) (K.state out.old) (K.state out.new) result.status }
 {
     a_held_journal_is_small::<D>();
-    let Turrets { left, right } = turrets;
     let TurretRun {
         table,
         left,
         right,
         end,
+        left_missed,
+        right_missed,
     } = run_with_turrets(rt, alloc, table, asked.limit, left, right);
     let parts = table.into_parts();
     let status = tell_run(
@@ -73,9 +70,13 @@ where
     );
     Outcome {
         status,
-        disk: parts.disk,
-        left,
-        right,
+        lathe: Lathe {
+            disk: parts.disk,
+            left,
+            right,
+        },
+        left_missed,
+        right_missed,
     }
 }
 
@@ -90,7 +91,7 @@ fn tell_run<K: Sink>(
 ) -> u8
     requires legal { IsLegal (tapes_in verified.now) (opening_of verified.now) entries.now.items }
     requires few { length entries.now.items ≤ verified.now.settings.records }
-    ensures { Ends (IsTold (text_by telling) verified.now entries.now.items (end_reason end))
+    ensures { Ends (IsJust (told_of (text_by telling) verified.now entries.now.items (end_reason end)))
         (K.state out.old) (K.state out.new) result }
 {
     match end_reason(end) {

@@ -1,5 +1,6 @@
 //! What holds over any calls and stops, for those who call: who calls the function has the law.
-ghost use Rattle.std.specs.Prelude.{ℕ, ◌+◌, ◌*◌, ◌≤◌, List, length};
+ghost use Rattle.std.specs.Prelude.{◌≡◌, ℕ, ◌+◌, ◌*◌, ◌≤◌, List, length};
+ghost use Rattle.command_words.specs.Listed.{listed_command};
 ghost use Rattle.nc_number.specs.declared.path.Path.{Path};
 ghost use Rattle.gate_file.specs.Chain.{IsNoRun};
 ghost use Rattle.run_journal.specs.Meaning.{a_run};
@@ -8,13 +9,23 @@ ghost use Rattle.run_records.specs.declared.header.Header.{Header};
 ghost use Rattle.nc_restart.specs.Lives.{AreOneHistory};
 ghost use Rattle.nc_restart.specs.Meaning.{StandsForRun};
 ghost use Rattle.disk_model.specs.Device.{DiskState};
+ghost use Rattle.lathe_top.specs.Done.{IsDone};
+ghost use Rattle.lathe_top.specs.Kept.{Leaves};
+ghost use Rattle.lathe_top.specs.Kinds.{kind_of};
 ghost use Rattle.lathe_top.specs.Session.{Session};
-ghost use Rattle.lathe_top.specs.Stops.{AreStopped, BecomeOneHistory, CallOver, GoesOnAs, IsCall, IsNoneOrRun, MayLeave, StoppedCall, images_of};
+ghost use Rattle.lathe_top.specs.Stops.{AreStopped, Around, BecomeOneHistory, CallOver, GoesOnAs, IsCall, IsNoneOrRun, MayLeave, StoppedCall, call_in, images_of, lathe_before, lathe_behind};
 ghost use Rattle.lathe_top.specs.Turrets.{due_to};
 
 use disk_model::Disk;
 use nc_restart::{an_image_of_a_run_is_never_bad, an_image_stands_for_one_run};
 use run_table::a_record_makes_seven_moves_at_most;
+
+/// What a call does it may do by its kind of command: what `top` promises is what the laws over calls and stops ask for.
+pub fn a_call_leaves_as_its_kind_may<D: Disk>()
+    ensures { (call : CallOver D) (around : Around) (status : ℕ) → call.asked ≡ listed_command around.words
+        → IsDone D.state (call_in D.state around call) status
+        → Leaves D.state (kind_of call.asked) (lathe_before D.state call) (lathe_behind D.state call) }
+{}
 
 /// A stop at any moment of a call of `top`, inside a call of the disk too, leaves one history, whatever the command is.
 ///

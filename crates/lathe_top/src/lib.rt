@@ -10,25 +10,22 @@
 
 mod beginning;
 mod control;
-mod ending;
-mod fetching;
-mod files;
 mod going;
 mod laws;
+mod looking;
 mod making;
 mod outcome;
-mod printing;
 mod refusing;
 mod resuming;
-mod showing;
-mod standing;
+mod rows;
+mod stream_laws;
 mod telling;
-mod verifying;
 
 pub use control::top;
-pub use fetching::{FileFault, Unfetched};
-pub use files::CommandFile;
 pub use laws::{
-    a_session_hands_eight_moves_a_record_at_most, a_stop_leaves_one_history, calls_make_one_history,
+    a_call_leaves_as_its_kind_may, a_session_hands_eight_moves_a_record_at_most,
+    a_stop_leaves_one_history, calls_make_one_history,
 };
-pub use outcome::Outcome;
+pub use outcome::{Lathe, Outcome};
+pub use rows::a_row_says_what_its_kind_does;
+pub use stream_laws::a_stream_has_the_reports_lines;

@@ -1,17 +1,14 @@
 //! The command `make`: the made pair of a number, run anew.
-ghost use Rattle.std.specs.Prelude.{◌⊎◌};
-ghost use Rattle.lathe_top.specs.Answer.{Ends};
-ghost use Rattle.lathe_top.specs.Kept.{HasSession, OnlyBegins, anew, made_limit};
-ghost use Rattle.lathe_top.specs.Lathe.{lathe_at};
-ghost use Rattle.lathe_top.specs.Made.{made_text, made_texts};
+ghost use Rattle.lathe_looks.specs.Answers.{Ends};
+ghost use Rattle.lathe_top.specs.Lathe.{lathe_of, lathe_left};
+ghost use Rattle.lathe_top.specs.Made.{made_limit, made_text, made_texts};
 ghost use Rattle.lathe_top.specs.Ran.{IsRun};
 
 use crate::beginning::run_texts;
-use crate::ending::Status;
-use crate::fetching::Texts;
-use crate::outcome::{Outcome, Turrets};
+use crate::outcome::{Lathe, Outcome};
 use crate::telling::{Request, Telling};
 use disk_model::Disk;
+use lathe_looks::{Status, Texts};
 use nc_outside::{Sink, Turret};
 use std::alloc::Global;
 use std::sync::Wait;
@@ -27,8 +24,7 @@ pub(crate) fn make<R, D, T, K>(
     rt: &R,
     alloc: Global,
     number: u32,
-    disk: D,
-    turrets: Turrets<T>,
+    lathe: Lathe<D, T>,
     out: &mut K,
 ) -> Outcome<D, T>
 where
@@ -36,14 +32,9 @@ where
     D: Disk + Send,
     T: Turret + Send,
     K: Sink,
-    ensures answered { Ends (IsRun made_limit (made_text number) (made_texts number)
-        (lathe_at (D.state disk) (T.state turrets.left) (T.state turrets.right))
-        (lathe_at (D.state result.disk) (T.state result.left) (T.state result.right)))
+    ensures { Ends (IsRun D.state made_limit (made_text number) (made_texts number)
+        (lathe_of D.state T.state lathe) (lathe_left D.state T.state result))
         (K.state out.old) (K.state out.new) result.status }
-    ensures leaves { OnlyBegins (lathe_at (D.state disk) (T.state turrets.left) (T.state turrets.right))
-        (lathe_at (D.state result.disk) (T.state result.left) (T.state result.right))
-        ⊎ HasSession anew made_limit (lathe_at (D.state disk) (T.state turrets.left) (T.state turrets.right))
-        (lathe_at (D.state result.disk) (T.state result.left) (T.state result.right)) }
 {
     let asked = Request {
         limit: MADE_LIMIT,
@@ -56,13 +47,13 @@ where
                 right,
                 settings: Vec::new(alloc),
             };
-            run_texts(rt, alloc, texts, asked, disk, turrets, out)
+            run_texts(rt, alloc, texts, asked, lathe, out)
         }
         Err(_) => Outcome {
             status: Status::NoMemory as u8,
-            disk,
-            left: turrets.left,
-            right: turrets.right,
+            lathe,
+            left_missed: 0,
+            right_missed: 0,
         },
     }
 }

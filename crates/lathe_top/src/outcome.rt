@@ -1,26 +1,54 @@
 //! What a call works on and leaves.
+ghost use Rattle.std.specs.Prelude.{◌≡◌};
+ghost use Rattle.turret_run.specs.Runs.{missed_by};
+
 use disk_model::Disk;
+use nc_number::Path;
 use nc_outside::Turret;
 
-/// The turrets of both paths.
+/// What a call works on besides files and text: the disk of the journal, and the turrets of both paths.
 #[derive(Drop)]
-pub(crate) struct Turrets<T: Turret> {
+pub struct Lathe<D: Disk, T: Turret> {
+    pub disk: D,
+    /// The turret of path 1.
     pub left: T,
+    /// The turret of path 2.
     pub right: T,
 }
 
-/// The status of a call, and the disk and the turrets that were handed in.
+/// How a call ended: its status, what it worked on, and how many moves each turret missed. Only this crate makes one.
 #[derive(Drop)]
 pub struct Outcome<D: Disk, T: Turret> {
-    pub status: u8,
-    pub disk: D,
-    pub left: T,
-    pub right: T,
+    pub(crate) status: u8,
+    pub(crate) lathe: Lathe<D, T>,
+    pub(crate) left_missed: u64,
+    pub(crate) right_missed: u64,
 }
 
-/// The status of a call that has no part in the turrets, and the disk that was handed in.
-#[derive(Drop)]
-pub(crate) struct Shown<D: Disk> {
-    pub status: u8,
-    pub disk: D,
+impl<D: Disk, T: Turret> Outcome<D, T> {
+    /// The status of the call.
+    pub fn status(&self) -> u8
+        ensures { result ≡ self.now.status }
+    {
+        self.status
+    }
+
+    /// How many moves the turret of the path missed: those of the path's records that this call made, and that are on the
+    /// disk, which the turret did not take. 0 unless the turret failed. A later `resume` goes on behind these records, and does not
+    /// make up for them.
+    pub fn missed(&self, path: Path) -> u64
+        ensures { result ≡ missed_by path (record { left = self.now.left_missed; right = self.now.right_missed }) }
+    {
+        match path {
+            Path::One => self.left_missed,
+            Path::Two => self.right_missed,
+        }
+    }
+
+    /// The disk and the turrets that were handed in.
+    pub fn into_parts(self) -> Lathe<D, T>
+        ensures { result ≡ self.lathe }
+    {
+        self.lathe
+    }
 }

@@ -1,20 +1,14 @@
-//! Why there is no run to begin or to go on with.
-ghost use Rattle.std.specs.Prelude.{◌≡◌, ◌++◌, OnOk};
-ghost use Rattle.lathe_top.specs.Answer.{Ends, IsJust};
-ghost use Rattle.lathe_top.specs.Going.{IsUnbegun, IsUnfound};
-ghost use Rattle.lathe_top.specs.Ran.{at_text, bad_text};
+//! Why no journal was begun.
+ghost use Rattle.lathe_looks.specs.Answers.{Ends, IsJust};
+ghost use Rattle.lathe_top.specs.Ran.{unbegun};
 
-use crate::ending::{Status, write_text};
-use crate::printing::{push_bytes, push_number};
 use gate_file::GateFault;
-use nc_number::NoMemory;
+use lathe_looks::{Status, write_text};
 use nc_outside::Sink;
-use nc_restart::RestartFault;
-use std::alloc::Global;
 
 /// Writes why a journal was not begun, and gives the status of that.
 pub(crate) fn tell_unbegun<K: Sink>(fault: GateFault, out: &mut K) -> u8
-    ensures { Ends (IsUnbegun fault) (K.state out.old) (K.state out.new) result }
+    ensures { Ends (IsJust (unbegun fault)) (K.state out.old) (K.state out.new) result }
 {
     match fault {
         GateFault::DiskFault => write_text(out, b"disk fault\n", Status::DiskFault as u8),
@@ -22,45 +16,4 @@ pub(crate) fn tell_unbegun<K: Sink>(fault: GateFault, out: &mut K) -> u8
         // The first two come of no beginning.
         GateFault::NoRun | GateFault::Cut(_) | GateFault::NoMemory => Status::NoMemory as u8,
     }
-}
-
-/// Writes why no run was found, and gives the status of that.
-pub(crate) fn tell_unfound<K: Sink>(alloc: Global, fault: RestartFault, out: &mut K) -> u8
-    ensures { Ends (IsUnfound fault) (K.state out.old) (K.state out.new) result }
-{
-    match fault {
-        RestartFault::DiskFault => write_text(out, b"disk fault\n", Status::DiskFault as u8),
-        RestartFault::NoRun => write_text(out, b"no run\n", Status::RunOrNone as u8),
-        RestartFault::Cut(offset) => tell_bad(alloc, offset, out),
-        RestartFault::BadRecord { offset, cause: _ } => tell_bad(alloc, offset, out),
-        RestartFault::NoMemory => Status::NoMemory as u8,
-    }
-}
-
-/// Writes the offset at which a journal is bad.
-fn tell_bad<K: Sink>(alloc: Global, offset: u64, out: &mut K) -> u8
-    ensures { Ends (IsJust 9 (bad_text offset)) (K.state out.old) (K.state out.new) result }
-{
-    let mut text = Vec::new(alloc);
-    if push_bad(&mut text, offset).is_err() {
-        return Status::NoMemory as u8;
-    }
-    write_text(out, text.as_slice(), Status::BadJournal as u8)
-}
-
-/// Puts the line of a journal that is bad at an offset.
-fn push_bad(text: &mut Vec<u8>, offset: u64) -> Result<(), NoMemory>
-    ensures { OnOk result (text.new.items ≡ text.old.items ++ bad_text offset) }
-{
-    push_bytes(text, b"bad journal")?;
-    push_at(text, offset)?;
-    push_bytes(text, b"\n")
-}
-
-/// Puts an offset of the journal.
-fn push_at(text: &mut Vec<u8>, offset: u64) -> Result<(), NoMemory>
-    ensures { OnOk result (text.new.items ≡ text.old.items ++ at_text offset) }
-{
-    push_bytes(text, b" at ")?;
-    push_number(text, offset)
 }

@@ -1,19 +1,16 @@
 //! The command `resume`: a run that was stopped goes on.
-ghost use Rattle.std.specs.Prelude.{◌⊎◌};
-ghost use Rattle.lathe_top.specs.Answer.{Ends};
-ghost use Rattle.lathe_top.specs.Going.{HasGone, IsReport};
-ghost use Rattle.lathe_top.specs.Kept.{HasSession, OnlyLooks, again};
-ghost use Rattle.lathe_top.specs.Lathe.{lathe_at};
+ghost use Rattle.lathe_looks.specs.Answers.{Ends};
+ghost use Rattle.lathe_looks.specs.Standing.{report_of};
+ghost use Rattle.lathe_top.specs.Going.{IsReport};
+ghost use Rattle.lathe_top.specs.Lathe.{lathe_at, lathe_of, lathe_left};
 ghost use Rattle.lathe_top.specs.Ran.{IsResumed};
-ghost use Rattle.lathe_top.specs.Session.{report_of};
 ghost use Rattle.nc_restart.specs.Recovered.{IsRecovered};
 
 use crate::going::go_on;
-use crate::outcome::{Outcome, Turrets};
-use crate::refusing::tell_unfound;
-use crate::standing::{is_over, reason_of};
+use crate::outcome::{Lathe, Outcome};
 use crate::telling::{Request, Telling, tell_end};
 use disk_model::Disk;
+use lathe_looks::{is_over, reason_of, tell_unfound};
 use nc_outside::{Sink, Turret};
 use nc_restart::{Recovered, no_history_is_stuck, recover};
 use run_journal::a_held_journal_leaves_its_records;
@@ -28,8 +25,7 @@ pub(crate) fn resume<R, D, T, K>(
     rt: &R,
     alloc: Global,
     limit: u32,
-    disk: D,
-    turrets: Turrets<T>,
+    lathe: Lathe<D, T>,
     out: &mut K,
 ) -> Outcome<D, T>
 where
@@ -37,22 +33,18 @@ where
     D: Disk + Send,
     T: Turret + Send,
     K: Sink,
-    ensures answered { Ends (IsResumed limit (lathe_at (D.state disk) (T.state turrets.left) (T.state turrets.right))
-        (lathe_at (D.state result.disk) (T.state result.left) (T.state result.right)))
+    ensures { Ends (IsResumed D.state limit (lathe_of D.state T.state lathe) (lathe_left D.state T.state result))
         (K.state out.old) (K.state out.new) result.status }
-    ensures leaves { OnlyLooks (lathe_at (D.state disk) (T.state turrets.left) (T.state turrets.right))
-        (lathe_at (D.state result.disk) (T.state result.left) (T.state result.right))
-        ⊎ HasSession again limit (lathe_at (D.state disk) (T.state turrets.left) (T.state turrets.right))
-        (lathe_at (D.state result.disk) (T.state result.left) (T.state result.right)) }
 {
     no_history_is_stuck();
+    let Lathe { disk, left, right } = lathe;
     match recover(alloc, disk) {
-        Ok(found) => resume_found(rt, alloc, found, limit, turrets, out),
+        Ok(found) => resume_found(rt, alloc, found, limit, left, right, out),
         Err((disk, fault)) => Outcome {
             status: tell_unfound(alloc, fault, out),
-            disk,
-            left: turrets.left,
-            right: turrets.right,
+            lathe: Lathe { disk, left, right },
+            left_missed: 0,
+            right_missed: 0,
         },
     }
 }
@@ -63,7 +55,8 @@ fn resume_found<R, D, T, K>(
     alloc: Global,
     found: Recovered<D>,
     limit: u32,
-    turrets: Turrets<T>,
+    left: T,
+    right: T,
     out: &mut K,
 ) -> Outcome<D, T>
 where
@@ -73,15 +66,10 @@ where
     K: Sink,
     requires { IsRecovered D.state found.header found.verified found.machine.machine found.entries.items
         found.journal }
-    ensures answered { Ends (IsReport limit report_of
+    ensures { Ends (IsReport limit report_of
         (record { header = found.header; pair = found.verified; found = found.entries.items })
-        (lathe_at (D.state found.journal.file.disk) (T.state turrets.left) (T.state turrets.right))
-        (lathe_at (D.state result.disk) (T.state result.left) (T.state result.right)))
-        (K.state out.old) (K.state out.new) result.status }
-    ensures leaves { HasGone limit
-        (record { header = found.header; pair = found.verified; found = found.entries.items })
-        (lathe_at (D.state found.journal.file.disk) (T.state turrets.left) (T.state turrets.right))
-        (lathe_at (D.state result.disk) (T.state result.left) (T.state result.right)) }
+        (lathe_at (D.state found.journal.file.disk) (T.state left) (T.state right))
+        (lathe_left D.state T.state result)) (K.state out.old) (K.state out.new) result.status }
 {
     a_held_journal_leaves_its_records::<D>();
     let Recovered {
@@ -97,9 +85,13 @@ where
         let status = tell_end(alloc, telling, &verified, &entries, reason, out);
         return Outcome {
             status,
-            disk: journal.into_disk(),
-            left: turrets.left,
-            right: turrets.right,
+            lathe: Lathe {
+                disk: journal.into_disk(),
+                left,
+                right,
+            },
+            left_missed: 0,
+            right_missed: 0,
         };
     }
     go_on(
@@ -107,7 +99,8 @@ where
         alloc,
         Table::from_recovered(verified, machine, entries, journal),
         Request { limit, telling },
-        turrets,
+        left,
+        right,
         out,
     )
 }

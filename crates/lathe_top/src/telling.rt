@@ -3,12 +3,12 @@ ghost use Rattle.std.specs.Prelude.{◌≡◌, ◌≤◌, length};
 ghost use Rattle.nc_verify.specs.Printed.{IsPut};
 ghost use Rattle.two_path.specs.Histories.{IsLegal};
 ghost use Rattle.nc_restart.specs.Pair.{tapes_in, opening_of};
-ghost use Rattle.lathe_top.specs.Answer.{Ends, IsJust};
+ghost use Rattle.lathe_looks.specs.Answers.{Ends, IsJust, tells};
 ghost use Rattle.lathe_top.specs.Made.{is_done, made_text};
 ghost use Rattle.lathe_top.specs.Session.{reason_status};
 ghost use Rattle.lathe_top.specs.Texts.{text_by};
 
-use crate::ending::{Status, status_behind};
+use lathe_looks::{Status, status_behind};
 use move_list::{Reason, write_report, write_summary};
 use nc_outside::{PutFault, Sink};
 use nc_verify::Verified;
@@ -42,7 +42,7 @@ pub(crate) fn tell_end<K: Sink>(
 ) -> u8
     requires legal { IsLegal (tapes_in verified.now) (opening_of verified.now) entries.now.items }
     requires few { length entries.now.items ≤ verified.now.settings.records }
-    ensures { Ends (IsJust (reason_status reason) (text_by telling verified.now entries.now.items reason))
+    ensures { Ends (IsJust (tells (reason_status reason) (text_by telling verified.now entries.now.items reason)))
         (K.state out.old) (K.state out.new) result }
 {
     let status = reason_status(&reason);

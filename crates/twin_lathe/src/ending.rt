@@ -2,9 +2,9 @@
 ghost use Rattle.std.specs.Prelude.{◌≡◌};
 ghost use Rattle.std.specs.Process.{exit_status};
 
-use crate::log_turret::LogTurret;
 use disk_model::Disk;
 use lathe_top::Outcome;
+use nc_outside::Turret;
 use std::process::{ExitCode, Termination};
 
 /// The status of a command that ran out of memory.
@@ -18,11 +18,11 @@ pub struct Ending {
 
 impl Ending {
     /// The end of a command that came to this: its status.
-    pub fn behind<D: Disk>(outcome: &Outcome<D, LogTurret>) -> Ending
+    pub fn behind<D: Disk, T: Turret>(outcome: &Outcome<D, T>) -> Ending
         ensures { result.status ≡ outcome.now.status }
     {
         Ending {
-            status: outcome.status,
+            status: outcome.status(),
         }
     }
 

@@ -1,27 +1,23 @@
 //! Runs a command of the lathe: its words stand on the command line, tapes are files, the journal of a run is a file
-//! of the current folder, the turrets take every move, and the report goes to standard output. The exit status is that
-//! of the command.
+//! of the current folder, the turrets write what they get to the files that were named for them, and the report goes to
+//! standard output. The exit status is that of the command.
 #![tactic(auto)]
 
 mod ending;
-mod file_disk;
-mod file_shelf;
-mod journal_file;
-mod log_turret;
-mod shown_file;
-mod std_sink;
 
+use clap_reading::read_words;
+use command_words::{Command, Journal, Name, WordsFault, journal_of};
+use disk_model::Disk;
 use ending::Ending;
-use file_disk::FileDisk;
-use file_shelf::FileShelf;
-use journal_file::Access;
-use lathe_top::top;
-use log_turret::LogTurret;
+use lathe_top::{Lathe, Outcome, top};
+use nc_number::Path;
+use nc_outside::Turret;
+use real_outside::{Access, FileDisk, FileShelf, LineFile, StdSink, SystemFolder, Trouble};
 use std::alloc::AllocError;
 use std::env;
 use std::io::ErrorKind;
 use std::rt::Env;
-use std_sink::StdSink;
+use turret_lines::LineTurret;
 
 /// The file of the journal, in the current folder.
 const JOURNAL: &str = "twin.journal";
@@ -30,32 +26,92 @@ fn main(rt: HostRuntime) -> Ending {
     let Ok(words) = words_given(&rt) else {
         return Ending::without_memory();
     };
+    let command = match read_words(rt.alloc(), words.as_slice()) {
+        Ok(command) => Some(command),
+        Err(WordsFault::Usage) => None,
+        Err(WordsFault::NoMemory) => return Ending::without_memory(),
+    };
+    let names = names_for_turrets(&command);
     let mut shelf = FileShelf::new(&rt);
     let mut out = StdSink::new(&rt);
-    let disk = FileDisk::new(&rt, rt.alloc(), JOURNAL, access_of(words.as_slice()));
+    let access = access_of(words.as_slice());
+    let lathe = Lathe {
+        disk: FileDisk::new(SystemFolder::new(&rt), JOURNAL, access),
+        left: LineTurret::new(LineFile::new(&rt, names.one)),
+        right: LineTurret::new(LineFile::new(&rt, names.two)),
+    };
     let outcome = top(
         &rt,
         rt.alloc(),
         words.as_slice(),
         &mut shelf,
-        disk,
-        LogTurret,
-        LogTurret,
+        lathe,
         &mut out,
     );
-    Ending::behind(&outcome)
+    let end = Ending::behind(&outcome);
+    tell_missed(&rt, &outcome);
+    let lathe = outcome.into_parts();
+    if let Some(trouble) = lathe.disk.trouble() {
+        complain(&rt, trouble);
+    }
+    end
 }
 
-/// What the command of these words does with the journal: `moves` and `state` only look at it.
-fn access_of(words: &[String]) -> Access {
-    let command = match words.first() {
-        Some(word) => word.as_str(),
-        None => "",
+/// The names of the files of the turrets, where they were given.
+#[derive(Clone, Copy)]
+struct TurretNames<'a> {
+    one: Option<&'a str>,
+    two: Option<&'a str>,
+}
+
+/// The names of the files to which the turrets of a command write.
+fn names_for_turrets(command: &Option<Command>) -> TurretNames<'_> {
+    let files = match command {
+        Some(command) => command.turret_files(),
+        None => None,
     };
-    match command {
-        "moves" | "state" => Access::Look,
-        _ => Access::Write,
+    match files {
+        Some(files) => TurretNames {
+            one: text_of(&files.one),
+            two: text_of(&files.two),
+        },
+        None => TurretNames {
+            one: None,
+            two: None,
+        },
     }
+}
+
+fn text_of(name: &Option<Name>) -> Option<&str> {
+    match name {
+        Some(name) => Some(name.as_str()),
+        None => None,
+    }
+}
+
+/// How the command of these words uses the journal.
+fn access_of(words: &[String]) -> Access {
+    match journal_of(words) {
+        Journal::Write => Access::Write,
+        Journal::None | Journal::Look => Access::Look,
+    }
+}
+
+/// Says on standard error how many recorded moves each turret missed, if it missed any.
+fn tell_missed<R: Eprint, D: Disk, T: Turret>(rt: &R, outcome: &Outcome<D, T>) {
+    for path in [Path::One, Path::Two] {
+        let number = path.number();
+        let _ = match outcome.missed(path) {
+            0 => Ok(()),
+            1 => eprintln!(rt; "path {number}: 1 recorded move was not made"),
+            many => eprintln!(rt; "path {number}: {many} recorded moves were not made"),
+        };
+    }
+}
+
+/// Says on standard error why the journal can't be used. Where that can't be said, the status still tells of it.
+fn complain<R: Eprint>(rt: &R, trouble: Trouble) {
+    let _ = eprintln!(rt; "{JOURNAL} {trouble}");
 }
 
 /// The words behind the program's name. Where one of them is no text they are no command, and none is given.

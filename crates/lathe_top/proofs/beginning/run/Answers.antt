@@ -1,13 +1,15 @@
-use Rattle.std.proofs.Common.{refl}
-use Rattle.lathe_top.specs.Answer.{answers}
-use Rattle.lathe_top.specs.Texts.{texts_of}
-use Rattle.lathe_top.proofs.Ended.{ends_by}
-use Rattle.lathe_top.proofs.NotHad.{unfetched_due}
+use Rattle.lathe_looks.specs.Fetched.{answers}
+use Rattle.lathe_looks.specs.Texts.{texts_of}
+use Rattle.lathe_looks.proofs.Ended.{ends_by, ends_just}
+use Rattle.lathe_looks.proofs.NotHad.{unfetched_due}
+use Rattle.lathe_top.proofs.Opened.{none_called}
 use Rattle.lathe_top.proofs.beginning.run.Goals as goal
 
-pub returns-in-Ok-clause-answered : goal.returns-in-Ok-clause-answered
-returns-in-Ok-clause-answered g c =
-    ends_by _ (λ status text ran. answers (texts_of c.in-Ok.texts) c.in-Ok.ensures.texts ran) c.run_texts.ensures.answered
+pub returns-in-Ok : goal.returns-in-Ok
+returns-in-Ok g c = ends_by _ (λ answer ran. answers (texts_of c.in-Ok.texts) c.in-Ok.ensures.texts ran) c.run_texts.ensures
 
-pub returns-in-Err-clause-answered : goal.returns-in-Err-clause-answered
-returns-in-Err-clause-answered g c = ends_by _ (unfetched_due _ _ _ c.in-Err.error c.in-Err.ensures.not_had refl) c.tell.ensures
+pub returns-in-Err : goal.returns-in-Err
+returns-in-Err g c =
+    let disks = g.met.D.Disk g.world.𝓛 g.world.𝓜 g.world.𝓡 ((λ s x. x), (λ x. x), (λ x. x), λ x. x) in
+    ends_just _ _ (unfetched_due _ _ _ c.in-Err.error c.in-Err.ensures.not_had (none_called _ _ (disks.coherent c.args.lathe.disk)))
+    c.tell_unfetched-status.ensures

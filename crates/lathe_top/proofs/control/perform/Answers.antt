@@ -1,120 +1,61 @@
-use Rattle.std.proofs.Common.{List, refl, sym, subst}
-use Rattle.command_words.specs.declared.command.Command.{Command}
-use Rattle.turret_run.specs.Runs.{Turrets}
-use Rattle.lathe_top.specs.Answer.{Ends, IsDueTo, IsOfFiles, TopState}
-use Rattle.lathe_top.specs.Judged.{IsJudged}
-use Rattle.lathe_top.specs.Lathe.{LatheState, AreAtRest}
-use Rattle.lathe_top.specs.Named.{Named}
+use Rattle.std.proofs.Common.{List, refl, subst}
+use Rattle.lathe_looks.specs.Answers.{Ends}
+use Rattle.lathe_looks.specs.Fetched.{IsOfFiles}
+use Rattle.lathe_looks.specs.Judged.{IsJudged}
+use Rattle.lathe_looks.specs.Named.{Named, listed}
+use Rattle.lathe_looks.specs.Standing.{report_of}
+use Rattle.lathe_looks.specs.Traced.{IsTraced}
+use Rattle.lathe_looks.proofs.Ended.{ends_by}
+use Rattle.lathe_top.specs.Kept.{RestsWhole}
+use Rattle.lathe_top.specs.Lathe.{lathe_of, lathe_left}
 use Rattle.lathe_top.specs.Ran.{IsRun}
-use Rattle.lathe_top.specs.Session.{report_of}
-use Rattle.lathe_top.proofs.Ended.{ends_by}
 use Rattle.lathe_top.proofs.control.perform.Goals as goal
 
-pub returns-in-Verify-clause-answered : goal.returns-in-Verify-clause-answered
-returns-in-Verify-clause-answered g c =
+pub returns-in-Verify : goal.returns-in-Verify
+returns-in-Verify g c =
     let shelf = g.H.Shelf.state in
     let sink = g.K.Sink.state in
-    let lathe : LatheState = record {
-      disk = g.D.Disk.state c.args.disk;
-      turrets = record { left = g.T.Turret.state c.args.turrets.left; right = g.T.Turret.state c.args.turrets.right };
-    } in
-    let old : TopState = record { shelf = shelf c.args.shelf.now; lathe = lathe; sink = sink c.args.out.now } in
-    let new : TopState = record { shelf = shelf c.verify.new.shelf; lathe = lathe; sink = sink c.verify.new.out } in
-    let there = subst
-    (λ (files : List Named). Ends (IsOfFiles files (Unit {0}) IsJudged old.shelf new.shelf) old.sink new.sink c.verify.result)
-    c.names_of.ensures c.verify.ensures in
-    subst (λ (asked : Command). Ends (IsDueTo asked old new) old.sink new.sink c.verify.result) (sym c.in-Verify.is)
-    (ends_by _ (λ status text due. (due, refl)) there)
+    let old = lathe_of g.D.Disk.state g.T.Turret.state c.args.lathe in
+    let new = lathe_left g.D.Disk.state g.T.Turret.state c.judge.result in
+    rw c.in-Verify.is
+    (subst
+    (λ (files : List Named). Ends (λ answer. IsOfFiles listed files (Unit {0}) IsJudged (shelf c.args.shelf.now) (shelf c.judge.new.shelf) answer
+    × RestsWhole old new) (sink c.args.out.now) (sink c.judge.new.out) c.judge.result.status)
+    c.names_of.ensures c.judge.ensures)
 
-pub returns-in-Run-clause-answered : goal.returns-in-Run-clause-answered
-returns-in-Run-clause-answered g c =
+pub returns-in-Trace : goal.returns-in-Trace
+returns-in-Trace g c =
     let shelf = g.H.Shelf.state in
     let sink = g.K.Sink.state in
-    let turret = g.T.Turret.state in
-    let before : LatheState = record {
-      disk = g.D.Disk.state c.args.disk;
-      turrets = record { left = turret c.args.turrets.left; right = turret c.args.turrets.right };
-    } in
-    let after : LatheState = record {
-      disk = g.D.Disk.state c.run.result.disk;
-      turrets = record { left = turret c.run.result.left; right = turret c.run.result.right };
-    } in
-    let old : TopState = record { shelf = shelf c.args.shelf.now; lathe = before; sink = sink c.args.out.now } in
-    let new : TopState = record { shelf = shelf c.run.new.shelf; lathe = after; sink = sink c.run.new.out } in
-    let there = subst
-    (λ (files : List Named). Ends (IsOfFiles files (AreAtRest before after) (λ texts. IsRun c.in-Run.blocks report_of texts before after)
-    old.shelf new.shelf) old.sink new.sink c.run.result.status)
-    c.names_of-in-Run.ensures c.run.ensures.answered in
-    subst (λ (asked : Command). Ends (IsDueTo asked old new) old.sink new.sink c.run.result.status) (sym c.in-Run.is) there
+    let old = lathe_of g.D.Disk.state g.T.Turret.state c.args.lathe in
+    let new = lathe_left g.D.Disk.state g.T.Turret.state c.trace_pair.result in
+    rw c.in-Trace.is
+    (subst
+    (λ (files : List Named). Ends (λ answer. IsOfFiles listed files (Unit {0}) (IsTraced c.in-Trace.blocks) (shelf c.args.shelf.now) (shelf c.trace_pair.new.shelf) answer
+    × RestsWhole old new) (sink c.args.out.now) (sink c.trace_pair.new.out) c.trace_pair.result.status)
+    c.names_of-in-Trace.ensures c.trace_pair.ensures)
 
-pub returns-in-Moves-clause-answered : goal.returns-in-Moves-clause-answered
-returns-in-Moves-clause-answered g c =
+pub returns-in-Run : goal.returns-in-Run
+returns-in-Run g c =
+    let state = g.D.Disk.state in
     let shelf = g.H.Shelf.state in
     let sink = g.K.Sink.state in
-    let turrets : Turrets = record { left = g.T.Turret.state c.args.turrets.left; right = g.T.Turret.state c.args.turrets.right } in
-    let old : TopState = record {
-      shelf = shelf c.args.shelf.now;
-      lathe = record { disk = g.D.Disk.state c.args.disk; turrets = turrets };
-      sink = sink c.args.out.now;
-    } in
-    let new : TopState = record {
-      shelf = shelf c.args.shelf.now;
-      lathe = record { disk = g.D.Disk.state c.show_moves-status.result.disk; turrets = turrets };
-      sink = sink c.show_moves-status.new.out;
-    } in
-    subst (λ (asked : Command). Ends (IsDueTo asked old new) old.sink new.sink c.show_moves-status.result.status) (sym c.in-Moves.is)
-    (ends_by _ (λ status text due. (due, refl)) c.show_moves-status.ensures.answered)
+    let old = lathe_of state g.T.Turret.state c.args.lathe in
+    let new = lathe_left state g.T.Turret.state c.run.result in
+    rw c.in-Run.is
+    (subst
+    (λ (files : List Named). Ends (IsOfFiles listed files (RestsWhole old new) (λ texts. IsRun state c.in-Run.blocks report_of texts old new)
+    (shelf c.args.shelf.now) (shelf c.run.new.shelf)) (sink c.args.out.now) (sink c.run.new.out) c.run.result.status)
+    c.names_of-names.ensures c.run.ensures)
 
-pub returns-in-State-clause-answered : goal.returns-in-State-clause-answered
-returns-in-State-clause-answered g c =
-    let shelf = g.H.Shelf.state in
-    let sink = g.K.Sink.state in
-    let turrets : Turrets = record { left = g.T.Turret.state c.args.turrets.left; right = g.T.Turret.state c.args.turrets.right } in
-    let old : TopState = record {
-      shelf = shelf c.args.shelf.now;
-      lathe = record { disk = g.D.Disk.state c.args.disk; turrets = turrets };
-      sink = sink c.args.out.now;
-    } in
-    let new : TopState = record {
-      shelf = shelf c.args.shelf.now;
-      lathe = record { disk = g.D.Disk.state c.show_state-status.result.disk; turrets = turrets };
-      sink = sink c.show_state-status.new.out;
-    } in
-    subst (λ (asked : Command). Ends (IsDueTo asked old new) old.sink new.sink c.show_state-status.result.status) (sym c.in-State.is)
-    (ends_by _ (λ status text due. (due, refl)) c.show_state-status.ensures.answered)
+pub returns-in-Resume : goal.returns-in-Resume
+returns-in-Resume g c = rw c.in-Resume.is (ends_by _ (λ answer due. (due, refl)) c.resume.ensures)
 
-pub returns-in-Resume-clause-answered : goal.returns-in-Resume-clause-answered
-returns-in-Resume-clause-answered g c =
-    let shelf = g.H.Shelf.state c.args.shelf.now in
-    let sink = g.K.Sink.state in
-    let turret = g.T.Turret.state in
-    let before : LatheState = record {
-      disk = g.D.Disk.state c.args.disk;
-      turrets = record { left = turret c.args.turrets.left; right = turret c.args.turrets.right };
-    } in
-    let after : LatheState = record {
-      disk = g.D.Disk.state c.resume.result.disk;
-      turrets = record { left = turret c.resume.result.left; right = turret c.resume.result.right };
-    } in
-    let old : TopState = record { shelf = shelf; lathe = before; sink = sink c.args.out.now } in
-    let new : TopState = record { shelf = shelf; lathe = after; sink = sink c.resume.new.out } in
-    subst (λ (asked : Command). Ends (IsDueTo asked old new) old.sink new.sink c.resume.result.status) (sym c.in-Resume.is)
-    c.resume.ensures.answered
+pub returns-in-Moves : goal.returns-in-Moves
+returns-in-Moves g c = rw c.in-Moves.is (ends_by _ (λ answer due. (due.0, due.1, refl)) c.look.ensures)
 
-pub returns-in-Make-clause-answered : goal.returns-in-Make-clause-answered
-returns-in-Make-clause-answered g c =
-    let shelf = g.H.Shelf.state c.args.shelf.now in
-    let sink = g.K.Sink.state in
-    let turret = g.T.Turret.state in
-    let before : LatheState = record {
-      disk = g.D.Disk.state c.args.disk;
-      turrets = record { left = turret c.args.turrets.left; right = turret c.args.turrets.right };
-    } in
-    let after : LatheState = record {
-      disk = g.D.Disk.state c.make.result.disk;
-      turrets = record { left = turret c.make.result.left; right = turret c.make.result.right };
-    } in
-    let old : TopState = record { shelf = shelf; lathe = before; sink = sink c.args.out.now } in
-    let new : TopState = record { shelf = shelf; lathe = after; sink = sink c.make.new.out } in
-    subst (λ (asked : Command). Ends (IsDueTo asked old new) old.sink new.sink c.make.result.status) (sym c.in-Make.is)
-    c.make.ensures.answered
+pub returns-in-State : goal.returns-in-State
+returns-in-State g c = rw c.in-State.is (ends_by _ (λ answer due. (due.0, due.1, refl)) c.look-in-State.ensures)
+
+pub returns-in-Make : goal.returns-in-Make
+returns-in-Make g c = rw c.in-Make.is (ends_by _ (λ answer due. (due, refl)) c.make.ensures)

@@ -1,15 +1,15 @@
 use Rattle.std.proofs.Common.{List, sym, subst}
 use Rattle.nc_verify.specs.declared.verified.Verified.{Verified}
 use Rattle.run_records.specs.declared.entry.Entry.{Entry}
-use Rattle.turret_run.specs.Runs.{Turrets}
+use Rattle.turret_run.specs.Runs.{Turrets, Missed, none_missed}
 use Rattle.two_path.specs.Histories.{IsLegal}
 use Rattle.nc_restart.specs.Pair.{tapes_in, opening_of}
-use Rattle.lathe_top.specs.Answer.{Ends}
-use Rattle.lathe_top.specs.Going.{HasGone, IsReport}
+use Rattle.lathe_looks.specs.Answers.{Ends}
+use Rattle.lathe_top.specs.Going.{IsReport}
 use Rattle.lathe_top.specs.Texts.{end_reason, text_by}
-use Rattle.lathe_top.proofs.Ended.{ends_by}
+use Rattle.lathe_looks.proofs.Ended.{ends_just}
 use Rattle.lathe_top.proofs.GoingOn.{not_ended}
-use Rattle.lathe_top.proofs.GoingReported.{for_pair, told_of, told_report, has_gone, pair_is}
+use Rattle.lathe_top.proofs.GoingReported.{for_pair, told_same, told_report, pair_is}
 use Rattle.lathe_top.proofs.going.go_on.Goals as goal
 
 pub run_with_turrets-table-requires-clause-unended : goal.run_with_turrets-table-requires-clause-unended
@@ -25,8 +25,8 @@ tell_run-status-requires-clause-legal g c =
     subst (λ (l : List Entry). IsLegal (tapes_in c.into_parts-parts.result.verified) (opening_of c.into_parts-parts.result.verified) l)
     (sym parts.entries_are) of_pair
 
-pub returns-clause-answered : goal.returns-clause-answered
-returns-clause-answered g c = λ header journaled.
+pub returns : goal.returns
+returns g c = λ header journaled.
     let state = g.D.Disk.state in
     let disks = g.met.D.Disk g.world.𝓛 g.world.𝓜 g.world.𝓡 ((λ s x. x), (λ x. x), (λ x. x), λ x. x) in
     let old = c.args.table in
@@ -34,40 +34,22 @@ returns-clause-answered g c = λ header journaled.
     let new = run.table in
     let left = c.into_parts-parts in
     let text_of = text_by c.args.asked.telling in
-    let before : Turrets = record { left = g.T.Turret.state c.args.turrets.left; right = g.T.Turret.state c.args.turrets.right } in
+    let before : Turrets = record { left = g.T.Turret.state c.args.left; right = g.T.Turret.state c.args.right } in
     let after : Turrets = record { left = g.T.Turret.state run.left; right = g.T.Turret.state run.right } in
+    let missed : Missed = record { left = run.left_missed; right = run.right_missed } in
     for_pair state
     (λ standing disk. Ends (IsReport c.args.asked.limit text_of standing
-    (record { disk = state old.recording.log.file.disk; turrets = before }) (record { disk = disk; turrets = after }))
+    (record { disk = state old.recording.log.file.disk; turrets = before; missed = none_missed }) (record { disk = disk; turrets = after; missed = missed }))
     (g.K.Sink.state c.args.out.now) (g.K.Sink.state c.tell_run-status.new.out) c.tell_run-status.result)
     header old.recording.history new.verified old.verified new.recording.log.file.disk left.result.disk
     (pair_is state disks.coherent c.a_held_journal_is_small.ensures c.args.asked.limit old new c.requires.may c.requires.behind
-    c.requires.unended left.ensures.kept left.ensures.few left.ensures.pending header journaled before after run.end c.run_with_turrets-table.ensures.run)
+    c.requires.unended left.ensures.kept left.ensures.few left.ensures.pending header journaled before after missed run.end c.run_with_turrets-table.ensures.run)
     left.ensures.parts.disk_is
-    (ends_by _
-    (λ status text is. told_report state disks.coherent c.a_held_journal_is_small.ensures c.args.asked.limit old new c.requires.may
-    c.requires.behind c.requires.unended left.ensures.kept left.ensures.few left.ensures.pending header journaled before after text_of run.end
-    c.run_with_turrets-table.ensures.run status text
-    (told_of text_of left.result.verified new.verified left.result.entries.items new.recording.history (end_reason run.end) status text
-    left.ensures.parts.verified_is left.ensures.parts.entries_are is))
+    (ends_just _ _
+    (subst (IsReport c.args.asked.limit text_of _ _ _)
+    (sym (told_same text_of left.result.verified new.verified left.result.entries.items new.recording.history (end_reason run.end)
+    left.ensures.parts.verified_is left.ensures.parts.entries_are))
+    (told_report state disks.coherent c.a_held_journal_is_small.ensures c.args.asked.limit old new c.requires.may
+    c.requires.behind c.requires.unended left.ensures.kept left.ensures.few left.ensures.pending header journaled before after missed text_of run.end
+    c.run_with_turrets-table.ensures.run))
     c.tell_run-status.ensures)
-
-pub returns-clause-leaves : goal.returns-clause-leaves
-returns-clause-leaves g c = λ header journaled.
-    let state = g.D.Disk.state in
-    let disks = g.met.D.Disk g.world.𝓛 g.world.𝓜 g.world.𝓡 ((λ s x. x), (λ x. x), (λ x. x), λ x. x) in
-    let old = c.args.table in
-    let run = c.run_with_turrets-table.result in
-    let new = run.table in
-    let left = c.into_parts-parts in
-    let before : Turrets = record { left = g.T.Turret.state c.args.turrets.left; right = g.T.Turret.state c.args.turrets.right } in
-    let after : Turrets = record { left = g.T.Turret.state run.left; right = g.T.Turret.state run.right } in
-    for_pair state
-    (λ standing disk. HasGone c.args.asked.limit standing (record { disk = state old.recording.log.file.disk; turrets = before })
-    (record { disk = disk; turrets = after }))
-    header old.recording.history new.verified old.verified new.recording.log.file.disk left.result.disk
-    (pair_is state disks.coherent c.a_held_journal_is_small.ensures c.args.asked.limit old new c.requires.may c.requires.behind
-    c.requires.unended left.ensures.kept left.ensures.few left.ensures.pending header journaled before after run.end c.run_with_turrets-table.ensures.run)
-    left.ensures.parts.disk_is
-    (has_gone state disks.coherent c.a_held_journal_is_small.ensures c.args.asked.limit old new c.requires.may c.requires.behind
-    c.requires.unended left.ensures.kept left.ensures.few left.ensures.pending header journaled before after run.end c.run_with_turrets-table.ensures.run)

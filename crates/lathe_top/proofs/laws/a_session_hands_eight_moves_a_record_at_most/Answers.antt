@@ -1,6 +1,6 @@
 use Rattle.std.proofs.Common.{length, arith}
 use Rattle.std.proofs.lemmas.List.{length-map}
-use Rattle.nc_outside.specs.declared.motion.Got.TheVariants.{Moved}
+use Rattle.nc_outside.specs.declared.got.Got.TheVariants.{Moved}
 use Rattle.run_table.specs.Made.{moves_made}
 use Rattle.lathe_top.proofs.laws.a_session_hands_eight_moves_a_record_at_most.Goals as goal
 

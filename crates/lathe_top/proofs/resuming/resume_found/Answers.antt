@@ -1,33 +1,33 @@
 use Rattle.std.proofs.Common.{refl, sym, subst, ◌∙◌, ◌≡◌, false}
-use Rattle.turret_run.specs.Runs.{Turrets}
+use Rattle.turret_run.specs.Runs.{Turrets, none_missed}
 use Rattle.run_table.specs.Kept.{TableView}
 use Rattle.run_table.specs.Running.{MayRun}
 use Rattle.nc_restart.specs.Pair.{machine_behind}
-use Rattle.lathe_top.specs.Answer.{Ends}
-use Rattle.lathe_top.specs.Going.{HasGone, IsReport}
-use Rattle.lathe_top.specs.Lathe.{LatheState}
-use Rattle.lathe_top.specs.Session.{is_over, report_of}
-use Rattle.lathe_top.proofs.Ended.{ends_by}
-use Rattle.lathe_top.proofs.GoingReported.{standing, reported, gone}
+use Rattle.lathe_looks.specs.Answers.{Ends}
+use Rattle.lathe_looks.specs.Standing.{is_over, report_of}
+use Rattle.lathe_looks.proofs.Ended.{ends_just}
+use Rattle.lathe_top.specs.Going.{IsReport, report}
+use Rattle.lathe_top.specs.Lathe.{LatheState, lathe_left}
+use Rattle.lathe_top.proofs.GoingReported.{standing}
 use Rattle.lathe_top.proofs.RunsFound.{none_or_alarm, keeps_there, over_there, stays_there}
 use Rattle.lathe_top.proofs.resuming.resume_found.Goals as goal
 
-pub returns-then-is_over-clause-answered : goal.returns-then-is_over-clause-answered
-returns-then-is_over-clause-answered g c =
+pub returns-then-is_over : goal.returns-then-is_over
+returns-then-is_over g c =
     let state = g.D.Disk.state in
     let turret = g.T.Turret.state in
     let found = c.args.found in
     let run = standing found.header found.verified found.entries.items in
-    let turrets : Turrets = record { left = turret c.args.turrets.left; right = turret c.args.turrets.right } in
-    let d : LatheState = record { disk = state found.journal.file.disk; turrets = turrets } in
+    let turrets : Turrets = record { left = turret c.args.left; right = turret c.args.right } in
+    let d : LatheState = record { disk = state found.journal.file.disk; turrets = turrets; missed = none_missed } in
     let leaves = c.a_held_journal_leaves_its_records.ensures in
     let disks = g.met.D.Disk g.world.𝓛 g.world.𝓜 g.world.𝓡 ((λ s x. x), (λ x. x), (λ x. x), λ x. x) in
     subst
-    (λ disk. Ends (IsReport c.args.limit report_of run d (record { disk = state disk; turrets = turrets })) (g.K.Sink.state c.args.out.now)
+    (λ disk. Ends (IsReport c.args.limit report_of run d (record { disk = state disk; turrets = turrets; missed = none_missed })) (g.K.Sink.state c.args.out.now)
     (g.K.Sink.state c.tell_end-status.new.out) c.tell_end-status.result)
     (sym c.into_disk.ensures)
-    (ends_by _
-    (reported c.args.limit report_of run found.entries.items c.reason_of-reason.result _ d d
+    (ends_just _ _
+    (report found.entries.items _
     (stays_there state disks.coherent leaves c.args.limit found.header found.verified found.machine.machine found.entries.items
     found.journal c.requires turrets)
     (over_there state disks.coherent leaves c.args.limit found.header found.verified found.machine.machine found.entries.items
@@ -35,25 +35,6 @@ returns-then-is_over-clause-answered g c =
     (keeps_there state disks.coherent leaves c.args.limit found.header found.verified found.machine.machine found.entries.items
     found.journal c.requires turrets))
     c.tell_end-status.ensures)
-
-pub returns-then-is_over-clause-leaves : goal.returns-then-is_over-clause-leaves
-returns-then-is_over-clause-leaves g c =
-    let state = g.D.Disk.state in
-    let turret = g.T.Turret.state in
-    let found = c.args.found in
-    let run = standing found.header found.verified found.entries.items in
-    let turrets : Turrets = record { left = turret c.args.turrets.left; right = turret c.args.turrets.right } in
-    let d : LatheState = record { disk = state found.journal.file.disk; turrets = turrets } in
-    let leaves = c.a_held_journal_leaves_its_records.ensures in
-    let disks = g.met.D.Disk g.world.𝓛 g.world.𝓜 g.world.𝓡 ((λ s x. x), (λ x. x), (λ x. x), λ x. x) in
-    subst (λ disk. HasGone c.args.limit run d (record { disk = state disk; turrets = turrets })) (sym c.into_disk.ensures)
-    (gone c.args.limit run found.entries.items c.reason_of-reason.result _ d d
-    (stays_there state disks.coherent leaves c.args.limit found.header found.verified found.machine.machine found.entries.items
-    found.journal c.requires turrets)
-    (over_there state disks.coherent leaves c.args.limit found.header found.verified found.machine.machine found.entries.items
-    found.journal c.requires turrets c.reason_of-reason.result (sym c.is_over.ensures ∙ c.if-is_over.true) c.reason_of-reason.ensures)
-    (keeps_there state disks.coherent leaves c.args.limit found.header found.verified found.machine.machine found.entries.items
-    found.journal c.requires turrets))
 
 pub go_on-requires-clause-may : goal.go_on-requires-clause-may
 go_on-requires-clause-may g c = λ κs below.
@@ -70,33 +51,15 @@ go_on-requires-clause-unended g c = λ κs below.
     subst (λ (t : TableView g.row.D.Denot). is_over t.machine ≡ false) (sym c.from_recovered.ensures.table)
     (sym c.is_over.ensures ∙ c.if-is_over.false)
 
-pub returns-clause-answered : goal.returns-clause-answered
-returns-clause-answered g c =
+pub returns : goal.returns
+returns g c =
     let state = g.D.Disk.state in
     let turret = g.T.Turret.state in
     let header = c.args.found.header in
-    let turrets : Turrets = record { left = turret c.args.turrets.left; right = turret c.args.turrets.right } in
-    let after : LatheState = record {
-      disk = state c.go_on.result.disk;
-      turrets = record { left = turret c.go_on.result.left; right = turret c.go_on.result.right };
-    } in
+    let turrets : Turrets = record { left = turret c.args.left; right = turret c.args.right } in
+    let after : LatheState = lathe_left state turret c.go_on.result in
     subst
     (λ (t : TableView g.row.D.Denot). Ends (IsReport c.args.limit report_of (standing header t.verified t.recording.history)
-    (record { disk = state t.recording.log.file.disk; turrets = turrets }) after) (g.K.Sink.state c.args.out.now) (g.K.Sink.state c.go_on.new.out)
+    (record { disk = state t.recording.log.file.disk; turrets = turrets; missed = none_missed }) after) (g.K.Sink.state c.args.out.now) (g.K.Sink.state c.go_on.new.out)
     c.go_on.result.status)
-    c.from_recovered.ensures.table (c.go_on.ensures.answered header (c.from_recovered.ensures.journal header c.requires.holds))
-
-pub returns-clause-leaves : goal.returns-clause-leaves
-returns-clause-leaves g c =
-    let state = g.D.Disk.state in
-    let turret = g.T.Turret.state in
-    let header = c.args.found.header in
-    let turrets : Turrets = record { left = turret c.args.turrets.left; right = turret c.args.turrets.right } in
-    let after : LatheState = record {
-      disk = state c.go_on.result.disk;
-      turrets = record { left = turret c.go_on.result.left; right = turret c.go_on.result.right };
-    } in
-    subst
-    (λ (t : TableView g.row.D.Denot). HasGone c.args.limit (standing header t.verified t.recording.history)
-    (record { disk = state t.recording.log.file.disk; turrets = turrets }) after)
-    c.from_recovered.ensures.table (c.go_on.ensures.leaves header (c.from_recovered.ensures.journal header c.requires.holds))
+    c.from_recovered.ensures.table (c.go_on.ensures header (c.from_recovered.ensures.journal header c.requires.holds))

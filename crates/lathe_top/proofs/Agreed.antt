@@ -1,0 +1,40 @@
+-- Answers that agree: one status and one text, or nothing was told.
+use Rattle.std.proofs.Common.{◌≡◌, ℕ, List, take, refl, sym, subst}
+use Rattle.nc_outside.specs.Written.{SinkState, Writes}
+use Rattle.lathe_looks.specs.Answers.{Answer, tells, nothing, Ends, whole, cut, unwritten, untold}
+use Rattle.lathe_top.specs.Done.{IsOr, itself, sink_failed, memory_wanting, IsTold, in_full, cut_off, left_off}
+
+abbrev pub Agree : Answer → Answer → Type 0
+Agree nothing other = Unit {0}
+Agree (tells status text) nothing = Unit {0}
+Agree (tells status text) (tells other line) = (status ≡ other) × (text ≡ line)
+
+pub agree_nothing : (a : Answer) → Agree a nothing
+agree_nothing nothing = tt
+agree_nothing (tells status text) = tt
+
+-- this status is told, or nothing
+abbrev pub HasStatus : ℕ → Answer → Type 0
+HasStatus wanted nothing = Unit {0}
+HasStatus wanted (tells status text) = status ≡ wanted
+
+-- where all answers that are due have one status, it is answered
+pub ends_or : {Due : Answer → Type 0} {old new : SinkState} (status : ℕ) (result : ℕ)
+    → ((answer : Answer) → Due answer → HasStatus status answer) → Ends Due old new result → IsOr old new status result
+ends_or {Due} {old} {new} status result only (whole {status = s} {text = t} due written) =
+    subst (λ v. IsOr old new v s) (only (tells s t) due) itself
+ends_or status result only (cut due rose n written) = sink_failed rose
+ends_or status result only (unwritten due n written) = memory_wanting
+ends_or status result only (untold due written) = memory_wanting
+
+-- where all answers that are due agree with one, it is told
+pub ends_told : {Due : Answer → Type 0} {old new : SinkState} (status : ℕ) (text : List ℕ) (result : ℕ)
+    → ((answer : Answer) → Due answer → Agree answer (tells status text)) → Ends Due old new result → IsTold old new status text result
+ends_told {Due} {old} {new} status text result only (whole {status = s} {text = t} due written) =
+    let same = only (tells s t) due in
+    subst (λ v. IsTold old new status text v) (sym same.0) (in_full (subst (Writes old new) same.1 written))
+ends_told {Due} {old} {new} status text result only (cut {status = s} {text = t} due rose n written) =
+    cut_off rose n (subst (λ l. Writes old new (take n l)) (only (tells s t) due).1 written)
+ends_told {Due} {old} {new} status text result only (unwritten {status = s} {text = t} due n written) =
+    left_off n (subst (λ l. Writes old new (take n l)) (only (tells s t) due).1 written)
+ends_told status text result only (untold due written) = left_off 0 written

@@ -1,0 +1,98 @@
+-- What a command does to the disk and to the turrets is what its kind may do.
+use Rattle.std.proofs.Common.{◌≡◌, inl, inr, ℕ, List, Option, Some, None, Result, Ok, Err, refl, sym, subst}
+use Rattle.command_words.specs.declared.command.Command.{Command}
+use Rattle.command_words.specs.declared.command.Command.TheVariants as command
+use Rattle.disk_model.specs.Device.{DiskState}
+use Rattle.nc_outside.specs.Files.{ShelfState}
+use Rattle.nc_verify.specs.declared.verified.Verified.{Verified}
+use Rattle.nc_verify.specs.Verdict.{Texts}
+use Rattle.run_records.specs.declared.entry.Entry.{Entry}
+use Rattle.lathe_looks.specs.Answers.{Answer, Ends, whole, cut, unwritten, untold}
+use Rattle.lathe_looks.specs.Fetched.{IsOfFiles, not_had, unread, answers}
+use Rattle.lathe_looks.specs.Named.{Named, listed}
+use Rattle.lathe_looks.specs.Shown.{IsShown, shown, unshown}
+use Rattle.lathe_top.specs.Done as done
+use Rattle.lathe_top.specs.Done.{Call, TopState, command_of, IsDone, IsDue, IsDueTo}
+use Rattle.lathe_top.specs.Kept.{Opening, anew, again, HasSession, IsLook, IsOpened, Leaves, OnlyBegins, OnlyLooks, RestsWhole}
+use Rattle.lathe_top.specs.Kinds as kind
+use Rattle.lathe_top.specs.Kinds.{Kind, begins, goes_on, kind_of}
+use Rattle.lathe_top.specs.Lathe.{LatheState, AreAtRest}
+use Rattle.lathe_top.specs.Ran.{TextOf, IsReported, reported, unprepared, IsRun, refused, unjudged, not_begun, ran, IsResumed, not_found, resumed}
+use Rattle.lathe_top.specs.Session.{Session, IsSession}
+
+module _ {D : Type 0} (state : D → DiskState) where
+  session_left : (opening : Opening) (limit : ℕ) (text_of : TextOf) (s : Session) (old new : LatheState) (answer : Answer) → IsSession s
+      → IsOpened opening s old.disk → IsReported state opening limit text_of s old new answer → HasSession state opening limit old new
+  session_left opening limit text_of s old new answer is opened (reported {reason} least ends keeps) = record {
+    session = s;
+    is = is;
+    opened = opened;
+    least = least;
+    ended = inl (reason, ends);
+    keeps = keeps;
+  }
+  session_left opening limit text_of s old new answer is opened (unprepared least none keeps) = record {
+    session = s;
+    is = is;
+    opened = opened;
+    least = least;
+    ended = inr none;
+    keeps = keeps;
+  }
+
+  run_left : (limit : ℕ) (text_of : TextOf) (texts : Texts) (old new : LatheState) (answer : Answer) → IsRun state limit text_of texts old new answer
+      → Leaves state (begins limit) old new
+  run_left limit text_of texts old new answer (refused of_texts text rests) = inl (record { disk = inl rests.disk; turrets = rests.turrets })
+  run_left limit text_of texts old new answer (unjudged rests) = inl (record { disk = inl rests.disk; turrets = rests.turrets })
+  run_left limit text_of texts old new answer (not_begun fault refusal rest) =
+      inl (record { disk = inr (texts, fault, refusal); turrets = rest })
+  run_left limit text_of texts old new answer (ran s is same opened report) =
+      inr (session_left anew limit text_of s old new answer is opened report)
+
+  files_left : (limit : ℕ) (text_of : TextOf) (files : List Named) (old new : TopState) (answer : Answer)
+      → IsOfFiles listed files (RestsWhole old.lathe new.lathe) (λ texts. IsRun state limit text_of texts old.lathe new.lathe) old.shelf new.shelf answer
+      → Leaves state (begins limit) old.lathe new.lathe
+  files_left limit text_of files old new answer (not_had missing rests) = inl (record { disk = inl rests.disk; turrets = rests.turrets })
+  files_left limit text_of files old new answer (unread some rests) = inl (record { disk = inl rests.disk; turrets = rests.turrets })
+  files_left limit text_of files old new answer (answers texts are run) = run_left limit text_of texts old.lathe new.lathe answer run
+
+  look_left : (text_of : Verified → List Entry → List ℕ) (old new : LatheState) (answer : Answer) → IsShown text_of old.disk new.disk answer
+      → AreAtRest old new → OnlyLooks old new
+  look_left text_of old new answer (unshown fault recovers) rest = record { disk = inr (record { result = Err fault; recovers = recovers }); turrets = rest }
+  look_left text_of old new answer (shown found pair accepted history recovers) rest =
+      record { disk = inr (record { result = Ok found; recovers = recovers }); turrets = rest }
+
+  resumed_left : (limit : ℕ) (old new : LatheState) (answer : Answer) → IsResumed state limit old new answer
+      → Leaves state (goes_on limit) old new
+  resumed_left limit old new answer (not_found fault recovers rest) =
+      inl (record { disk = inr (record { result = Err fault; recovers = recovers }); turrets = rest })
+  resumed_left limit old new answer (resumed s is opened report) = inr (session_left again limit _ s old new answer is opened report)
+
+  due_left : (asked : Command) (old new : TopState) (answer : Answer) → IsDueTo state asked old new answer
+      → Leaves state (kind_of (Some asked)) old.lathe new.lathe
+  due_left (command.Verify left right settings) old new answer due = due.1
+  due_left (command.Trace left right settings limit) old new answer due = due.1
+  due_left (command.Run left right settings limit turrets) old new answer due = files_left limit _ _ old new answer due
+  due_left (command.Resume limit turrets) old new answer due = resumed_left limit old.lathe new.lathe answer due.0
+  due_left command.Moves old new answer due = look_left _ old.lathe new.lathe answer due.0 due.1
+  due_left command.State old new answer due = look_left _ old.lathe new.lathe answer due.0 due.1
+  due_left (command.Make number turrets) old new answer due = run_left _ _ _ old.lathe new.lathe answer due.0
+
+  -- who calls nothing does what any kind may
+  rests_left : (asked : Kind) (old new : LatheState) → RestsWhole old new → Leaves state asked old new
+  rests_left kind.rests old new calm = calm
+  rests_left kind.looks old new calm = record { disk = inl calm.disk; turrets = calm.turrets }
+  rests_left (kind.begins limit) old new calm = inl (record { disk = inl calm.disk; turrets = calm.turrets })
+  rests_left (kind.goes_on limit) old new calm = inl (record { disk = inl calm.disk; turrets = calm.turrets })
+
+  call_left : (call : Call) (answer : Answer) → IsDue state call answer → Leaves state (kind_of (command_of call)) call.before.lathe call.after.lathe
+  call_left call answer (done.usage none rests still) = rests_left (kind_of (command_of call)) call.before.lathe call.after.lathe rests
+  call_left call answer (done.unread rests still) = rests_left (kind_of (command_of call)) call.before.lathe call.after.lathe rests
+  call_left call answer (done.commanded {command = asked} is due) =
+      subst (λ c. Leaves state (kind_of c) call.before.lathe call.after.lathe) (sym is) (due_left asked call.before call.after answer due)
+
+  pub done_left : (call : Call) (status : ℕ) → IsDone state call status → Leaves state (kind_of (command_of call)) call.before.lathe call.after.lathe
+  done_left call status (whole due written) = call_left call _ due
+  done_left call status (cut due rose n written) = call_left call _ due
+  done_left call status (unwritten due n written) = call_left call _ due
+  done_left call status (untold due written) = call_left call _ due

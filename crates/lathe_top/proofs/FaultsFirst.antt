@@ -1,0 +1,134 @@
+-- A fault of the disk goes before one of a turret, and that before all other causes, whatever the outside tells.
+use Rattle.std.proofs.Common.{◌≡◌, ℕ, ◌<◌, Some, List, refl, ap, arith, ◌∙◌, Ok, Err}
+use Rattle.command_words.specs.declared.command.Command.{Command}
+use Rattle.command_words.specs.declared.command.Command.TheVariants as command
+use Rattle.disk_model.specs.Device.{DiskState}
+use Rattle.disk_model.specs.Device.{Rose as DiskRose}
+use Rattle.gate_file.specs.declared.fault.GateFault.{GateFault}
+use Rattle.gate_file.specs.declared.fault.GateFault.TheVariants as gate
+use Rattle.move_list.specs.declared.end_line.Reason.{Reason}
+use Rattle.nc_number.specs.declared.path.Path.{Path}
+use Rattle.nc_outside.specs.Faults.{Rose}
+use Rattle.nc_outside.specs.Files.{ShelfState}
+use Rattle.nc_verify.specs.declared.verified.Verified.{Verified}
+use Rattle.nc_verify.specs.Verdict.{Texts}
+use Rattle.run_records.specs.declared.entry.Entry.{Entry}
+use Rattle.turret_run.specs.Runs.{Turrets, turret_for}
+use Rattle.nc_restart.specs.declared.fault.RestartFault.{RestartFault}
+use Rattle.nc_restart.specs.declared.fault.RestartFault.TheVariants as restart
+use Rattle.nc_restart.specs.Recovered.{Recovers}
+use Rattle.lathe_looks.specs.Answers.{Answer}
+use Rattle.lathe_looks.specs.Fetched.{IsOfFiles, not_had, unread, answers}
+use Rattle.lathe_looks.specs.Named.{Named, listed}
+use Rattle.lathe_looks.specs.Shown.{IsShown, shown, unshown, unfound}
+use Rattle.lathe_looks.specs.Statuses as exit
+use Rattle.lathe_top.specs.Done as done
+use Rattle.lathe_top.specs.Done.{Call, TopState, IsDue, IsDueTo}
+use Rattle.lathe_top.specs.Kept.{Opening, IsRefusedBeginning, RestsWhole}
+use Rattle.lathe_top.specs.Lathe.{LatheState, AreAtRest}
+use Rattle.lathe_top.specs.Ran as run
+use Rattle.lathe_top.specs.Ran.{TextOf, IsRun, IsReported, reported, unprepared, IsResumed, not_found, resumed, unbegun}
+use Rattle.lathe_top.specs.Session.{Session, NoneFailed, EndsBy, over, full, stopped, disk_failed, turret_failed, reason_status}
+use Rattle.lathe_top.proofs.Agreed.{HasStatus}
+
+-- Something failed: if it was the disk this status is 6, and else it is 7.
+module _ {D : Type 0} (state : D → DiskState) (wanted : ℕ) (old new : LatheState) (some : NoneFailed old new → ⊥)
+    (of_disk : DiskRose old.disk.faults new.disk.faults → exit.disk_fault ≡ wanted)
+    (of_turret : (path : Path) → Rose (turret_for path old.turrets).faults (turret_for path new.turrets).faults
+    → new.disk.faults ≡ old.disk.faults → exit.turret_fault ≡ wanted) where
+  at_rest : AreAtRest old new → (path : Path) → (turret_for path new.turrets).faults ≡ (turret_for path old.turrets).faults
+  at_rest rest path = ap (λ (t : Turrets). (turret_for path t).faults) rest.0
+
+  not_calm : AreAtRest old new → new.disk.faults ≡ old.disk.faults → ⊥
+  not_calm rest same = some (record { disk = same; turrets = at_rest rest })
+
+  not_rested : RestsWhole old new → ⊥
+  not_rested rests = not_calm rests.turrets rests.disk.faults
+
+  unfound_first : (f : RestartFault) → Recovers old.disk new.disk (Err f) → AreAtRest old new → HasStatus wanted (unfound f)
+  unfound_first restart.DiskFault r rest = of_disk r.refused
+  unfound_first restart.NoRun r rest = absurd (not_calm rest (r.calm (λ is. absurd cc)))
+  unfound_first (restart.Cut at) r rest = absurd (not_calm rest (r.calm (λ is. absurd cc)))
+  unfound_first (restart.BadRecord offset cause) r rest = absurd (not_calm rest (r.calm (λ is. absurd cc)))
+  unfound_first restart.NoMemory r rest = tt
+
+  shown_first : (text_of : Verified → List Entry → List ℕ) (a : Answer) → IsShown text_of old.disk new.disk a → AreAtRest old new → HasStatus wanted a
+  shown_first text_of a (unshown f r) rest = unfound_first f r rest
+  shown_first text_of a (shown found pair is history r) rest = absurd (not_calm rest (r.calm (λ fault. fault)))
+
+  unbegun_first : (texts : Texts) (f : GateFault) → IsRefusedBeginning texts f old.disk new.disk → AreAtRest old new → HasStatus wanted (unbegun f)
+  unbegun_first texts gate.DiskFault r rest = of_disk r.begins.refused
+  unbegun_first texts gate.RunThere r rest = absurd (not_calm rest (r.begins.calm (λ is. absurd cc)))
+  unbegun_first texts gate.NoRun r rest = tt
+  unbegun_first texts (gate.Cut at) r rest = tt
+  unbegun_first texts gate.NoMemory r rest = tt
+
+  reason_first : (limit : ℕ) (s : Session) {reason : Reason} → EndsBy limit s old new reason → reason_status reason ≡ wanted
+  reason_first limit s (over is well) = absurd (some well)
+  reason_first limit s (full un is well) = absurd (some well)
+  reason_first limit s (stopped un is less well) = absurd (some well)
+  reason_first limit s (disk_failed rose) = of_disk rose
+  reason_first limit s (turret_failed path rose well) = of_turret path rose well
+
+  reported_first : (opening : Opening) (limit : ℕ) (text_of : TextOf) (s : Session) (a : Answer)
+      → IsReported state opening limit text_of s old new a → HasStatus wanted a
+  reported_first opening limit text_of s a (reported least ends keeps) = reason_first limit s ends.cause
+  reported_first opening limit text_of s a (unprepared least none keeps) = tt
+
+  run_first : (limit : ℕ) (text_of : TextOf) (texts : Texts) (a : Answer) → IsRun state limit text_of texts old new a → HasStatus wanted a
+  run_first limit text_of texts a (run.refused is v rests) = absurd (not_rested rests)
+  run_first limit text_of texts a (run.unjudged rests) = tt
+  run_first limit text_of texts a (run.not_begun f r rest) = unbegun_first texts f r rest
+  run_first limit text_of texts a (run.ran s is same opened report) = reported_first _ limit text_of s a report
+
+  resumed_first : (limit : ℕ) (a : Answer) → IsResumed state limit old new a → HasStatus wanted a
+  resumed_first limit a (not_found f r rest) = unfound_first f r rest
+  resumed_first limit a (resumed s is opened report) = reported_first _ limit _ s a report
+
+  files_first : (limit : ℕ) (text_of : TextOf) (files : List Named) (shelf shelf' : ShelfState) (a : Answer)
+      → IsOfFiles listed files (RestsWhole old new) (λ texts. IsRun state limit text_of texts old new) shelf shelf' a → HasStatus wanted a
+  files_first limit text_of files shelf shelf' a (not_had missing rests) = absurd (not_rested rests)
+  files_first limit text_of files shelf shelf' a (unread all rests) = tt
+  files_first limit text_of files shelf shelf' a (answers texts are from) = run_first limit text_of texts a from
+
+-- and so of a command, and of a call
+module _ {D : Type 0} (state : D → DiskState) (wanted : ℕ) (call : Call) (some : NoneFailed call.before.lathe call.after.lathe → ⊥)
+    (of_disk : DiskRose call.before.lathe.disk.faults call.after.lathe.disk.faults → exit.disk_fault ≡ wanted)
+    (of_turret : (path : Path) → Rose (turret_for path call.before.lathe.turrets).faults (turret_for path call.after.lathe.turrets).faults
+    → call.after.lathe.disk.faults ≡ call.before.lathe.disk.faults → exit.turret_fault ≡ wanted) where
+  abbrev old : LatheState
+  old = call.before.lathe
+
+  abbrev new : LatheState
+  new = call.after.lathe
+
+  command_first : (asked : Command) (a : Answer) → IsDueTo state asked call.before call.after a → HasStatus wanted a
+  command_first (command.Verify l r c) a due = absurd (not_rested state wanted old new some of_disk of_turret due.1)
+  command_first (command.Trace l r c n) a due = absurd (not_rested state wanted old new some of_disk of_turret due.1)
+  command_first (command.Run l r c n turrets) a due =
+      files_first state wanted old new some of_disk of_turret n _ _ call.before.shelf call.after.shelf a due
+  command_first (command.Resume n turrets) a due = resumed_first state wanted old new some of_disk of_turret n a due.0
+  command_first command.Moves a due = shown_first state wanted old new some of_disk of_turret _ a due.0 due.1
+  command_first command.State a due = shown_first state wanted old new some of_disk of_turret _ a due.0 due.1
+  command_first (command.Make n turrets) a due = run_first state wanted old new some of_disk of_turret _ _ _ a due.0
+
+  call_first : (a : Answer) → IsDue state call a → HasStatus wanted a
+  call_first a (done.usage none rests still) = absurd (not_rested state wanted old new some of_disk of_turret rests)
+  call_first a (done.unread rests still) = tt
+  call_first a (done.commanded {command = asked} is due) = command_first asked a due
+
+-- where the disk's count rose
+pub disk_first : {D : Type 0} (state : D → DiskState) (call : Call) → call.before.lathe.disk.faults < call.after.lathe.disk.faults
+    → (a : Answer) → IsDue state call a → HasStatus exit.disk_fault a
+disk_first state call rose =
+    call_first state exit.disk_fault call (λ well. absurd (omega (arith, rose, well.disk))) (λ again. refl)
+    (λ path turret same. absurd (omega (arith, rose, same)))
+
+-- and where only that of a turret did
+pub turret_first : {D : Type 0} (state : D → DiskState) (call : Call)
+    → (DiskRose call.before.lathe.disk.faults call.after.lathe.disk.faults → ⊥) → (path : Path)
+    → (turret_for path call.before.lathe.turrets).faults < (turret_for path call.after.lathe.turrets).faults
+    → (a : Answer) → IsDue state call a → HasStatus exit.turret_fault a
+turret_first state call calm path rose =
+    call_first state exit.turret_fault call (λ well. absurd (omega (arith, rose, well.turrets path))) (λ again. absurd (calm again))
+    (λ other turret same. refl)

@@ -1,0 +1,116 @@
+-- What the row of a command says of the journal is what its kind does with it.
+use Rattle.std.proofs.Common.{◌≡◌, ℕ, Bool, true, false, cond, List, [], ◌∷◌, length, Option, Some, None, refl, sym, subst, ◌∙◌}
+use Rattle.std.specs.Prelude.{◌&&◌, ◌==◌, find, codes, option_map, option_and_then, if◌then◌else◌}
+use Rattle.std.specs.Str.{bytes_eq}
+use Rattle.std.proofs.lemmas.Option.{option_and_then_some}
+use Rattle.command_words.specs.declared.command.Command.{Command}
+use Rattle.command_words.specs.declared.command.Command.TheVariants as command
+use Rattle.command_words.specs.declared.command.TurretFiles.{TurretFiles}
+use Rattle.command_words.specs.declared.table.Journal.{Journal}
+use Rattle.command_words.specs.declared.table.Journal.TheVariants as journal
+use Rattle.command_words.specs.declared.table.Task.{Task}
+use Rattle.command_words.specs.declared.table.Task.TheVariants as task
+use Rattle.command_words.specs.Listed.{Given, OptionTextsView, command_behind, command_given, command_of, command_with, files_of, given, limit_of, listed_command, stand_once, texts_for}
+use Rattle.command_words.specs.Number.{number_of}
+use Rattle.command_words.specs.Table.{Listing, Text, journal_in, journal_of, listings, row_in, row_of}
+use Rattle.lathe_top.specs.Kinds.{kind_of, journal_for}
+
+-- what a task does with the journal
+abbrev journal_by : Task → Journal
+journal_by task.Verify = journal.None
+journal_by task.Trace = journal.None
+journal_by task.Run = journal.Write
+journal_by task.Resume = journal.Write
+journal_by task.Moves = journal.Look
+journal_by task.State = journal.Look
+journal_by task.Make = journal.Write
+
+-- a command is of a kind that does this with the journal
+abbrev Does : Command → Journal → Type 0
+Does asked what = journal_for (kind_of (Some asked)) ≡ what
+
+made_number : (files : TurretFiles) (number : Option ℕ) (asked : Command) → option_map (λ n. command.Make n files) number ≡ Some asked
+    → Does asked journal.Write
+made_number files None asked is = absurd cc
+made_number files (Some n) asked is =
+    let same : command.Make n files ≡ asked = cc in subst (λ c. Does c journal.Write) same refl
+
+-- the command that a task makes does with the journal what the task does
+does_as : (what : Task) (names : List Text) (blocks : ℕ) (files : TurretFiles) (asked : Command) → command_with what names blocks files ≡ Some asked
+    → Does asked (journal_by what)
+does_as task.Verify [] blocks files asked is = absurd cc
+does_as task.Verify (a ∷ []) blocks files asked is = absurd cc
+does_as task.Verify (a ∷ b ∷ []) blocks files asked is = absurd cc
+does_as task.Verify (a ∷ b ∷ c ∷ []) blocks files asked is =
+    let same : command.Verify a b c ≡ asked = cc in subst (λ x. Does x journal.None) same refl
+does_as task.Verify (a ∷ b ∷ c ∷ d ∷ rest) blocks files asked is = absurd cc
+does_as task.Trace [] blocks files asked is = absurd cc
+does_as task.Trace (a ∷ []) blocks files asked is = absurd cc
+does_as task.Trace (a ∷ b ∷ []) blocks files asked is = absurd cc
+does_as task.Trace (a ∷ b ∷ c ∷ []) blocks files asked is =
+    let same : command.Trace a b c blocks ≡ asked = cc in subst (λ x. Does x journal.None) same refl
+does_as task.Trace (a ∷ b ∷ c ∷ d ∷ rest) blocks files asked is = absurd cc
+does_as task.Run [] blocks files asked is = absurd cc
+does_as task.Run (a ∷ []) blocks files asked is = absurd cc
+does_as task.Run (a ∷ b ∷ []) blocks files asked is = absurd cc
+does_as task.Run (a ∷ b ∷ c ∷ []) blocks files asked is =
+    let same : command.Run a b c blocks files ≡ asked = cc in subst (λ x. Does x journal.Write) same refl
+does_as task.Run (a ∷ b ∷ c ∷ d ∷ rest) blocks files asked is = absurd cc
+does_as task.Resume [] blocks files asked is =
+    let same : command.Resume blocks files ≡ asked = cc in subst (λ x. Does x journal.Write) same refl
+does_as task.Resume (a ∷ rest) blocks files asked is = absurd cc
+does_as task.Moves [] blocks files asked is = let same : command.Moves ≡ asked = cc in subst (λ x. Does x journal.Look) same refl
+does_as task.Moves (a ∷ rest) blocks files asked is = absurd cc
+does_as task.State [] blocks files asked is = let same : command.State ≡ asked = cc in subst (λ x. Does x journal.Look) same refl
+does_as task.State (a ∷ rest) blocks files asked is = absurd cc
+does_as task.Make [] blocks files asked is = absurd cc
+does_as task.Make (a ∷ []) blocks files asked is = made_number files (number_of 0 999999 a) asked is
+does_as task.Make (a ∷ b ∷ rest) blocks files asked is = absurd cc
+
+of_texts : (what : Task) (names : List Text) (texts : OptionTextsView) (asked : Command) → command_of what names texts ≡ Some asked
+    → Does asked (journal_by what)
+of_texts what names texts asked is =
+    option_and_then_some (λ blocks. option_and_then (command_with what names blocks) (files_of texts)) (limit_of texts.blocks) asked is
+    (λ blocks limit made. option_and_then_some (command_with what names blocks) (files_of texts) asked made
+    (λ files named one. does_as what names blocks files asked one))
+
+of_given : (row : Listing) (all : Given) (asked : Command) → command_given row all ≡ Some asked → Does asked (journal_by row.task)
+of_given row all asked is = go (length all.names == length row.words && stand_once all.marked) is
+  where
+    go : (fits : Bool) → (if fits then command_of row.task all.names (texts_for row all.marked) else None) ≡ Some asked
+        → Does asked (journal_by row.task)
+    go true made = of_texts row.task all.names (texts_for row all.marked) asked made
+    go false none = absurd cc
+
+of_row : (row : Listing) (rest : List Text) (asked : Command) → command_behind rest row ≡ Some asked → Does asked (journal_by row.task)
+of_row row rest asked is =
+    option_and_then_some (command_given row) (given row.options rest) asked is (λ all read made. of_given row all asked made)
+
+-- each row says what its task does with the journal
+abbrev Say : List Listing → Type 0
+Say [] = Unit {0}
+Say (row ∷ rows) = (row.journal ≡ journal_by row.task) × Say rows
+
+listings_say : Say listings
+unfolding listings
+listings_say = (refl, (refl, (refl, (refl, (refl, (refl, (refl, tt)))))))
+
+found_says : (rows : List Listing) (name : Text) (row : Listing) → Say rows → row_in rows name ≡ Some row → row.journal ≡ journal_by row.task
+found_says [] name row say is = absurd cc
+found_says (first ∷ rows) name row say is = go (bytes_eq first.name name) is (found_says rows name row say.1)
+  where
+    go : (here : Bool) → cond here (Some first) (row_in rows name) ≡ Some row → (row_in rows name ≡ Some row → row.journal ≡ journal_by row.task)
+        → row.journal ≡ journal_by row.task
+    go true it rest = let same : first ≡ row = cc in subst (λ (r : Listing). r.journal ≡ journal_by r.task) same say.0
+    go false it rest = rest it
+
+named_so : (rest : List Text) (found : Option Listing) (asked : Command)
+    → ((row : Listing) → found ≡ Some row → row.journal ≡ journal_by row.task)
+    → option_and_then (command_behind rest) found ≡ Some asked → journal_in found ≡ journal_for (kind_of (Some asked))
+named_so rest None asked says is = absurd cc
+named_so rest (Some row) asked says is = says row refl ∙ sym (of_row row rest asked is)
+
+pub row_does : (words : List Text) (asked : Command) → listed_command words ≡ Some asked → journal_of words ≡ journal_for (kind_of (Some asked))
+unfolding listed_command
+row_does [] asked is = absurd cc
+row_does (name ∷ rest) asked is = named_so rest (row_of name) asked (λ row found. found_says listings name row listings_say found) is

@@ -1,0 +1,267 @@
+-- What a turret got of a session is written as the lines of its report.
+use Rattle.std.proofs.Common.{◌≡◌, inl, inr, ℕ, Bool, true, false, true≢false, List, [], ◌∷◌, ◌++◌, length, take, drop, Option, Some, None, refl, sym, ap, ◌∙◌, subst, arith, ◌<◌, ◌+◌}
+use Rattle.std.specs.List.{flat_map}
+use Rattle.std.specs.Option.{ForSome}
+use Rattle.std.proofs.lemmas.List.{take_all, take-append-drop}
+use Rattle.std.proofs.lemmas.List.Concat.{flat_map-append}
+use Rattle.nc_number.specs.declared.path.Path.{Path}
+use Rattle.command_words.specs.declared.command.Command.{Command}
+use Rattle.command_words.specs.declared.command.Command.TheVariants as command
+use Rattle.disk_model.specs.Device.{DiskState}
+use Rattle.nc_outside.specs.declared.got.Got.{Got}
+use Rattle.nc_outside.specs.Received.{Received, TurretState, Adds}
+use Rattle.nc_outside.specs.declared.lined_move.LinedMove.{LinedMove}
+use Rattle.gate_file.specs.declared.fault.GateFault.{GateFault}
+use Rattle.gate_file.specs.declared.fault.GateFault.TheVariants as gate
+use Rattle.nc_restart.specs.declared.fault.RestartFault.{RestartFault}
+use Rattle.nc_restart.specs.declared.fault.RestartFault.TheVariants as restart
+use Rattle.nc_verify.specs.Verdict.{Texts}
+use Rattle.run_records.specs.declared.entry.Entry.{Entry}
+use Rattle.seat_table.specs.Turning as seat
+use Rattle.two_path.specs.declared.turn.Turn.{Turn}
+use Rattle.two_path.specs.declared.turn.Turn.TheVariants as turn
+use Rattle.two_path.specs.Again.{turn_of_entry}
+use Rattle.two_path.specs.Histories.{behind_entry, fold, is_same}
+use Rattle.two_path.specs.Machine.{MachineView}
+use Rattle.two_path.specs.Turns.{Tapes}
+use Rattle.turret_lines.specs.Stream.{stream_of}
+use Rattle.run_table.specs.Made as made
+use Rattle.run_table.specs.Made.{moves_made, shown_from}
+use Rattle.move_list.specs.declared.end_line.Reason.{Reason}
+use Rattle.move_list.specs.Report.{lined_text, made_in, moves_in, moves_of, turns_from}
+use Rattle.move_list.proofs.Streams.{later_moves, stream_is}
+use Rattle.nc_restart.specs.Pair.{tapes_in, opening_of}
+use Rattle.turret_run.specs.Served.{told, GetsAll}
+use Rattle.turret_run.specs.Runs.{place_of, turret_for}
+use Rattle.lathe_looks.specs.Answers.{Answer, tells, nothing, whole, cut, unwritten, untold}
+use Rattle.lathe_looks.specs.declared.fetching.FileFault.{FileFault}
+use Rattle.lathe_looks.specs.declared.fetching.FileFault.TheVariants.{Failed, Absent, TooLong}
+use Rattle.lathe_looks.specs.Fetched.{IsOfFiles, not_had, unread, answers, fault_status}
+use Rattle.lathe_looks.specs.Shown.{unfound}
+use Rattle.lathe_looks.specs.Named.{Named, listed}
+use Rattle.lathe_looks.specs.Standing.{is_over}
+use Rattle.lathe_top.specs.Done as done
+use Rattle.lathe_top.specs.Done.{Call, command_of, IsDone, IsDue, IsDueTo}
+use Rattle.lathe_top.specs.Kept.{Opening, anew, again, IsOpened, KeepsSession, RestsWhole}
+use Rattle.lathe_top.specs.Kinds.{kind_of}
+use Rattle.lathe_top.specs.Lathe.{AreAtRest}
+use Rattle.lathe_top.specs.Ran.{TextOf, IsReported, reported, unprepared, IsRun, refused, unjudged, not_begun, ran, unbegun, IsResumed, not_found, resumed}
+use Rattle.lathe_top.specs.Session.{IsSession, Session, machine_found, reason_status}
+use Rattle.lathe_top.specs.Streams.{GetsStream, HasStreams, IsStream, IsUncut, MakesRecords, report_lines}
+use Rattle.lathe_top.specs.Turrets.{due_to, IsEnding}
+
+-- the moves of a turn are the same, however they are told
+same_turn : (t : Turn) → made.moves_of t ≡ made_in t
+same_turn (turn.Did moves) = refl
+same_turn (turn.Ended moves) = refl
+same_turn (turn.Read variable stamp) = refl
+same_turn (turn.Arrived code) = refl
+same_turn (turn.Met code) = refl
+same_turn (turn.Waiting code) = refl
+same_turn turn.Finished = refl
+same_turn (turn.Alarm alarm) = refl
+same_turn (turn.Halted alarm) = refl
+
+-- the moves that a run shows of a path's records are those of its report
+same_moves : (tapes : Tapes) (m : MachineView) (path : Path) (entries : List Entry)
+    → seat.moves_in (shown_from tapes m path entries) ≡ moves_of tapes m path entries
+unfolding moves_in turns_from
+same_moves tapes m path [] = refl
+same_moves tapes m path (e ∷ entries) =
+    go (is_same path e.path) refl (same_moves tapes (behind_entry tapes e m) path entries)
+  where
+    go : (b : Bool) → is_same path e.path ≡ b
+        → seat.moves_in (shown_from tapes (behind_entry tapes e m) path entries) ≡ moves_of tapes (behind_entry tapes e m) path entries
+        → seat.moves_in (shown_from tapes m path (e ∷ entries)) ≡ moves_of tapes m path (e ∷ entries)
+    go true is rest = rw is (ap (λ (l : List LinedMove). made.moves_of (turn_of_entry tapes e m) ++ l) rest
+        ∙ ap (λ (l : List LinedMove). l ++ moves_of tapes (behind_entry tapes e m) path entries) (same_turn (turn_of_entry tapes e m)))
+    go false is rest = rw is rest
+
+-- what is due to a turret is written as the stream of its path
+stream_due : (s : Session) (path : Path) → take (length s.found) s.history ≡ s.found → IsStream s path (stream_of (due_to s (length s.history) path))
+stream_due s path extends =
+    let tapes = tapes_in s.pair in
+    let later = drop (length s.found) s.history in
+    let all : take (length s.history) s.history ≡ s.history = take_all (length s.history) s.history (omega arith) in
+    let moves : moves_made s.pair path (length s.found) (length s.history) s.history ≡ moves_of tapes (machine_found s) path later =
+    ap (λ (h : List Entry). seat.moves_in (shown_from tapes (fold tapes (opening_of s.pair) h) path (drop (length s.found) (take (length s.history) s.history)))) extends
+    ∙ ap (λ (h : List Entry). seat.moves_in (shown_from tapes (machine_found s) path (drop (length s.found) h))) all
+    ∙ same_moves tapes (machine_found s) path later in
+    let parts : s.history ≡ s.found ++ later = sym (take-append-drop (length s.found) s.history) ∙ ap (λ (h : List Entry). h ++ later) extends in
+    record {
+      lines = flat_map lined_text (moves_of tapes (machine_found s) path later);
+      stream = ap (λ (l : List LinedMove). stream_of (told (place_of path (machine_found s)) l)) moves
+          ∙ stream_is (place_of path (machine_found s)) (moves_of tapes (machine_found s) path later);
+      report = ap (report_lines s.pair path) parts
+          ∙ ap (flat_map lined_text) (later_moves tapes (opening_of s.pair) path s.found later)
+          ∙ flat_map-append lined_text (moves_of tapes (opening_of s.pair) path s.found) (moves_of tapes (machine_found s) path later);
+    }
+
+told_on : (old new : TurretState) (what : List Got) (calls settles : ℕ) → Adds old.received new.received what calls settles → (was : Received)
+    → old.received ≡ Some was → (now : Received) × (new.received ≡ Some now) × (now.got ≡ was.got ++ what)
+told_on old new what calls settles adds was is =
+    let more : Adds (Some was) new.received what calls settles = subst (λ (r : Option Received). Adds r new.received what calls settles) is adds in
+    (_, more, refl)
+
+-- what was got by what is told
+got_of : Option Received → List Got
+got_of (Some received) = received.got
+got_of None = []
+
+for_some : (w : Option (List ℕ)) (P Q : List ℕ → Type 0) → ((b : List ℕ) → P b → Q b) → ForSome w P → ForSome w Q
+for_some w P Q more holds = λ b is. more b (holds b is)
+
+gets_stream : (s : Session) (path : Path) (old new : TurretState) → take (length s.found) s.history ≡ s.found
+    → GetsAll (due_to s (length s.history) path) old new → GetsStream s path old new
+unfolding got_of told_on
+gets_stream s path old new extends gets =
+    let what = due_to s (length s.history) path in
+    let adds : Adds old.received new.received what (length what + gets.at_call) gets.settles =
+    subst (λ (g : List Got). Adds old.received new.received g (length what + gets.at_call) gets.settles) (take_all (length what) what (omega arith)) gets.received in
+    let calm : new.faults ≡ old.faults = gets.counted.kept (λ p. true≢false (sym p)) in
+    let is = stream_due s path extends in
+    record {
+      got = what;
+      is = is;
+      told = told_on old new what _ gets.settles adds;
+      calm = calm;
+      written = λ written has calls settles faults fresh after stream.
+          let begun : old.received ≡ Some (record { got = []; calls = 0; settles = 0 }) = ap (λ (t : TurretState). t.received) fresh in
+          let now = told_on old new what _ gets.settles adds _ begun in
+          let ends : new.received ≡ Some (record { got = has; calls = calls; settles = settles }) = ap (λ (t : TurretState). t.received) after in
+          let both : ◌≡◌ {A = Option Received} (Some now.0) (Some (record { got = has; calls = calls; settles = settles })) = sym now.1 ∙ ends in
+          let same : has ≡ what = sym (ap got_of both) ∙ now.2 in
+          let none : faults ≡ 0 = sym (ap (λ (t : TurretState). t.faults) after) ∙ calm ∙ ap (λ (t : TurretState). t.faults) fresh in
+          for_some written _ _ (λ bytes lines. subst (IsStream s path) (sym (lines ∙ ap stream_of same)) is) (stream.whole none);
+    }
+
+-- the statuses that are others
+no_low : (n : ℕ) → 0 < n → n < 3 → IsUncut n → ⊥
+no_low n low high (inl is) = omega (arith, is, low)
+no_low n low high (inr (inl is)) = omega (arith, is, high)
+no_low n low high (inr (inr (inl is))) = omega (arith, is, high)
+no_low n low high (inr (inr (inr is))) = omega (arith, is, high)
+
+no_mid : (n : ℕ) → 3 < n → n < 10 → IsUncut n → ⊥
+no_mid n low high (inl is) = omega (arith, is, low)
+no_mid n low high (inr (inl is)) = omega (arith, is, low)
+no_mid n low high (inr (inr (inl is))) = omega (arith, is, high)
+no_mid n low high (inr (inr (inr is))) = omega (arith, is, high)
+
+no_high : (n : ℕ) → 10 < n → n < 14 → IsUncut n → ⊥
+no_high n low high (inl is) = omega (arith, is, low)
+no_high n low high (inr (inl is)) = omega (arith, is, low)
+no_high n low high (inr (inr (inl is))) = omega (arith, is, low)
+no_high n low high (inr (inr (inr is))) = omega (arith, is, high)
+
+-- the status of an answer, and that of nothing
+abbrev answer_status : Answer → ℕ
+answer_status (tells status text) = status
+answer_status nothing = 12
+
+missing_status : (fault : FileFault) → IsUncut (fault_status fault) → ⊥
+missing_status Failed uncut = no_mid 4 (omega arith) (omega arith) uncut
+missing_status Absent uncut = no_high 13 (omega arith) (omega arith) uncut
+missing_status TooLong uncut = no_high 13 (omega arith) (omega arith) uncut
+
+unbegun_status : (fault : GateFault) → IsUncut (answer_status (unbegun fault)) → ⊥
+unbegun_status gate.DiskFault uncut = no_mid 6 (omega arith) (omega arith) uncut
+unbegun_status gate.RunThere uncut = no_mid 8 (omega arith) (omega arith) uncut
+unbegun_status gate.NoRun uncut = no_high 12 (omega arith) (omega arith) uncut
+unbegun_status (gate.Cut at) uncut = no_high 12 (omega arith) (omega arith) uncut
+unbegun_status gate.NoMemory uncut = no_high 12 (omega arith) (omega arith) uncut
+
+unfound_status : (fault : RestartFault) → IsUncut (answer_status (unfound fault)) → ⊥
+unfound_status restart.DiskFault uncut = no_mid 6 (omega arith) (omega arith) uncut
+unfound_status restart.NoRun uncut = no_mid 8 (omega arith) (omega arith) uncut
+unfound_status (restart.Cut at) uncut = no_mid 9 (omega arith) (omega arith) uncut
+unfound_status (restart.BadRecord offset cause) uncut = no_mid 9 (omega arith) (omega arith) uncut
+unfound_status restart.NoMemory uncut = no_high 12 (omega arith) (omega arith) uncut
+
+module _ {D : Type 0} (state : D → DiskState) (call : Call) where
+  -- the turrets got all that is due to them
+  abbrev AllGot : Session → ℕ → Type 0
+  AllGot s least = (path : Path) → GetsAll (due_to s least path) (turret_for path call.before.lathe.turrets) (turret_for path call.after.lathe.turrets)
+
+  served : (opening : Opening) (s : Session) (reason : Reason) (least : ℕ) → IsSession s → IsOpened opening s call.before.lathe.disk
+      → KeepsSession state opening s least call.before.lathe.disk call.after.lathe.disk → least ≡ length s.history
+      → (is_over (machine_found s) ≡ true → AreAtRest call.before.lathe call.after.lathe)
+      → (is_over (machine_found s) ≡ false → AllGot s least) → HasStreams state call (reason_status reason)
+  served opening s reason least is opened keeps all over got = record {
+    session = s;
+    is = is;
+    opening = opening;
+    opened = opened;
+    keeps = subst (λ (n : ℕ). KeepsSession state opening s n call.before.lathe.disk call.after.lathe.disk) all keeps;
+    reason = reason;
+    answered = refl;
+    over = over;
+    streams = λ more path. gets_stream s path _ _ is.goes_on.extends
+        (subst (λ (n : ℕ). GetsAll (due_to s n path) (turret_for path call.before.lathe.turrets) (turret_for path call.after.lathe.turrets)) all
+        (got more path));
+  }
+
+  ended : (opening : Opening) (limit : ℕ) (s : Session) (reason : Reason) (least : ℕ) → IsUncut (reason_status reason) → IsSession s
+      → IsOpened opening s call.before.lathe.disk → KeepsSession state opening s least call.before.lathe.disk call.after.lathe.disk
+      → IsEnding limit reason s least call.before.lathe call.after.lathe → HasStreams state call (reason_status reason)
+  ended opening limit s Reason.Done least uncut is opened keeps ends =
+      served opening s Reason.Done least is opened keeps ends.enough ends.turrets.over ends.turrets.goes_on
+  ended opening limit s (Reason.Alarm alarm) least uncut is opened keeps ends =
+      served opening s (Reason.Alarm alarm) least is opened keeps ends.enough ends.turrets.over ends.turrets.goes_on
+  ended opening limit s Reason.Stopped least uncut is opened keeps ends =
+      served opening s Reason.Stopped least is opened keeps ends.enough ends.turrets.over ends.turrets.goes_on
+  ended opening limit s Reason.Full least uncut is opened keeps ends =
+      served opening s Reason.Full least is opened keeps ends.enough ends.turrets.over ends.turrets.goes_on
+  ended opening limit s Reason.DiskFault least uncut is opened keeps ends = absurd (no_mid 6 (omega arith) (omega arith) uncut)
+  ended opening limit s (Reason.TurretFault path) least uncut is opened keeps ends = absurd (no_mid 7 (omega arith) (omega arith) uncut)
+
+  told_of_session : (opening : Opening) (limit : ℕ) (text_of : TextOf) (s : Session) (answer : Answer) → IsSession s
+      → IsOpened opening s call.before.lathe.disk → IsReported state opening limit text_of s call.before.lathe call.after.lathe answer
+      → IsUncut (answer_status answer) → HasStreams state call (answer_status answer)
+  told_of_session opening limit text_of s answer is opened (reported {reason} least ends keeps) uncut =
+      ended opening limit s reason least uncut is opened keeps ends
+  told_of_session opening limit text_of s answer is opened (unprepared least none keeps) uncut =
+      absurd (no_high 12 (omega arith) (omega arith) uncut)
+
+  run_streams : (limit : ℕ) (text_of : TextOf) (texts : Texts) (answer : Answer)
+      → IsRun state limit text_of texts call.before.lathe call.after.lathe answer → IsUncut (answer_status answer) → HasStreams state call (answer_status answer)
+  run_streams limit text_of texts answer (refused of_texts text rests) uncut = absurd (no_low 1 (omega arith) (omega arith) uncut)
+  run_streams limit text_of texts answer (unjudged rests) uncut = absurd (no_high 12 (omega arith) (omega arith) uncut)
+  run_streams limit text_of texts answer (not_begun fault refusal rest) uncut = absurd (unbegun_status fault uncut)
+  run_streams limit text_of texts answer (ran s is same opened report) uncut = told_of_session anew limit text_of s answer is opened report uncut
+
+  files_streams : (limit : ℕ) (text_of : TextOf) (files : List Named) (answer : Answer)
+      → IsOfFiles listed files (RestsWhole call.before.lathe call.after.lathe)
+      (λ texts. IsRun state limit text_of texts call.before.lathe call.after.lathe) call.before.shelf call.after.shelf answer
+      → IsUncut (answer_status answer) → HasStreams state call (answer_status answer)
+  files_streams limit text_of files answer (not_had {fault = fault} missing rests) uncut = absurd (missing_status fault uncut)
+  files_streams limit text_of files answer (unread some rests) uncut = absurd (no_high 12 (omega arith) (omega arith) uncut)
+  files_streams limit text_of files answer (answers texts are run) uncut = run_streams limit text_of texts answer run uncut
+
+  resumed_streams : (limit : ℕ) (answer : Answer) → IsResumed state limit call.before.lathe call.after.lathe answer → IsUncut (answer_status answer)
+      → HasStreams state call (answer_status answer)
+  resumed_streams limit answer (not_found fault recovers rest) uncut = absurd (unfound_status fault uncut)
+  resumed_streams limit answer (resumed s is opened report) uncut = told_of_session again limit _ s answer is opened report uncut
+
+  due_streams : (asked : Command) (answer : Answer) → IsDueTo state asked call.before call.after answer → MakesRecords (kind_of (Some asked))
+      → IsUncut (answer_status answer) → HasStreams state call (answer_status answer)
+  due_streams (command.Verify left right settings) answer due makes uncut = absurd makes
+  due_streams (command.Trace left right settings limit) answer due makes uncut = absurd makes
+  due_streams (command.Run left right settings limit turrets) answer due makes uncut = files_streams limit _ _ answer due uncut
+  due_streams (command.Resume limit turrets) answer due makes uncut = resumed_streams limit answer due.0 uncut
+  due_streams command.Moves answer due makes uncut = absurd makes
+  due_streams command.State answer due makes uncut = absurd makes
+  due_streams (command.Make number turrets) answer due makes uncut = run_streams _ _ _ answer due.0 uncut
+
+  call_streams : (answer : Answer) → IsDue state call answer → MakesRecords (kind_of (command_of call)) → IsUncut (answer_status answer)
+      → HasStreams state call (answer_status answer)
+  call_streams answer (done.usage none rests still) makes uncut = absurd (no_low 2 (omega arith) (omega arith) uncut)
+  call_streams answer (done.unread rests still) makes uncut = absurd (no_high 12 (omega arith) (omega arith) uncut)
+  call_streams answer (done.commanded {command = asked} is due) makes uncut =
+      due_streams asked answer due (subst (λ c. MakesRecords (kind_of c)) is makes) uncut
+
+  pub streams_of : (status : ℕ) → IsDone state call status → MakesRecords (kind_of (command_of call)) → IsUncut status → HasStreams state call status
+  streams_of status (whole due written) makes uncut = call_streams _ due makes uncut
+  streams_of status (cut due rose n written) makes uncut = absurd (no_mid 5 (omega arith) (omega arith) uncut)
+  streams_of status (unwritten due n written) makes uncut = absurd (no_high 12 (omega arith) (omega arith) uncut)
+  streams_of status (untold due written) makes uncut = absurd (no_high 12 (omega arith) (omega arith) uncut)

@@ -1,0 +1,41 @@
+-- The kinds of commands: what each may do to the disk and to the turrets.
+use Rattle.std.specs.Prelude.{ℕ, Option, Some, None, List, []}
+use Rattle.command_words.specs.declared.command.Command.{Command}
+use Rattle.command_words.specs.declared.command.Command.TheVariants as command
+use Rattle.command_words.specs.declared.table.Journal.{Journal}
+use Rattle.command_words.specs.declared.table.Journal.TheVariants as journal
+use Rattle.lathe_looks.specs.Named.{Named, files_of}
+use Rattle.lathe_top.specs.Made.{made_limit}
+
+-- it calls neither the disk nor a turret; or it looks for a run on the disk; or it begins a journal and runs, for so many records at
+-- most; or it looks for a run and goes on with it, for so many records more
+pub data Kind : Type 0 where
+  rests : Kind
+  looks : Kind
+  begins : (limit : ℕ) → Kind
+  goes_on : (limit : ℕ) → Kind
+
+-- the kind of a command; words that are none do nothing
+abbrev pub kind_of : Option Command → Kind
+kind_of None = rests
+kind_of (Some (command.Verify left right settings)) = rests
+kind_of (Some (command.Trace left right settings limit)) = rests
+kind_of (Some (command.Run left right settings limit turrets)) = begins limit
+kind_of (Some (command.Resume limit turrets)) = goes_on limit
+kind_of (Some command.Moves) = looks
+kind_of (Some command.State) = looks
+kind_of (Some (command.Make number turrets)) = begins made_limit
+
+-- the files that a command names, in the order in which they are fetched
+abbrev pub named_by : Option Command → List Named
+named_by (Some (command.Verify left right settings)) = files_of left right settings
+named_by (Some (command.Trace left right settings limit)) = files_of left right settings
+named_by (Some (command.Run left right settings limit turrets)) = files_of left right settings
+named_by other = []
+
+-- what a kind of command does with the journal of a run
+abbrev pub journal_for : Kind → Journal
+journal_for rests = journal.None
+journal_for looks = journal.Look
+journal_for (begins limit) = journal.Write
+journal_for (goes_on limit) = journal.Write

@@ -1,5 +1,0 @@
-use Rattle.twin_lathe.proofs.Untold.{failed_measure}
-use Rattle.twin_lathe.proofs.file_disk.FileDiskDisk.len.Goals as goal
-
-pub returns-in-Err : goal.returns-in-Err
-returns-in-Err g c = failed_measure _ _ c.fault.result c.fault.ensures

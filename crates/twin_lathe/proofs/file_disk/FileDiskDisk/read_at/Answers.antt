@@ -1,5 +1,0 @@
-use Rattle.twin_lathe.proofs.Untold.{failed_fetch}
-use Rattle.twin_lathe.proofs.file_disk.FileDiskDisk.read_at.Goals as goal
-
-pub returns-in-Err : goal.returns-in-Err
-returns-in-Err g c = failed_fetch _ _ c.fault.result c.fault.ensures c.args.at c.args.into.now c.read_at.new.into

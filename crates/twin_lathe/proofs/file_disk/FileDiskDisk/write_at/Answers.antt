@@ -1,8 +1,0 @@
-use Rattle.twin_lathe.proofs.Untold.{failed_write, done_write}
-use Rattle.twin_lathe.proofs.file_disk.FileDiskDisk.write_at.Goals as goal
-
-pub returns-in-Ok : goal.returns-in-Ok
-returns-in-Ok g c = done_write _ tt c.args.at c.args.bytes.now c.in-Ok.ensures
-
-pub returns-in-Err : goal.returns-in-Err
-returns-in-Err g c = failed_write _ _ c.fault.result c.fault.ensures c.args.at c.args.bytes.now
