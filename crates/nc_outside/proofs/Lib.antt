@@ -1,3 +1,4 @@
 pub mod Coming
+pub mod Counted
 pub mod Finding
 pub mod Listed

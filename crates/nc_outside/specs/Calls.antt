@@ -1,7 +1,8 @@
 -- The calls of a stepper, in order: its steps with what they answered, its drains and its halts. A stepper may tell
 -- them or not.
 use Rattle.std.specs.Prelude.{◌≡◌, List, [], ◌∷◌, ◌++◌, Option, Some, None}
-use Rattle.nc_outside.specs.declared.motion.Move.{Move}
+use Rattle.nc_outside.specs.declared.lined_move.LinedMove.{LinedMove}
+use Rattle.nc_outside.specs.Lined.{lined}
 use Rattle.nc_outside.specs.declared.halt.Halt.{Halt}
 use Rattle.nc_outside.specs.declared.halt.Halt.TheVariants.{Turret}
 use Rattle.nc_outside.specs.declared.halt.Next.{Next}
@@ -14,13 +15,13 @@ abbrev pub IsCalled : Option (List Call) → Option (List Call) → List Call �
 IsCalled None after calls = after ≡ None
 IsCalled (Some was) after calls = after ≡ Some (was ++ calls)
 
--- the moves that a step answers
-abbrev pub moves_of : Next → List Move
-moves_of (Moves moves) = moves.list
+-- the moves that a step answers, each with the line of its block
+abbrev pub moves_of : Next → List LinedMove
+moves_of (Moves moves) = lined moves
 moves_of _ = []
 
 -- the moves that the steps among these calls answered
-abbrev pub moves_answered : List Call → List Move
+abbrev pub moves_answered : List Call → List LinedMove
 moves_answered [] = []
 moves_answered (Call.Step path answer ∷ calls) = moves_of answer ++ moves_answered calls
 moves_answered (Call.Drained path count ∷ calls) = moves_answered calls

@@ -1,5 +1,5 @@
 -- What a shelf holds: files, each a name and its bytes. A shelf may tell them or not.
-use Rattle.std.specs.Prelude.{◌≡◌, ℕ, ◌<◌, List, length, ⊤, IsSomeAnd}
+use Rattle.std.specs.Prelude.{◌≡◌, ℕ, ◌<◌, List, [], ◌∷◌, ◌++◌, length, ⊤, IsSomeAnd}
 use Rattle.std.specs.Prelude.{Option, Some, None}
 use Rattle.std.specs.Str.{bytes_eq}
 use Rattle.std.specs.Map.{lookup}
@@ -11,6 +11,7 @@ Files = List (List ℕ × List ℕ)
 -- All that contracts see of a shelf at one moment.
 pub record ShelfState : Type 0 where
   pub files : Option Files  -- what it holds, where it tells that; of two files of one name the first counts
+  pub asked : Option (List (List ℕ))  -- the names that it was asked for, in order, where it tells that
   pub faults : ℕ  -- how often it has failed
 
 -- the bytes of the first file of that name
@@ -35,3 +36,8 @@ HoldsMore (Some files) name max = IsSomeAnd (file_named name files) (λ bytes. m
 -- the shelf holds what it held before
 abbrev pub HoldsOn : ShelfState → ShelfState → Type 0
 HoldsOn old new = new.files ≡ old.files
+
+-- the shelf was asked for this name besides; who tells nothing goes on telling nothing
+abbrev pub IsAsked : Option (List (List ℕ)) → Option (List (List ℕ)) → List ℕ → Type 0
+IsAsked None after name = after ≡ None
+IsAsked (Some was) after name = after ≡ Some (was ++ name ∷ [])

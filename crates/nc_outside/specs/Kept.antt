@@ -4,7 +4,7 @@ use Rattle.std.specs.Prelude.{slice_index_or}
 use Rattle.nc_outside.specs.declared.halt.Next.{Next}
 use Rattle.nc_outside.specs.declared.halt.Next.TheVariants.{Finished}
 use Rattle.nc_outside.specs.declared.stepper.Call.{Call}
-use Rattle.nc_outside.specs.declared.motion.Got.{Got}
+use Rattle.nc_outside.specs.declared.got.Got.{Got}
 use Rattle.nc_outside.specs.Faults.{next}
 use Rattle.nc_outside.specs.Files.{Files, ShelfState}
 use Rattle.nc_outside.specs.Written.{SinkState}
@@ -15,13 +15,14 @@ use Rattle.nc_outside.specs.Plan.{PlanView, after_call, fails_next, fault_count}
 abbrev pub files_of : {A B : Type 0} → List (String A × Vec ℕ B) → Files
 files_of held = map (λ file. (string_bytes file.0, file.1.items)) held
 
--- a shelf in memory: its files, and which of its calls are to fail
+-- a shelf in memory: its files, the names that it was asked for, and which of its calls are to fail
 pub record KeptFiles : Type 0 where
   pub files : Files
+  pub asked : List (List ℕ)
   pub plan : PlanView
 
 abbrev pub shelf_of : KeptFiles → ShelfState
-shelf_of kept = record { files = Some kept.files; faults = fault_count kept.plan }
+shelf_of kept = record { files = Some kept.files; asked = Some kept.asked; faults = fault_count kept.plan }
 
 -- a sink in memory: what was written, and which of its calls are to fail
 pub record KeptBytes : Type 0 where
@@ -31,18 +32,19 @@ pub record KeptBytes : Type 0 where
 abbrev pub sink_of : KeptBytes → SinkState
 sink_of kept = record { written = Some kept.bytes; faults = fault_count kept.plan }
 
--- a turret in memory: what it got, how much of that it has room for, which of its calls are to fail, and how many
--- others found no room
+-- a turret in memory: what it got, how much of that it has room for, which of its calls are to fail, how many others found
+-- no room, and which of its settles are to fail
 pub record KeptMoves : Type 0 where
   pub got : List Got
   pub room : ℕ
   pub plan : PlanView
   pub past : ℕ
+  pub settling : PlanView
 
 abbrev pub turret_of : KeptMoves → TurretState
 turret_of kept = record {
-  received = Some (record { got = kept.got; calls = kept.plan.calls });
-  faults = min (fault_count kept.plan + kept.past) (2 ^ 64 - 1);
+  received = Some (record { got = kept.got; calls = kept.plan.calls; settles = kept.settling.calls });
+  faults = min (min (fault_count kept.plan + kept.past) (2 ^ 64 - 1) + fault_count kept.settling) (2 ^ 64 - 1);
 }
 
 -- there is no room for one thing more
@@ -60,12 +62,17 @@ when_counted kept = record {
   room = kept.room;
   plan = after_call kept.plan;
   past = if fails_next kept.plan then kept.past else if is_full kept then next kept.past else kept.past;
+  settling = kept.settling;
 }
 
 -- the turret after the next call, which hands it this
 abbrev pub after_handing : Got → KeptMoves → KeptMoves
 after_handing what kept =
     record (when_counted kept) { got = if refuses_next kept then kept.got else kept.got ++ what ∷ [] }
+
+-- the turret when it was to settle once more
+abbrev pub when_settled : KeptMoves → KeptMoves
+when_settled kept = record kept { settling = after_call kept.settling }
 
 -- a stepper over a stated list: the answers that are still to come, and the calls that it had
 pub record KeptCalls : Type 0 where

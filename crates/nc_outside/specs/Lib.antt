@@ -3,7 +3,7 @@ pub mod Calls
 pub mod Faults
 pub mod Files
 pub mod Kept
-pub mod Motion
+pub mod Lined
 pub mod Plan
 pub mod Received
 pub mod Written

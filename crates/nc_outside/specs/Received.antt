@@ -1,12 +1,14 @@
 -- What a turret got. A turret may tell it or not.
-use Rattle.std.specs.Prelude.{◌≡◌, ℕ, zero, suc, List, ◌++◌, Option, Some, None}
-use Rattle.nc_outside.specs.declared.motion.Got.{Got}
+use Rattle.std.specs.Prelude.{◌≡◌, ℕ, zero, suc, List, [], ◌++◌, Option, Some, None}
+use Rattle.nc_outside.specs.declared.got.Got.{Got}
 use Rattle.nc_outside.specs.Faults.{next}
 
--- what a turret got, in order, and how many calls it has had, which stops at the last value of a u64
+-- What a turret got, in order, how many calls of `place` and `hand` it has had, and how often it was to settle. Both counts stop at
+-- the last value of a u64.
 pub record Received : Type 0 where
   pub got : List Got
   pub calls : ℕ
+  pub settles : ℕ
 
 -- All that contracts see of a turret at one moment.
 pub record TurretState : Type 0 where
@@ -18,12 +20,19 @@ unfoldable pub counted_on : ℕ → ℕ → ℕ
 counted_on calls zero = calls
 counted_on calls (suc more) = next (counted_on calls more)
 
--- so many calls more, by which these came; who tells nothing goes on telling nothing
-abbrev pub Adds : Option Received → Option Received → List Got → ℕ → Type 0
-Adds None after got calls = after ≡ None
-Adds (Some was) after got calls =
-    after ≡ Some (record { got = was.got ++ got; calls = counted_on was.calls calls })
+-- so many calls more, by which these came, and so many settles; who tells nothing goes on telling nothing
+abbrev pub Adds : Option Received → Option Received → List Got → ℕ → ℕ → Type 0
+Adds None after got calls settles = after ≡ None
+Adds (Some was) after got calls settles = after ≡ Some (record {
+  got = was.got ++ got;
+  calls = counted_on was.calls calls;
+  settles = counted_on was.settles settles;
+})
 
--- the turret got these by so many calls
+-- the turret got these by so many calls, and was not to settle
 abbrev pub Receives : TurretState → TurretState → List Got → ℕ → Type 0
-Receives old new got calls = Adds old.received new.received got calls
+Receives old new got calls = Adds old.received new.received got calls 0
+
+-- the turret was to settle once, and got nothing
+abbrev pub Settles : TurretState → TurretState → Type 0
+Settles old new = Adds old.received new.received [] 0 1

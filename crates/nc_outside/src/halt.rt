@@ -1,20 +1,8 @@
 //! Why a run ends, and what a step of a path answers.
 ghost use Rattle.std.specs.Prelude.{◌≡◌};
 
-use crate::Moves;
-use nc_number::{Path, Value};
-
-/// The alarm that ended a path.
-#[derive(Clone, Copy, Debug, PartialEq, Eq)]
-pub struct Alarm {
-    pub path: Path,
-    /// The line of the block that raised it.
-    pub line: u32,
-    /// The number of the alarm.
-    pub cause: u8,
-    /// What the macro alarm `#3000=` was given, and 0 for every other cause.
-    pub value: Value,
-}
+use nc_moves::{Alarm, Moves};
+use nc_number::Path;
 
 /// Why a run stops before both paths have finished.
 #[derive(Clone, Copy, Debug, PartialEq, Eq)]

@@ -2,7 +2,7 @@
 ghost use Rattle.std.specs.Prelude.{◌≡◌, ◌<◌, [], ◌∷◌, ◌++◌, Some, drop, vec_len, vec_capacity};
 ghost use Rattle.nc_outside.specs.Kept.{next_answer};
 
-use crate::{Call, Drained, Halt, Next, Stepper};
+use crate::{Call, Drain, Drainable, Halt, Next, Stepper};
 use nc_number::Path;
 use std::alloc::Global;
 use std::collections::VecDeque;
@@ -90,18 +90,20 @@ impl<'r, R: Wait> Stepper for ListStepper<'r, R> {
         answer
     }
 
-    fn drained(&mut self, path: Path, proof: Drained)
-        ensures new { self.new ≡ record self.old { calls = self.old.calls ++ Call.Drained path proof.count ∷ [] } }
+    fn halt(&mut self, why: Halt)
+        ensures new { self.new ≡ record self.old { calls = self.old.calls ++ Call.Halt why ∷ [] } }
+    {
+        self.note(Call::Halt(why));
+    }
+}
+
+impl<'r, R: Wait, P: Drain> Drainable<P> for ListStepper<'r, R> {
+    fn drained(&mut self, path: Path, proof: P)
+        ensures new { self.new ≡ record self.old { calls = self.old.calls ++ Call.Drained path (P.count proof) ∷ [] } }
     {
         self.note(Call::Drained {
             path,
             count: proof.count(),
         });
-    }
-
-    fn halt(&mut self, why: Halt)
-        ensures new { self.new ≡ record self.old { calls = self.old.calls ++ Call.Halt why ∷ [] } }
-    {
-        self.note(Call::Halt(why));
     }
 }

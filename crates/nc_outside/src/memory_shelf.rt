@@ -1,19 +1,21 @@
 //! A shelf in memory.
-ghost use Rattle.std.specs.Prelude.{◌≡◌, ◌≢◌, ℕ, ◌<◌, ◌≤◌, List, ◌++◌, length, Some, None, Err, OnOk, OnErr, IfOk, IsSomeAnd, IsErrOf, MatchOption};
+ghost use Rattle.std.specs.Prelude.{◌≡◌, ◌≢◌, ℕ, ◌<◌, ◌≤◌, List, [], ◌∷◌, ◌++◌, length, Some, None, Err, OnOk, OnErr, IfOk, IsSomeAnd, IsErrOf, MatchOption};
 ghost use Rattle.nc_outside.specs.Files.{file_named};
 ghost use Rattle.nc_outside.specs.Kept.{files_of, shelf_of};
 ghost use Rattle.nc_outside.specs.Plan.{FailsAsPlanned, after_call, fresh_plan};
 
+use crate::asked::Asked;
 use crate::plan::Plan;
 use crate::{FetchFault, Shelf};
 use nc_number::NoMemory;
 use std::alloc::Global;
 use std::marker::Model;
 
-/// Files in memory, and the numbers of the calls that are to fail.
+/// Files in memory, and the numbers of the calls that are to fail. It tells what it was asked for, in clauses alone.
 #[derive(Drop)]
 pub struct MemoryShelf {
     files: Vec<(String, Vec<u8>)>,
+    asked: Asked,
     plan: Plan,
 }
 
@@ -22,7 +24,7 @@ impl Model for MemoryShelf {
 
     ghost Value = { KeptFiles };
 
-    ghost view = { λ s. record { files = files_of s.files.items; plan = s.plan } };
+    ghost view = { λ s. record { files = files_of s.files.items; asked = s.asked.names; plan = s.plan } };
 }
 
 impl MemoryShelf {
@@ -34,11 +36,13 @@ impl MemoryShelf {
     ) -> Result<Self, NoMemory>
         ensures { IfOk result (λ shelf. shelf ≡ record {
           files = files_of files.items;
+          asked = [];
           plan = fresh_plan failing.now;
         }) }
     {
         let plan = Plan::new(alloc, failing)?;
-        Ok(MemoryShelf { files, plan })
+        let asked = Asked::none();
+        Ok(MemoryShelf { files, asked, plan })
     }
 }
 
@@ -89,7 +93,10 @@ impl Shelf for MemoryShelf {
 
     fn fetch(&mut self, name: &str, into: &mut Vec<u8>, max: usize) -> Result<(), FetchFault>
         ensures plan { FailsAsPlanned self.old.plan self.new.plan (IsErrOf result FetchFault.Failed) }
-        ensures new { self.new ≡ record self.old { plan = after_call self.old.plan } }
+        ensures new { self.new ≡ record self.old {
+          asked = self.old.asked ++ name.now ∷ [];
+          plan = after_call self.old.plan;
+        } }
         ensures ok { OnOk result ((bytes : List ℕ) × (file_named name.now self.old.files ≡ Some bytes)
             × (length bytes ≤ max) × (into.new.items ≡ into.old.items ++ bytes)) }
         ensures absent { IsErrOf result FetchFault.Absent → file_named name.now self.old.files ≡ None }
@@ -97,6 +104,7 @@ impl Shelf for MemoryShelf {
             → IsSomeAnd (file_named name.now self.old.files) (λ bytes. max < length bytes) }
         ensures err { OnErr result (into.new.items ≡ into.old.items) }
     {
+        self.asked.note(name.as_bytes());
         if self.plan.call() {
             return Err(FetchFault::Failed);
         }

@@ -1,24 +1,25 @@
 //! A turret in memory.
 ghost use Rattle.std.specs.Prelude.{◌≡◌, [], ◌∷◌, IfOk, OnOk, OnErr, is_err, IsErr, IsTrue};
 ghost use Rattle.nc_outside.specs.Faults.{CountsFault};
-ghost use Rattle.nc_outside.specs.Kept.{after_handing, refuses_next, turret_of, when_counted};
-ghost use Rattle.nc_outside.specs.Plan.{fresh_plan};
-ghost use Rattle.nc_outside.specs.Received.{Receives};
+ghost use Rattle.nc_outside.specs.Kept.{after_handing, refuses_next, turret_of, when_counted, when_settled};
+ghost use Rattle.nc_outside.specs.Plan.{fails_next, fresh_plan};
+ghost use Rattle.nc_outside.specs.Received.{Receives, Settles};
 
 use crate::plan::Plan;
-use crate::{Failed, Got, Move, Turret};
+use crate::{Failed, Got, LinedMove, Turret};
 use nc_number::{NoMemory, Point};
 use std::alloc::Global;
 use std::marker::Model;
 
-/// What a turret got, in memory, with a fixed room for it, and the numbers of the calls that are to fail. A call that
-/// finds no room fails too. Its calls take no memory.
+/// What a turret got, in memory, with a fixed room for it, and the numbers of the calls and of the settles that are to fail. A
+/// call that finds no room fails too. Its calls take no memory.
 #[derive(Drop)]
 pub struct MemoryTurret {
     got: Vec<Got>,
     room: usize,
     plan: Plan,
     past: u64,
+    settling: Plan,
 }
 
 impl Model for MemoryTurret {
@@ -27,29 +28,56 @@ impl Model for MemoryTurret {
 
     ghost Value = { KeptMoves };
 
-    ghost view = { λ t. record { got = t.got.items; room = t.room; plan = t.plan; past = t.past } };
+    ghost view = { λ t. record {
+      got = t.got.items;
+      room = t.room;
+      plan = t.plan;
+      past = t.past;
+      settling = t.settling;
+    } };
 
     ghost invariant = { λ t. (vec_len t.got ≤ t.room) × (t.room ≤ vec_capacity t.got) };
 }
 
 impl MemoryTurret {
     /// A turret that got nothing yet, with room for so many places and moves, of which the `failing` calls of `place`
-    /// and `hand` together are to fail, counted from 1.
+    /// and `hand` together are to fail, counted from 1. It settles each time.
     pub fn new(alloc: Global, room: usize, failing: &[u64]) -> Result<Self, NoMemory>
         ensures { IfOk result (λ turret. turret ≡ record {
           got = [];
           room = room;
           plan = fresh_plan failing.now;
           past = 0;
+          settling = fresh_plan [];
+        }) }
+    {
+        MemoryTurret::with_plans(alloc, room, failing, &[])
+    }
+
+    /// The same, of which the `unsettled` calls of `settle` are to fail besides, counted from 1 by themselves.
+    pub fn with_plans(
+        alloc: Global,
+        room: usize,
+        failing: &[u64],
+        unsettled: &[u64],
+    ) -> Result<Self, NoMemory>
+        ensures { IfOk result (λ turret. turret ≡ record {
+          got = [];
+          room = room;
+          plan = fresh_plan failing.now;
+          past = 0;
+          settling = fresh_plan unsettled.now;
         }) }
     {
         let got = Vec::with_capacity(alloc, room)?;
         let plan = Plan::new(alloc, failing)?;
+        let settling = Plan::new(alloc, unsettled)?;
         Ok(MemoryTurret {
             got,
             room,
             plan,
             past: 0,
+            settling,
         })
     }
 
@@ -101,7 +129,10 @@ impl Turret for MemoryTurret {
     ghost state = { turret_of };
 
     fn faults(&self) -> u64 {
-        self.plan.faults().saturating_add(self.past)
+        self.plan
+            .faults()
+            .saturating_add(self.past)
+            .saturating_add(self.settling.faults())
     }
 
     fn place(&mut self, at: Point) -> Result<(), Failed>
@@ -114,7 +145,7 @@ impl Turret for MemoryTurret {
         self.receive(Got::Placed(at))
     }
 
-    fn hand(&mut self, what: &Move) -> Result<(), Failed>
+    fn hand(&mut self, what: &LinedMove) -> Result<(), Failed>
         ensures fails { is_err result ≡ refuses_next self.old }
         ensures new { self.new ≡ after_handing (Got.Moved what.now) self.old }
         ensures ok { OnOk result (Receives (turret_of self.old) (turret_of self.new) (Got.Moved what.now ∷ []) 1) }
@@ -122,5 +153,18 @@ impl Turret for MemoryTurret {
         ensures fault { CountsFault (turret_of self.old).faults (turret_of self.new).faults (IsErr result) }
     {
         self.receive(Got::Moved(*what))
+    }
+
+    #[tactic(auto, unfolding(crate::specs::Received::counted_on))]
+    fn settle(&mut self) -> Result<(), Failed>
+        ensures fails { is_err result ≡ fails_next self.old.settling }
+        ensures new { self.new ≡ when_settled self.old }
+        ensures settled { Settles (turret_of self.old) (turret_of self.new) }
+        ensures fault { CountsFault (turret_of self.old).faults (turret_of self.new).faults (IsErr result) }
+    {
+        if self.settling.call() {
+            return Err(Failed);
+        }
+        Ok(())
     }
 }

@@ -1,5 +1,5 @@
 //! The plan of a form in memory: which of its calls are to fail.
-ghost use Rattle.std.specs.Prelude.{◌≡◌, ◌==◌, ◌<◌, ◌≤◌, ◌↔◌, IfOk, IsTrue, Contains};
+ghost use Rattle.std.specs.Prelude.{◌≡◌, ◌==◌, ◌<◌, ◌≤◌, ◌↔◌, false, IfOk, IsTrue, Contains};
 ghost use Rattle.std.specs.List.{list_any};
 ghost use Rattle.nc_outside.specs.Plan.{after_call, fails_next, fault_count, fresh_plan};
 
@@ -48,6 +48,7 @@ impl Plan {
         ensures fails { result ≡ fails_next self.old }
         ensures new { self.new ≡ after_call self.old }
         ensures rose { IsTrue result → fault_count self.old < fault_count self.new }
+        ensures kept { result ≡ false → fault_count self.new ≡ fault_count self.old }
         ensures later { fault_count self.old ≤ fault_count self.new }
     {
         match self.calls.checked_add(1) {

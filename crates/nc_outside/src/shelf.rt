@@ -2,7 +2,7 @@
 ghost use Rattle.std.specs.Prelude.{◌≡◌, ℕ, ◌≤◌, List, ◌++◌, length, OnOk, OnErr, IsErrOf};
 ghost use Rattle.nc_outside.specs.declared.shelf.FetchFault.TheVariants.{NoMemory};
 ghost use Rattle.nc_outside.specs.Faults.{CountsFault};
-ghost use Rattle.nc_outside.specs.Files.{ShelfState, Holds, HoldsMore, HoldsOn, Lacks};
+ghost use Rattle.nc_outside.specs.Files.{ShelfState, Holds, HoldsMore, HoldsOn, IsAsked, Lacks};
 
 use std::alloc::AllocError;
 use thiserror::Error;
@@ -34,7 +34,7 @@ impl From<AllocError> for FetchFault {
 
 /// Named files, to be read whole.
 pub trait Shelf {
-    /// What it holds, where it tells that, and how often it has failed.
+    /// What it holds and what it was asked for, where it tells that, and how often it has failed.
     ghost state: { Self → ShelfState };
 
     /// How often the shelf has failed.
@@ -50,6 +50,7 @@ pub trait Shelf {
         ensures too_long { IsErrOf result FetchFault.TooLong → HoldsMore (state self.old).files name.now max }
         ensures err { OnErr result (into.new.items ≡ into.old.items) }
         ensures files { HoldsOn (state self.old) (state self.new) }
+        ensures asked { IsAsked (state self.old).asked (state self.new).asked name.now }
         ensures fault { CountsFault (state self.old).faults (state self.new).faults
             (IsErrOf result FetchFault.Failed) };
 }

@@ -1,7 +1,7 @@
 //! What stands between the worker of a path and the table that both paths share.
 ghost use Rattle.std.specs.Prelude.{◌≡◌, [], ◌∷◌, List, Option};
 
-use crate::{Drained, Halt, Next};
+use crate::{Drain, Halt, Next};
 use nc_number::Path;
 
 /// A call of a stepper.
@@ -35,14 +35,20 @@ pub trait Stepper {
         ensures calls { IsCalled (calls self.old) (calls self.new) (Call.Step path result ∷ []) }
         ensures origin { origin self.new ≡ origin self.old };
 
-    /// The line of the path was drained behind the last moves that were answered to it.
-    fn drained(&mut self, path: Path, proof: Drained)
-        ensures calls { IsCalled (calls self.old) (calls self.new) (Call.Drained path proof.count ∷ []) }
-        ensures origin { origin self.new ≡ origin self.old };
-
     /// Halts the run since a turret failed.
     fn halt(&mut self, why: Halt)
         requires { IsOfTurret why }
         ensures calls { IsCalled (calls self.old) (calls self.new) (Call.Halt why ∷ []) }
         ensures origin { origin self.new ≡ origin self.old };
+}
+
+/// A stepper that is told of drains, by proofs of the type `P` alone.
+pub trait Drainable<P: Drain>: Stepper {
+    ghost use Rattle.nc_outside.specs.Calls.{IsCalled};
+    ghost use Rattle.nc_outside.specs.declared.stepper.Call.TheVariants as Call;
+
+    /// The line of the path was drained behind the last moves that were answered to it.
+    fn drained(&mut self, path: Path, proof: P)
+        ensures calls { IsCalled (Self.calls self.old) (Self.calls self.new) (Call.Drained path (P.count proof) ∷ []) }
+        ensures origin { Self.origin self.new ≡ Self.origin self.old };
 }

@@ -1,0 +1,21 @@
+-- The count of faults of a turret in memory: what it was, a planned fault raises it.
+use Rattle.std.proofs.Common.{◌≡◌, ℕ, ◌+◌, ◌-◌, ◌^◌, ◌≤◌, ◌<◌, arith, min}
+use Rattle.nc_outside.specs.Faults.{Rose, CountsFault}
+
+-- planned faults, calls that found no room, and settles that failed
+abbrev pub in_all : ℕ → ℕ → ℕ → ℕ
+in_all planned past settles = min (min (planned + past) (2 ^ 64 - 1) + settles) (2 ^ 64 - 1)
+
+pub call_fails : (a b past settles : ℕ) (failed : Type 0) → failed → a < b → CountsFault (in_all a past settles) (in_all b past settles) failed
+call_fails a b past settles failed has less = record {
+  later = grind arith;
+  rose = λ _. grind arith;
+  kept = λ none. absurd (none has);
+}
+
+pub settle_fails : (planned past a b : ℕ) (failed : Type 0) → failed → a < b → CountsFault (in_all planned past a) (in_all planned past b) failed
+settle_fails planned past a b failed has less = record {
+  later = grind arith;
+  rose = λ _. grind arith;
+  kept = λ none. absurd (none has);
+}

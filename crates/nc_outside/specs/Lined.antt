@@ -1,0 +1,13 @@
+-- The moves of a block, each with the line of the block.
+use Rattle.std.specs.Prelude.{ℕ, List, map}
+use Rattle.nc_moves.specs.declared.motion.Move.{Move}
+use Rattle.nc_moves.specs.declared.motion.Moves.{Moves}
+use Rattle.nc_outside.specs.declared.lined_move.LinedMove.{LinedMove}
+
+-- a move with a line
+abbrev pub lined_move : ℕ → Move → LinedMove
+lined_move line what = record { line = line; what = what }
+
+-- each move of a block with its line
+abbrev pub lined : Moves → List LinedMove
+lined moves = map (lined_move moves.line) moves.list

@@ -1,0 +1,30 @@
+//! A list of names that only clauses read.
+ghost use Rattle.std.specs.Prelude.{◌≡◌, ℕ, List, [], ◌∷◌, ◌++◌};
+ghost use Rattle.std.specs.Borrow.{ftrue};
+
+use std::marker::{Model, PhantomData};
+
+/// The names that a shelf was asked for, in order. It takes no memory.
+#[derive(Drop)]
+pub struct Asked {
+    marker: PhantomData<u8>,
+    pub ghost names: { List (List ℕ) },
+}
+
+impl Model for Asked {
+    ghost also_owns = { λ _. ftrue };
+}
+
+impl Asked {
+    pub(crate) fn none() -> Asked
+        ensures { result.names ≡ [] }
+    {
+        Asked {
+            marker: PhantomData,
+        }
+    }
+
+    pub(crate) fn note(&mut self, _name: &[u8])
+        ensures { self.new.names ≡ self.old.names ++ _name.now ∷ [] }
+    {}
+}
