@@ -1,0 +1,103 @@
+"use strict";
+// Where the eye of the plane is, and from there the way between the machine and the page.
+
+const Camera = (() => {
+  const sheet = new Sheet("plane");
+  let camera = { z: 0, r: 0, scale: 1 };
+  let fitted = null;            // what was brought into the picture, if nobody has moved it since: part or all
+
+  // ---- from the machine to the page and back ----
+
+  const xOf = z => (z - camera.z) * camera.scale + sheet.width / 2;
+  const yOf = r => (camera.r - r) * camera.scale + sheet.height / 2;
+
+  /** Z and the radius of a machine point of a segment, as the plane has them: the radius with the side of its path. */
+  const placedZ = (segment, z) => (Look.coordinates === "work" ? z - segment.shiftZ : z);
+  const placedR = (segment, r) => (segment.path === 1 ? 1 : -1) * (Look.coordinates === "work" ? r - segment.shiftX / 2 : r);
+
+  /** A machine point of a segment on the page. */
+  const xIn = (segment, z) => xOf(placedZ(segment, z));
+  const yIn = (segment, r) => yOf(placedR(segment, r));
+  const onPage = (segment, { z, r }) => ({ x: xIn(segment, z), y: yIn(segment, r) });
+
+  /** Where a segment is on the page, at a part of its way. */
+  const pointOf = (segment, part) => onPage(segment, Shapes.onSegment(segment, part));
+
+  // ---- where the eye is ----
+
+  /** The room that buttons, numbers and the legend need at each side. */
+  function rim() {
+    return { left: 70, right: 50, top: $("tools").offsetHeight + 34, bottom: $("legend").offsetHeight + 52 };
+  }
+
+  /** Brings all cuts into the picture, or all moves, the starts and the homes. */
+  function fit(isAll) {
+    const box = { z0: Infinity, z1: -Infinity, r0: Infinity, r1: -Infinity };
+    takeSegments(box, segment => Reading.CUTS.has(segment.kind) || (isAll && segment.kind === "rapid"));
+    if (box.z0 > box.z1) takeSegments(box, segment => segment.kind === "rapid");
+    if (isAll) takePlaces(box);
+    if (box.z0 > box.z1 || Look.coordinates === "work") take(box, 0, 0);
+    lookAt(box);
+    fitted = isAll ? "all" : "part";
+  }
+
+  function lookAt(box) {
+    const { left, right, top, bottom } = rim();
+    const width = Math.max(50, sheet.width - left - right), height = Math.max(50, sheet.height - top - bottom);
+    const scale = Math.min(width / Math.max(box.z1 - box.z0, 2), height / Math.max(box.r1 - box.r0, 2));
+    camera = { scale, z: (box.z0 + box.z1 - (left - right) / scale) / 2, r: (box.r0 + box.r1 + (top - bottom) / scale) / 2 };
+  }
+
+  /** A box of another size: what was brought into the picture is so again. */
+  function refit() { if (fitted) fit(fitted === "all"); }
+
+  function take(box, z, r) {
+    box.z0 = Math.min(box.z0, z);
+    box.z1 = Math.max(box.z1, z);
+    box.r0 = Math.min(box.r0, r);
+    box.r1 = Math.max(box.r1, r);
+  }
+
+  function takeSegments(box, isTaken) {
+    for (const p of PATHS) for (const segment of Look.trace.paths[p].segments) {
+      if (!isTaken(segment)) continue;
+      take(box, placedZ(segment, segment.z0), placedR(segment, segment.x0 / 2));
+      take(box, placedZ(segment, segment.z1), placedR(segment, segment.x1 / 2));
+      if (segment.arc) for (const part of [0.25, 0.5, 0.75]) {
+        const { z, r } = Shapes.onArc(segment.arc, part);
+        take(box, placedZ(segment, z), placedR(segment, r));
+      }
+    }
+  }
+
+  function takePlaces(box) {
+    for (const p of PATHS) for (const place of placesOf(Look.trace.paths[p]))
+      take(box, placedZ(place.segment, place.z), placedR(place.segment, place.r));
+  }
+
+  function drag(dx, dy) {
+    camera = { ...camera, z: camera.z - dx / camera.scale, r: camera.r + dy / camera.scale };
+    fitted = null;
+  }
+
+  /** Comes nearer by a factor; the point under x and y stays where it is. */
+  function zoom(by, x = sheet.width / 2, y = sheet.height / 2) {
+    const z = camera.z + (x - sheet.width / 2) / camera.scale, r = camera.r - (y - sheet.height / 2) / camera.scale;
+    const scale = Math.max(0.02, Math.min(20000, camera.scale * by));
+    camera = { scale, z: z - (x - sheet.width / 2) / scale, r: r + (y - sheet.height / 2) / scale };
+    fitted = null;
+  }
+
+  /** Start and home of a path. In work coordinates they lie elsewhere after each new offset: shown is where they lie at first. */
+  function placesOf(path) {
+    const { number, start, home, segments, firstShift } = path;
+    const segment = { path: number, shiftX: firstShift.x, shiftZ: firstShift.z };
+    const isOther = some => some.shiftX !== firstShift.x || some.shiftZ !== firstShift.z;
+    const note = Look.coordinates === "work" && segments.some(isOther) ? " (by the offsets at the start)" : "";
+    const place = (point, name) => ({ segment, name, z: point.z, r: point.x / 2, text: `${name} ${number}${note}` });
+    if (start && home && start.x === home.x && start.z === home.z) return [place(home, "start and home")];
+    return [start && place(start, "start"), home && place(home, "home")].filter(Boolean);
+  }
+
+  return { sheet, xOf, yOf, xIn, yIn, onPage, pointOf, placesOf, rim, fit, refit, drag, zoom, get now() { return camera; } };
+})();

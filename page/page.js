@@ -1,0 +1,214 @@
+"use strict";
+// Takes the texts that are opened, dropped or stand in the page, and ties the parts together. Nothing is sent, loaded or kept.
+
+const Page = (() => {
+  let pending = [];       // tapes that came before a trace
+
+  const rates = () => ({ rapid: 1000 * numberIn("rapid", 0.1, 20), change: numberIn("change", 0, 1) });
+
+  function numberIn(name, least, usual) {
+    const value = Number($(name).value);
+    return $(name).value.trim() !== "" && Number.isFinite(value) && value >= least ? value : usual;
+  }
+
+  // ---- texts come in ----
+
+  /** Takes texts with their names: a trace, and the tapes of its paths. */
+  function take(texts) {
+    const trace = texts.find(({ text }) => isTrace(text)), others = texts.filter(({ text }) => !isTrace(text));
+    const tapes = others.filter(({ text }) => Tapes.isTape(text)).map(({ name, text }) => ({ name, lines: Tapes.linesOf(text) }));
+    if (trace) load(trace.text, trace.name, tapes.length ? tapes : pending);
+    else if (tapes.length) takeTapes(tapes);
+    else if (others.length) load(others[0].text, others[0].name, []);
+  }
+
+  const isTrace = text => /^trace \d/.test(text);
+
+  function takeTapes(tapes) {
+    if (Look.trace) return TapeTexts.take(tapes);
+    pending = tapes;
+    say("hint", `${tapes.map(tape => tape.name).join(" and ")}: now drop the text of the trace too.`);
+  }
+
+  function load(text, name, tapes) {
+    let trace;
+    try {
+      trace = Times.timeTrace(Reading.readTrace(text), rates());
+    } catch (fault) {
+      if (!(fault instanceof Reading.BadTrace)) throw fault;
+      return refuse(fault.message, name);
+    }
+    pending = [];
+    Moving.play(false);
+    Object.assign(Look, { trace, name, stretch: null, focus: null, time: 0 });
+    show(tapes);
+  }
+
+  function show(tapes) {
+    const { trace, name } = Look;
+    $("empty").hidden = true;
+    $("page").hidden = false;
+    $("name").textContent = name;
+    document.title = name ? `${name} \u2013 twin_lathe picture` : "twin_lathe picture";
+    Colours.giveTo(trace);
+    Tables.forget();
+    Tables.note(null);
+    Tables.tellHead();
+    Tables.fillMeetings();
+    $("meetings-box").scrollTop = 0;
+    Tables.fillLegend();
+    TapeTexts.clear();
+    if (tapes.length) TapeTexts.take(tapes);
+    resize();
+    TimeLine.fit();
+    Plane.fit(false);
+    Look.drawAsked();
+    tellState("drawn");
+  }
+
+  function refuse(message, name) {
+    Moving.play(false);
+    Look.trace = null;
+    $("page").hidden = true;
+    $("empty").hidden = false;
+    $("name").textContent = name;
+    $("badges").textContent = "";
+    say("fault", message);
+    Tables.note(null);
+    tellState("refused");
+  }
+
+  function say(name, text) {
+    for (const some of ["fault", "hint"]) $(some).textContent = some === name ? text : "";
+  }
+
+  /** What is to be seen, for tests: in attributes of the root. */
+  function tellState(state) {
+    const { trace } = Look, { dataset } = document.documentElement;
+    dataset.state = state;
+    if (!trace) return;
+    Object.assign(dataset, { moves: PATHS.map(p => trace.paths[p].moves).join(" "), meetings: trace.meetings.length,
+                             records: trace.records, end: trace.end, total: trace.total.toFixed(1) });
+  }
+
+  // ---- drawing ----
+
+  function drawNow(parts) {
+    if (Plane.sheet.ratio !== window.devicePixelRatio) {
+      resize();
+      for (const part of ["plane", "times"]) parts.add(part);
+    }
+    if (parts.has("plane")) Plane.draw();
+    else if (parts.has("moved")) Plane.drawMoved();
+    if (parts.has("times")) TimeLine.draw();
+    Plane.drawOver();
+    TimeLine.drawOver();
+    Tables.tellNow();
+    TapeTexts.mark();
+  }
+  Look.onFrame = drawNow;
+
+  function resize() {
+    Plane.sheet.resize();
+    TimeLine.sheet.resize();
+  }
+
+  function resized() {
+    if (!Look.trace) return;
+    resize();
+    TapeTexts.redraw();
+    Plane.refit();
+    Look.ask("times");
+  }
+
+  for (const name of ["plane-box", "times-box"]) new ResizeObserver(resized).observe($(name));
+
+  /** Another screen may have more pixels a point. */
+  function watchScreen() {
+    const changed = () => { resized(); watchScreen(); };
+    matchMedia(`(resolution: ${window.devicePixelRatio}dppx)`).addEventListener("change", changed, { once: true });
+  }
+  watchScreen();
+
+  // ---- buttons and fields ----
+
+  function onEach(attribute, does) {
+    for (const button of document.querySelectorAll(`[data-${attribute}]`))
+      button.addEventListener("click", () => { does(button.dataset[attribute]); markButtons(); });
+  }
+
+  function markButtons() {
+    const mark = (button, isOn) => { button.classList.toggle("on", isOn); button.setAttribute("aria-pressed", isOn); };
+    for (const button of document.querySelectorAll("[data-coordinates]")) mark(button, button.dataset.coordinates === Look.coordinates);
+    for (const button of document.querySelectorAll("[data-show]")) mark(button, Look.shown[button.dataset.show]);
+  }
+
+  onEach("coordinates", which => { Look.coordinates = which; Plane.fit(false); });
+  onEach("fit", which => Plane.fit(which === "all"));
+  onEach("show", what => { Look.shown[what] = !Look.shown[what]; Look.ask("plane", "over"); });
+
+  /** Other rates make other times; the place in the run stays. */
+  function timeAnew() {
+    if (!Look.trace) return;
+    const part = Look.time / Look.trace.total;
+    Times.timeTrace(Look.trace, rates());
+    Look.time = part * Look.trace.total;
+    Tables.forget();
+    Tables.tellHead();
+    Tables.fillMeetings();
+    TimeLine.fit();
+    Look.ask("times", "over");
+    tellState("drawn");
+  }
+  for (const name of ["rapid", "change"]) $(name).addEventListener("change", timeAnew);
+
+  $("play").addEventListener("click", () => Moving.play(!Moving.isPlaying));
+  $("slider").addEventListener("input", () => Moving.goTo(Number($("slider").value) * Look.trace.total));
+  $("meetings").addEventListener("click", event => {
+    const row = event.target.closest("tr[data-stretch]");
+    if (row) Moving.toggle(Number(row.dataset.stretch), true);
+  });
+  $("exchange").addEventListener("click", TapeTexts.exchange);
+  $("close-tapes").addEventListener("click", TapeTexts.clear);
+  $("keys").addEventListener("click", () => $("help").showModal());
+  for (const name of ["open", "open-first"]) $(name).addEventListener("click", () => $("file").click());
+
+  // ---- files ----
+
+  const MOST_BYTES = 2 ** 28;
+
+  async function takeFiles(files) {
+    const list = [...files], long = list.find(file => file.size > MOST_BYTES);
+    if (long) return refuse(`${long.name} is too long for this page.`, long.name);
+    try {
+      take(await Promise.all(list.map(async file => ({ name: file.name, text: await file.text() }))));
+    } catch (fault) {
+      if (!(fault instanceof DOMException)) throw fault;
+      refuse("A file can't be read. Is it a folder?", "");
+    }
+  }
+
+  $("file").addEventListener("change", async event => {
+    await takeFiles(event.target.files);
+    event.target.value = "";
+  });
+  addEventListener("dragover", event => { event.preventDefault(); document.body.classList.add("drag"); });
+  addEventListener("dragleave", event => { if (!event.relatedTarget) document.body.classList.remove("drag"); });
+  addEventListener("drop", event => {
+    event.preventDefault();
+    document.body.classList.remove("drag");
+    takeFiles(event.dataTransfer.files);
+  });
+
+  /** What `scripts/picture` put into the page. */
+  function takeOwn() {
+    const own = [...document.querySelectorAll("textarea.text")].map(area => ({ name: area.dataset.name, text: area.value }));
+    if (own.length) take(own);
+  }
+
+  markButtons();
+  tellState("empty");
+  takeOwn();
+
+  return { take };
+})();
