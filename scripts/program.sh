@@ -3,9 +3,11 @@
 
 crate=$root/crates/twin_lathe
 program=$crate/out/twin_lathe
-# Written beside a program that was proved and built whole, at the time when that began: the program's checksum and the
-# lines of crates.txt that it stands on.
-mark=$program.built
+# Beside it, the same program compiled without any proof (`./twin_lathe try`).
+unproved=$crate/out/twin_lathe.unproved
+# Beside each program stands its mark, a file with `.built` after its name, which is as old as the moment when its building
+# began: the program's checksum and the lines of crates.txt that it stands on. The proved program has one only if it was proved
+# and built whole.
 
 # The folder of the toolchain is the one that RATTLE names, or else `rt` is on the PATH.
 find_tool() {
@@ -44,24 +46,52 @@ lines_below() {
         }' "$root/crates.txt"
 }
 
-# What the mark of the program as it stands has.
+# Copies the sources of the program and of all below it to the new folder $1, as a repository of its own: without the crates of tests and
+# without planted bugs, so that a build does not wait for those.
+copy_sources() {
+    local name kind
+    mkdir -p "$1/.git" "$1/crates" || return
+    cp -- "$root/HANDLES" "$1" || return
+    while IFS=: read -r name _; do
+        grep -m 1 "^$name[ :]" "$root/crates.txt" >>"$1/crates.txt"
+        mkdir "$1/crates/$name" || return
+        for kind in src specs proofs data args stdin stdout status; do
+            [[ ! -e $root/crates/$name/$kind ]] || cp -r -- "$root/crates/$name/$kind" "$1/crates/$name" || return
+        done
+    done < <(lines_below twin_lathe)
+}
+
+# What the mark of the program $1 as it stands has.
 mark_text() {
-    sha256sum <"$program"
+    sha256sum <"$1"
     lines_below twin_lathe
 }
 
-# Whether the program is built, and nothing that it stands on has changed since.
-is_built() {
-    [[ -x $program && -f $mark && $(<"$mark") == "$(mark_text)" ]] || return 1
-    local name folders=()
+# Whether the program $1 is built, and nothing in the folders $2 .. of the crates that it stands on has changed since.
+is_current() {
+    local built=$1 name kind folders=()
+    shift
+    [[ -x $built && -f $built.built && $(<"$built.built") == "$(mark_text "$built")" ]] || return 1
     while IFS=: read -r name _; do
-        folders+=("$root/crates/$name/src" "$root/crates/$name/specs" "$root/crates/$name/proofs")
+        for kind in "$@"; do folders+=("$root/crates/$name/$kind"); done
     done < <(lines_below twin_lathe)
-    [[ -z $(find "${folders[@]}" -newer "$mark" -print -quit 2>/dev/null) ]]
+    [[ -z $(find "${folders[@]}" -newer "$built.built" -print -quit 2>/dev/null) ]]
 }
 
-# Notes that the program was proved and built, from the sources as they stood when the file $1 was last touched.
+# Whether the proved program is built, and the one without proofs is compiled, from the sources as they are.
+is_built() { is_current "$program" src specs proofs; }
+is_compiled() { is_current "$unproved" src specs; }
+
+# Notes that a program was built (the proved one, if $2 names no other) from the sources as they were when the file $1 was last
+# touched.
 note_built() {
-    mark_text >"$mark"
-    touch -r "$1" "$mark"
+    local built=${2:-$program}
+    mark_text "$built" >"$built.built"
+    touch -r "$1" "$built.built"
+}
+
+# The identity of the toolchain, if there is one.
+tool_version() {
+    local tool
+    tool=$(find_tool) && "$tool" version
 }

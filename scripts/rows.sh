@@ -21,7 +21,9 @@ judge() {
     local name=$1 due_status=$2 status=$3 due=$4 said
     # (the x keeps the line feeds at the end)
     said=$(cat "$work/said"; printf x)
-    if [[ $status != "$due_status" ]]; then
+    if has_hung "$status" && ! has_hung "$due_status"; then
+        fail "$name" "it did not end"
+    elif [[ $status != "$due_status" ]]; then
         fail "$name" "status $status, and $due_status is due; it printed: $(tail -n 1 "$work/said")"
     elif [[ $said != "${due}x" ]]; then
         fail "$name" "this is what it printed, and not what is due: ${said//$'\n'/ | }"
@@ -32,8 +34,26 @@ judge() {
     fi
 }
 
-# Calls the program, which is given a minute: a call that hangs has a status that is never due.
-call() { timeout -s KILL 60 "$program" "$@"; }
+# The command through which the program is called, where there is one: taskset or env with its words.
+through=()
+
+# Calls the program, which is given a minute, or so many seconds: a call that hangs has a status that is never due.
+call() { timeout -s KILL "${seconds:-60}" "${through[@]}" "$program" "$@"; }
+
+# The calls that follow have one processor, where that can be asked for.
+pin() {
+    command -v taskset >/dev/null || return 0
+    local processors
+    processors=$(taskset -cp $$)
+    processors=${processors##*: }
+    through=(taskset -c "${processors%%[-,]*}")
+}
+
+# The calls that follow have all processors.
+unpin() { through=(); }
+
+# Whether a call with this status hung, and was killed.
+has_hung() { [[ $1 == 137 || $1 == 124 ]]; }
 
 # What the row is called, the status and the output that are due, and the words of the command.
 row() {
@@ -47,7 +67,7 @@ row() {
 either() {
     local name=$1 due_status=$2 due=$3 other=$4 status
     shift 4
-    "$program" "$@" >"$work/said" 2>"$work/complained"
+    call "$@" >"$work/said" 2>"$work/complained"
     status=$?
     if [[ $(cat "$work/said"; printf x) == "${other}x" ]]; then due=$other; fi
     judge "$name" "$due_status" "$status" "$due"
@@ -107,7 +127,7 @@ find_program() {
     if (($#)); then
         program=$(readlink -f -- "$1")
     else
-        "$root/twin_lathe" >/dev/null
+        "$root/twin_lathe" build >/dev/null
         [[ -x $program ]] || exit 70
     fi
     begun=$SECONDS
@@ -119,7 +139,7 @@ user=()
 as_user() {
     local name=$1 due_status=$2 due=$3
     shift 3
-    "${user[@]}" "$work/lathe" "$@" >"$work/said" 2>"$work/complained"
+    timeout -s KILL 60 "${user[@]}" "$work/lathe" "$@" >"$work/said" 2>"$work/complained"
     judge "$name" "$due_status" $? "$due"
 }
 
@@ -128,6 +148,33 @@ share_program() {
     chmod 711 "$work"
     cp "$program" "$work/lathe"
     chmod 755 "$work/lathe"
+}
+
+# As `judge`, where this line is due on standard error.
+judge_complaint() {
+    local name=$1 due_status=$2 status=$3 due=$4 complaint=$5
+    if [[ $(cat "$work/complained") == "$complaint" ]]; then
+        : >"$work/complained"
+    else
+        printf 'it should say: %s; and it says: %s\n' "$complaint" "$(head -n 1 "$work/complained")" >"$work/complained"
+    fi
+    judge "$name" "$due_status" "$status" "$due"
+}
+
+# As `row`, with the line that is due on standard error before the words.
+complaint() {
+    local name=$1 due_status=$2 due=$3 complaint=$4
+    shift 4
+    call "$@" >"$work/said" 2>"$work/complained"
+    judge_complaint "$name" "$due_status" $? "$due" "$complaint"
+}
+
+# The same, as a user who is not root.
+complaint_as_user() {
+    local name=$1 due_status=$2 due=$3 complaint=$4
+    shift 4
+    "${user[@]}" "$work/lathe" "$@" >"$work/said" 2>"$work/complained"
+    judge_complaint "$name" "$due_status" $? "$due" "$complaint"
 }
 
 # Says how long the rows took, and how many passed. Whether all of them did.

@@ -1,0 +1,144 @@
+# The command line as the launcher knows it: the list of the commands, the help, and what is wrong with words that are no command.
+# Sourced. The program reads its words itself, and by a proved grammar; this list only saves a build and says more.
+
+# Each command: its name, its words, its options, what it does, and an example. LEFT RIGHT SETTINGS are the files that it judges, so
+# what is said about their lines (scripts/explain) is said for each command whose words begin with these three.
+commands='verify|LEFT RIGHT SETTINGS||judges the two tapes: can they deadlock at a wait?|verify examples/upper.nc examples/lower.nc examples/cell.txt
+trace|LEFT RIGHT SETTINGS|blocks|prints each move, wait and meeting of a run in its place, without a journal|trace examples/upper.nc examples/lower.nc examples/cell.txt
+run|LEFT RIGHT SETTINGS|blocks turret1 turret2|judges the tapes, runs both, and prints the moves of each turret|run examples/upper.nc examples/lower.nc examples/cell.txt
+resume||blocks turret1 turret2|continues the run of the journal after a stop or a crash|resume
+moves|||prints the moves that the journal has|moves
+state|||prints where both paths are, and their offsets and variables|state
+make|N|turret1 turret2|runs a generated test job of some 10,000 blocks (N: 0 to 999999)|make 7'
+
+# The row of the command $1.
+row_of() {
+    local row
+    while IFS= read -r row; do
+        [[ ${row%%|*} != "$1" ]] || { printf '%s\n' "$row"; return 0; }
+    done <<<"$commands"
+    return 1
+}
+
+# The words of the command $1.
+words_of() { row_of "$1" | cut -d '|' -f 2; }
+
+# The options of the command $1.
+options_of() { row_of "$1" | cut -d '|' -f 3; }
+
+# The text of an option, as it is written in the help.
+text_of_option() { [[ $1 == blocks ]] && printf 'N' || printf 'FILE'; }
+
+# The words and the options of the command $1, as they are written in the help.
+usage_of() {
+    local option shown
+    shown=$(words_of "$1")
+    for option in $(options_of "$1"); do shown+=" [--$option $(text_of_option "$option")]"; done
+    printf '%s' "${shown# }"
+}
+
+# Whether the command $1 judges two tapes and the settings.
+judges_files() { [[ $(words_of "$1") == 'LEFT RIGHT SETTINGS'* ]]; }
+
+# Whether $3 is a whole number from $1 to $2, in at most seven digits.
+is_between() { [[ $3 =~ ^[0-9]{1,7}$ ]] && ((10#$3 >= $1 && 10#$3 <= $2)); }
+
+# What is wrong with the words, in one line; nothing if they are those of a command.
+fault_of_words() {
+    local name=$1 word option names=() given=()
+    # (`help NAME` is answered before, if NAME is a command)
+    [[ $name != help || $# != 2 ]] || name=$2
+    row_of "$name" >/dev/null || { printf 'there is no command %s\n' "'$name'"; return; }
+    shift
+    while (($#)); do
+        word=$1
+        shift
+        case $word in
+            --) names+=("$@"); break ;;
+            -?*)
+                option=${word#--}
+                option=${option%%=*}
+                [[ $word == --* && " $(options_of "$name") " == *" $option "* ]] ||
+                    { printf '%s takes no option %s (after -- every word is a name)\n' "$name" "$word"; return; }
+                if [[ $word == "--$option" ]]; then
+                    [[ $# != 0 && ${1-} != -?* ]] || { printf -- '--%s needs a %s\n' "$option" "$(text_of_option "$option")"; return; }
+                    word+="=$1"
+                    shift
+                fi
+                given+=("${word#--}")
+                ;;
+            *) names+=("$word") ;;
+        esac
+    done
+    judge_words
+}
+
+# The same, of the words that fault_of_words has sorted: `names` and `given` options of the command `name`.
+judge_words() {
+    local wanted option text seen=' '
+    read -ra wanted <<<"$(words_of "$name")"
+    if ((${#names[@]} != ${#wanted[@]})); then
+        printf '%s takes %d words%s, and %d are given\n' "$name" "${#wanted[@]}" "${wanted[*]:+ (${wanted[*]})}" "${#names[@]}"
+        return
+    fi
+    for option in ${given[@]+"${given[@]}"}; do
+        text=${option#*=}
+        option=${option%%=*}
+        [[ $seen != *" $option "* ]] || { printf -- '--%s is given twice\n' "$option"; return; }
+        seen+="$option "
+        if [[ $option == blocks ]]; then
+            is_between 1 1000000 "$text" || { printf -- '--blocks takes a number from 1 to 1000000, and not %s\n' "'$text'"; return; }
+        elif [[ -z $text ]]; then
+            printf -- '--%s needs the name of a file\n' "$option"
+            return
+        fi
+    done
+    if [[ ${wanted[*]} == N ]] && ! is_between 0 999999 "${names[0]}"; then
+        printf '%s takes a number from 0 to 999999, and not %s\n' "$name" "'${names[0]}'"
+    fi
+}
+
+# A line for each command.
+list_commands() {
+    local name words options what
+    while IFS='|' read -r name words options what _; do
+        printf '  %-47s %s\n' "twin_lathe $name${words:+ $words}${options:+ [OPTIONS]}" "$what"
+    done <<<"$commands"
+    printf '  %-47s %s\n' \
+        'twin_lathe try COMMAND ..' 'any of these, by a program that is not proved: ready in a minute or two' \
+        'twin_lathe build' 'proves and builds the program, and runs nothing' \
+        'twin_lathe help [COMMAND], --version' 'this text, the help of one command, what this is'
+}
+
+# The help of all commands.
+help_of_all() {
+    printf 'twin_lathe judges and runs the two tapes of a lathe with two turrets.\n\n'
+    list_commands
+    cat <<'END'
+
+LEFT is the tape of path 1, RIGHT the tape of path 2. SETTINGS describes the machine: which M codes are waits, start and home
+positions, offsets (examples/cell.txt explains each line; an empty file takes the defaults). Options: --blocks N stops after N
+records; --turret1 FILE and --turret2 FILE write what each turret gets to a file or a named pipe, a line a call, during the run.
+`run` and `make` begin the journal twin.journal in the current folder; `resume`, `moves` and `state` read it there.
+
+  twin_lathe try verify examples/upper.nc examples/lower.nc examples/cell.txt
+
+The first call of a command without `try` proves and builds the program. Only the program's text goes to standard output.
+At a terminal, or with TWIN_LATHE_EXPLAIN=1, standard error says what a refusal means and what to do (docs/ERRORS.md has every
+number; TWIN_LATHE_EXPLAIN=0 turns it off). README.md has the exit statuses.
+END
+}
+
+# The help of the command $1.
+help_of() {
+    local name words options what example shown
+    IFS='|' read -r name words options what example < <(row_of "$1")
+    shown=$(usage_of "$name")
+    printf 'twin_lathe %s%s\n\n  %s\n\n  twin_lathe %s\n' "$name" "${shown:+ $shown}" "$what" "$example"
+    if judges_files "$name"; then
+        printf '\nLEFT is the tape of path 1, RIGHT the tape of path 2, SETTINGS the file that describes the machine.\n'
+    fi
+    [[ " $options " != *' blocks '* ]] || printf '%s\n' '--blocks N stops after N records (1 to 1000000; 100000 if it is not given).'
+    [[ " $options " != *' turret1 '* ]] ||
+        printf '%s\n' '--turret1 FILE, --turret2 FILE: a file or a named pipe for what that turret gets, a line a call, during the run.'
+}
