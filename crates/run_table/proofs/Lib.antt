@@ -10,11 +10,9 @@ mod MovesFew
 mod OtherGoesOn
 mod RecordingsFollow
 mod Redone
-mod RunsEnd
 mod StepsTaken
 mod TablesBegin
 mod TablesKept
 pub mod Then
-mod TurnsGiven
 mod WaitsAhead
 mod WaitsTold

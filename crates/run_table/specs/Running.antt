@@ -1,16 +1,13 @@
--- A run whose paths take turns, and how it ends.
-use Rattle.std.specs.Prelude.{◌≡◌, ◌≢◌, ℕ, ◌+◌, ◌-◌, ◌*◌, ◌≤◌, ◌&&◌, Bool, true, false, length, Option, Some, None, IsTrue, if◌then◌else◌}
+-- How a run ends.
+use Rattle.std.specs.Prelude.{◌≡◌, ◌≢◌, ◌&&◌, Bool, true, false, length, Option, Some, None, IsTrue}
 use Rattle.disk_model.specs.Device.{DiskState, Rose}
-use Rattle.nc_number.specs.declared.path.Path.{Path}
 use Rattle.nc_moves.specs.declared.alarm.Alarm.{Alarm}
 use Rattle.nc_outside.specs.declared.halt.Halt.{Halt}
 use Rattle.nc_outside.specs.declared.halt.Halt.TheVariants as halt
-use Rattle.two_path.specs.Machine.{MachineView, own_first}
-use Rattle.two_path.specs.Histories.{is_idle}
+use Rattle.two_path.specs.Machine.{MachineView}
 use Rattle.run_table.specs.declared.running.RunEnd.{RunEnd}
 use Rattle.run_table.specs.declared.running.RunEnd.TheVariants as run
 use Rattle.run_table.specs.Kept.{TableView}
-use Rattle.run_table.specs.Since.{Since}
 
 -- an alarm ends a run, and else the ends of both paths do
 abbrev pub end_by : Option Alarm → Bool → Option RunEnd
@@ -57,25 +54,3 @@ EndsBy state old new run.Stopped =
 EndsBy state old new run.DiskFault =
     (new.recording.log.file.live ≡ false)
     × Rose (state old.recording.log.file.disk).faults (state new.recording.log.file.disk).faults
-
--- What a run made of the table. Where it had ended already nothing was done.
-pub record HasRun {D : Type 0} (state : D → DiskState) (old new : TableView D) (result : RunEnd) : Type 0 where
-  pub since : Since state old new
-  pub ends : EndsBy state old new result
-  pub idle : (end : RunEnd) → end_of old.machine ≡ Some end → new ≡ old
-
--- a table between two turns of a run: once an alarm or the ends of both paths end it, no record pends
-pub record IsRunning {D : Type 0} (t : TableView D) : Type 0 where
-  pub halt : IsNoneOrAlarm t.halt
-  pub within : t.recording.flushed ≤ length t.recording.history
-  pub all : (end : RunEnd) → end_of t.machine ≡ Some end → t.recording.flushed ≡ length t.recording.history
-
--- how many reads blocks have made that are not done
-abbrev pub reads_of : MachineView → ℕ
-reads_of m = length m.first.stamps + length m.second.stamps
-
--- So many turns come at most, the next one for this path: each makes a record, or one of 32 reads of its block, or is passed over,
--- and of two turns one at most is.
-abbrev pub turns_left : {D : Type 0} → Path → TableView D → ℕ
-turns_left path t =
-    2 * (65 * (t.budget + 1) - reads_of t.machine) + (if is_idle (own_first path t.machine).first then 1 else 0)

@@ -91,10 +91,6 @@ drained_by t path (Some why) bound = idle_step t (Halted why)
 drained_by t path None (Some why) = bound_step t why
 drained_by t path None None = turn_by t path
 
--- a step of a path that was drained
-abbrev pub drained_step_of : {D : Type 0} → TableView D → Path → StepResult
-drained_step_of t path = drained_by t path t.halt (bound_of t)
-
 -- before its turn the path is drained, if it has to be
 abbrev pub step_by : {D : Type 0} → TableView D → Path → Option Halt → Option Halt → Bool → StepResult
 step_by t path None None true = idle_step t Drain

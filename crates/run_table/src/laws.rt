@@ -24,7 +24,7 @@ use path_state::control_goes_as_the_flow_orders;
 use two_path::no_legal_history_is_stuck;
 
 /// A machine that is the fold of a legal history can go on.
-pub(crate) fn kept_paths_are_not_stuck()
+fn kept_paths_are_not_stuck()
     ensures { (verified : Verified) (entries : List Entry) (machine : MachineView)
         → IsKept (tapes_in verified) (opening_of verified) entries machine → IsStuck (without_reads machine) → ⊥ }
 {

@@ -24,5 +24,5 @@ pub use laws::{
     a_record_makes_seven_moves_at_most, a_table_opens_itself, a_taken_table_ended_so,
     who_is_waited_for_goes_on,
 };
-pub use running::{RunEnd, run_by_turns};
+pub use running::RunEnd;
 pub use table::Table;

@@ -1,5 +1,5 @@
 //! The table of a run.
-ghost use Rattle.std.specs.Prelude.{◌≡◌, ◌≢◌, ℕ, ◌+◌, ◌≤◌, false, length, IfOk};
+ghost use Rattle.std.specs.Prelude.{◌≡◌, ℕ, ◌+◌, ◌≤◌, false, length, IfOk};
 ghost use Rattle.gate_file.specs.Creation.{without_disk};
 ghost use Rattle.nc_number.specs.declared.path.Path.{Path};
 ghost use Rattle.nc_number.specs.Path.{other_of};
@@ -14,7 +14,7 @@ ghost use Rattle.two_path.specs.Machine.{own_first};
 ghost use Rattle.run_table.specs.declared.answer.TableStep.TheVariants as step;
 ghost use Rattle.run_table.specs.Recording.{IsJournaled};
 ghost use Rattle.run_table.specs.Kept.{tapes_in, opening_of, IsVerdictOf, IsTable};
-ghost use Rattle.run_table.specs.Stepping.{bound_of, waits_in, drains, step_of, drained_step_of, IsStep, GoesOn};
+ghost use Rattle.run_table.specs.Stepping.{bound_of, waits_in, drains, step_of, IsStep, GoesOn};
 ghost use Rattle.run_table.specs.Draining.{with_owed, owed_behind};
 ghost use Rattle.run_table.specs.Begun.{IsBegun, disk_in, recovered_table, IsPrepared, IsLeft};
 ghost use Rattle.run_table.specs.Recovered.{IsRecovered, HoldsAll};
@@ -240,20 +240,9 @@ impl<D: Disk> Table<D> {
         self.owed = self.owed.with(path, false);
     }
 
-    /// One turn of the path, as in [`step`](Table::step), but that it is drained at once.
-    pub(crate) fn step_drained(&mut self, path: Path) -> TableStep
-        ensures step { IsStep D.state (drained_step_of self.old path) self.old self.new result }
-        ensures since { Since D.state self.old self.new }
-        ensures drained { result ≢ step.Drain }
-    {
-        self.drained(path);
-        self.step(path)
-    }
-
     /// The end of a run that an alarm or the ends of both paths have ended.
-    pub(crate) fn end(&self) -> Option<RunEnd>
-        ensures end { result ≡ end_of self.now.machine }
-        ensures table { IsTable D.state self.now }
+    fn end(&self) -> Option<RunEnd>
+        ensures { result ≡ end_of self.now.machine }
     {
         if let Some(alarm) = self.machine.alarm() {
             return Some(RunEnd::Alarm(alarm));
