@@ -22,11 +22,14 @@ name_text (Some cause) = codes " " ++ cause_name cause
 unfoldable pub given_text : Alarm → List ℕ
 given_text alarm = if alarm.cause == cause_number MacroAlarm then codes " " ++ value_text alarm.value else []
 
--- an alarm: its path and line, its number and its name
+-- the number of an alarm and its name, and of a macro alarm what it was given
+unfoldable pub cause_text : Alarm → List ℕ
+cause_text alarm = decimal alarm.cause ++ name_text (cause_of alarm.cause) ++ given_text alarm
+
+-- an alarm: its path and line, and its cause
 unfoldable pub alarm_text : Alarm → List ℕ
 alarm_text alarm =
-    codes "alarm " ++ path_name alarm.path ++ codes " line " ++ decimal alarm.line
-    ++ codes " cause " ++ decimal alarm.cause ++ name_text (cause_of alarm.cause) ++ given_text alarm
+    codes "alarm " ++ path_name alarm.path ++ codes " line " ++ decimal alarm.line ++ codes " cause " ++ cause_text alarm
 
 unfoldable pub turret_text : Path → List ℕ
 turret_text path = codes "turret fault " ++ path_name path

@@ -1,6 +1,6 @@
 //! How many records there are, and how the run ended.
 ghost use Rattle.std.specs.Prelude.{◌≡◌, ◌+◌, ◌≤◌, ℕ, Some, [], ◌++◌, length};
-ghost use Rattle.move_list.specs.EndText.{alarm_text, cause_of, end_text, given_text, name_text, reason_text, records_text, turret_text};
+ghost use Rattle.move_list.specs.EndText.{alarm_text, cause_of, cause_text, end_text, given_text, name_text, reason_text, records_text, turret_text};
 
 use move_text::Piece;
 use nc_moves::Alarm;
@@ -56,7 +56,19 @@ fn add_given(piece: &mut Piece, alarm: &Alarm)
     }
 }
 
-/// An alarm: its path and line, its number and its name.
+/// Adds the number of an alarm and its name, and of a macro alarm what it was given.
+#[tactic(auto, unfolding(crate::specs::EndText::cause_text))]
+pub fn add_cause(piece: &mut Piece, alarm: &Alarm)
+    requires { length piece.old + 65 ≤ 512 }
+    ensures text { piece.new ≡ piece.old ++ cause_text alarm.now }
+    ensures size { length piece.new ≤ length piece.old + 65 }
+{
+    piece.add_number(u64::from(alarm.cause));
+    add_name(piece, cause_of(alarm.cause));
+    add_given(piece, alarm);
+}
+
+/// An alarm: its path and line, and its cause.
 #[tactic(auto, unfolding(crate::specs::EndText::alarm_text))]
 fn add_alarm(piece: &mut Piece, alarm: &Alarm)
     requires { length piece.old + 140 ≤ 512 }
@@ -68,9 +80,7 @@ fn add_alarm(piece: &mut Piece, alarm: &Alarm)
     piece.add(b" line ");
     piece.add_number(u64::from(alarm.line));
     piece.add(b" cause ");
-    piece.add_number(u64::from(alarm.cause));
-    add_name(piece, cause_of(alarm.cause));
-    add_given(piece, alarm);
+    add_cause(piece, alarm);
 }
 
 /// The turret of a path failed.
@@ -114,9 +124,9 @@ pub(crate) fn records_line(count: u64) -> Piece
     piece
 }
 
-/// The last two lines of a report.
+/// The last two lines of a report: how many records there are, and how the run ended.
 #[tactic(auto, unfolding(crate::specs::EndText::end_text))]
-pub(crate) fn end_lines(count: u64, reason: &Reason) -> Piece
+pub fn end_lines(count: u64, reason: &Reason) -> Piece
     ensures { result ≡ end_text count reason.now }
 {
     let mut piece = records_line(count);

@@ -17,7 +17,7 @@ mod state;
 mod summary;
 mod turns;
 
-pub use end_line::Reason;
+pub use end_line::{Reason, add_cause, end_lines};
 pub use laws::{law_of_later_moves, law_of_streams};
 pub use report::write_report;
 pub use state::write_state;

@@ -7,7 +7,7 @@ use Rattle.nc_number.specs.Path.{number_of}
 use Rattle.nc_moves.specs.declared.alarm.Alarm.{Alarm}
 use Rattle.nc_outside.specs.declared.lined_move.LinedMove.{LinedMove}
 use Rattle.move_text.specs.Pieces.{code_text, point_text}
-use Rattle.move_list.specs.EndText.{cause_of, given_text, name_text}
+use Rattle.move_list.specs.EndText.{cause_text}
 use Rattle.move_list.specs.Report.{lined_text}
 
 -- An event of a run. Lines are lines of the path's tape; line 0 is before its first block.
@@ -25,10 +25,6 @@ pub data TraceLine : Type 0 where
   Met : (number : ℕ) (code : ℕ) (one : ℕ) (two : ℕ) → TraceLine
   Raised : (alarm : Alarm) → TraceLine
   Ended : (path : Path) (line : ℕ) → TraceLine
-
--- the number of an alarm and its name, and of a macro alarm what it was given
-unfoldable pub cause_text : Alarm → List ℕ
-cause_text alarm = decimal alarm.cause ++ name_text (cause_of alarm.cause) ++ given_text alarm
 
 -- the path of a line, and with it the line of its tape
 unfoldable pub path_text : Path → List ℕ

@@ -7,7 +7,6 @@
 #![tactic(auto)]
 
 mod blocks;
-mod ending;
 mod laws;
 mod lines;
 mod looking;

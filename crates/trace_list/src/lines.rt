@@ -3,7 +3,7 @@ ghost use Rattle.std.specs.Prelude.{◌≡◌, ◌+◌, ◌≤◌, [], ◌++◌,
 ghost use Rattle.trace_list.specs.TraceText.{event_text, head_text, met_text, numbered, path_text, point_line, trace_line_text, waits_text};
 ghost use Rattle.trace_list.specs.TraceText as said;
 
-use crate::ending::add_cause;
+use move_list::add_cause;
 use move_text::Piece;
 use nc_moves::Alarm;
 use nc_number::{Path, Point};

@@ -16,11 +16,10 @@ ghost use Rattle.trace_list.specs.TraceText.{head_text, lines_text};
 ghost use Rattle.trace_list.specs.TraceText as said;
 
 use crate::blocks::{met_after, put_piece, put_turn};
-use crate::ending::end_lines;
 use crate::lines::{at_line, head_line, home_line, shift_line};
 use crate::looking::{look_of, standing_of};
 use cell_settings::Settings;
-use move_list::Reason;
+use move_list::{Reason, end_lines};
 use nc_number::{Path, Point};
 use nc_outside::{PutFault, Sink};
 use nc_verify::Verified;
