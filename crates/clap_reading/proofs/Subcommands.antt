@@ -1,5 +1,5 @@
 -- The arguments of each subcommand, and how its reading ends.
-use Rattle.std.proofs.Common.{◌≡◌, ℕ, suc, ◌+◌, ◌≤◌, ◌<◌, inl, inr, Bool, true, false, ◌&&◌, ◌||◌, not, cond, List, [], ◌∷◌, map, length, Option, Some, None, is_some, refl, sym, ap, subst, ◌∙◌, arith, codes}
+use Rattle.std.proofs.Common.{◌≡◌, ℕ, ◌+◌, ◌<◌, inl, inr, Bool, true, false, ◌&&◌, ◌||◌, not, cond, List, [], ◌∷◌, map, length, Option, Some, None, is_some, refl, sym, ap, subst, ◌∙◌, arith, codes}
 use Rattle.std.proofs.Math.Bool.{or-true}
 use Rattle.std.specs.Prelude.{nat_eq}
 use Rattle.std.specs.Option.{option_map_or}
@@ -275,15 +275,17 @@ text_same row uses names marked id story = here (is_known row.options id) refl
     here true is = first_of-uses id uses ∙ value_of_option row.words row.options uses names marked id story is
     here false other = refl
 
-three : (a b c d e f : Option Text) → a ≡ d → b ≡ e → c ≡ f
-    → ◌≡◌ {A = OptionTextsView} (record { blocks = a; turret1 = b; turret2 = c }) (record { blocks = d; turret1 = e; turret2 = f })
-three a b c d e f x y z = rw (x, y, z) refl
+four : (a b c d e f g h : Option Text) → a ≡ e → b ≡ f → c ≡ g → d ≡ h
+    → ◌≡◌ {A = OptionTextsView} (record { blocks = a; turret1 = b; turret2 = c; outside = d })
+    (record { blocks = e; turret1 = f; turret2 = g; outside = h })
+four a b c d e f g h x y z w = rw (x, y, z, w) refl
 
 texts_same : (row : Listing) (uses : List Used) (names : List Text) (marked : List Used) → Story row.words row.options uses names marked
     → texts_at row (map row_of_use uses) ≡ texts_for row marked
 texts_same row uses names marked story =
-    three _ _ _ _ _ _ (text_same row uses names marked (codes "blocks") story) (text_same row uses names marked (codes "turret1") story)
-    (text_same row uses names marked (codes "turret2") story)
+    four _ _ _ _ _ _ _ _ (text_same row uses names marked (codes "blocks") story)
+    (text_same row uses names marked (codes "turret1") story) (text_same row uses names marked (codes "turret2") story)
+    (text_same row uses names marked (codes "outside") story)
 
 -- the command of a row whose words and options were read
 reads_as : (row : Listing) (uses : List Used) (names : List Text) (marked : List Used) → Story row.words row.options uses names marked

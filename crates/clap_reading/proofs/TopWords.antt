@@ -1,5 +1,5 @@
 -- The first word, and with it all of them.
-use Rattle.std.proofs.Common.{◌≡◌, ℕ, suc, ◌≤◌, Bool, true, false, cond, List, [], ◌∷◌, ◌++◌, Option, Some, None, is_some, refl, sym, ap, ap₂, ◌∙◌, arith, append_assoc, codes}
+use Rattle.std.proofs.Common.{◌≡◌, suc, Bool, true, false, cond, List, [], ◌∷◌, ◌++◌, Option, Some, None, is_some, refl, sym, ap, ap₂, ◌∙◌, arith, append_assoc, codes}
 use Rattle.std.specs.Prelude.{option_and_then}
 use Rattle.std.specs.List.{All, find, fold}
 use Rattle.std.specs.Str.{IsUtf8, bytes_eq}
@@ -13,7 +13,7 @@ use Rattle.clap.proofs.FaultLemmas.{stopped_fault}
 use Rattle.clap_reading.specs.ClapReading.{command_from, command_in, clap_command, line_command}
 use Rattle.clap_reading.specs.Grammar.{program_app}
 use Rattle.command_words.specs.Listed.{Given, command_behind, command_given, given, listed_command}
-use Rattle.command_words.specs.Table.{Listing, block_options, listings, row_in, run_options, turret_options}
+use Rattle.command_words.specs.Table.{Listing, block_options, listings, outside_options, row_in, run_options, turret_options}
 use Rattle.command_words.specs.declared.command.Command.{Command}
 use Rattle.command_words.specs.declared.table.Journal.{Journal}
 use Rattle.command_words.specs.declared.table.Journal.TheVariants as journal
@@ -40,8 +40,9 @@ top_shape = record (new_shape (codes "twin_lathe")) {
 abbrev built_program : App
 built_program = record {
   top = top_shape;
-  subs = leaf (codes "verify") (pair_rules []) ∷ leaf (codes "trace") (pair_rules block_options) ∷ leaf (codes "run") (pair_rules run_options) ∷ leaf (codes "resume") (option_rules run_options)
-      ∷ leaf (codes "moves") (option_rules []) ∷ leaf (codes "state") (option_rules []) ∷ leaf (codes "make") (one_rules (codes "number") turret_options) ∷ [];
+  subs = leaf (codes "verify") (pair_rules []) ∷ leaf (codes "waits") (pair_rules outside_options) ∷ leaf (codes "trace") (pair_rules block_options) ∷ leaf (codes "run") (pair_rules run_options) ∷ leaf (codes "resume") (option_rules run_options)
+      ∷ leaf (codes "moves") (option_rules []) ∷ leaf (codes "state") (option_rules []) ∷ leaf (codes "make") (one_rules (codes "number") turret_options)
+      ∷ leaf (codes "expand") (one_rules (codes "tape") []) ∷ [];
 }
 
 abbrev names_top : Names
@@ -116,7 +117,7 @@ IsUnknown word (row ∷ rows) = (bytes_eq row.name word ≡ false) × IsUnknown 
 
 meets_none : (word : Text) → IsUnknown word listings → subcommand_met names_top idle word ≡ None
 unfolding listings
-meets_none word u = rw (u.0, u.1.0, u.1.1.0, u.1.1.1.0, u.1.1.1.1.0, u.1.1.1.1.1.0, u.1.1.1.1.1.1.0) refl
+meets_none word u = rw (u.0, u.1.0, u.1.1.0, u.1.1.1.0, u.1.1.1.1.0, u.1.1.1.1.1.0, u.1.1.1.1.1.1.0, u.1.1.1.1.1.1.1.0, u.1.1.1.1.1.1.1.1.0) refl
 
 unknown_turn_fails : (word : Text) → subcommand_met names_top idle word ≡ None → WordKind [] word → bytes_eq word (codes "--") ≡ false
     → is_empty (turn_fault top_shape names_top start word) ≡ false
@@ -226,18 +227,24 @@ unfolding listings command_in walked
 all_known = (
   pair_is (codes "verify") [] journal.None task.Verify (record { left = refl; right = refl; settings = refl }) (record { first = refl; none = refl; found = refl }) (λ given. refl),
   (
-    pair_is (codes "trace") block_options journal.None task.Trace (record { left = refl; right = refl; settings = refl }) (record { first = refl; none = refl; found = refl }) (λ given. refl),
+    pair_is (codes "waits") outside_options journal.None task.Waits (record { left = refl; right = refl; settings = refl }) (record { first = refl; none = refl; found = refl }) (λ given. refl),
     (
-      pair_is (codes "run") run_options journal.Write task.Run (record { left = refl; right = refl; settings = refl }) (record { first = refl; none = refl; found = refl }) (λ given. refl),
+      pair_is (codes "trace") block_options journal.None task.Trace (record { left = refl; right = refl; settings = refl }) (record { first = refl; none = refl; found = refl }) (λ given. refl),
       (
-        alone_is (codes "resume") run_options journal.Write task.Resume (record { first = refl; none = refl; found = refl }) (λ given. refl),
+        pair_is (codes "run") run_options journal.Write task.Run (record { left = refl; right = refl; settings = refl }) (record { first = refl; none = refl; found = refl }) (λ given. refl),
         (
-          alone_is (codes "moves") [] journal.Look task.Moves (record { first = refl; none = refl; found = refl }) (λ given. refl),
+          alone_is (codes "resume") run_options journal.Write task.Resume (record { first = refl; none = refl; found = refl }) (λ given. refl),
           (
-            alone_is (codes "state") [] journal.Look task.State (record { first = refl; none = refl; found = refl }) (λ given. refl),
+            alone_is (codes "moves") [] journal.Look task.Moves (record { first = refl; none = refl; found = refl }) (λ given. refl),
             (
-              one_is (codes "make") (codes "number") turret_options journal.Write task.Make (record { own = refl; free = refl }) (record { first = refl; none = refl; found = refl }) (λ given. refl),
-              tt,
+              alone_is (codes "state") [] journal.Look task.State (record { first = refl; none = refl; found = refl }) (λ given. refl),
+              (
+                one_is (codes "make") (codes "number") turret_options journal.Write task.Make (record { own = refl; free = refl }) (record { first = refl; none = refl; found = refl }) (λ given. refl),
+                (
+                  one_is (codes "expand") (codes "tape") [] journal.None task.Expand (record { own = refl; free = refl }) (record { first = refl; none = refl; found = refl }) (λ given. refl),
+                  tt,
+                ),
+              ),
             ),
           ),
         ),

@@ -27,6 +27,7 @@ texts_at row given = record {
   blocks = text_at row (codes "blocks") given;
   turret1 = text_at row (codes "turret1") given;
   turret2 = text_at row (codes "turret2") given;
+  outside = text_at row (codes "outside") given;
 }
 
 abbrev pub command_from : List Row → Listing → Option Command

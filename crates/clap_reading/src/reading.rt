@@ -116,6 +116,7 @@ fn texts_at<'a>(row: &Row, given: &ArgMatches<'a>) -> OptionTexts<'a>
         blocks: text_at(row, "blocks", given),
         turret1: text_at(row, "turret1", given),
         turret2: text_at(row, "turret2", given),
+        outside: text_at(row, "outside", given),
     }
 }
 

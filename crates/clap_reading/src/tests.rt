@@ -1,7 +1,7 @@
 //! Word lists with the commands that they give.
 
 use crate::reading::read_words;
-use command_words::{Command, TurretFiles, WordsFault};
+use command_words::{Command, ProgramRange, TurretFiles, WordsFault};
 use std::alloc::{AllocError, Global};
 use std::test::Fail;
 
@@ -37,6 +37,23 @@ verify l r s --version -> usage
 verify l r s -V -> usage
 Verify l r s -> usage
 verif l r s -> usage
+waits l r s -> waits [l] [r] [s]
+waits l r -> usage
+waits l r s t -> usage
+waits l r s --outside 9000-9999 -> waits [l] [r] [s] 9000 9999
+waits --outside=1-1 l r s -> waits [l] [r] [s] 1 1
+waits l r s --outside 0009000-0009999 -> waits [l] [r] [s] 9000 9999
+waits l r s --outside 9999-9000 -> usage
+waits l r s --outside 0-9 -> usage
+waits l r s --outside 9000-10000 -> usage
+waits l r s --outside 9000 -> usage
+waits l r s --outside 9000- -> usage
+waits l r s --outside=-9000 -> usage
+waits l r s --outside 1-2-3 -> usage
+waits l r s --outside -> usage
+waits l r s --outside 1-2 --outside 1-2 -> usage
+waits l r s --blocks 7 -> usage
+verify l r s --outside 1-2 -> usage
 trace l r s -> trace [l] [r] [s] 100000
 trace l r -> usage
 trace l r s t -> usage
@@ -130,6 +147,13 @@ make -- -- -> usage
 make -> usage
 make 7 --blocks 5 -> usage
 make --turret1=a 7 --turret2 b -> make 7 1>a 2>b
+expand l -> expand [l]
+expand -- --tape -> expand [--tape]
+expand -> usage
+expand l r -> usage
+expand l --blocks 7 -> usage
+expand --tape l -> usage
+expan l -> usage
 help -> usage
 --help -> usage
 codes -> usage
@@ -162,6 +186,14 @@ fn shown(alloc: Global, answer: Result<Command, WordsFault>) -> Result<String, A
             let settings = settings.as_str();
             format!(in alloc; "verify [{left}] [{right}] [{settings}]")
         }
+        Ok(Command::Waits(left, right, settings, outside)) => {
+            let left = left.as_str();
+            let right = right.as_str();
+            let settings = settings.as_str();
+            let outside = range_shown(alloc, outside)?;
+            let outside = outside.as_str();
+            format!(in alloc; "waits [{left}] [{right}] [{settings}]{outside}")
+        }
         Ok(Command::Trace(left, right, settings, blocks)) => {
             let left = left.as_str();
             let right = right.as_str();
@@ -188,8 +220,23 @@ fn shown(alloc: Global, answer: Result<Command, WordsFault>) -> Result<String, A
             let files = files.as_str();
             format!(in alloc; "make {number}{files}")
         }
+        Ok(Command::Expand(tape)) => {
+            let tape = tape.as_str();
+            format!(in alloc; "expand [{tape}]")
+        }
         Err(WordsFault::Usage) => String::from_str(alloc, "usage"),
         Err(WordsFault::NoMemory) => String::from_str(alloc, "no memory"),
+    }
+}
+
+fn range_shown(alloc: Global, outside: Option<ProgramRange>) -> Result<String, AllocError> {
+    match outside {
+        Some(range) => {
+            let least = range.least;
+            let greatest = range.greatest;
+            format!(in alloc; " {least} {greatest}")
+        }
+        None => Ok(String::new(alloc)),
     }
 }
 

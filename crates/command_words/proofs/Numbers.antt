@@ -1,5 +1,6 @@
 -- The value of a numeral of at most seven digits.
-use Rattle.std.proofs.Common.{◌≡◌, ℕ, ◌^◌, ◌<◌, ◌≤◌, true, false, ◌&&◌, List, [], ◌∷◌, length, Result, Ok, Some, None, refl, sym, ap, ◌∙◌, arith, inl, inr}
+use Rattle.std.proofs.Common.{◌≡◌, IfSome, ℕ, ◌^◌, ◌<◌, ◌≤◌, true, false, ◌&&◌, List, [], ◌∷◌, length, Result, Ok, Some, None, refl, sym, ap, ◌∙◌, arith, inl, inr}
+use Rattle.std.proofs.lemmas.Bool.{cases_Bool}
 use Rattle.std.specs.Char.{is_ascii_digit}
 use Rattle.std.specs.List.{list_all}
 use Rattle.std.specs.Prelude.{nat_le}
@@ -60,3 +61,20 @@ number_high low high text value numeral is_value above over =
     let beyond : nat_le value high ≡ false = not_le value high over in
     let here : between low high value ≡ None = rw (more, beyond) refl in
     sym (numeral_gives low high text numeral ∙ ap (between low high) (sym is_value) ∙ here)
+
+-- a number that is read lies within its greatest
+between_within : (low high value : ℕ) → IfSome (between low high value) (λ n. n ≤ high)
+between_within low high value = elim (leb_tells low value) [
+  | inl above ↦ elim (leb_tells value high) [
+    | inl within ↦ rw (above.0, within.0) within.1
+    | inr beyond ↦ rw (above.0, beyond.0) tt
+  ]
+  | inr under ↦ rw under.0 tt
+]
+
+pub number_within : (low high : ℕ) (text : List ℕ) → IfSome (number_of low high text) (λ n. n ≤ high)
+unfolding number_of
+number_within low high text = elim (cases_Bool (is_numeral text)) [
+  | inl numeral ↦ rw numeral (between_within low high (digits_value 10 text))
+  | inr none ↦ rw none tt
+]

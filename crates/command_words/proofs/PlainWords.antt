@@ -1,8 +1,7 @@
 -- Words that are names, and where `--` and the options stand among them.
 use Rattle.std.proofs.Common.{◌≡◌, List, [], ◌∷◌, ◌++◌, Option, Some, refl, ap, ◌∙◌, codes}
-use Rattle.std.specs.Str.{bytes_eq}
-use Rattle.command_words.specs.Listed.{AreNames, IsName, IsOptionOf, Given, Marked, given, is_option, long_word, option_of, option_text, text_given, text_then, with_name, with_text}
-use Rattle.command_words.specs.Table.{Text, run_options, turret_options}
+use Rattle.command_words.specs.Listed.{AreNames, IsName, IsOptionOf, Given, Marked, given, long_word, text_given, text_then, with_name, with_text}
+use Rattle.command_words.specs.Table.{Text, outside_options, run_options, turret_options}
 use Rattle.command_words.proofs.GivenWords.{given_dashes, given_nothing, given_option, name_then, waits_for_name}
 
 abbrev pub just : List Text → List Marked → Option Given
@@ -40,6 +39,9 @@ option_attached options before after id text is plain later =
     (given_option options (long_word id ++ 61 ∷ text) id after (is.with text).0 (is.with text).1
     ∙ ap (λ t. text_given t id (given options after) (text_then options after id)) (is.with text).2
     ∙ ap (with_text id text) (names_alone options after later))
+
+pub outside_is : IsOptionOf outside_options (codes "outside")
+outside_is = record { named = refl; own = refl; alone = refl; with = λ text. (refl, refl, refl) }
 
 pub blocks_is : IsOptionOf run_options (codes "blocks")
 blocks_is = record { named = refl; own = refl; alone = refl; with = λ text. (refl, refl, refl) }

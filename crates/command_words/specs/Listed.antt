@@ -5,7 +5,9 @@ use Rattle.command_words.specs.Number.{number_of}
 use Rattle.command_words.specs.Table.{Listing, Text, row_of, takes_option}
 use Rattle.command_words.specs.declared.command.Command.{Command}
 use Rattle.command_words.specs.declared.command.Command.TheVariants as command
+use Rattle.command_words.specs.declared.command.ProgramRange.{ProgramRange}
 use Rattle.command_words.specs.declared.command.TurretFiles.{TurretFiles}
+use Rattle.command_words.specs.declared.making.Limits.{Limits}
 use Rattle.command_words.specs.declared.table.Task.{Task}
 use Rattle.command_words.specs.declared.table.Task.TheVariants as task
 
@@ -94,6 +96,7 @@ pub record OptionTextsView : Type 0 where
   pub blocks : Option Text
   pub turret1 : Option Text
   pub turret2 : Option Text
+  pub outside : Option Text
 
 -- 100,000 blocks where no limit is given
 abbrev pub limit_of : Option Text → Option ℕ
@@ -114,21 +117,47 @@ abbrev pub files_of : OptionTextsView → Option TurretFiles
 files_of texts =
     option_and_then (λ one. option_map (λ two. turret_files one two) (file_of texts.turret2)) (file_of texts.turret1)
 
--- the command that a task makes of its words, of the most blocks to run, and of the files of the turrets
-abbrev pub command_with : Task → List Text → ℕ → TurretFiles → Option Command
-command_with task.Verify (left ∷ right ∷ settings ∷ []) blocks files = Some (command.Verify left right settings)
-command_with task.Trace (left ∷ right ∷ settings ∷ []) blocks files = Some (command.Trace left right settings blocks)
-command_with task.Run (left ∷ right ∷ settings ∷ []) blocks files = Some (command.Run left right settings blocks files)
-command_with task.Resume [] blocks files = Some (command.Resume blocks files)
-command_with task.Moves [] blocks files = Some command.Moves
-command_with task.State [] blocks files = Some command.State
-command_with task.Make (number ∷ []) blocks files = option_map (λ n. command.Make n files) (number_of 0 999999 number)
+-- `-` (45)
+abbrev pub is_dash : ℕ → Bool
+is_dash b = b == 45
+
+-- a range of O numbers, by its greatest and its least
+abbrev pub range_by : Option ℕ → Option ℕ → Option ProgramRange
+range_by None least = None
+range_by (Some greatest) None = None
+range_by (Some greatest) (Some least) =
+    if nat_le least greatest then Some (record { least = least; greatest = greatest }) else None
+
+-- two numbers from 1 to 9,999 with `-` between them, the second not below the first
+abbrev pub range_of : Text → Option ProgramRange
+range_of text = range_by (number_of 1 9999 (after_first is_dash text)) (number_of 1 9999 (before_first is_dash text))
+
+-- no program is outside if no range is given
+abbrev pub outside_of : Option Text → Option (Option ProgramRange)
+outside_of None = Some None
+outside_of (Some text) = option_map Some (range_of text)
+
+-- the command that a task makes of its words, of what the options of numbers say, and of the files of the turrets
+abbrev pub command_with : Task → List Text → Limits → TurretFiles → Option Command
+command_with task.Verify (left ∷ right ∷ settings ∷ []) limits files = Some (command.Verify left right settings)
+command_with task.Waits (left ∷ right ∷ settings ∷ []) limits files = Some (command.Waits left right settings limits.outside)
+command_with task.Trace (left ∷ right ∷ settings ∷ []) limits files = Some (command.Trace left right settings limits.blocks)
+command_with task.Run (left ∷ right ∷ settings ∷ []) limits files = Some (command.Run left right settings limits.blocks files)
+command_with task.Resume [] limits files = Some (command.Resume limits.blocks files)
+command_with task.Moves [] limits files = Some command.Moves
+command_with task.State [] limits files = Some command.State
+command_with task.Make (number ∷ []) limits files = option_map (λ n. command.Make n files) (number_of 0 999999 number)
+command_with task.Expand (tape ∷ []) limits files = Some (command.Expand tape)
 command_with _ _ _ _ = None
 
 -- the same, of the texts of the options
 abbrev pub command_of : Task → List Text → OptionTextsView → Option Command
 command_of what words texts =
-    option_and_then (λ blocks. option_and_then (command_with what words blocks) (files_of texts)) (limit_of texts.blocks)
+    option_and_then
+    (λ blocks. option_and_then
+    (λ outside. option_and_then (command_with what words (record { blocks = blocks; outside = outside })) (files_of texts))
+    (outside_of texts.outside))
+    (limit_of texts.blocks)
 
 -- the text of an option, where a row takes it
 abbrev pub text_for : Listing → Text → List Marked → Option Text
@@ -140,6 +169,7 @@ texts_for row marked = record {
   blocks = text_for row (codes "blocks") marked;
   turret1 = text_for row (codes "turret1") marked;
   turret2 = text_for row (codes "turret2") marked;
+  outside = text_for row (codes "outside") marked;
 }
 
 -- a row takes as many words as it has names for, and each of its options once at most
@@ -167,12 +197,14 @@ gives_a_command row = is_some (command_given row (record { names = map (λ _. co
 -- the files of the turrets that a command names, where it may name any
 abbrev pub files_in : Command → Option TurretFiles
 files_in (command.Verify left right settings) = None
+files_in (command.Waits left right settings outside) = None
 files_in (command.Trace left right settings blocks) = None
 files_in (command.Run left right settings blocks files) = Some files
 files_in (command.Resume blocks files) = Some files
 files_in command.Moves = None
 files_in command.State = None
 files_in (command.Make number files) = Some files
+files_in (command.Expand tape) = None
 
 -- the command of the words: the first names the row, and the row says how the others are read
 unfoldable pub listed_command : List Text → Option Command

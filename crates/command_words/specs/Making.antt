@@ -16,4 +16,5 @@ texts_seen texts = record {
   blocks = option_map (λ s. s.now) texts.blocks;
   turret1 = option_map (λ s. s.now) texts.turret1;
   turret2 = option_map (λ s. s.now) texts.turret2;
+  outside = option_map (λ s. s.now) texts.outside;
 }

@@ -1,11 +1,11 @@
-use Rattle.std.specs.Prelude.{ℕ, Bool, true, false, ◌&&◌, not, List, [], ◌∷◌, map, find, Option, Some, None, codes}
+use Rattle.std.specs.Prelude.{ℕ, Bool, true, ◌&&◌, not, List, [], ◌∷◌, map, find, Option, Some, None, codes}
 use Rattle.std.specs.List.{list_any}
 use Rattle.std.specs.Str.{bytes_eq}
 use Rattle.command_words.specs.declared.table.Journal.{Journal}
 use Rattle.command_words.specs.declared.table.Journal.TheVariants as journal
 use Rattle.command_words.specs.declared.table.Row.{Row}
 use Rattle.command_words.specs.declared.table.Task.{Task}
-use Rattle.command_words.specs.declared.table.Task.TheVariants.{Verify, Trace, Run, Resume, Moves, State, Make}
+use Rattle.command_words.specs.declared.table.Task.TheVariants.{Verify, Waits, Trace, Run, Resume, Moves, State, Make, Expand}
 
 -- The commands of the program.
 
@@ -30,6 +30,10 @@ listing name words options journal task =
 abbrev pub pair_words : List Text
 pair_words = codes "left" ∷ codes "right" ∷ codes "settings" ∷ []
 
+-- the programs that the tapes may lack
+abbrev pub outside_options : List Text
+outside_options = codes "outside" ∷ []
+
 -- the most blocks to run
 abbrev pub block_options : List Text
 block_options = codes "blocks" ∷ []
@@ -45,12 +49,14 @@ run_options = codes "blocks" ∷ turret_options
 unfoldable pub listings : List Listing
 listings =
     listing (codes "verify") pair_words [] journal.None Verify
+    ∷ listing (codes "waits") pair_words outside_options journal.None Waits
     ∷ listing (codes "trace") pair_words block_options journal.None Trace
     ∷ listing (codes "run") pair_words run_options journal.Write Run
     ∷ listing (codes "resume") [] run_options journal.Write Resume
     ∷ listing (codes "moves") [] [] journal.Look Moves
     ∷ listing (codes "state") [] [] journal.Look State
-    ∷ listing (codes "make") (codes "number" ∷ []) turret_options journal.Write Make ∷ []
+    ∷ listing (codes "make") (codes "number" ∷ []) turret_options journal.Write Make
+    ∷ listing (codes "expand") (codes "tape" ∷ []) [] journal.None Expand ∷ []
 
 -- a row of the code, as clauses see it
 abbrev pub row_seen : Row → Listing

@@ -44,11 +44,20 @@ pub struct TurretFiles {
     pub two: Option<Name>,
 }
 
+/// The programs whose O numbers lie in a range, both ends included: from 1 to 9,999, the least not above the greatest.
+#[derive(Clone, Copy, Debug, PartialEq, Eq)]
+pub struct ProgramRange {
+    pub least: u16,
+    pub greatest: u16,
+}
+
 /// What the program is asked to do. Tapes are named before the settings, path 1 first.
 #[derive(Debug, Drop)]
 pub enum Command {
     /// Judge a pair of tapes under settings.
     Verify(Name, Name, Name),
+    /// Judge the waits of a pair of tapes under settings, where the tapes may lack the programs of the range.
+    Waits(Name, Name, Name, Option<ProgramRange>),
     /// Trace the run of a pair of tapes under settings, of at most this many blocks.
     Trace(Name, Name, Name, u32),
     /// Run a pair of tapes under settings, for at most this many blocks.
@@ -61,6 +70,8 @@ pub enum Command {
     State,
     /// Make the pair of tapes of this number and run it.
     Make(u32, TurretFiles),
+    /// Write out the roughing cycles of a tape as plain blocks.
+    Expand(Name),
 }
 
 impl Command {
@@ -75,9 +86,11 @@ impl Command {
             Command::Resume(_, files) => Some(files),
             Command::Make(_, files) => Some(files),
             Command::Verify(_, _, _) => None,
+            Command::Waits(_, _, _, _) => None,
             Command::Trace(_, _, _, _) => None,
             Command::Moves => None,
             Command::State => None,
+            Command::Expand(_) => None,
         }
     }
 }

@@ -2,7 +2,7 @@
 ghost use Rattle.std.specs.Prelude.{◌≡◌, ℕ, true, List, [], ◌∷◌, ◌++◌, Some, codes};
 ghost use Rattle.std.specs.List.{list_all};
 ghost use Rattle.command_words.specs.Listed.{AreNames, IsName, IsOptionOf, given, gives_a_command, long_word};
-ghost use Rattle.command_words.specs.Table.{listings, names_stand_once, run_options, turret_options};
+ghost use Rattle.command_words.specs.Table.{listings, names_stand_once, outside_options, run_options, turret_options};
 
 /// No two commands have the same name, and each gives a command for as many words as it names.
 pub fn law_of_rows()
@@ -19,8 +19,8 @@ pub fn law_of_names()
         → given options (before ++ codes "--" ∷ after) ≡ Some (record { names = before ++ after; marked = [] }) }
 {}
 
-/// An option may stand anywhere among the names, with its text as the next word or behind `=`. `--blocks`, `--turret1` and
-/// `--turret2` are such options.
+/// An option may stand anywhere among the names, with its text as the next word or behind `=`. `--blocks`, `--outside`,
+/// `--turret1` and `--turret2` are such options.
 pub fn law_of_options()
     ensures apart { (options before after : List (List ℕ)) (id text : List ℕ) → IsOptionOf options id
         → AreNames before → IsName text → AreNames after
@@ -31,6 +31,7 @@ pub fn law_of_options()
         → given options (before ++ (long_word id ++ 61 ∷ text) ∷ after)
         ≡ Some (record { names = before ++ after; marked = (id, text) ∷ [] }) }
     ensures blocks { IsOptionOf run_options (codes "blocks") }
+    ensures outside { IsOptionOf outside_options (codes "outside") }
     ensures turret1 { IsOptionOf run_options (codes "turret1") × IsOptionOf turret_options (codes "turret1") }
     ensures turret2 { IsOptionOf run_options (codes "turret2") × IsOptionOf turret_options (codes "turret2") }
 {}

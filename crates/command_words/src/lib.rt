@@ -13,7 +13,7 @@ mod number;
 mod option_texts;
 mod table;
 
-pub use command::{Command, Name, TurretFiles};
+pub use command::{Command, Name, ProgramRange, TurretFiles};
 pub use fault::WordsFault;
 pub use laws::{law_of_names, law_of_options, law_of_rows};
 pub use making::command_of;

@@ -1,10 +1,10 @@
 //! The command that a row's task makes of what its words were given.
-ghost use Rattle.std.specs.Prelude.{◌≡◌, map, option_map};
-ghost use Rattle.command_words.specs.Listed.{command_of, command_with, file_of, files_of, limit_of};
+ghost use Rattle.std.specs.Prelude.{◌≡◌, ◌≤◌, IfSome, map, option_map};
+ghost use Rattle.command_words.specs.Listed.{command_of, command_with, file_of, files_of, limit_of, outside_of, range_by, range_of};
 ghost use Rattle.command_words.specs.Making.{Answers, texts_seen};
 ghost use Rattle.command_words.specs.Number.{number_of};
 
-use crate::command::{Command, Name, TurretFiles};
+use crate::command::{Command, Name, ProgramRange, TurretFiles};
 use crate::fault::WordsFault;
 use crate::number::read_number;
 use crate::option_texts::OptionTexts;
@@ -15,8 +15,19 @@ use std::alloc::Global;
 const DEFAULT_BLOCKS: u32 = 100_000;
 
 const MOST_BLOCKS: u32 = 1_000_000;
+/// The greatest O number.
+const MOST_PROGRAMS: u32 = 9_999;
 /// The greatest number of a made pair.
 const MOST_MADE: u32 = 999_999;
+
+/// What the options of numbers say.
+#[derive(Clone, Copy)]
+pub(crate) struct Limits {
+    /// The most blocks that a call may run.
+    pub(crate) blocks: u32,
+    /// The programs that the tapes may lack.
+    pub(crate) outside: Option<ProgramRange>,
+}
 
 /// The command that a task makes of its words and of the texts of the options.
 ///
@@ -30,11 +41,62 @@ pub fn command_of(
     ensures { Answers (command_of task (map (λ s. s.now) words.now) (texts_seen texts.now)) result }
 {
     match limit_of(texts.blocks) {
-        Some(blocks) => match files_of(alloc, texts) {
-            Ok(files) => command_with(alloc, task, words, blocks, files),
-            Err(fault) => Err(fault),
+        Some(blocks) => match outside_of(texts.outside) {
+            Some(outside) => match files_of(alloc, texts) {
+                Ok(files) => command_with(alloc, task, words, Limits { blocks, outside }, files),
+                Err(fault) => Err(fault),
+            },
+            None => Err(WordsFault::Usage),
         },
         None => Err(WordsFault::Usage),
+    }
+}
+
+/// The programs outside that a text names, and none if there is no text.
+fn outside_of(text: Option<&str>) -> Option<Option<ProgramRange>>
+    ensures { result ≡ outside_of (option_map (λ s. s.now) text.entry) }
+{
+    match text {
+        None => Some(None),
+        Some(text) => match range_of(text) {
+            Some(range) => Some(Some(range)),
+            None => None,
+        },
+    }
+}
+
+/// The range that a text writes: two numbers from 1 to 9,999 with `-` between them, the second not below the first.
+fn range_of(text: &str) -> Option<ProgramRange>
+    ensures { result ≡ range_of text.now }
+{
+    match text.split_once('-') {
+        Some((least, greatest)) => range_by(
+            read_number(greatest, 1, MOST_PROGRAMS),
+            read_number(least, 1, MOST_PROGRAMS),
+        ),
+        None => None,
+    }
+}
+
+fn range_by(greatest: Option<u32>, least: Option<u32>) -> Option<ProgramRange>
+    requires greatest { IfSome greatest (λ n. n ≤ 9999) }
+    ensures { result ≡ range_by greatest least }
+{
+    match greatest {
+        Some(greatest) => match least {
+            Some(least) => {
+                if least <= greatest {
+                    Some(ProgramRange {
+                        least: least as u16,
+                        greatest: greatest as u16,
+                    })
+                } else {
+                    None
+                }
+            }
+            None => None,
+        },
+        None => None,
     }
 }
 
@@ -77,10 +139,10 @@ fn command_with(
     alloc: Global,
     task: Task,
     words: &[&str],
-    blocks: u32,
+    limits: Limits,
     files: TurretFiles,
 ) -> Result<Command, WordsFault>
-    ensures { Answers (command_with task (map (λ s. s.now) words.now) blocks files) result }
+    ensures { Answers (command_with task (map (λ s. s.now) words.now) limits files) result }
 {
     match task {
         Task::Verify => match words {
@@ -96,7 +158,16 @@ fn command_with(
                 Name::new(alloc, left)?,
                 Name::new(alloc, right)?,
                 Name::new(alloc, settings)?,
-                blocks,
+                limits.blocks,
+            )),
+            _ => Err(WordsFault::Usage),
+        },
+        Task::Waits => match words {
+            [left, right, settings] => Ok(Command::Waits(
+                Name::new(alloc, left)?,
+                Name::new(alloc, right)?,
+                Name::new(alloc, settings)?,
+                limits.outside,
             )),
             _ => Err(WordsFault::Usage),
         },
@@ -105,13 +176,13 @@ fn command_with(
                 Name::new(alloc, left)?,
                 Name::new(alloc, right)?,
                 Name::new(alloc, settings)?,
-                blocks,
+                limits.blocks,
                 files,
             )),
             _ => Err(WordsFault::Usage),
         },
         Task::Resume => match words {
-            [] => Ok(Command::Resume(blocks, files)),
+            [] => Ok(Command::Resume(limits.blocks, files)),
             _ => Err(WordsFault::Usage),
         },
         Task::Moves => match words {
@@ -124,6 +195,10 @@ fn command_with(
         },
         Task::Make => match words {
             [number] => made(number, files),
+            _ => Err(WordsFault::Usage),
+        },
+        Task::Expand => match words {
+            [tape] => Ok(Command::Expand(Name::new(alloc, tape)?)),
             _ => Err(WordsFault::Usage),
         },
     }

@@ -6,4 +6,5 @@ pub struct OptionTexts<'a> {
     pub blocks: Option<&'a str>,
     pub turret1: Option<&'a str>,
     pub turret2: Option<&'a str>,
+    pub outside: Option<&'a str>,
 }

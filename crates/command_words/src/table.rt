@@ -7,12 +7,14 @@ ghost use Rattle.command_words.specs.Table.{journal_of, listings, row_in, row_of
 #[derive(Clone, Copy, Debug, PartialEq, Eq)]
 pub enum Task {
     Verify,
+    Waits,
     Trace,
     Run,
     Resume,
     Moves,
     State,
     Make,
+    Expand,
 }
 
 /// What a command does with the journal of a run.
@@ -54,14 +56,16 @@ macro_rules! command_rows {
 }
 
 /// The commands of the program.
-const ROWS: [Row; 7] = command_rows! {
+const ROWS: [Row; 9] = command_rows! {
     "verify" ["left", "right", "settings"] [] None Verify;
+    "waits" ["left", "right", "settings"] ["outside"] None Waits;
     "trace" ["left", "right", "settings"] ["blocks"] None Trace;
     "run" ["left", "right", "settings"] ["blocks", "turret1", "turret2"] Write Run;
     "resume" [] ["blocks", "turret1", "turret2"] Write Resume;
     "moves" [] [] Look Moves;
     "state" [] [] Look State;
     "make" ["number"] ["turret1", "turret2"] Write Make;
+    "expand" ["tape"] [] None Expand;
 };
 
 /// What the command that the words name does with the journal: nothing, if they name none. They do not hold the

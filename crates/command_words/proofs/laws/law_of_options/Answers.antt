@@ -1,4 +1,4 @@
-use Rattle.command_words.proofs.PlainWords.{blocks_is, option_apart, option_attached, turret1_is, turret2_is}
+use Rattle.command_words.proofs.PlainWords.{blocks_is, option_apart, option_attached, outside_is, turret1_is, turret2_is}
 use Rattle.command_words.proofs.laws.law_of_options.Goals as goal
 
 pub returns-clause-apart : goal.returns-clause-apart
@@ -9,6 +9,9 @@ returns-clause-attached c = option_attached
 
 pub returns-clause-blocks : goal.returns-clause-blocks
 returns-clause-blocks c = blocks_is
+
+pub returns-clause-outside : goal.returns-clause-outside
+returns-clause-outside c = outside_is
 
 pub returns-clause-turret1 : goal.returns-clause-turret1
 returns-clause-turret1 c = turret1_is
