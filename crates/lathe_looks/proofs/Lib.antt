@@ -3,4 +3,6 @@ pub mod NotHad
 pub mod Judging
 pub mod TextsShown
 pub mod TurnsTold
+pub mod WaitsTold
+pub mod ExpansionTold
 pub mod BadJournal

@@ -10,7 +10,7 @@ use Rattle.lathe_looks.specs.declared.fetching.FileFault.{FileFault}
 use Rattle.lathe_looks.specs.declared.fetching.Unfetched.{Unfetched}
 use Rattle.lathe_looks.specs.Answers.{Answer}
 use Rattle.lathe_looks.specs.Named.{Named, most_bytes}
-use Rattle.lathe_looks.specs.Fetched.{AreAsked, AreHad, AreSome, AreTexts, FileCause, failed, absent, too_long, IsNotHad, IsOfFiles, not_had, unread, IsText, IsUnfetched, Reaches, fault_status, file_of, unfetched}
+use Rattle.lathe_looks.specs.Fetched.{AreAsked, AreHad, AreSome, AreTexts, FileCause, failed, absent, too_long, IsNotHad, IsOfFiles, not_had, unread, IsText, IsUnfetched, Reaches, file_of, unfetched}
 
 -- the line of a file that is not had is due
 pub unfetched_due : {A : Type 0} {listed : A → List (List ℕ)} {Rests : Type 0} {IsAnswer : A → Answer → Type 0} (files : List Named)
@@ -111,6 +111,11 @@ tapes_not_had old new one two three NoMemory is = go is.0 is.1
     go (suc zero) asked = (1, asked)
     go (suc (suc zero)) asked = (2, asked)
     go (suc (suc (suc n))) asked = (2, asked)
+
+-- a tape by itself is had
+pub tape_had : (old new : ShelfState) (one : Named) (text : List ℕ) → IsText old.files one text → AreAsked old.asked new.asked (one ∷ [])
+    → AreHad old new (one ∷ []) (text ∷ [])
+tape_had old new one text is asked = record { each = (is, tt); asked = asked }
 
 -- both tapes are had; between the two the shelf had these files, and was asked for these names
 pub tapes_had : (old new : ShelfState) (told : Option Files) (names : Option (List (List ℕ))) (one two : Named) (a b : List ℕ)

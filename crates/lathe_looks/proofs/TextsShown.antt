@@ -1,14 +1,10 @@
 -- What is shown of a run that was found.
-use Rattle.std.proofs.Common.{◌≡◌, List, ℕ, refl, sym, ap, ◌∙◌}
+use Rattle.std.proofs.Common.{◌≡◌, List, ap, ◌∙◌}
 use Rattle.move_list.specs.declared.end_line.Reason.{Reason}
-use Rattle.move_list.specs.State.{IsMachineOf, state_text}
-use Rattle.disk_model.specs.Device.{DiskState}
-use Rattle.nc_restart.specs.Pair.{tapes_in, opening_of, machine_behind}
-use Rattle.nc_restart.specs.Recovered.{IsRecovered}
+use Rattle.move_list.specs.State.{state_text}
+use Rattle.nc_restart.specs.Pair.{tapes_in, machine_behind}
 use Rattle.nc_verify.specs.declared.verified.Verified.{Verified}
-use Rattle.run_journal.specs.Kept.{Log}
 use Rattle.run_records.specs.declared.entry.Entry.{Entry}
-use Rattle.run_records.specs.declared.header.Header.{Header}
 use Rattle.two_path.specs.Machine.{MachineView}
 use Rattle.lathe_looks.specs.Standing.{reason_of, report_of, moves_text, state_of}
 

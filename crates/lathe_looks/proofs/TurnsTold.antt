@@ -1,5 +1,5 @@
 -- What is answered of a trace, from what was put.
-use Rattle.std.proofs.Common.{◌≡◌, ℕ, List, Result, sym, subst, ap, ◌∙◌}
+use Rattle.std.proofs.Common.{◌≡◌, ℕ, List, sym, subst}
 use Rattle.std.specs.Prelude.{min}
 use Rattle.nc_number.specs.declared.fault.Failing.{Failing}
 use Rattle.nc_number.specs.declared.fault.Failing.TheVariants.{Fault, NoMemory}

@@ -7,5 +7,7 @@ pub mod Judged
 pub mod Standing
 pub mod Shown
 pub mod Traced
+pub mod Waited
+pub mod Expanded
 -- Words of the inside.
 pub mod Texts

@@ -2,7 +2,7 @@
 use Rattle.std.specs.Prelude.{ℕ, List, [], ◌∷◌}
 use Rattle.nc_verify.specs.Verdict.{Texts}
 use Rattle.lathe_looks.specs.declared.files.CommandFile.{CommandFile}
-use Rattle.lathe_looks.specs.declared.files.CommandFile.TheVariants.{Left, Right, Settings}
+use Rattle.lathe_looks.specs.declared.files.CommandFile.TheVariants.{Left, Right, Settings, Tape}
 
 -- a file of a command: which of them it is, and its name
 pub record Named : Type 0 where
@@ -17,6 +17,7 @@ abbrev pub most_bytes : CommandFile → ℕ
 most_bytes Left = 4194304
 most_bytes Right = 4194304
 most_bytes Settings = 65536
+most_bytes Tape = 4194304
 
 -- the files of both tapes
 abbrev pub tapes_of : List ℕ → List ℕ → List Named
@@ -26,6 +27,14 @@ tapes_of left right = named Left left ∷ named Right right ∷ []
 abbrev pub files_of : List ℕ → List ℕ → List ℕ → List Named
 files_of left right settings = named Left left ∷ named Right right ∷ named Settings settings ∷ []
 
+-- a tape by itself
+abbrev pub tape_named : List ℕ → List Named
+tape_named name = named Tape name ∷ []
+
 -- the texts of these files, in their order
 abbrev pub listed : Texts → List (List ℕ)
 listed texts = texts.left ∷ texts.right ∷ texts.settings ∷ []
+
+-- the text of a tape by itself
+abbrev pub alone : List ℕ → List (List ℕ)
+alone text = text ∷ []

@@ -1,5 +1,5 @@
 -- What a command answers that shows what the journal on a disk holds.
-use Rattle.std.specs.Prelude.{◌≡◌, ℕ, List, ◌++◌, codes, decimal, Result, Ok, Err}
+use Rattle.std.specs.Prelude.{ℕ, List, ◌++◌, codes, decimal, Ok, Err}
 use Rattle.disk_model.specs.Device.{DiskState}
 use Rattle.nc_restart.specs.declared.fault.RestartFault.{RestartFault}
 use Rattle.nc_restart.specs.declared.fault.RestartFault.TheVariants as restart

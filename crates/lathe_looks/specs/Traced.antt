@@ -1,5 +1,5 @@
 -- What `trace` answers over the texts of its files.
-use Rattle.std.specs.Prelude.{◌≡◌, ℕ, min, List, Some}
+use Rattle.std.specs.Prelude.{ℕ, min, List, Some}
 use Rattle.move_list.specs.declared.end_line.Reason.{Reason}
 use Rattle.nc_restart.specs.Pair.{IsPairOf, tapes_in, opening_of}
 use Rattle.nc_verify.specs.declared.refusal.Refusal.{Refusal}

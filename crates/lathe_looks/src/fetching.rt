@@ -3,7 +3,7 @@ ghost use Rattle.std.specs.Prelude.{◌≡◌, ◌≤◌, [], ◌∷◌, ◌++�
 ghost use Rattle.block_order.specs.Answers.{IfFault};
 ghost use Rattle.nc_outside.specs.Files.{HoldsOn};
 ghost use Rattle.lathe_looks.specs.Answers.{Ends, IsJust, tells};
-ghost use Rattle.lathe_looks.specs.Named.{listed, named, tapes_of};
+ghost use Rattle.lathe_looks.specs.Named.{alone, listed, named, tape_named, tapes_of};
 ghost use Rattle.lathe_looks.specs.Texts.{files_in, texts_of};
 ghost use Rattle.lathe_looks.specs.Fetched.{AreAsked, AreHad, FileCause, IsText, IsUnfetched, fault_status, fault_text, file_of, unfetched};
 
@@ -123,6 +123,21 @@ pub fn fetch_texts<'a, H: Shelf>(
             right,
             settings,
         }),
+        Err(error) => Err(error),
+    }
+}
+
+/// The text of a tape by itself.
+pub(crate) fn fetch_tape<'a, H: Shelf>(
+    alloc: Global,
+    shelf: &mut H,
+    name: &'a str,
+) -> Result<Vec<u8>, Failing<Unfetched<'a>>>
+    ensures text { IfOk result (λ text. AreHad (H.state shelf.old) (H.state shelf.new) (tape_named name.now) (alone text.items)) }
+    ensures not_had { IfErr result (IsUnfetched (H.state shelf.old) (H.state shelf.new) (tape_named name.now)) }
+{
+    match fetch(alloc, shelf, CommandFile::Tape, name) {
+        Ok(text) => Ok(text),
         Err(error) => Err(error),
     }
 }

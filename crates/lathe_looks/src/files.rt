@@ -17,6 +17,8 @@ pub enum CommandFile {
     Right,
     /// The settings of the cell.
     Settings,
+    /// A tape by itself.
+    Tape,
 }
 
 impl CommandFile {
@@ -25,7 +27,7 @@ impl CommandFile {
         ensures { result ≡ most_bytes self }
     {
         match self {
-            CommandFile::Left | CommandFile::Right => LONGEST_TAPE,
+            CommandFile::Left | CommandFile::Right | CommandFile::Tape => LONGEST_TAPE,
             CommandFile::Settings => LONGEST_SETTINGS,
         }
     }

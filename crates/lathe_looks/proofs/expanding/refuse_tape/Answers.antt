@@ -1,0 +1,9 @@
+use Rattle.lathe_looks.proofs.Ended.{ends_just}
+use Rattle.lathe_looks.proofs.ExpansionTold.{refusal_told}
+use Rattle.lathe_looks.proofs.expanding.refuse_tape.Goals as goal
+
+pub returns : goal.returns
+returns g c =
+    ends_just _ _
+    (refusal_told c.args.fault c.of_number.result (rw c.number.ensures at c.of_number.ensures.number) (rw c.number.ensures at c.of_number.ensures.found))
+    c.tell_refusal.ensures

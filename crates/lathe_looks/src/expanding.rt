@@ -1,0 +1,115 @@
+//! The command `expand`.
+ghost use Rattle.std.specs.Prelude.{◌≡◌, ◌++◌, OnOk, codes};
+ghost use Rattle.nc_verify.specs.Printed.{name_text, numbered};
+ghost use Rattle.lathe_looks.specs.Answers.{Ends, IsJust, tells};
+ghost use Rattle.lathe_looks.specs.Expanded.{IsExpanded, IsTapeRefusing, at_line_text, fault_name_text, refusal_text};
+ghost use Rattle.lathe_looks.specs.Fetched.{IsOfFiles};
+ghost use Rattle.lathe_looks.specs.Named.{alone, tape_named};
+ghost use Rattle.lathe_looks.specs.Statuses as exit;
+
+use crate::ending::{Status, write_text};
+use crate::fetching::{fetch_tape, tell_unfetched};
+use crate::printing::{push_bytes, push_number};
+use nc_number::{Cause, Failing, NoMemory};
+use nc_outside::{Shelf, Sink};
+use std::alloc::Global;
+use tape_expand::{ExpandFault, expand_tape};
+
+/// Writes a tape with its roughing cycles as plain blocks, and gives the status: 0, or 1 if the tape is refused.
+pub fn expand<H: Shelf, K: Sink>(alloc: Global, name: &str, shelf: &mut H, out: &mut K) -> u8
+    ensures { Ends (IsOfFiles alone (tape_named name.now) (Unit {0}) IsExpanded (H.state shelf.old) (H.state shelf.new))
+        (K.state out.old) (K.state out.new) result }
+{
+    match fetch_tape(alloc, shelf, name) {
+        Ok(text) => expand_text(alloc, &text, out),
+        Err(error) => tell_unfetched(alloc, &error, out),
+    }
+}
+
+/// Writes the text with its roughing cycles as plain blocks, and gives the status.
+fn expand_text<K: Sink>(alloc: Global, text: &[u8], out: &mut K) -> u8
+    ensures { Ends (IsExpanded text.now) (K.state out.old) (K.state out.new) result }
+{
+    match expand_tape(alloc, text) {
+        Ok(bytes) => write_text(out, &bytes, Status::Done as u8),
+        Err(Failing::Fault(fault)) => refuse_tape(alloc, fault, out),
+        Err(Failing::NoMemory) => Status::NoMemory as u8,
+    }
+}
+
+/// Writes why a tape is refused, and gives the status of that.
+fn refuse_tape<K: Sink>(alloc: Global, fault: ExpandFault, out: &mut K) -> u8
+    ensures { Ends (IsTapeRefusing fault) (K.state out.old) (K.state out.new) result }
+{
+    tell_refusal(alloc, Cause::of_number(fault.number()), fault, out)
+}
+
+/// Writes the line of a refusal with its cause, and gives the status of that.
+fn tell_refusal<K: Sink>(alloc: Global, cause: Option<Cause>, fault: ExpandFault, out: &mut K) -> u8
+    ensures { Ends (IsJust (tells exit.refused (refusal_text cause fault))) (K.state out.old) (K.state out.new) result }
+{
+    let mut text = Vec::new(alloc);
+    if push_refusal(&mut text, cause, fault).is_err() {
+        return Status::NoMemory as u8;
+    }
+    write_text(out, text.as_slice(), Status::Refused as u8)
+}
+
+/// Puts the line of a refusal.
+#[tactic(auto, unfolding(crate::specs::Expanded::refusal_text))]
+fn push_refusal(
+    text: &mut Vec<u8>,
+    cause: Option<Cause>,
+    fault: ExpandFault,
+) -> Result<(), NoMemory>
+    ensures { OnOk result (text.new.items ≡ text.old.items ++ refusal_text cause fault) }
+{
+    push_numbered(text, b"refused ", u64::from(fault.number()))?;
+    push_name(text, cause, fault)?;
+    push_line(text, fault.line())
+}
+
+/// Puts the name of a refusal, with a blank before it.
+fn push_name(text: &mut Vec<u8>, cause: Option<Cause>, fault: ExpandFault) -> Result<(), NoMemory>
+    ensures { OnOk result (text.new.items ≡ text.old.items ++ fault_name_text cause fault) }
+{
+    match fault {
+        ExpandFault::Unreadable(_) => push_cause(text, cause),
+        ExpandFault::Cycle(fault) => push_word(text, fault.name()),
+    }
+}
+
+/// Puts the name of a cause, if there is one, with a blank before it.
+fn push_cause(text: &mut Vec<u8>, cause: Option<Cause>) -> Result<(), NoMemory>
+    ensures { OnOk result (text.new.items ≡ text.old.items ++ name_text cause) }
+{
+    match cause {
+        Some(cause) => push_word(text, cause.name()),
+        None => Ok(()),
+    }
+}
+
+/// Puts a word, with a blank before it.
+fn push_word(text: &mut Vec<u8>, word: &str) -> Result<(), NoMemory>
+    ensures { OnOk result (text.new.items ≡ text.old.items ++ (codes " " ++ word.now)) }
+{
+    push_bytes(text, b" ")?;
+    push_bytes(text, word.as_bytes())
+}
+
+/// Puts a line of the tape, and the end of the line.
+#[tactic(auto, unfolding(crate::specs::Expanded::at_line_text))]
+fn push_line(text: &mut Vec<u8>, line: u32) -> Result<(), NoMemory>
+    ensures { OnOk result (text.new.items ≡ text.old.items ++ at_line_text line) }
+{
+    push_numbered(text, b" line ", u64::from(line))?;
+    push_bytes(text, b"\n")
+}
+
+/// Puts bytes, and a number behind them.
+fn push_numbered(text: &mut Vec<u8>, before: &[u8], number: u64) -> Result<(), NoMemory>
+    ensures { OnOk result (text.new.items ≡ text.old.items ++ numbered before.now number) }
+{
+    push_bytes(text, before)?;
+    push_number(text, number)
+}
