@@ -1,19 +1,18 @@
 -- What a command does to the disk and to the turrets is what its kind may do.
-use Rattle.std.proofs.Common.{◌≡◌, inl, inr, ℕ, List, Option, Some, None, Result, Ok, Err, refl, sym, subst}
+use Rattle.std.proofs.Common.{inl, inr, ℕ, List, Some, Ok, Err, sym, subst}
 use Rattle.command_words.specs.declared.command.Command.{Command}
 use Rattle.command_words.specs.declared.command.Command.TheVariants as command
 use Rattle.disk_model.specs.Device.{DiskState}
-use Rattle.nc_outside.specs.Files.{ShelfState}
 use Rattle.nc_verify.specs.declared.verified.Verified.{Verified}
 use Rattle.nc_verify.specs.Verdict.{Texts}
 use Rattle.run_records.specs.declared.entry.Entry.{Entry}
-use Rattle.lathe_looks.specs.Answers.{Answer, Ends, whole, cut, unwritten, untold}
+use Rattle.lathe_looks.specs.Answers.{Answer, whole, cut, unwritten, untold}
 use Rattle.lathe_looks.specs.Fetched.{IsOfFiles, not_had, unread, answers}
 use Rattle.lathe_looks.specs.Named.{Named, listed}
 use Rattle.lathe_looks.specs.Shown.{IsShown, shown, unshown}
 use Rattle.lathe_top.specs.Done as done
 use Rattle.lathe_top.specs.Done.{Call, TopState, command_of, IsDone, IsDue, IsDueTo}
-use Rattle.lathe_top.specs.Kept.{Opening, anew, again, HasSession, IsLook, IsOpened, Leaves, OnlyBegins, OnlyLooks, RestsWhole}
+use Rattle.lathe_top.specs.Kept.{Opening, anew, again, HasSession, IsOpened, Leaves, OnlyLooks, RestsWhole}
 use Rattle.lathe_top.specs.Kinds as kind
 use Rattle.lathe_top.specs.Kinds.{Kind, begins, goes_on, kind_of}
 use Rattle.lathe_top.specs.Lathe.{LatheState, AreAtRest}
@@ -71,12 +70,14 @@ module _ {D : Type 0} (state : D → DiskState) where
   due_left : (asked : Command) (old new : TopState) (answer : Answer) → IsDueTo state asked old new answer
       → Leaves state (kind_of (Some asked)) old.lathe new.lathe
   due_left (command.Verify left right settings) old new answer due = due.1
+  due_left (command.Waits left right settings outside) old new answer due = due.1
   due_left (command.Trace left right settings limit) old new answer due = due.1
   due_left (command.Run left right settings limit turrets) old new answer due = files_left limit _ _ old new answer due
   due_left (command.Resume limit turrets) old new answer due = resumed_left limit old.lathe new.lathe answer due.0
   due_left command.Moves old new answer due = look_left _ old.lathe new.lathe answer due.0 due.1
   due_left command.State old new answer due = look_left _ old.lathe new.lathe answer due.0 due.1
   due_left (command.Make number turrets) old new answer due = run_left _ _ _ old.lathe new.lathe answer due.0
+  due_left (command.Expand tape) old new answer due = due.1
 
   -- who calls nothing does what any kind may
   rests_left : (asked : Kind) (old new : LatheState) → RestsWhole old new → Leaves state asked old new

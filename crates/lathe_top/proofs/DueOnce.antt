@@ -49,12 +49,23 @@ use Rattle.nc_restart.specs.Recovered.{Recovers}
 use Rattle.lathe_looks.specs.Answers.{Answer, tells, nothing}
 use Rattle.lathe_looks.specs.declared.showing.Showing.{Showing}
 use Rattle.lathe_looks.specs.declared.showing.Showing.TheVariants.{Moves, State}
+use Rattle.tape_expand.specs.declared.fault.ExpandFault.{ExpandFault}
+use Rattle.tape_expand.specs.Faults.{expand_number}
+use Rattle.lathe_looks.specs.Expanded as expand
+use Rattle.lathe_looks.specs.Expanded.{IsExpanded, refusal_text}
 use Rattle.lathe_looks.specs.Fetched.{AreTexts, FileCause, IsOfFiles, not_had, unread, answers, fault_status, fault_text}
 use Rattle.lathe_looks.specs.Judged as judged
 use Rattle.lathe_looks.specs.Judged.{IsJudged}
-use Rattle.lathe_looks.specs.Named.{Named, files_of, listed}
+use Rattle.lathe_looks.specs.Named.{Named, alone, files_of, listed, tape_named}
 use Rattle.lathe_looks.specs.Shown.{IsShown, shown, unshown, unfound, bad_text, shown_text}
 use Rattle.lathe_looks.specs.Standing.{are_finished, is_over, reason_of, report_of}
+use Rattle.open_order.specs.declared.outside.Outside.{Outside}
+use Rattle.wait_verify.specs.Asked.{Asked}
+use Rattle.wait_verify.specs.Verdict as waits
+use Rattle.wait_verify.specs.Verdict.{Judged}
+use Rattle.lathe_looks.specs.Waited as waited
+use Rattle.lathe_looks.specs.Waited.{AreWaits, asked_of}
+use Rattle.lathe_top.specs.Outside.{outside_in}
 use Rattle.lathe_looks.specs.Traced as traced
 use Rattle.lathe_looks.specs.Traced.{IsTraceOf, IsTraced, end_of, end_reason, end_status}
 use Rattle.lathe_looks.specs.Statuses as exit
@@ -70,6 +81,7 @@ use Rattle.lathe_top.specs.Done as done
 use Rattle.lathe_top.specs.Done.{Call, command_of, IsDue, IsDueTo, Serves, ServesFiles, ServesKind}
 use Rattle.lathe_top.proofs.Agreed.{Agree, agree_nothing}
 use Rattle.lathe_top.proofs.RunsFound.{least_is}
+use Rattle.lathe_top.proofs.OneMeeting.{one_text}
 
 -- no three texts are both accepted and refused
 abbrev pub NotBoth : Type 0
@@ -128,6 +140,29 @@ abbrev pub OneInTurn : Type 0
 OneInTurn = (tapes : Tapes) (first second : PathView) (limit : ℕ) (one two : List Entry) → IsInTurn tapes (opening first second) limit one
     → IsInTurn tapes (opening first second) limit two → one ≡ two
 
+-- no pair is both accepted for its waits and refused
+abbrev pub WaitsApart : Type 0
+WaitsApart = (asked : Asked) (judged : Judged) (refusal : Refusal) → waits.AreAccepted asked judged → waits.IsRefusalOf asked refusal → ⊥
+
+-- and one refusal
+abbrev pub OneWaitRefusal : Type 0
+OneWaitRefusal = (asked : Asked) (refusal other : Refusal) → waits.IsRefusalOf asked refusal → waits.IsRefusalOf asked other → refusal ≡ other
+
+waits_once : WaitsApart → OneWaitRefusal → (outside : Option Outside) (texts : Texts) (a b : Answer) → AreWaits outside texts a → AreWaits outside texts b
+    → Agree a b
+waits_once law one outside texts a b (waited.told {judged} {left} {right} {trust} are)
+    (waited.told {judged = other} {left = left'} {right = right'} {trust = trust'} too) =
+    (refl, one_text (asked_of outside texts) judged other left left' right right' trust trust' are too)
+waits_once law one outside texts a b (waited.told {judged} are) (waited.refused {refusal} denied w) =
+    absurd (law (asked_of outside texts) judged refusal are.accepted denied)
+waits_once law one outside texts a b (waited.told are) waited.unjudged = tt
+waits_once law one outside texts a b (waited.refused {refusal} denied v) (waited.told {judged} are) =
+    absurd (law (asked_of outside texts) judged refusal are.accepted denied)
+waits_once law one outside texts a b (waited.refused {refusal} {text} denied v) (waited.refused {refusal = other} {text = line} too w) =
+    (refl, line_once refusal other text line (one (asked_of outside texts) refusal other denied too) v w)
+waits_once law one outside texts a b (waited.refused denied v) waited.unjudged = tt
+waits_once law one outside texts a b waited.unjudged other = tt
+
 trace_once : OneInTurn → (limit : ℕ) (pair other : Verified) (a b : Answer) → IsSamePair pair other → IsTraceOf limit pair a → IsTraceOf limit other b → Agree a b
 trace_once law limit pair other a b same (traced.ran entries run) (traced.ran others run') =
     let there : IsInTurn (tapes_in other) (opening_of other) (min limit other.settings.records) entries =
@@ -154,28 +189,46 @@ traced_once law once machine run limit texts a b (traced.refused {refusal} {text
 traced_once law once machine run limit texts a b (traced.refused denied v) traced.untraced = tt
 traced_once law once machine run limit texts a b traced.untraced other = tt
 
--- what follows of files that are had
-files_once : (told : Files) (files : List Named) (Rests : Type 0) (IsAnswer : Texts → Answer → Type 0) (old new : ShelfState) → old.files ≡ Some told
-    → (Rose old.faults new.faults → ⊥) → ((texts : Texts) (a b : Answer) → IsAnswer texts a → IsAnswer texts b → Agree a b)
-    → (a b : Answer) → IsOfFiles listed files Rests IsAnswer old new a → IsOfFiles listed files Rests IsAnswer old new b → Agree a b
-files_once told files Rests IsAnswer old new holds calm once a b (not_had {file} {fault} one rest) (not_had {file = file'} {fault = fault'} two other) =
+-- what follows of files that are had, whose texts are told by their list
+files_once : {A : Type 0} (list_of : A → List (List ℕ)) → ((texts others : A) → list_of texts ≡ list_of others → texts ≡ others)
+    → (told : Files) (files : List Named) (Rests : Type 0) (IsAnswer : A → Answer → Type 0) (old new : ShelfState) → old.files ≡ Some told
+    → (Rose old.faults new.faults → ⊥) → ((texts : A) (a b : Answer) → IsAnswer texts a → IsAnswer texts b → Agree a b)
+    → (a b : Answer) → IsOfFiles list_of files Rests IsAnswer old new a → IsOfFiles list_of files Rests IsAnswer old new b → Agree a b
+files_once list_of by_list told files Rests IsAnswer old new holds calm once a b (not_had {file} {fault} one rest) (not_had {file = file'} {fault = fault'} two other) =
     let same = missing_once told old new files file file' fault fault' one.before two.before holds calm one.reached two.reached one.cause two.cause in
     let why =
     fault_once told old new file' fault fault' holds calm (subst (λ (f : Named). FileCause old new f fault) same one.cause) two.cause in
     (ap fault_status why, λ i. fault_text (same i).name (why i))
-files_once told files Rests IsAnswer old new holds calm once a b (not_had one rest) (unread some other) = tt
-files_once told files Rests IsAnswer old new holds calm once a b (not_had {file} {fault} one rest) (answers texts are from) =
-    absurd (all_had told old new files file fault (listed texts) holds calm are.each one)
-files_once told files Rests IsAnswer old new holds calm once a b (unread some rest) other = tt
-files_once told files Rests IsAnswer old new holds calm once a b (answers texts are from) (not_had {file} {fault} two rest) =
-    absurd (all_had told old new files file fault (listed texts) holds calm are.each two)
-files_once told files Rests IsAnswer old new holds calm once a b (answers texts are from) (unread some rest) = agree_nothing a
-files_once told files Rests IsAnswer old new holds calm once a b (answers texts are from) (answers texts' are' from') =
+files_once list_of by_list told files Rests IsAnswer old new holds calm once a b (not_had one rest) (unread some other) = tt
+files_once list_of by_list told files Rests IsAnswer old new holds calm once a b (not_had {file} {fault} one rest) (answers texts are from) =
+    absurd (all_had told old new files file fault (list_of texts) holds calm are.each one)
+files_once list_of by_list told files Rests IsAnswer old new holds calm once a b (unread some rest) other = tt
+files_once list_of by_list told files Rests IsAnswer old new holds calm once a b (answers texts are from) (not_had {file} {fault} two rest) =
+    absurd (all_had told old new files file fault (list_of texts) holds calm are.each two)
+files_once list_of by_list told files Rests IsAnswer old new holds calm once a b (answers texts are from) (unread some rest) = agree_nothing a
+files_once {A} list_of by_list told files Rests IsAnswer old new holds calm once a b (answers texts are from) (answers texts' are' from') =
     let P : Option Files → List (List ℕ) → Type 0 = λ v list. AreTexts v files list in
-    let same : listed texts ≡ listed texts' =
-    texts_once told files (listed texts) (listed texts') (subst (λ v. P v (listed texts)) holds are.each)
-    (subst (λ v. P v (listed texts')) holds are'.each) in
-    once texts' a b (subst (λ (x : Texts). IsAnswer x a) (same_texts texts texts' same) from) from'
+    let same : list_of texts ≡ list_of texts' =
+    texts_once told files (list_of texts) (list_of texts') (subst (λ v. P v (list_of texts)) holds are.each)
+    (subst (λ v. P v (list_of texts')) holds are'.each) in
+    once texts' a b (subst (λ (x : A). IsAnswer x a) (by_list texts texts' same) from) from'
+
+same_text : (text other : List ℕ) → alone text ≡ alone other → text ≡ other
+same_text text other same = cc
+
+-- what is told of a tape that is written out
+expanded_once : (text : List ℕ) (a b : Answer) → IsExpanded text a → IsExpanded text b → Agree a b
+expanded_once text a b (expand.expanded {bytes} is clear) (expand.expanded {bytes = other} too clear') = (refl, (let one : bytes ≡ other = cc in one))
+expanded_once text a b (expand.expanded is clear) (expand.refused denied v) = absurd cc
+expanded_once text a b (expand.expanded is clear) expand.unexpanded = tt
+expanded_once text a b (expand.refused denied v) (expand.expanded is clear) = absurd cc
+expanded_once text a b (expand.refused {fault} {line} denied v) (expand.refused {fault = fault'} {line = line'} too w) =
+    let same : fault ≡ fault' = cc in
+    let cause : v.0 ≡ w.0 =
+    one_cause (expand_number fault') v.0 w.0 (subst (λ (f : ExpandFault). IsCauseOf (expand_number f) v.0) same v.1) w.1 in
+    (refl, v.2 ∙ (λ i. refusal_text (cause i) (same i)) ∙ sym w.2)
+expanded_once text a b (expand.refused denied v) expand.unexpanded = tt
+expanded_once text a b expand.unexpanded other = tt
 
 -- the same pair has the same machine behind the same records
 machine_same : (pair other : Verified) (entries others : List Entry) → IsSamePair pair other → entries ≡ others
@@ -438,16 +491,19 @@ module _ {D : Type 0} (state : D → DiskState) (both : NotBoth) (one_refusal : 
 
 -- one answer is due to a command, and to a call
 module _ {D : Type 0} (state : D → DiskState) (both : NotBoth) (one_refusal : OneRefusal) (one_run : OneRun) (one_journal : OneJournal)
-    (one_machine : OneMachine) (in_turn : OneInTurn) (call : Call) (coherent : IsCoherent call.after.lathe.disk) where
+    (one_machine : OneMachine) (in_turn : OneInTurn) (waits_apart : WaitsApart) (one_wait_refusal : OneWaitRefusal) (call : Call) (coherent : IsCoherent call.after.lathe.disk) where
   due_to_once : (asked : Command) (a b : Answer) → ServesFiles (named_by (Some asked)) call → ServesKind (kind_of (Some asked)) call
       → IsDueTo state asked call.before call.after a → IsDueTo state asked call.before call.after b → Agree a b
   due_to_once (command.Verify l r c) a b files others one two =
-      files_once files.0.0 (files_of l r c) (Unit {0}) IsJudged call.before.shelf call.after.shelf files.0.1 files.1 (judged_once both one_refusal) a b one.0 two.0
+      files_once listed same_texts files.0.0 (files_of l r c) (Unit {0}) IsJudged call.before.shelf call.after.shelf files.0.1 files.1 (judged_once both one_refusal) a b one.0 two.0
+  due_to_once (command.Waits l r c o) a b files others one two =
+      files_once listed same_texts files.0.0 (files_of l r c) (Unit {0}) (AreWaits (outside_in o)) call.before.shelf call.after.shelf files.0.1 files.1
+      (waits_once waits_apart one_wait_refusal (outside_in o)) a b one.0 two.0
   due_to_once (command.Trace l r c n) a b files others one two =
-      files_once files.0.0 (files_of l r c) (Unit {0}) (IsTraced n) call.before.shelf call.after.shelf files.0.1 files.1
+      files_once listed same_texts files.0.0 (files_of l r c) (Unit {0}) (IsTraced n) call.before.shelf call.after.shelf files.0.1 files.1
       (traced_once both one_refusal one_machine in_turn n) a b one.0 two.0
   due_to_once (command.Run l r c n turrets) a b files others one two =
-      files_once files.0.0 (files_of l r c) (RestsWhole call.before.lathe call.after.lathe)
+      files_once listed same_texts files.0.0 (files_of l r c) (RestsWhole call.before.lathe call.after.lathe)
       (λ texts. IsRun state n report_of texts call.before.lathe call.after.lathe) call.before.shelf call.after.shelf files.0.1 files.1
       (run_once state both one_refusal one_run one_journal one_machine call.before.lathe call.after.lathe coherent others.0.bytes others.0.tells others.0.calm
       others.1 n report_of report_hangs)
@@ -462,6 +518,9 @@ module _ {D : Type 0} (state : D → DiskState) (both : NotBoth) (one_refusal : 
   due_to_once (command.Make n turrets) a b files others one two =
       run_once state both one_refusal one_run one_journal one_machine call.before.lathe call.after.lathe coherent others.0.bytes others.0.tells others.0.calm
       others.1 made_limit (made_text n) (made_hangs n) (made_texts n) a b one.0 two.0
+  due_to_once (command.Expand tape) a b files others one two =
+      files_once alone same_text files.0.0 (tape_named tape) (Unit {0}) IsExpanded call.before.shelf call.after.shelf files.0.1 files.1 expanded_once
+      a b one.0 two.0
 
   pub due_once : Serves call → (a b : Answer) → IsDue state call a → IsDue state call b → Agree a b
   due_once serves a b (done.usage none rests still) (done.usage again rests' still') = (refl, refl)

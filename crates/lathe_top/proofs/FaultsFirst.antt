@@ -1,5 +1,5 @@
 -- A fault of the disk goes before one of a turret, and that before all other causes, whatever the outside tells.
-use Rattle.std.proofs.Common.{◌≡◌, ℕ, ◌<◌, Some, List, refl, ap, arith, ◌∙◌, Ok, Err}
+use Rattle.std.proofs.Common.{◌≡◌, ℕ, ◌<◌, List, refl, ap, arith, Err}
 use Rattle.command_words.specs.declared.command.Command.{Command}
 use Rattle.command_words.specs.declared.command.Command.TheVariants as command
 use Rattle.disk_model.specs.Device.{DiskState}
@@ -105,12 +105,14 @@ module _ {D : Type 0} (state : D → DiskState) (wanted : ℕ) (call : Call) (so
   command_first : (asked : Command) (a : Answer) → IsDueTo state asked call.before call.after a → HasStatus wanted a
   command_first (command.Verify l r c) a due = absurd (not_rested state wanted old new some of_disk of_turret due.1)
   command_first (command.Trace l r c n) a due = absurd (not_rested state wanted old new some of_disk of_turret due.1)
+  command_first (command.Waits l r c o) a due = absurd (not_rested state wanted old new some of_disk of_turret due.1)
   command_first (command.Run l r c n turrets) a due =
       files_first state wanted old new some of_disk of_turret n _ _ call.before.shelf call.after.shelf a due
   command_first (command.Resume n turrets) a due = resumed_first state wanted old new some of_disk of_turret n a due.0
   command_first command.Moves a due = shown_first state wanted old new some of_disk of_turret _ a due.0 due.1
   command_first command.State a due = shown_first state wanted old new some of_disk of_turret _ a due.0 due.1
   command_first (command.Make n turrets) a due = run_first state wanted old new some of_disk of_turret _ _ _ a due.0
+  command_first (command.Expand tape) a due = absurd (not_rested state wanted old new some of_disk of_turret due.1)
 
   call_first : (a : Answer) → IsDue state call a → HasStatus wanted a
   call_first a (done.usage none rests still) = absurd (not_rested state wanted old new some of_disk of_turret rests)

@@ -4,6 +4,7 @@ pub mod Opened
 pub mod RunsBegun
 pub mod RunsFound
 pub mod Agreed
+pub mod OneMeeting
 pub mod DueOnce
 pub mod FaultsFirst
 pub mod RowsSay

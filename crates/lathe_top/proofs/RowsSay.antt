@@ -1,16 +1,17 @@
 -- What the row of a command says of the journal is what its kind does with it.
 use Rattle.std.proofs.Common.{◌≡◌, ℕ, Bool, true, false, cond, List, [], ◌∷◌, length, Option, Some, None, refl, sym, subst, ◌∙◌}
-use Rattle.std.specs.Prelude.{◌&&◌, ◌==◌, find, codes, option_map, option_and_then, if◌then◌else◌}
+use Rattle.std.specs.Prelude.{◌&&◌, ◌==◌, option_map, option_and_then, if◌then◌else◌}
 use Rattle.std.specs.Str.{bytes_eq}
 use Rattle.std.proofs.lemmas.Option.{option_and_then_some}
 use Rattle.command_words.specs.declared.command.Command.{Command}
 use Rattle.command_words.specs.declared.command.Command.TheVariants as command
+use Rattle.command_words.specs.declared.command.ProgramRange.{ProgramRange}
 use Rattle.command_words.specs.declared.command.TurretFiles.{TurretFiles}
 use Rattle.command_words.specs.declared.table.Journal.{Journal}
 use Rattle.command_words.specs.declared.table.Journal.TheVariants as journal
 use Rattle.command_words.specs.declared.table.Task.{Task}
 use Rattle.command_words.specs.declared.table.Task.TheVariants as task
-use Rattle.command_words.specs.Listed.{Given, OptionTextsView, command_behind, command_given, command_of, command_with, files_of, given, limit_of, listed_command, stand_once, texts_for}
+use Rattle.command_words.specs.Listed.{Given, OptionTextsView, command_behind, command_given, command_of, command_with, files_of, given, limit_of, listed_command, outside_of, stand_once, texts_for}
 use Rattle.command_words.specs.Number.{number_of}
 use Rattle.command_words.specs.Table.{Listing, Text, journal_in, journal_of, listings, row_in, row_of}
 use Rattle.lathe_top.specs.Kinds.{kind_of, journal_for}
@@ -19,11 +20,13 @@ use Rattle.lathe_top.specs.Kinds.{kind_of, journal_for}
 abbrev journal_by : Task → Journal
 journal_by task.Verify = journal.None
 journal_by task.Trace = journal.None
+journal_by task.Waits = journal.None
 journal_by task.Run = journal.Write
 journal_by task.Resume = journal.Write
 journal_by task.Moves = journal.Look
 journal_by task.State = journal.Look
 journal_by task.Make = journal.Write
+journal_by task.Expand = journal.None
 
 -- a command is of a kind that does this with the journal
 abbrev Does : Command → Journal → Type 0
@@ -36,43 +39,60 @@ made_number files (Some n) asked is =
     let same : command.Make n files ≡ asked = cc in subst (λ c. Does c journal.Write) same refl
 
 -- the command that a task makes does with the journal what the task does
-does_as : (what : Task) (names : List Text) (blocks : ℕ) (files : TurretFiles) (asked : Command) → command_with what names blocks files ≡ Some asked
-    → Does asked (journal_by what)
-does_as task.Verify [] blocks files asked is = absurd cc
-does_as task.Verify (a ∷ []) blocks files asked is = absurd cc
-does_as task.Verify (a ∷ b ∷ []) blocks files asked is = absurd cc
-does_as task.Verify (a ∷ b ∷ c ∷ []) blocks files asked is =
+does_as : (what : Task) (names : List Text) (blocks : ℕ) (outside : Option ProgramRange) (files : TurretFiles) (asked : Command)
+    → command_with what names (record { blocks = blocks; outside = outside }) files ≡ Some asked → Does asked (journal_by what)
+does_as task.Verify [] blocks outside files asked is = absurd cc
+does_as task.Verify (a ∷ []) blocks outside files asked is = absurd cc
+does_as task.Verify (a ∷ b ∷ []) blocks outside files asked is = absurd cc
+does_as task.Verify (a ∷ b ∷ c ∷ []) blocks outside files asked is =
     let same : command.Verify a b c ≡ asked = cc in subst (λ x. Does x journal.None) same refl
-does_as task.Verify (a ∷ b ∷ c ∷ d ∷ rest) blocks files asked is = absurd cc
-does_as task.Trace [] blocks files asked is = absurd cc
-does_as task.Trace (a ∷ []) blocks files asked is = absurd cc
-does_as task.Trace (a ∷ b ∷ []) blocks files asked is = absurd cc
-does_as task.Trace (a ∷ b ∷ c ∷ []) blocks files asked is =
+does_as task.Verify (a ∷ b ∷ c ∷ d ∷ rest) blocks outside files asked is = absurd cc
+does_as task.Trace [] blocks outside files asked is = absurd cc
+does_as task.Trace (a ∷ []) blocks outside files asked is = absurd cc
+does_as task.Trace (a ∷ b ∷ []) blocks outside files asked is = absurd cc
+does_as task.Trace (a ∷ b ∷ c ∷ []) blocks outside files asked is =
     let same : command.Trace a b c blocks ≡ asked = cc in subst (λ x. Does x journal.None) same refl
-does_as task.Trace (a ∷ b ∷ c ∷ d ∷ rest) blocks files asked is = absurd cc
-does_as task.Run [] blocks files asked is = absurd cc
-does_as task.Run (a ∷ []) blocks files asked is = absurd cc
-does_as task.Run (a ∷ b ∷ []) blocks files asked is = absurd cc
-does_as task.Run (a ∷ b ∷ c ∷ []) blocks files asked is =
+does_as task.Trace (a ∷ b ∷ c ∷ d ∷ rest) blocks outside files asked is = absurd cc
+does_as task.Waits [] blocks outside files asked is = absurd cc
+does_as task.Waits (a ∷ []) blocks outside files asked is = absurd cc
+does_as task.Waits (a ∷ b ∷ []) blocks outside files asked is = absurd cc
+does_as task.Waits (a ∷ b ∷ c ∷ []) blocks outside files asked is =
+    let same : command.Waits a b c outside ≡ asked = cc in subst (λ x. Does x journal.None) same refl
+does_as task.Waits (a ∷ b ∷ c ∷ d ∷ rest) blocks outside files asked is = absurd cc
+does_as task.Run [] blocks outside files asked is = absurd cc
+does_as task.Run (a ∷ []) blocks outside files asked is = absurd cc
+does_as task.Run (a ∷ b ∷ []) blocks outside files asked is = absurd cc
+does_as task.Run (a ∷ b ∷ c ∷ []) blocks outside files asked is =
     let same : command.Run a b c blocks files ≡ asked = cc in subst (λ x. Does x journal.Write) same refl
-does_as task.Run (a ∷ b ∷ c ∷ d ∷ rest) blocks files asked is = absurd cc
-does_as task.Resume [] blocks files asked is =
+does_as task.Run (a ∷ b ∷ c ∷ d ∷ rest) blocks outside files asked is = absurd cc
+does_as task.Resume [] blocks outside files asked is =
     let same : command.Resume blocks files ≡ asked = cc in subst (λ x. Does x journal.Write) same refl
-does_as task.Resume (a ∷ rest) blocks files asked is = absurd cc
-does_as task.Moves [] blocks files asked is = let same : command.Moves ≡ asked = cc in subst (λ x. Does x journal.Look) same refl
-does_as task.Moves (a ∷ rest) blocks files asked is = absurd cc
-does_as task.State [] blocks files asked is = let same : command.State ≡ asked = cc in subst (λ x. Does x journal.Look) same refl
-does_as task.State (a ∷ rest) blocks files asked is = absurd cc
-does_as task.Make [] blocks files asked is = absurd cc
-does_as task.Make (a ∷ []) blocks files asked is = made_number files (number_of 0 999999 a) asked is
-does_as task.Make (a ∷ b ∷ rest) blocks files asked is = absurd cc
+does_as task.Resume (a ∷ rest) blocks outside files asked is = absurd cc
+does_as task.Moves [] blocks outside files asked is = let same : command.Moves ≡ asked = cc in subst (λ x. Does x journal.Look) same refl
+does_as task.Moves (a ∷ rest) blocks outside files asked is = absurd cc
+does_as task.State [] blocks outside files asked is = let same : command.State ≡ asked = cc in subst (λ x. Does x journal.Look) same refl
+does_as task.State (a ∷ rest) blocks outside files asked is = absurd cc
+does_as task.Make [] blocks outside files asked is = absurd cc
+does_as task.Make (a ∷ []) blocks outside files asked is = made_number files (number_of 0 999999 a) asked is
+does_as task.Make (a ∷ b ∷ rest) blocks outside files asked is = absurd cc
+does_as task.Expand [] blocks outside files asked is = absurd cc
+does_as task.Expand (a ∷ []) blocks outside files asked is = let same : command.Expand a ≡ asked = cc in subst (λ x. Does x journal.None) same refl
+does_as task.Expand (a ∷ b ∷ rest) blocks outside files asked is = absurd cc
 
 of_texts : (what : Task) (names : List Text) (texts : OptionTextsView) (asked : Command) → command_of what names texts ≡ Some asked
     → Does asked (journal_by what)
 of_texts what names texts asked is =
-    option_and_then_some (λ blocks. option_and_then (command_with what names blocks) (files_of texts)) (limit_of texts.blocks) asked is
-    (λ blocks limit made. option_and_then_some (command_with what names blocks) (files_of texts) asked made
-    (λ files named one. does_as what names blocks files asked one))
+    option_and_then_some
+    (λ blocks. option_and_then
+    (λ outside. option_and_then (command_with what names (record { blocks = blocks; outside = outside })) (files_of texts))
+    (outside_of texts.outside))
+    (limit_of texts.blocks) asked is
+    (λ blocks limit made. option_and_then_some
+    (λ outside. option_and_then (command_with what names (record { blocks = blocks; outside = outside })) (files_of texts))
+    (outside_of texts.outside) asked made
+    (λ outside range found. option_and_then_some (command_with what names (record { blocks = blocks; outside = outside })) (files_of texts)
+    asked found
+    (λ files named one. does_as what names blocks outside files asked one)))
 
 of_given : (row : Listing) (all : Given) (asked : Command) → command_given row all ≡ Some asked → Does asked (journal_by row.task)
 of_given row all asked is = go (length all.names == length row.words && stand_once all.marked) is
@@ -93,7 +113,7 @@ Say (row ∷ rows) = (row.journal ≡ journal_by row.task) × Say rows
 
 listings_say : Say listings
 unfolding listings
-listings_say = (refl, (refl, (refl, (refl, (refl, (refl, (refl, tt)))))))
+listings_say = (refl, (refl, (refl, (refl, (refl, (refl, (refl, (refl, (refl, tt)))))))))
 
 found_says : (rows : List Listing) (name : Text) (row : Listing) → Say rows → row_in rows name ≡ Some row → row.journal ≡ journal_by row.task
 found_says [] name row say is = absurd cc

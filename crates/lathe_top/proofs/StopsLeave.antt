@@ -1,8 +1,8 @@
 -- What a stop at any moment of a call leaves: no journal that is bad; and where a run was, a history of it that goes on.
-use Rattle.std.proofs.Common.{◌≡◌, ◌⊎◌, inl, inr, ⊎_elim, ℕ, ◌≤◌, ◌<◌, List, [], ◌∷◌, length, take, drop, sym, ap, subst, arith, ◌∙◌, length-take, take-append-drop}
+use Rattle.std.proofs.Common.{◌≡◌, ◌⊎◌, inl, inr, ⊎_elim, ℕ, ◌≤◌, List, [], ◌∷◌, length, take, drop, sym, ap, subst, arith, ◌∙◌, length-take, take-append-drop}
 use Rattle.std.proofs.Math.Seq.{take-length}
 use Rattle.std.proofs.lemmas.List.{take-append-le}
-use Rattle.disk_model.specs.Device.{DiskState, Reads, IsCoherent, Only}
+use Rattle.disk_model.specs.Device.{DiskState, Reads, IsCoherent}
 use Rattle.disk_model.specs.Moments.{LeavesOnly, Unwritten}
 use Rattle.disk_model.proofs.Runs.{joined}
 use Rattle.gate_file.specs.Chain.{IsNoRun, IsRunThere}
@@ -20,8 +20,8 @@ use Rattle.lathe_top.specs.Session.{Session, IsSession}
 use Rattle.lathe_top.specs.Lathe.{LatheState}
 use Rattle.lathe_top.specs.Kinds as kind
 use Rattle.lathe_top.specs.Kinds.{Kind, kind_of}
-use Rattle.lathe_top.specs.Kept.{Opening, anew, again, HasSession, KeepsSession, Leaves, IsOfOpening, IsRefusedBeginning, OnlyBegins, OnlyLooks, RestsWhole}
-use Rattle.lathe_top.specs.Stops.{GoesOnAs, IsNoneOrRun, CallOver, lathe_before, lathe_behind, StoppedCall, AreStopped, images_of, BecomeOneHistory}
+use Rattle.lathe_top.specs.Kept.{Opening, anew, again, HasSession, KeepsSession, Leaves, IsOfOpening, OnlyBegins, OnlyLooks, RestsWhole}
+use Rattle.lathe_top.specs.Stops.{GoesOnAs, IsNoneOrRun, lathe_before, lathe_behind, StoppedCall, AreStopped, images_of, BecomeOneHistory}
 use Rattle.lathe_top.proofs.DueOnce.{OneRun, header_in, entries_in}
 
 -- a beginning of a history is a history

@@ -247,11 +247,13 @@ module _ {D : Type 0} (state : D → DiskState) (call : Call) where
       → IsUncut (answer_status answer) → HasStreams state call (answer_status answer)
   due_streams (command.Verify left right settings) answer due makes uncut = absurd makes
   due_streams (command.Trace left right settings limit) answer due makes uncut = absurd makes
+  due_streams (command.Waits left right settings outside) answer due makes uncut = absurd makes
   due_streams (command.Run left right settings limit turrets) answer due makes uncut = files_streams limit _ _ answer due uncut
   due_streams (command.Resume limit turrets) answer due makes uncut = resumed_streams limit answer due.0 uncut
   due_streams command.Moves answer due makes uncut = absurd makes
   due_streams command.State answer due makes uncut = absurd makes
   due_streams (command.Make number turrets) answer due makes uncut = run_streams _ _ _ answer due.0 uncut
+  due_streams (command.Expand tape) answer due makes uncut = absurd makes
 
   call_streams : (answer : Answer) → IsDue state call answer → MakesRecords (kind_of (command_of call)) → IsUncut (answer_status answer)
       → HasStreams state call (answer_status answer)

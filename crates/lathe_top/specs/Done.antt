@@ -11,17 +11,20 @@ use Rattle.nc_outside.specs.Files.{Files, ShelfState}
 use Rattle.nc_outside.specs.Written.{SinkState, Writes}
 use Rattle.lathe_looks.specs.declared.showing.Showing.TheVariants as showing
 use Rattle.lathe_looks.specs.Answers.{Answer, tells, nothing, Ends}
+use Rattle.lathe_looks.specs.Expanded.{IsExpanded}
 use Rattle.lathe_looks.specs.Fetched.{IsOfFiles}
 use Rattle.lathe_looks.specs.Judged.{IsJudged}
-use Rattle.lathe_looks.specs.Named.{Named, files_of, listed}
+use Rattle.lathe_looks.specs.Named.{Named, alone, files_of, listed, tape_named}
 use Rattle.lathe_looks.specs.Shown.{IsShown, shown_text}
 use Rattle.lathe_looks.specs.Standing.{report_of}
 use Rattle.lathe_looks.specs.Statuses as exit
 use Rattle.lathe_looks.specs.Traced.{IsTraced}
+use Rattle.lathe_looks.specs.Waited.{AreWaits}
 use Rattle.turret_run.specs.Runs.{turret_for}
 use Rattle.lathe_top.specs.Kinds.{Kind, rests, looks, begins, goes_on, kind_of, named_by}
 use Rattle.lathe_top.specs.Lathe.{LatheState, AreAtRest}
 use Rattle.lathe_top.specs.Made.{made_limit, made_texts, made_text}
+use Rattle.lathe_top.specs.Outside.{outside_in}
 use Rattle.lathe_top.specs.Kept.{RestsWhole}
 use Rattle.lathe_top.specs.Ran.{IsRun, IsResumed}
 
@@ -53,6 +56,9 @@ AsksNothing old new = new.shelf ≡ old.shelf
 abbrev pub IsDueTo : {D : Type 0} → (D → DiskState) → Command → TopState → TopState → Answer → Type 0
 IsDueTo state (command.Verify left right settings) old new answer =
     IsOfFiles listed (files_of left right settings) (Unit {0}) IsJudged old.shelf new.shelf answer × RestsWhole old.lathe new.lathe
+IsDueTo state (command.Waits left right settings outside) old new answer =
+    IsOfFiles listed (files_of left right settings) (Unit {0}) (AreWaits (outside_in outside)) old.shelf new.shelf answer
+    × RestsWhole old.lathe new.lathe
 IsDueTo state (command.Trace left right settings limit) old new answer =
     IsOfFiles listed (files_of left right settings) (Unit {0}) (IsTraced limit) old.shelf new.shelf answer × RestsWhole old.lathe new.lathe
 IsDueTo state (command.Run left right settings limit turrets) old new answer =
@@ -65,6 +71,8 @@ IsDueTo state command.Moves old new answer =
     IsShown (shown_text showing.Moves) old.lathe.disk new.lathe.disk answer × AreAtRest old.lathe new.lathe × AsksNothing old new
 IsDueTo state command.State old new answer =
     IsShown (shown_text showing.State) old.lathe.disk new.lathe.disk answer × AreAtRest old.lathe new.lathe × AsksNothing old new
+IsDueTo state (command.Expand tape) old new answer =
+    IsOfFiles alone (tape_named tape) (Unit {0}) IsExpanded old.shelf new.shelf answer × RestsWhole old.lathe new.lathe
 
 -- What there is to tell of a call, and what it did: its words are no command; or there was no memory to read them; or it is what
 -- its command does.

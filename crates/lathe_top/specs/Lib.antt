@@ -7,6 +7,7 @@ pub mod Turrets
 pub mod Kept
 pub mod Ran
 pub mod Made
+pub mod Outside
 pub mod Stops
 pub mod Streams
 -- Words of the inside.

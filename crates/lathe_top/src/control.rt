@@ -6,24 +6,27 @@ ghost use Rattle.lathe_looks.specs.Named.{files_of};
 ghost use Rattle.lathe_looks.specs.Texts.{files_in};
 ghost use Rattle.lathe_top.specs.Done.{GetsItsStatus, IsDone, IsDueTo, at};
 ghost use Rattle.lathe_top.specs.Lathe.{lathe_of, lathe_left};
+ghost use Rattle.lathe_top.specs.Outside.{outside_in};
 
 use crate::beginning::run;
-use crate::looking::{judge, look, trace_pair};
+use crate::looking::{judge, judge_waits, look, trace_pair, write_out};
 use crate::making::make;
 use crate::outcome::{Lathe, Outcome};
 use crate::resuming::resume;
 use clap_reading::read_words;
-use command_words::{Command, Name, WordsFault};
+use command_words::{Command, Name, ProgramRange, WordsFault};
 use disk_model::Disk;
 use lathe_looks::{FileNames, Showing, Status, tell_usage};
 use nc_outside::{Shelf, Sink, Turret};
 use nc_restart::{a_machine_hangs_on_its_texts, an_image_stands_for_one_run};
 use nc_verify::{accepted_texts_are_not_refused, texts_have_one_refusal};
+use open_order::Outside;
 use run_journal::a_journal_stands_for_one_thing;
 use std::alloc::Global;
 use std::sync::Wait;
 use std::thread::Threads;
 use turn_order::one_run_in_turn;
+use wait_verify::{accepted_pairs_are_not_refused, pairs_have_one_refusal};
 
 /// Does what the words say with the files of the shelf, the journal on the disk and the turrets of both paths,
 /// writes the answer to `out`, and gives the status, the disk and the turrets.
@@ -71,6 +74,8 @@ where
     a_journal_stands_for_one_thing();
     a_machine_hangs_on_its_texts();
     one_run_in_turn();
+    accepted_pairs_are_not_refused();
+    pairs_have_one_refusal();
     respond(rt, alloc, words, shelf, lathe, out)
 }
 
@@ -136,6 +141,17 @@ where
         Command::Verify(left, right, settings) => {
             judge(alloc, &names_of(left, right, settings), shelf, lathe, out)
         }
+        Command::Waits(left, right, settings, outside) => {
+            let range = outside_in(*outside);
+            judge_waits(
+                alloc,
+                &names_of(left, right, settings),
+                range,
+                shelf,
+                lathe,
+                out,
+            )
+        }
         Command::Trace(left, right, settings, blocks) => {
             trace_pair(
                 alloc,
@@ -154,6 +170,20 @@ where
         Command::Moves => look(alloc, Showing::Moves, lathe, out),
         Command::State => look(alloc, Showing::State, lathe, out),
         Command::Make(number, _) => make(rt, alloc, *number, lathe, out),
+        Command::Expand(tape) => write_out(alloc, tape.as_str(), shelf, lathe, out),
+    }
+}
+
+/// The programs outside, as the verdict on waits takes them.
+fn outside_in(range: Option<ProgramRange>) -> Option<Outside>
+    ensures { result ≡ outside_in range }
+{
+    match range {
+        Some(range) => Some(Outside {
+            least: range.least,
+            greatest: range.greatest,
+        }),
+        None => None,
     }
 }
 

@@ -17,7 +17,7 @@ returns-clause-due g c =
           ends_told due_status due_text result
           (λ answer other. due_once state c.accepted_texts_are_not_refused.ensures c.texts_have_one_refusal.ensures
           c.an_image_stands_for_one_run.ensures c.a_journal_stands_for_one_thing.ensures c.a_machine_hangs_on_its_texts.ensures
-          c.one_run_in_turn.ensures _
+          c.one_run_in_turn.ensures c.accepted_pairs_are_not_refused.ensures c.pairs_have_one_refusal.ensures _
           (disks.coherent c.respond.result.lathe.disk) serves answer _ other due)
           c.respond.ensures;
     }

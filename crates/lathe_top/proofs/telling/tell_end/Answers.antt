@@ -1,5 +1,4 @@
-use Rattle.std.proofs.Common.{refl, sym, ap}
-use Rattle.lathe_looks.specs.Answers.{tells}
+use Rattle.std.proofs.Common.{refl}
 use Rattle.lathe_looks.proofs.Ended.{ends_put}
 use Rattle.lathe_top.proofs.telling.tell_end.Goals as goal
 
