@@ -1,0 +1,2 @@
+pub mod NeedsNamed
+pub mod WritesMarked

@@ -1,0 +1,200 @@
+-- A block writes only variables that it may write by its text.
+use Rattle.std.proofs.Common.{◌≡◌, ◌==◌, ℕ, Bool, true, false, List, [], ◌∷◌, Option, Some, None, Result, Ok, Err, refl, subst}
+use Rattle.std.proofs.lemmas.Bool.{eq-eqb}
+use Rattle.nc_number.specs.declared.cause.Cause.{Cause}
+use Rattle.nc_number.specs.declared.point.Point.{Point}
+use Rattle.nc_number.specs.declared.value.Var.{Var}
+use Rattle.nc_moves.specs.declared.motion.Move.{Move}
+use Rattle.common_vars.specs.declared.variable.Variable.{Variable}
+use Rattle.common_vars.specs.declared.variable.Variable.TheVariants as variable
+use Rattle.common_vars.specs.Variables.{variable_of}
+use Rattle.common_vars.proofs.VariableNumbers.{what_is_named}
+use Rattle.local_levels.specs.Stack.{all_vacant}
+use Rattle.offset_store.specs.declared.slot.Slot.{Slot}
+use Rattle.offset_store.specs.declared.slot.Slot.TheVariants.{Work}
+use Rattle.offset_store.specs.declared.fault.OffsetFault.{OffsetFault}
+use Rattle.offset_store.specs.Changes.{in_range, point_at}
+use Rattle.block_order.specs.declared.control.Control.{Control}
+use Rattle.block_order.specs.declared.control.Control.TheVariants as control
+use Rattle.block_order.specs.declared.frame.Frame.{Frame}
+use Rattle.block_order.specs.declared.program.ControlProgram.{ControlProgram}
+use Rattle.block_forms.specs.declared.block.FlowBlock.{FlowBlock}
+use Rattle.block_forms.specs.declared.body.FlowBody.{FlowBody}
+use Rattle.block_forms.specs.declared.body.FlowBody.TheVariants.{Words, Statement}
+use Rattle.block_forms.specs.declared.purpose.Purpose.{Purpose}
+use Rattle.block_forms.specs.declared.purpose.Purpose.TheVariants.{MacroCall}
+use Rattle.block_forms.specs.declared.word.FlowWord.{FlowWord}
+use Rattle.macro_expr.specs.Tree.{Tree, Named, Fixed as Plain, Computed, Aim, Sentence, Assign, Goto, IfGoto, IfThen, WhileDo, DoOnly, EndLoop, sentence_of}
+use Rattle.macro_eval.specs.Meaning.{variable_number}
+use Rattle.tape_flow.specs.declared.flow.Flow.{Flow}
+use Rattle.path_state.specs.View.{Fixed, PathView}
+use Rattle.path_state.specs.Looks.{is_shared}
+use Rattle.path_state.specs.Outcomes.{Outcome, Gives, Needs, Alarms, reading_none, evaluated}
+use Rattle.path_state.specs.Values.{Values, nothing_said, sense_of, words_taken}
+use Rattle.path_state.specs.Arguments.{arguments_taken}
+use Rattle.path_state.specs.Places.{Standing, goes_on, jumped, loop_left, loop_again}
+use Rattle.path_state.specs.Statements.{Write, After, standing_of, existing, number_named, length_of, along, with_offset, written_path, with_common, written, named, assigned, tested, aimed, moved, gone_to, gone_next, assigned_next, statement_effect}
+use Rattle.path_state.specs.Effect.{Effect, Done, Moved, acted, done_by, controlled, of_moved, of_values, of_arguments, of_purpose, block_of_words, of_after, effect_of_body, effect_of_block, block_at, effect_of}
+use Rattle.path_state.proofs.ControlledStatements.{OnGives, behind_gives, after_any, either}
+use Rattle.named_vars.specs.Names.{may_be, sentence_may_write, body_may_write, found_may_write, block_may_write}
+
+-- what is said of the variable of a write, if there is one
+abbrev OnWrite : (ℕ → Type 0) → Option Write → Type 0
+OnWrite P None = Unit {0}
+OnWrite P (Some write) = P write.variable
+
+abbrev Writes : (ℕ → Type 0) → After → Type 0
+Writes P after = OnWrite P after.write
+
+-- a common variable that a left side comes to may be its variable
+abbrev IsMeant : Named → Variable → Type 0
+IsMeant name (variable.Common v) = may_be name v ≡ true
+IsMeant name _ = Unit {0}
+
+computed_meant : (t : Tree) (v : Variable) → IsMeant (Computed t) v
+computed_meant t (variable.Common v) = refl
+computed_meant t _ = tt
+
+plain_meant : (n : ℕ) (v : Variable) → variable_of n ≡ Some v → IsMeant (Plain n) v
+plain_meant n (variable.Common v) is =
+    subst (λ k. (k == v) ≡ true) (what_is_named n (variable.Common v) is).1 (eq-eqb v v refl)
+plain_meant n _ is = tt
+
+module _ (fixed : Fixed) (path : PathView) where
+  plain_gives : (n : ℕ) (found : Option Variable) → variable_of n ≡ found → (reads : List Var)
+      → OnGives (IsMeant (Plain n)) (reading_none (existing found) reads)
+  plain_gives n None is reads = tt
+  plain_gives n (Some v) is reads = plain_meant n v is
+
+  number_gives : (t : Tree) (r : Result Variable Cause) (left : List Var) → OnGives (IsMeant (Computed t)) (reading_none r left)
+  number_gives t (Ok v) left = computed_meant t v
+  number_gives t (Err cause) left = tt
+
+  named_gives : (name : Named) (reads : List Var) → OnGives (IsMeant name) (named fixed path name reads)
+  named_gives (Plain n) reads = plain_gives n (variable_of n) refl reads
+  named_gives (Computed t) reads =
+      after_any (IsMeant (Computed t)) (evaluated fixed path t reads) _
+      (λ value left. number_gives t (number_named (variable_number value)) left)
+
+  module _ (P : ℕ → Type 0) where
+    common-writes : (shared : Bool) (v : ℕ) (value : Var) → P v → Writes P (with_common shared path v value)
+    common-writes true v value said = said
+    common-writes false v value said = tt
+
+    offset-writes : (slot : Slot) (to : Result Point OffsetFault) (left : List Var)
+        → OnGives (Writes P) (written_path (with_offset path slot to) left)
+    offset-writes slot (Ok to) left = tt
+    offset-writes slot (Err fault) left = tt
+
+    written-writes : (name : Named) → ((v : ℕ) → may_be name v ≡ true → P v) → (v : Variable) → IsMeant name v
+        → (value : Var) (left : List Var) → OnGives (Writes P) (written fixed path v value left)
+    written-writes name all (variable.Local i) meant value left = tt
+    written-writes name all (variable.Common v) meant value left = common-writes (is_shared fixed v) v value (all v meant)
+    written-writes name all (variable.Work n axis) meant value left =
+        offset-writes (Work n) (in_range (along axis (length_of value) (point_at path.offsets (Work n)))) left
+    written-writes name all variable.Raise meant value left = tt
+    written-writes name all _ meant value left = tt
+
+    assigned-writes : (name : Named) (t : Tree) → ((v : ℕ) → may_be name v ≡ true → P v) → (reads : List Var)
+        → OnGives (Writes P) (assigned_next fixed path name t reads)
+    assigned-writes name t all reads =
+        behind_gives (Writes P) (Writes P) (assigned fixed path name t reads) _
+        (behind_gives (IsMeant name) (Writes P) (named fixed path name reads) _ (named_gives name reads)
+        (λ v behind_name meant. after_any (Writes P) (evaluated fixed path t behind_name) _
+        (λ value left. written-writes name all v meant value left)))
+        (λ after left writes. writes)
+
+    moved-writes : (to : Result Standing Cause) (left : List Var) → OnGives (Writes P) (moved path to left)
+    moved-writes (Ok to) left = tt
+    moved-writes (Err cause) left = tt
+
+    gone-writes : (tape : List ControlProgram) (aim : Aim) (reads : List Var)
+        → OnGives (Writes P) (gone_to tape fixed path aim reads)
+    gone-writes tape aim reads =
+        after_any (Writes P) (aimed fixed path aim reads) _
+        (λ n left. moved-writes (jumped tape (standing_of path) n) left)
+
+    statement-writes : (tape : List ControlProgram) (sentence : Sentence)
+        → ((v : ℕ) → sentence_may_write sentence v ≡ true → P v)
+        → (reads : List Var) → OnGives (Writes P) (statement_effect tape fixed path sentence reads)
+    statement-writes tape (Assign name t) all reads = assigned-writes name t all reads
+    statement-writes tape (Goto aim) all reads = gone-writes tape aim reads
+    statement-writes tape (IfGoto test aim) all reads =
+        after_any (Writes P) (tested fixed path test reads) _ (λ holds left.
+        either (Writes P) holds (gone_to tape fixed path aim left) (gone_next path left) (gone-writes tape aim left) tt)
+    statement-writes tape (IfThen test name t) all reads =
+        after_any (Writes P) (tested fixed path test reads) _ (λ holds left.
+        either (Writes P) holds (assigned_next fixed path name t left) (gone_next path left) (assigned-writes name t all left) tt)
+    statement-writes tape (WhileDo test m) all reads =
+        after_any (Writes P) (tested fixed path test reads) _ (λ holds left.
+        either (Writes P) holds (gone_next path left) (moved path (loop_left tape (standing_of path)) left) tt
+        (moved-writes (loop_left tape (standing_of path)) left))
+    statement-writes tape (DoOnly m) all reads = tt
+    statement-writes tape (EndLoop m) all reads = moved-writes (loop_again tape (standing_of path)) reads
+
+-- what is said of the variable that a block writes
+abbrev EffectWrites : (ℕ → Type 0) → Effect → Type 0
+EffectWrites P (Done after write moves) = OnWrite P write
+EffectWrites P _ = Unit {0}
+
+module _ (tape : List ControlProgram) (fixed : Fixed) (path : PathView) (P : ℕ → Type 0) where
+  done-writes : (moved : Moved) (to : Result Standing Cause) → EffectWrites P (done_by moved to)
+  done-writes moved (Ok to) = tt
+  done-writes moved (Err cause) = tt
+
+  controlled-writes : (moved : Moved) (arguments : Option (List Var)) (c : Control)
+      → EffectWrites P (controlled tape moved arguments c)
+  controlled-writes moved arguments control.End = tt
+  controlled-writes moved arguments c = done-writes moved (goes_on tape (standing_of moved.path) arguments c)
+
+  moves-write : (c : Control) (moved : Result Moved ℕ) → EffectWrites P (of_moved tape c moved)
+  moves-write c (Ok moved) = controlled-writes moved None c
+  moves-write c (Err number) = tt
+
+  values-write : (words : List FlowWord) (c : Control) (values : Outcome Values)
+      → EffectWrites P (of_values tape fixed path words c values)
+  values-write words c (Gives values left) = moves-write c (acted fixed path words values)
+  values-write words c (Needs variable) = tt
+  values-write words c (Alarms number value) = tt
+
+  arguments-write : (c : Control) (arguments : Outcome (List Var)) → EffectWrites P (of_arguments tape path c arguments)
+  arguments-write c (Gives arguments left) = controlled-writes (record { path = path; moves = [] }) (Some arguments) c
+  arguments-write c (Needs variable) = tt
+  arguments-write c (Alarms number value) = tt
+
+  purpose-writes : (purpose : Purpose) (words : List FlowWord) (c : Control) (reads : List Var)
+      → EffectWrites P (of_purpose tape fixed path purpose words c reads)
+  purpose-writes MacroCall words c reads = arguments-write c (arguments_taken fixed path words all_vacant reads)
+  purpose-writes purpose words c reads =
+      values-write words c (words_taken fixed path (sense_of path purpose words) words nothing_said reads)
+
+  words-write : (purpose : Purpose) (words : List FlowWord) (c : Control) (reads : List Var)
+      → EffectWrites P (block_of_words tape fixed path purpose words c reads)
+  words-write purpose words (control.Wait code) reads = tt
+  words-write purpose words c reads = purpose-writes purpose words c reads
+
+  after-writes : (after : Outcome After) → OnGives (Writes P) after → EffectWrites P (of_after after)
+  after-writes (Gives after left) writes = writes
+  after-writes (Needs variable) writes = tt
+  after-writes (Alarms number value) writes = tt
+
+  body-writes : (body : FlowBody) → ((v : ℕ) → body_may_write body v ≡ true → P v) → (c : Control) (reads : List Var)
+      → EffectWrites P (effect_of_body tape fixed path body c reads)
+  body-writes (Words words) all c reads = words-write words.purpose words.words c reads
+  body-writes (Statement statement) all c reads =
+      after-writes (statement_effect tape fixed path (sentence_of statement.statement) reads)
+      (statement-writes fixed path P tape (sentence_of statement.statement) all reads)
+
+found-writes : (tape : List ControlProgram) (path : PathView) (found : Option FlowBlock) (reads : List Var)
+    → EffectWrites (λ v. found_may_write found v ≡ true) (effect_of_block tape path found reads)
+found-writes tape path None reads = tt
+found-writes tape path (Some block) reads =
+    body-writes tape path.fixed path (λ v. body_may_write block.body v ≡ true) block.body (λ v e. e) block.control reads
+
+pub writes_are_marked : (flow : Flow) (path after : PathView) (reads : List Var) (f : Frame) (stack : List Frame)
+    (write : Write) (moves : List Move) → path.place ≡ f ∷ stack
+    → effect_of flow path reads ≡ Done after (Some write) moves → block_may_write flow f.program f.block write.variable ≡ true
+writes_are_marked flow path after reads f stack write moves at is =
+    subst (λ place. found_may_write (block_at flow.programs place) write.variable ≡ true) at
+    (subst (EffectWrites (λ n. found_may_write (block_at flow.programs path.place) n ≡ true)) is
+    (found-writes flow.order path (block_at flow.programs path.place) reads))

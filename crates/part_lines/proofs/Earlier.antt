@@ -1,0 +1,74 @@
+-- The least of some lines.
+use Rattle.std.proofs.Common.{◌≡◌, ℕ, ◌≤◌, min, ◌⊎◌, inl, inr, [], ◌∷◌, Option, Some, None, refl, ap, arith}
+use Rattle.part_lines.specs.Least.{earlier, IsLeast}
+use Rattle.part_lines.specs.Lines.{Lines, with_first}
+
+pub earlier_none : (a : Option ℕ) → earlier a None ≡ a
+earlier_none None = refl
+earlier_none (Some a) = refl
+
+pub earlier_assoc : (a b c : Option ℕ) → earlier (earlier a b) c ≡ earlier a (earlier b c)
+earlier_assoc None b c = refl
+earlier_assoc (Some a) None c = refl
+earlier_assoc (Some a) (Some b) None = refl
+earlier_assoc (Some a) (Some b) (Some c) = let e : min (min a b) c ≡ min a (min b c) = omega arith in ap Some e
+
+pub earlier_again : (a b : Option ℕ) → earlier a (earlier a b) ≡ earlier a b
+earlier_again None b = refl
+earlier_again (Some a) None = let e : min a a ≡ a = omega arith in ap Some e
+earlier_again (Some a) (Some b) = let e : min a (min a b) ≡ min a b = omega arith in ap Some e
+
+pub with_none : (lines : Lines) → with_first None lines ≡ lines
+with_none [] = refl
+with_none (own ∷ lines) = refl
+
+pub with_both : (a b : Option ℕ) (lines : Lines) → with_first (earlier a b) lines ≡ with_first a (with_first b lines)
+with_both a b [] = refl
+with_both a b (own ∷ lines) = ap (λ x. x ∷ lines) (earlier_assoc a b own)
+
+pub with_again : (a : Option ℕ) (lines : Lines) → with_first a (with_first a lines) ≡ with_first a lines
+with_again a [] = refl
+with_again a (own ∷ lines) = ap (λ x. x ∷ lines) (earlier_again a own)
+
+-- the least of some lines and of others
+pub least_either : (P Q : ℕ → Type 0) (a b : Option ℕ) → IsLeast P a → IsLeast Q b → IsLeast (λ k. P k ⊎ Q k) (earlier a b)
+least_either P Q None None p q = λ k either. go k either
+  where
+    go : (k : ℕ) → P k ⊎ Q k → ⊥
+    go k (inl is) = p k is
+    go k (inr is) = q k is
+least_either P Q None (Some b) p q = (inr q.0, λ k either. go k either)
+  where
+    go : (k : ℕ) → P k ⊎ Q k → b ≤ k
+    go k (inl is) = absurd (p k is)
+    go k (inr is) = q.1 k is
+least_either P Q (Some a) None p q = (inl p.0, λ k either. go k either)
+  where
+    go : (k : ℕ) → P k ⊎ Q k → a ≤ k
+    go k (inl is) = p.1 k is
+    go k (inr is) = absurd (q k is)
+least_either P Q (Some a) (Some b) p q = (one (order a b), λ k either. go k either)
+  where
+    order : (a b : ℕ) → ((a ≤ b) × (min a b ≡ a)) ⊎ ((b ≤ a) × (min a b ≡ b))
+    order a b = grind arith
+
+    one : ((a ≤ b) × (min a b ≡ a)) ⊎ ((b ≤ a) × (min a b ≡ b)) → P (min a b) ⊎ Q (min a b)
+    one (inl (less, e)) = inl (rw e p.0)
+    one (inr (less, e)) = inr (rw e q.0)
+
+    go : (k : ℕ) → P k ⊎ Q k → min a b ≤ k
+    go k (inl is) = let above = p.1 k is in omega arith
+    go k (inr is) = let above = q.1 k is in omega arith
+
+-- the same lines have the same least
+pub least_same : (P Q : ℕ → Type 0) (o : Option ℕ) → ((k : ℕ) → P k → Q k) → ((k : ℕ) → Q k → P k) → IsLeast P o → IsLeast Q o
+least_same P Q None to from p = λ k is. p k (from k is)
+least_same P Q (Some a) to from p = (to a p.0, λ k is. p.1 k (from k is))
+
+-- the one line there is
+pub least_one : (o : Option ℕ) → IsLeast (λ k. o ≡ Some k) o
+least_one None = λ k is. absurd cc
+least_one (Some a) = (refl, λ k is. let e : a ≡ k = cc in omega arith)
+
+pub least_none : (P : ℕ → Type 0) → ((k : ℕ) → P k → ⊥) → IsLeast P None
+least_none P never = never

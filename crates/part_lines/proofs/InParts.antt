@@ -1,0 +1,74 @@
+-- A line of a part is one of a stretch that stands there: of a block of it, or of what the block opens.
+use Rattle.std.proofs.Common.{◌≡◌, ℕ, ◌⊎◌, inl, inr, false, List, ◌∷◌, Option, Some, refl, sym, subst}
+use Rattle.block_order.specs.declared.control.Control.{Control}
+use Rattle.block_order.specs.declared.control.Control.TheVariants.{Call}
+use Rattle.block_order.specs.declared.program.ControlProgram.{ControlProgram}
+use Rattle.block_order.specs.Order.{blocks, control_at}
+use Rattle.block_order.specs.Loud.{loud}
+use Rattle.part_order.specs.Parts.{Stretch, Follows, stretch_at, path_items, IsInPart, listed, called}
+use Rattle.part_lines.specs.PartLines.{LineInPart}
+use Rattle.part_lines.specs.Lines.{IsOpened, itself, calls, LineFrom}
+use Rattle.part_lines.proofs.Segments.{IsListed}
+
+-- a line of a quiet program that the block calls, or of what is opened from there
+abbrev pub CalledLine : List ControlProgram → (ℕ → ℕ → Option ℕ) → Control → ℕ → Type 0
+CalledLine tape line c k = (q r : ℕ) × (c ≡ Call q r) × (loud tape q ≡ false) × LineFrom tape line q k
+
+-- a line of the block, or of what it calls
+abbrev pub BlockLine : List ControlProgram → (ℕ → ℕ → Option ℕ) → ℕ → ℕ → Control → ℕ → Type 0
+BlockLine tape line p b c k = (line p b ≡ Some k) ⊎ CalledLine tape line c k
+
+-- a line of the stretch
+abbrev pub StretchLine : List ControlProgram → (ℕ → ℕ → Option ℕ) → ℕ → ℕ → ℕ → Type 0
+StretchLine tape line p s k =
+    (b : ℕ) × (c : Control) × (stretch_at tape p b ≡ s) × (control_at (blocks tape p) b ≡ Some c) × BlockLine tape line p b c k
+
+-- a stretch of the part has the line
+abbrev pub ListedLine : List ControlProgram → (ℕ → ℕ → Option ℕ) → ℕ → ℕ → Type 0
+ListedLine tape line n k = (p s : ℕ) × IsListed (path_items tape) n p s × StretchLine tape line p s k
+
+module _ (tape : List ControlProgram) (line : ℕ → ℕ → Option ℕ) where
+  -- what is opened from a program that is called is opened from the caller
+  call_opens : (p there q r to : ℕ) → control_at (blocks tape p) there ≡ Some (Call q r) → loud tape q ≡ false
+      → IsOpened tape q to → IsOpened tape p to
+  call_opens p there q r _ is quiet itself = calls p there q r itself is quiet
+  call_opens p there q r _ is quiet (calls caller at program repeats before is' quiet') =
+      calls caller at program repeats (call_opens p there q r caller is quiet before) is' quiet'
+
+  -- a line of the block is one of its program
+  pub block_from : (p b : ℕ) (c : Control) (k : ℕ) → control_at (blocks tape p) b ≡ Some c → BlockLine tape line p b c k
+      → LineFrom tape line p k
+  block_from p b c k is (inl e) = (p, b, c, itself, is, e)
+  block_from p b c k is (inr (q, r, call, quiet, (program, block, d, opened, at, e))) =
+      (program, block, d, call_opens p b q r program (subst (λ x. control_at (blocks tape p) b ≡ Some x) call is) quiet opened, at, e)
+
+  in_part_listed : (n k p b : ℕ) (c : Control) → IsInPart tape n p b → control_at (blocks tape p) b ≡ Some c
+      → BlockLine tape line p b c k → ListedLine tape line n k
+  in_part_listed n k p b c (listed _ _ rest f) is own = (p, stretch_at tape p b, (rest, f), (b, c, refl, is, own))
+  in_part_listed n k p b c (called caller there _ _ r inside call quiet) is own =
+      in_part_listed n k caller there (Call p r) inside call (inr (p, r, refl, quiet, block_from p b c k is own))
+
+  pub part_listed : (n k : ℕ) → LineInPart tape line n k → ListedLine tape line n k
+  part_listed n k (p, b, c, inside, is, e) = in_part_listed n k p b c inside is (inl e)
+
+  opened_in_part : (n p b q r : ℕ) → IsInPart tape n p b → control_at (blocks tape p) b ≡ Some (Call q r) → loud tape q ≡ false
+      → (to : ℕ) → IsOpened tape q to → (block : ℕ) → IsInPart tape n to block
+  opened_in_part n p b q r inside is quiet _ itself block = called p b q block r inside is quiet
+  opened_in_part n p b q r inside is quiet _ (calls caller at program repeats before is' quiet') block =
+      called caller at program block repeats (opened_in_part n p b q r inside is quiet caller before at) is' quiet'
+
+  pub listed_part : (n k : ℕ) → ListedLine tape line n k → LineInPart tape line n k
+  listed_part n k (p, s, (rest, f), (b, c, at, is, own)) =
+      let inside : IsInPart tape n p b = listed p b rest (subst (λ x. Follows (path_items tape) n (Stretch p x ∷ rest)) (sym at) f) in
+      go own inside
+    where
+      go : BlockLine tape line p b c k → IsInPart tape n p b → LineInPart tape line n k
+      go (inl e) inside = (p, b, c, inside, is, e)
+      go (inr (q, r, call, quiet, (program, block, d, opened, there, e))) inside = (
+        program,
+        block,
+        d,
+        opened_in_part n p b q r inside (subst (λ x. control_at (blocks tape p) b ≡ Some x) call is) quiet program opened block,
+        there,
+        e,
+      )

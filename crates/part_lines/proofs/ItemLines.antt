@@ -1,0 +1,194 @@
+-- The lines of a path as its blocks come are those of the stretches in its list.
+use Rattle.std.proofs.Common.{◌≡◌, ◌==◌, ℕ, zero, suc, ◌<◌, ◌+◌, Bool, true, false, List, [], ◌∷◌, ◌++◌, length, Option, None, refl, ap, sym, ◌∙◌, arith, if◌then◌else◌}
+use Rattle.std.proofs.lemmas.Bool.{eq-eqb, ne_eqb}
+use Rattle.block_order.specs.declared.control.Control.{Control}
+use Rattle.block_order.specs.declared.control.Control.TheVariants.{Next, Goto, While, Do, EndLoop, Wait, End, Call, Back, BackTo}
+use Rattle.block_order.specs.declared.label.Mark.{Mark}
+use Rattle.block_order.specs.declared.label.Mark.TheVariants as mark
+use Rattle.block_order.specs.declared.program.ControlBlock.{ControlBlock}
+use Rattle.block_order.specs.declared.program.ControlProgram.{ControlProgram}
+use Rattle.block_order.specs.Order.{blocks, main_number}
+use Rattle.block_order.specs.Loud.{loud, mark_of, marks}
+use Rattle.part_order.specs.Parts.{Item, Stretch, Meets, Anew, items, path_items, waits_in}
+use Rattle.part_order.specs.Parts as parts
+use Rattle.part_lines.specs.Least.{earlier}
+use Rattle.part_lines.specs.Lines.{Lines, with_first, times, seen_line, block_lines, blocks_lines, whole}
+use Rattle.part_lines.proofs.Earlier.{earlier_none, with_both}
+use Rattle.part_lines.proofs.StretchLines.{next_number, stretch_line, none_behind}
+use Rattle.part_lines.proofs.Segments.{ends_anew}
+
+-- the lines of the items, where each stretch has its own, and end is what comes once they begin anew
+abbrev pub item_lines : (ℕ → ℕ → Option ℕ) → Lines → List Item → Lines
+item_lines own end [] = None ∷ []
+item_lines own end (Stretch p s ∷ xs) = with_first (own p s) (item_lines own end xs)
+item_lines own end (Meets ∷ xs) = None ∷ item_lines own end xs
+item_lines own end (Anew ∷ xs) = end
+
+-- the items behind the stretch that these marks end
+abbrev pub after : (ℕ → List Item → List Item) → ℕ → ℕ → List Mark → List Item → List Item
+after called p t [] rest = []
+after called p t (mark.Wait code ∷ ms) rest = Meets ∷ items called p (suc t) ms rest
+after called p t (mark.End ∷ ms) rest = []
+after called p t (mark.Call q r ∷ ms) rest = parts.times r (called q) (items called p (suc t) ms rest)
+after called p t (mark.Back ∷ ms) rest = rest
+after called p t (mark.Past ∷ ms) rest = []
+
+items_are : (called : ℕ → List Item → List Item) (p t : ℕ) (ms : List Mark) (rest : List Item)
+    → items called p t ms rest ≡ Stretch p t ∷ after called p t ms rest
+items_are called p t [] rest = refl
+items_are called p t (mark.Wait code ∷ ms) rest = refl
+items_are called p t (mark.End ∷ ms) rest = refl
+items_are called p t (mark.Call q r ∷ ms) rest = refl
+items_are called p t (mark.Back ∷ ms) rest = refl
+items_are called p t (mark.Past ∷ ms) rest = refl
+
+times_lines : (own : ℕ → ℕ → Option ℕ) (end : Lines) (f : List Item → List Item) (g : Lines → Lines)
+    → ((xs : List Item) → item_lines own end (f xs) ≡ g (item_lines own end xs))
+    → (n : ℕ) (xs : List Item) → item_lines own end (parts.times n f xs) ≡ times n g (item_lines own end xs)
+times_lines own end f g same zero xs = refl
+times_lines own end f g same (suc n) xs = same (parts.times n f xs) ∙ ap g (times_lines own end f g same n xs)
+
+-- one program: its loud calls, how each block is seen, and what follows its return
+module _ (ld : ℕ → Bool) (quiet : ℕ → Option ℕ) (line : ℕ → Option ℕ) (own : ℕ → ℕ → Option ℕ) (end : Lines)
+    (called : ℕ → List Item → List Item) (given : ℕ → Lines → Lines)
+    (same : (q : ℕ) (xs : List Item) → item_lines own end (called q xs) ≡ given q (item_lines own end xs))
+    (p : ℕ) (rest : List Item) (back : Lines) (returns : item_lines own end rest ≡ back) where
+  abbrev seen : ℕ → Control → Option ℕ
+  seen i c = seen_line ld quiet (line i) c
+
+  -- the stretches ahead have all their blocks ahead
+  abbrev AreAhead : List ControlBlock → ℕ → ℕ → Type 0
+  AreAhead bs i t = (s : ℕ) → t < s → own p s ≡ stretch_line ld seen bs i t s
+
+  abbrev IsSame : List ControlBlock → ℕ → ℕ → Type 0
+  IsSame bs i t =
+      blocks_lines ld quiet given line back i bs
+      ≡ with_first (stretch_line ld seen bs i t t) (item_lines own end (after called p t (marks ld bs) rest))
+
+  abbrev lines_behind : List ControlBlock → ℕ → Lines
+  lines_behind bs i = blocks_lines ld quiet given line back (suc i) bs
+
+  abbrev items_behind : List Mark → List ControlBlock → ℕ → List Item
+  items_behind ms bs t = after called p t (ms ++ marks ld bs) rest
+
+  -- the same of blocks of which the first has this control
+  abbrev IsSameFrom : Control → List ControlBlock → ℕ → ℕ → Type 0
+  IsSameFrom c bs i t =
+      with_first (seen i c) (block_lines ld given back c (lines_behind bs i))
+      ≡ with_first (earlier (if t == t then seen i c else None) (stretch_line ld seen bs (suc i) (next_number (mark_of ld c) t) t))
+      (item_lines own end (items_behind (mark_of ld c) bs t))
+
+  abbrev AreAheadFrom : Control → List ControlBlock → ℕ → ℕ → Type 0
+  AreAheadFrom c bs i t = (s : ℕ) → t < s
+      → own p s ≡ earlier (if t == s then seen i c else None) (stretch_line ld seen bs (suc i) (next_number (mark_of ld c) t) s)
+
+  ahead_after : (c : Control) (bs : List ControlBlock) (i t u : ℕ) → AreAheadFrom c bs i t → next_number (mark_of ld c) t ≡ u
+      → (s : ℕ) → t < s → own p s ≡ stretch_line ld seen bs (suc i) u s
+  ahead_after c bs i t u ahead next s less =
+      let apart : (t == s) ≡ false = ne_eqb t s (λ e. omega arith) in
+      ahead s less ∙ rw (apart, next) refl
+
+  same_first : (t : ℕ) → (t == t) ≡ true
+  same_first t = eq-eqb t t refl
+
+  unmarked : (c : Control) (bs : List ControlBlock) (i t : ℕ) → mark_of ld c ≡ []
+      → block_lines ld given back c (lines_behind bs i) ≡ lines_behind bs i → IsSame bs (suc i) t → IsSameFrom c bs i t
+  unmarked c bs i t none on more =
+      let line_here = stretch_line ld seen bs (suc i) t t in
+      let there = item_lines own end (after called p t (marks ld bs) rest) in
+      rw (same_first t, none)
+      (ap (with_first (seen i c)) (on ∙ more) ∙ sym (with_both (seen i c) line_here there))
+
+  marked : (c : Control) (bs : List ControlBlock) (i t : ℕ) (m : Mark) → mark_of ld c ≡ m ∷ []
+      → block_lines ld given back c (lines_behind bs i) ≡ item_lines own end (items_behind (m ∷ []) bs t) → IsSameFrom c bs i t
+  marked c bs i t m one on =
+      rw (same_first t, one, none_behind ld seen bs (suc i) (suc t) t (omega arith))
+      (ap (with_first (seen i c)) on ∙ ap (λ o. with_first o (item_lines own end (items_behind (m ∷ []) bs t))) (sym (earlier_none (seen i c))))
+
+  -- the lines from the next stretch on
+  next_lines : (c : Control) (bs : List ControlBlock) (i t : ℕ) → next_number (mark_of ld c) t ≡ suc t → AreAheadFrom c bs i t
+      → ((u : ℕ) → AreAhead bs (suc i) u → IsSame bs (suc i) u)
+      → lines_behind bs i ≡ item_lines own end (items called p (suc t) (marks ld bs) rest)
+  next_lines c bs i t next ahead more =
+      let on = ahead_after c bs i t (suc t) ahead next in
+      let there : own p (suc t) ≡ stretch_line ld seen bs (suc i) (suc t) (suc t) = on (suc t) (omega arith) in
+      more (suc t) (λ s less. on s (omega arith))
+      ∙ (ap (λ o. with_first o (item_lines own end (after called p (suc t) (marks ld bs) rest))) (sym there)
+      ∙ ap (item_lines own end) (sym (items_are called p (suc t) (marks ld bs) rest)))
+
+  plain : (c : Control) (bs : List ControlBlock) (i t : ℕ) → mark_of ld c ≡ []
+      → block_lines ld given back c (lines_behind bs i) ≡ lines_behind bs i → AreAheadFrom c bs i t
+      → ((u : ℕ) → AreAhead bs (suc i) u → IsSame bs (suc i) u) → IsSameFrom c bs i t
+  plain c bs i t none on ahead more =
+      let next : next_number (mark_of ld c) t ≡ t = rw none refl in
+      unmarked c bs i t none on (more t (ahead_after c bs i t t ahead next))
+
+  block_same : (c : Control) (bs : List ControlBlock) (i t : ℕ) → AreAheadFrom c bs i t
+      → ((u : ℕ) → AreAhead bs (suc i) u → IsSame bs (suc i) u) → IsSameFrom c bs i t
+  block_same Next bs i t ahead more = plain Next bs i t refl refl ahead more
+  block_same (Goto n) bs i t ahead more = plain (Goto n) bs i t refl refl ahead more
+  block_same (While m) bs i t ahead more = plain (While m) bs i t refl refl ahead more
+  block_same (Do m) bs i t ahead more = plain (Do m) bs i t refl refl ahead more
+  block_same (EndLoop m) bs i t ahead more = plain (EndLoop m) bs i t refl refl ahead more
+  block_same (BackTo n) bs i t ahead more = plain (BackTo n) bs i t refl refl ahead more
+  block_same End bs i t ahead more = marked End bs i t mark.End refl refl
+  block_same Back bs i t ahead more = marked Back bs i t mark.Back refl (sym returns)
+  block_same (Wait code) bs i t ahead more =
+      marked (Wait code) bs i t (mark.Wait code) refl
+      (ap (λ xs. None ∷ xs) (next_lines (Wait code) bs i t refl ahead more))
+  block_same (Call q r) bs i t ahead more = go (ld q) refl
+    where
+      go : (noisy : Bool) → ld q ≡ noisy → IsSameFrom (Call q r) bs i t
+      go false n = plain (Call q r) bs i t (rw n refl) (rw n refl) ahead more
+      go true n =
+          let one : mark_of ld (Call q r) ≡ mark.Call q r ∷ [] = rw n refl in
+          let next : next_number (mark_of ld (Call q r)) t ≡ suc t = rw one refl in
+          let on : block_lines ld given back (Call q r) (lines_behind bs i) ≡ times r (given q) (lines_behind bs i) = rw n refl in
+          marked (Call q r) bs i t (mark.Call q r) one
+          (on ∙ (ap (times r (given q)) (next_lines (Call q r) bs i t next ahead more)
+          ∙ sym (times_lines own end (called q) (given q) (same q) r (items called p (suc t) (marks ld bs) rest))))
+
+  blocks_same : (bs : List ControlBlock) (i t : ℕ) → AreAhead bs i t → IsSame bs i t
+  blocks_same [] i t ahead = refl
+  blocks_same (b ∷ bs) i t ahead = block_same b.control bs i t ahead (λ u on. blocks_same bs (suc i) u on)
+
+-- the least line of a stretch, by what is seen of the blocks of its program
+abbrev pub own_line : List ControlProgram → (ℕ → ℕ → Option ℕ) → (ℕ → Option ℕ) → ℕ → ℕ → Option ℕ
+own_line tape line quiet p s =
+    stretch_line (loud tape) (λ b c. seen_line (loud tape) quiet (line p b) c) (blocks tape p) 0 0 s
+
+whole_same : (tape : List ControlProgram) (line : ℕ → ℕ → Option ℕ) (quiet : ℕ → Option ℕ) (end : Lines) (n p : ℕ)
+    (rest : List Item) (back : Lines) → item_lines (own_line tape line quiet) end rest ≡ back
+    → item_lines (own_line tape line quiet) end (parts.whole tape n p rest) ≡ whole tape line quiet n p back
+unfolding whole parts.whole
+whole_same tape line quiet end zero p rest back returns = returns
+whole_same tape line quiet end (suc n) p rest back returns =
+    let called = λ (q : ℕ) (k : List Item). parts.whole tape n q k in
+    let given = λ (q : ℕ) (k : Lines). whole tape line quiet n q k in
+    let own = own_line tape line quiet in
+    ap (item_lines own end) (items_are called p 0 (marks (loud tape) (blocks tape p)) rest)
+    ∙ sym (blocks_same (loud tape) quiet (line p) own end called given
+    (λ q xs. whole_same tape line quiet end n q xs (item_lines own end xs) refl) p rest back returns (blocks tape p) 0 0 (λ s less. refl))
+
+list_whole : (tape : List ControlProgram) → path_items tape ≡ parts.whole tape 9 (main_number tape) (Anew ∷ [])
+unfolding parts.whole
+list_whole tape = refl
+
+-- the lines of a path are those of its list
+pub path_same : (tape : List ControlProgram) (line : ℕ → ℕ → Option ℕ) (quiet : ℕ → Option ℕ) (end : Lines)
+    → item_lines (own_line tape line quiet) end (path_items tape) ≡ whole tape line quiet 9 (main_number tape) end
+path_same tape line quiet end =
+    ap (item_lines (own_line tape line quiet) end) (list_whole tape)
+    ∙ whole_same tape line quiet end 9 (main_number tape) (Anew ∷ []) end refl
+
+with_length : (o : Option ℕ) (lines : Lines) → length (with_first o lines) ≡ length lines
+with_length o [] = refl
+with_length o (x ∷ lines) = refl
+
+-- how many lines there are: one more than waits, or as many as come once the items begin anew
+pub lines_length : (own : ℕ → ℕ → Option ℕ) (end : Lines) (xs : List Item)
+    → length (item_lines own end xs) ≡ waits_in xs + (if ends_anew xs then length end else 1)
+lines_length own end [] = refl
+lines_length own end (Stretch p s ∷ xs) = with_length (own p s) (item_lines own end xs) ∙ lines_length own end xs
+lines_length own end (Meets ∷ xs) = let rest = lines_length own end xs in omega arith
+lines_length own end (Anew ∷ xs) = omega arith

@@ -1,0 +1,9 @@
+mod Earlier
+mod Segments
+mod InParts
+mod StretchLines
+mod ItemLines
+mod PartsLeast
+mod Opened
+mod Shown
+mod Ready

@@ -1,0 +1,155 @@
+-- What was found of programs and what they open, as it grows, and when it is the least.
+use Rattle.std.proofs.Common.{◌≡◌, ◌==◌, ℕ, ◌≤◌, min, ◌⊎◌, inl, inr, Bool, true, false, List, [], ◌∷◌, Option, Some, None, slice_get, get_or, length, zero, suc, ◌+◌, ◌<◌, refl, ap, sym, subst, ◌∙◌, arith, if◌then◌else◌}
+use Rattle.std.proofs.lemmas.Bool.{eqb-true}
+use Rattle.block_order.specs.declared.control.Control.{Control}
+use Rattle.block_order.specs.declared.control.Control.TheVariants.{Next, Goto, While, Do, EndLoop, Wait, End, Call, Back, BackTo}
+use Rattle.block_order.specs.declared.program.ControlBlock.{ControlBlock}
+use Rattle.block_order.specs.declared.program.ControlProgram.{ControlProgram}
+use Rattle.block_order.specs.Order.{blocks, program_of, control_at}
+use Rattle.block_order.specs.Loud.{loud}
+use Rattle.part_lines.specs.Least.{earlier, IsLeast}
+use Rattle.part_lines.specs.Lines.{called_line, seen_line, IsOpened, itself, calls, LineFrom}
+use Rattle.part_lines.specs.Pieces.{IsBelow, AreFound, IsClosedAt, IsClosed, AreQuietLines}
+use Rattle.part_lines.proofs.InParts.{block_from}
+
+below_same : (a : Option ℕ) → IsBelow a a
+below_same None = tt
+below_same (Some a) = omega arith
+
+below_on : (a b c : Option ℕ) → IsBelow a b → IsBelow b c → IsBelow a c
+below_on a b None one two = tt
+below_on None None (Some c) one two = absurd two
+below_on (Some a) None (Some c) one two = absurd two
+below_on None (Some b) (Some c) one two = absurd one
+below_on (Some a) (Some b) (Some c) one two = omega arith
+
+below_parts : (x a b : Option ℕ) → IsBelow x (earlier a b) → IsBelow x a × IsBelow x b
+below_parts x None b below = (tt, below)
+below_parts x (Some a) None below = (below, tt)
+below_parts None (Some a) (Some b) below = absurd below
+below_parts (Some x) (Some a) (Some b) below = (omega arith, omega arith)
+
+-- one of the two is the earlier one
+pub either_is : (a b : Option ℕ) (k : ℕ) → earlier a b ≡ Some k → (a ≡ Some k) ⊎ (b ≡ Some k)
+either_is None b k is = inr is
+either_is (Some a) None k is = inl is
+either_is (Some a) (Some b) k is = go (order a b)
+  where
+    order : (a b : ℕ) → (min a b ≡ a) ⊎ (min a b ≡ b)
+    order a b = grind arith
+
+    go : (min a b ≡ a) ⊎ (min a b ≡ b) → (Some a ≡ Some k) ⊎ (Some b ≡ Some k)
+    go (inl e) = inl (ap Some (sym e) ∙ is)
+    go (inr e) = inr (ap Some (sym e) ∙ is)
+
+module _ (tape : List ControlProgram) (line : ℕ → ℕ → Option ℕ) (found : ℕ → Option ℕ) where
+  opened_below : IsClosed tape line found → (p q : ℕ) → IsOpened tape p q → IsBelow (found p) (found q)
+  opened_below closed p _ itself = below_same (found p)
+  opened_below closed p _ (calls caller there q r before is quiet) =
+      let at = closed caller there (Call q r) is in
+      let called : called_line (loud tape) found (Call q r) ≡ found q = rw quiet refl in
+      let next = (below_parts (found caller) (line caller there) (called_line (loud tape) found (Call q r)) at).1 in
+      below_on (found p) (found caller) (found q) (opened_below closed p caller before) (subst (IsBelow (found caller)) called next)
+
+  from_below : IsClosed tape line found → (p k : ℕ) → LineFrom tape line p k → IsBelow (found p) (Some k)
+  from_below closed p k (program, block, c, opened, is, e) =
+      let at = (below_parts (found program) (line program block) (called_line (loud tape) found c) (closed program block c is)).0 in
+      below_on (found p) (found program) (Some k) (opened_below closed p program opened) (subst (IsBelow (found program)) e at)
+
+  pub quiet_least : AreFound tape line found → IsClosed tape line found → AreQuietLines tape line found
+  quiet_least are closed p = go (found p) refl
+    where
+      go : (o : Option ℕ) → found p ≡ o → IsLeast (LineFrom tape line p) o
+      go None e = λ k from. subst (λ x. IsBelow x (Some k)) e (from_below closed p k from)
+      go (Some l) e = (are p l e, λ k from. subst (λ x. IsBelow x (Some k)) e (from_below closed p k from))
+
+  -- what is seen of a block is a line of its program
+  pub seen_from : AreFound tape line found → (p b : ℕ) (c : Control) → control_at (blocks tape p) b ≡ Some c
+      → (k : ℕ) → seen_line (loud tape) found (line p b) c ≡ Some k → LineFrom tape line p k
+  seen_from are p b c is k e = go (either_is (line p b) (called_line (loud tape) found c) k e)
+    where
+      called : (c : Control) → control_at (blocks tape p) b ≡ Some c → called_line (loud tape) found c ≡ Some k → LineFrom tape line p k
+      called (Call q r) is e = by (loud tape q) refl e
+        where
+          by : (noisy : Bool) → loud tape q ≡ noisy → (if noisy then None else found q) ≡ Some k → LineFrom tape line p k
+          by true n e = absurd cc
+          by false n e = block_from tape line p b (Call q r) k is (inr (q, r, refl, n, are q k e))
+      called Next is e = absurd cc
+      called (Goto n) is e = absurd cc
+      called (While m) is e = absurd cc
+      called (Do m) is e = absurd cc
+      called (EndLoop m) is e = absurd cc
+      called (Wait code) is e = absurd cc
+      called End is e = absurd cc
+      called Back is e = absurd cc
+      called (BackTo n) is e = absurd cc
+
+      go : (line p b ≡ Some k) ⊎ (called_line (loud tape) found c ≡ Some k) → LineFrom tape line p k
+      go (inl own) = block_from tape line p b c k is (inl own)
+      go (inr other) = called c is other
+
+-- whoever is found in the tape stands there
+found_stands : (tape : List ControlProgram) (q : ℕ) (p : ControlProgram) → program_of tape q ≡ Some p
+    → (j : ℕ) × (slice_get tape j ≡ Some p) × (p.number ≡ q)
+found_stands [] q p is = absurd cc
+found_stands (x ∷ tape) q p is = go (x.number == q) refl is (found_stands tape q p)
+  where
+    next : (j : ℕ) × (slice_get tape j ≡ Some p) × (p.number ≡ q) → (j : ℕ) × (slice_get (x ∷ tape) j ≡ Some p) × (p.number ≡ q)
+    next (j, at, e) = (suc j, at, e)
+
+    go : (b : Bool) → (x.number == q) ≡ b → (if b then Some x else program_of tape q) ≡ Some p
+        → (program_of tape q ≡ Some p → (j : ℕ) × (slice_get tape j ≡ Some p) × (p.number ≡ q))
+        → (j : ℕ) × (slice_get (x ∷ tape) j ≡ Some p) × (p.number ≡ q)
+    go true e is further = let same : x ≡ p = cc in (0, ap Some same, ap (λ (y : ControlProgram). y.number) (sym same) ∙ eqb-true x.number q e)
+    go false e is further = next (further is)
+
+-- where each program of the tape is closed, all are
+pub all_closed : (tape : List ControlProgram) (line : ℕ → ℕ → Option ℕ) (found : ℕ → Option ℕ)
+    → ((j : ℕ) (p : ControlProgram) → slice_get tape j ≡ Some p → IsClosedAt tape line found p.number) → IsClosed tape line found
+all_closed tape line found each q = go (program_of tape q) refl
+  where
+    go : (o : Option ControlProgram) → program_of tape q ≡ o → IsClosedAt tape line found q
+    go None e = λ block c is.
+        let none : control_at (blocks tape q) block ≡ None = rw e refl in absurd cc
+    go (Some p) e =
+        let at = found_stands tape q p e in
+        subst (IsClosedAt tape line found) at.2 (each at.0 p at.1)
+
+-- the block that stands at a place
+pub control_here : (bs : List ControlBlock) (i : ℕ) (d : ControlBlock) → i < length bs → control_at bs i ≡ Some (get_or bs i d).control
+control_here [] i d less = absurd (omega arith)
+control_here (b ∷ bs) zero d less = refl
+control_here (b ∷ bs) (suc i) d less = control_here bs i d (omega arith)
+
+control_within : (bs : List ControlBlock) (i : ℕ) (c : Control) → control_at bs i ≡ Some c → i < length bs
+control_within [] i c is = absurd cc
+control_within (b ∷ bs) zero c is = omega arith
+control_within (b ∷ bs) (suc i) c is = let rest = control_within bs i c is in omega arith
+
+-- no block before a place has a line that is less
+abbrev pub AreBelow : Option ℕ → (ℕ → Control → Option ℕ) → List ControlBlock → ℕ → Type 0
+AreBelow least seen bs i = (block : ℕ) (c : Control) → block < i → control_at bs block ≡ Some c → IsBelow least (seen block c)
+
+pub below_more : (least : Option ℕ) (seen : ℕ → Control → Option ℕ) (bs : List ControlBlock) (i : ℕ) (d : ControlBlock) → i < length bs
+    → AreBelow least seen bs i → IsBelow least (seen i (get_or bs i d).control) → AreBelow least seen bs (i + 1)
+below_more least seen bs i d within before here block c less is = go (same_or_less block i less)
+  where
+    same_or_less : (m n : ℕ) → m < n + 1 → (m ≡ n) ⊎ (m < n)
+    same_or_less m n h = grind arith
+
+    go : (block ≡ i) ⊎ (block < i) → IsBelow least (seen block c)
+    go (inr below) = before block c below is
+    go (inl e) =
+        let own : control_at bs i ≡ Some c = subst (λ k. control_at bs k ≡ Some c) e is in
+        let one : Some (get_or bs i d).control ≡ Some c = sym (control_here bs i d within) ∙ own in
+        let same : (get_or bs i d).control ≡ c = cc in
+        subst (λ k. IsBelow least (seen k c)) (sym e) (subst (λ x. IsBelow least (seen i x)) same here)
+
+pub all_below : (least : Option ℕ) (seen : ℕ → Control → Option ℕ) (bs : List ControlBlock) (i : ℕ) → length bs ≤ i
+    → AreBelow least seen bs i → (block : ℕ) (c : Control) → control_at bs block ≡ Some c → IsBelow least (seen block c)
+all_below least seen bs i past before block c is = before block c (let within = control_within bs block c is in omega arith) is
+
+pub get_within : (tape : List ControlProgram) (j : ℕ) (p : ControlProgram) → slice_get tape j ≡ Some p → j < length tape
+get_within [] j p is = absurd cc
+get_within (x ∷ tape) zero p is = omega arith
+get_within (x ∷ tape) (suc j) p is = let rest = get_within tape j p is in omega arith

@@ -1,0 +1,173 @@
+-- The lines of a program as they grow.
+use Rattle.std.proofs.Common.{◌≡◌, ℕ, zero, suc, ◌+◌, ◌-◌, ◌<◌, true, false, Bool, List, [], ◌∷◌, ◌++◌, length, drop, get_or, Option, Some, None, refl, ap, sym, ◌∙◌, arith, append_assoc}
+use Rattle.std.proofs.Math.Seq.{drop-cons}
+use Rattle.block_order.specs.declared.control.Control.{Control}
+use Rattle.block_order.specs.declared.control.Control.TheVariants.{Next, Goto, While, Do, EndLoop, Wait, End, Call, Back, BackTo}
+use Rattle.block_order.specs.declared.program.ControlBlock.{ControlBlock}
+use Rattle.block_order.specs.declared.program.ControlProgram.{ControlProgram}
+use Rattle.block_order.specs.Order.{blocks}
+use Rattle.block_order.specs.Loud.{loud}
+use Rattle.part_lines.specs.declared.piece.Ending.{Ending}
+use Rattle.part_lines.specs.declared.piece.Ending.TheVariants.{Stops, Returns}
+use Rattle.part_lines.specs.declared.piece.PieceLines.{PieceLines}
+use Rattle.part_lines.specs.Least.{earlier}
+use Rattle.part_lines.specs.Lines.{Lines, with_first, times, seen_line, block_lines, blocks_lines, whole}
+use Rattle.part_lines.specs.Pieces.{shown, coming, stop_of, IsSeen, AreJoined, AreAdded, IsShort, IsShortCall, IsPiece, IsTaken, IsSoFar, from_block}
+use Rattle.part_lines.proofs.Earlier.{earlier_none, with_none, with_both, with_again}
+
+pub new_shown : (lines : PieceLines) → lines.done.items ≡ [] → lines.last ≡ None → (behind : Lines) → shown lines behind ≡ behind
+new_shown lines none last behind = rw (none, last) (with_none behind)
+
+pub seen_shown : (old new : PieceLines) (line : Option ℕ) → new.done.items ≡ old.done.items → new.last ≡ earlier old.last line
+    → IsSeen old new line
+seen_shown old new line done last behind =
+    rw (done, last) (ap (λ xs. old.done.items ++ xs) (with_both old.last line behind))
+
+pub passed_shown : (old new : PieceLines) → new.done.items ≡ old.done.items ++ old.last ∷ [] → new.last ≡ None
+    → (behind : Lines) → shown new behind ≡ shown old (None ∷ behind)
+passed_shown old new done last behind =
+    rw (done, last) (append_assoc old.done.items (old.last ∷ []) (with_first None behind)
+    ∙ ap (λ xs. old.done.items ++ xs) (ap (λ xs. old.last ∷ xs) (with_none behind) ∙ ap (λ o. o ∷ behind) (sym (earlier_none old.last))))
+
+-- the same line many times is the line once
+pub times_again : (n : ℕ) (line : Option ℕ) (behind : Lines) → 0 < n → times n (with_first line) behind ≡ with_first line behind
+times_again zero line behind some = absurd (omega arith)
+times_again (suc zero) line behind some = refl
+times_again (suc (suc n)) line behind some =
+    ap (with_first line) (times_again (suc n) line behind (omega arith)) ∙ with_again line behind
+
+pub times_same : (n : ℕ) (f g : Lines → Lines) (behind : Lines) → ((xs : Lines) → f xs ≡ g xs) → times n f behind ≡ times n g behind
+times_same zero f g behind same = refl
+times_same (suc n) f g behind same = ap f (times_same n f g behind same) ∙ same (times n g behind)
+
+pub times_more : (n : ℕ) (f : Lines → Lines) (behind : Lines) → times n f (f behind) ≡ times (n + 1) f behind
+times_more zero f behind = refl
+times_more (suc n) f behind =
+    let e : suc (n + 1) ≡ suc n + 1 = omega arith in
+    ap f (times_more n f behind) ∙ ap (λ k. times k f behind) e
+
+-- what is joined so far of the lines of a piece, with those that are left
+abbrev pub IsJoinedSoFar : PieceLines → PieceLines → Lines → PieceLines → Type 0
+IsJoinedSoFar old now rest more = (behind : Lines) → shown now (rest ++ with_first more.last behind) ≡ shown old (shown more behind)
+
+pub joined_next : (old now seen next more : PieceLines) (bs : Lines) (i : ℕ) (line : Option ℕ) → i < length bs
+    → IsSeen now seen (get_or bs i line) → ((behind : Lines) → shown next behind ≡ shown seen (None ∷ behind))
+    → IsJoinedSoFar old now (drop i bs) more → IsJoinedSoFar old next (drop (i + 1) bs) more
+joined_next old now seen next more bs i line within one two so behind =
+    let rest = drop (i + 1) bs ++ with_first more.last behind in
+    let e : suc i ≡ i + 1 = omega arith in
+    let own : drop i bs ≡ get_or bs i line ∷ drop (i + 1) bs = drop-cons bs i line within ∙ ap (λ k. get_or bs i line ∷ drop k bs) e in
+    two rest
+    ∙ (one (None ∷ rest)
+    ∙ (ap (λ o. shown now (o ∷ rest)) (earlier_none (get_or bs i line))
+    ∙ (ap (λ xs. shown now (xs ++ with_first more.last behind)) (sym own) ∙ so behind)))
+
+pub empty_is : (xs : Lines) → length xs ≡ 0 → xs ≡ []
+empty_is [] e = refl
+empty_is (x ∷ xs) e = absurd (omega arith)
+
+-- without a wait a program gives its line once
+pub waitless_joined : (old new more : PieceLines) (n : ℕ) → 0 < n → more.done.items ≡ [] → IsSeen old new more.last → AreJoined old new n more
+waitless_joined old new more n some none is behind =
+    is behind ∙ ap (shown old) (sym (times_same n (shown more) (with_first more.last) behind (λ xs. rw none refl) ∙ times_again n more.last behind some))
+
+module _ (tape : List ControlProgram) (line : ℕ → ℕ → Option ℕ) (quiet : ℕ → Option ℕ) where
+  -- a call of a quiet program, and one without a repeat, give nothing
+  pub quiet_taken : (q r : ℕ) (old : PieceLines) → loud tape q ≡ false → IsTaken tape line quiet (Call q r) old old None
+  quiet_taken q r old e n back behind short = rw e refl
+
+  pub unrepeated_taken : (q : ℕ) (old : PieceLines) → IsTaken tape line quiet (Call q 0) old old None
+  unrepeated_taken q old n back behind short = go (loud tape q) refl
+    where
+      go : (b : Bool) → loud tape q ≡ b → shown old (from_block tape line quiet n back (Call q 0) behind) ≡ shown old behind
+      go true e = rw e refl
+      go false e = rw e refl
+
+  pub loud_taken : (q r : ℕ) (old new piece : PieceLines) (ending : Ending) → loud tape q ≡ true → 0 < r
+      → IsPiece tape line quiet q piece ending → AreAdded ending old new r piece
+      → IsTaken tape line quiet (Call q r) old new (stop_of ending)
+  loud_taken q zero old new piece ending noisy some is added n back behind short = absurd (omega arith)
+  loud_taken q (suc r) old new piece Stops noisy some is added n back behind short =
+      rw noisy (ap (shown old) (is n (times r (λ k. whole tape line quiet n q k) behind) (short noisy)) ∙ sym (added (None ∷ [])))
+  loud_taken q (suc r) old new piece Returns noisy some is added n back behind short =
+      rw noisy (ap (shown old) (times_same (suc r) (λ k. whole tape line quiet n q k) (shown piece) behind (λ k. is n k (short noisy)))
+      ∙ sym (added behind))
+
+  pub wait_taken : (code : ℕ) (old new : PieceLines) → ((behind : Lines) → shown new behind ≡ shown old (None ∷ behind))
+      → IsTaken tape line quiet (Wait code) old new None
+  wait_taken code old new is n back behind short = sym (is behind)
+
+  pub so_far_start : (p : ℕ) (own : PieceLines) → ((behind : Lines) → shown own behind ≡ behind)
+      → IsSoFar tape line quiet p own 0 (blocks tape p)
+  unfolding whole
+  so_far_start p own none = record {
+    calls = λ i c is. (i, is);
+    are = λ n back short. sym (none (blocks_lines (loud tape) quiet (λ q behind. whole tape line quiet n q behind) (line p) back 0 (blocks tape p)));
+  }
+
+  -- the chains of a called program are shorter by the call
+  short_call : (n p : ℕ) (own : PieceLines) (i : ℕ) (b : ControlBlock) (rest : List ControlBlock)
+      → IsSoFar tape line quiet p own i (b ∷ rest) → IsShort tape (suc n) p → IsShortCall tape n b.control
+  short_call n p own i b rest so short = go b.control refl
+    where
+      go : (c : Control) → b.control ≡ c → IsShortCall tape n c
+      go (Call q r) is = λ noisy chain.
+          let at_place = so.calls 0 b.control refl in
+          short (at_place.0, q, r, at_place.1 ∙ ap (λ k. Some k) is, noisy, chain)
+      go Next is = tt
+      go (Goto n) is = tt
+      go (While m) is = tt
+      go (Do m) is = tt
+      go (EndLoop m) is = tt
+      go (Wait code) is = tt
+      go End is = tt
+      go Back is = tt
+      go (BackTo n) is = tt
+
+  -- the lines of the blocks that are left
+  abbrev pub left_lines : ℕ → ℕ → Lines → ℕ → List ControlBlock → Lines
+  left_lines p n back i rest = blocks_lines (loud tape) quiet (λ q behind. whole tape line quiet n q behind) (line p) back i rest
+
+  -- the block is seen and taken
+  taken_on : (n p : ℕ) (back : Lines) (old mid new : PieceLines) (i : ℕ) (b : ControlBlock) (rest : List ControlBlock) (ending : Option Ending)
+      → IsSoFar tape line quiet p old i (b ∷ rest) → IsSeen old mid (seen_line (loud tape) quiet (line p i) b.control)
+      → IsTaken tape line quiet b.control mid new ending → IsShort tape (suc n) p
+      → whole tape line quiet (suc n) p back ≡ coming new ending back (left_lines p n back (suc i) rest)
+  taken_on n p back old mid new i b rest ending so seen taken short =
+      so.are n back short
+      ∙ (sym (seen (block_lines (loud tape) (λ q behind. whole tape line quiet n q behind) back b.control (left_lines p n back (suc i) rest)))
+      ∙ taken n back (left_lines p n back (suc i) rest) (short_call n p old i b rest so short))
+
+  pub so_far_next : (p : ℕ) (old mid new : PieceLines) (i : ℕ) (b : ControlBlock) (rest : List ControlBlock)
+      → IsSoFar tape line quiet p old i (b ∷ rest) → IsSeen old mid (seen_line (loud tape) quiet (line p i) b.control)
+      → IsTaken tape line quiet b.control mid new None → IsSoFar tape line quiet p new (suc i) rest
+  so_far_next p old mid new i b rest so seen taken = record {
+    calls = λ j c is. so.calls (suc j) c is;
+    are = λ n back short. taken_on n p back old mid new i b rest None so seen taken short;
+  }
+
+  ending_alone : (new : PieceLines) (ending : Ending) (back behind : Lines)
+      → coming new (Some ending) back behind ≡ coming new (Some ending) back []
+  ending_alone new Stops back behind = refl
+  ending_alone new Returns back behind = refl
+
+  -- the block is taken and the program ends
+  pub piece_at : (p : ℕ) (old mid new : PieceLines) (i : ℕ) (b : ControlBlock) (rest : List ControlBlock) (ending : Ending)
+      → IsSoFar tape line quiet p old i (b ∷ rest) → IsSeen old mid (seen_line (loud tape) quiet (line p i) b.control)
+      → IsTaken tape line quiet b.control mid new (Some ending) → IsPiece tape line quiet p new ending
+  piece_at p old mid new i b rest ending so seen taken zero back short = absurd (short tt)
+  piece_at p old mid new i b rest ending so seen taken (suc n) back short =
+      taken_on n p back old mid new i b rest (Some ending) so seen taken short
+      ∙ ending_alone new ending back (left_lines p n back (suc i) rest)
+
+  -- all blocks are taken
+  pub piece_off : (p i : ℕ) (own : PieceLines) → IsSoFar tape line quiet p own i [] → IsPiece tape line quiet p own Stops
+  piece_off p i own so zero back short = absurd (short tt)
+  piece_off p i own so (suc n) back short = so.are n back short
+
+  -- the chains of what this program calls are shorter by one
+  pub short_left : (n p : ℕ) (own : PieceLines) (i : ℕ) (b : ControlBlock) (rest : List ControlBlock)
+      → IsSoFar tape line quiet p own i (b ∷ rest) → IsShort tape n p → IsShortCall tape (n - 1) b.control
+  short_left zero p own i b rest so short = absurd (short tt)
+  short_left (suc n) p own i b rest so short =
+      let e : suc n - 1 ≡ n = omega arith in rw e (short_call n p own i b rest so short)

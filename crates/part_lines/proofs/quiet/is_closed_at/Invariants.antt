@@ -1,0 +1,13 @@
+-- The blocks before the place have no line that is less.
+use Rattle.std.proofs.Common.{◌≡◌, ℕ, ◌<◌, Some}
+use Rattle.block_order.specs.declared.control.Control.{Control}
+use Rattle.block_order.specs.Loud.{loud}
+use Rattle.block_order.specs.Order.{control_at}
+use Rattle.part_lines.specs.Lines.{seen_line}
+use Rattle.part_lines.specs.Pieces.{quiet_known, IsBelow}
+use Rattle.part_lines.proofs.quiet.is_closed_at.Given as goal
+
+abbrev pub invariant-loop-place : goal.invariant-loop-place
+invariant-loop-place g l =
+    (block : ℕ) (c : Control) → block < l.place → control_at l.blocks block ≡ Some c
+    → IsBelow l.least (seen_line (loud l.order) (quiet_known l.found) (g.L.BlockLines.line l.lines l.program block) c)

@@ -1,0 +1,4 @@
+pub mod Least
+pub mod PartLines
+pub mod Lines
+pub mod Pieces

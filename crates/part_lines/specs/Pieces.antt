@@ -1,0 +1,134 @@
+-- The least lines of single programs, as they are made and joined.
+use Rattle.std.specs.Prelude.{◌≡◌, ℕ, suc, ◌<◌, ◌≤◌, true, List, [], ◌∷◌, ◌++◌, Option, Some, None, nat_eq}
+use Rattle.indexmap.specs.IndexMap.{get}
+use Rattle.block_order.specs.declared.control.Control.{Control}
+use Rattle.block_order.specs.declared.control.Control.TheVariants.{Call}
+use Rattle.block_order.specs.declared.program.ControlBlock.{ControlBlock}
+use Rattle.block_order.specs.declared.program.ControlProgram.{ControlProgram}
+use Rattle.block_order.specs.Order.{blocks, control_at}
+use Rattle.block_order.specs.Labels.{Chain}
+use Rattle.block_order.specs.Loud.{loud}
+use Rattle.part_lines.specs.declared.known.KnownPieces.{KnownPieces}
+use Rattle.part_lines.specs.declared.piece.Ending.{Ending}
+use Rattle.part_lines.specs.declared.piece.Ending.TheVariants.{Stops, Returns}
+use Rattle.part_lines.specs.declared.piece.Piece.{Piece}
+use Rattle.part_lines.specs.declared.piece.PieceLines.{PieceLines}
+use Rattle.part_lines.specs.declared.quiet.QuietLines.{QuietLines}
+use Rattle.part_lines.specs.Least.{earlier, IsLeast}
+use Rattle.part_lines.specs.Lines.{Lines, with_first, times, seen_line, block_lines, blocks_lines, whole, LineFrom}
+
+-- the lines of a piece, and what comes behind them
+abbrev pub shown : PieceLines → Lines → Lines
+shown lines behind = lines.done.items ++ with_first lines.last behind
+
+-- the same by how the program ends
+abbrev pub coming : PieceLines → Option Ending → Lines → Lines → Lines
+coming lines None back behind = shown lines behind
+coming lines (Some Stops) back behind = shown lines (None ∷ [])
+coming lines (Some Returns) back behind = shown lines back
+
+-- how the caller ends at the call of a program that ends so, if it ends there
+abbrev pub stop_of : Ending → Option Ending
+stop_of Stops = Some Stops
+stop_of Returns = None
+
+-- with one line more
+abbrev pub IsSeen : PieceLines → PieceLines → Option ℕ → Type 0
+IsSeen old new line = (behind : Lines) → shown new behind ≡ shown old (with_first line behind)
+
+-- with the lines of a piece behind them so many times
+abbrev pub AreJoined : PieceLines → PieceLines → ℕ → PieceLines → Type 0
+AreJoined old new n more = (behind : Lines) → shown new behind ≡ shown old (times n (shown more) behind)
+
+-- where the program stops, the first run is the last
+abbrev pub AreAdded : Ending → PieceLines → PieceLines → ℕ → PieceLines → Type 0
+AreAdded Stops old new n more = (behind : Lines) → shown new behind ≡ shown old (shown more behind)
+AreAdded Returns old new n more = AreJoined old new n more
+
+-- no chain of n calls of loud programs begins in the program
+abbrev pub IsShort : List ControlProgram → ℕ → ℕ → Type 0
+IsShort tape n program = Chain tape n program → ⊥
+
+-- no such chain begins in the program that is called
+abbrev pub IsShortCall : List ControlProgram → ℕ → Control → Type 0
+IsShortCall tape n (Call program repeats) = loud tape program ≡ true → IsShort tape n program
+IsShortCall tape n other = Unit {0}
+
+-- these are the lines of the program, and so it ends
+abbrev pub IsPiece : List ControlProgram → (ℕ → ℕ → Option ℕ) → (ℕ → Option ℕ) → ℕ → PieceLines → Ending → Type 0
+IsPiece tape line quiet program lines ending =
+    (n : ℕ) (back : Lines) → IsShort tape n program → whole tape line quiet n program back ≡ coming lines (Some ending) back []
+
+-- what is kept of a program's lines
+abbrev pub piece_known : KnownPieces → ℕ → Option Piece
+piece_known known program = get nat_eq known.pieces program
+
+-- what is kept are the lines of each program
+abbrev pub AreKnown : List ControlProgram → (ℕ → ℕ → Option ℕ) → (ℕ → Option ℕ) → KnownPieces → Type 0
+AreKnown tape line quiet known =
+    (program : ℕ) (piece : Piece) → piece_known known program ≡ Some piece → IsPiece tape line quiet program piece.lines piece.ending
+
+-- the block calls the program, which is loud, at least once
+pub record IsCallOf (tape : List ControlProgram) (control : Control) (program : ℕ) : Type 0 where
+  pub repeats : ℕ
+  pub is : control ≡ Call program repeats
+  pub some : 0 < repeats
+  pub is_loud : loud tape program ≡ true
+
+-- the lines of the loud program that a block calls are known
+abbrev pub IsReady : List ControlProgram → KnownPieces → Control → Type 0
+IsReady tape known control = (program : ℕ) → IsCallOf tape control program → (piece : Piece) × (piece_known known program ≡ Some piece)
+
+-- from a block of this control on, with fewer than n calls to follow, one in another
+abbrev pub from_block : List ControlProgram → (ℕ → ℕ → Option ℕ) → (ℕ → Option ℕ) → ℕ → Lines → Control → Lines → Lines
+from_block tape line quiet n back control behind =
+    block_lines (loud tape) (λ q rest. whole tape line quiet n q rest) back control behind
+
+-- what comes behind the block is added to the lines of its program, which ends there or goes on
+abbrev pub IsTaken : List ControlProgram → (ℕ → ℕ → Option ℕ) → (ℕ → Option ℕ) → Control → PieceLines → PieceLines → Option Ending → Type 0
+IsTaken tape line quiet control old new ending =
+    (n : ℕ) (back behind : Lines) → IsShortCall tape n control
+    → shown old (from_block tape line quiet n back control behind) ≡ coming new ending back behind
+
+-- the lines so far and those of the blocks that are left are the lines of the program
+pub record IsSoFar (tape : List ControlProgram) (line : ℕ → ℕ → Option ℕ) (quiet : ℕ → Option ℕ) (program : ℕ) (lines : PieceLines) (place : ℕ) (rest : List ControlBlock) : Type 0 where
+  pub calls : (i : ℕ) (c : Control) → control_at rest i ≡ Some c → (own : ℕ) × (control_at (blocks tape program) own ≡ Some c)
+  pub are : (n : ℕ) (back : Lines) → IsShort tape (suc n) program
+      → whole tape line quiet (suc n) program back
+      ≡ shown lines (blocks_lines (loud tape) quiet (λ q behind. whole tape line quiet n q behind) (line program) back place rest)
+
+-- the least line that was found of a program and what it opens, so far
+abbrev pub quiet_known : QuietLines → ℕ → Option ℕ
+quiet_known found program = get nat_eq found.lines program
+
+-- no line is less than what was found
+abbrev pub IsBelow : Option ℕ → Option ℕ → Type 0
+IsBelow found None = Unit {0}
+IsBelow None (Some k) = ⊥
+IsBelow (Some line) (Some k) = line ≤ k
+
+-- what was found are lines of the programs and what they open
+abbrev pub AreFound : List ControlProgram → (ℕ → ℕ → Option ℕ) → (ℕ → Option ℕ) → Type 0
+AreFound tape line found = (program k : ℕ) → found program ≡ Some k → LineFrom tape line program k
+
+-- no block of the program has a line, or calls a program of one, that is less than what was found
+abbrev pub IsClosedAt : List ControlProgram → (ℕ → ℕ → Option ℕ) → (ℕ → Option ℕ) → ℕ → Type 0
+IsClosedAt tape line found program =
+    (block : ℕ) (c : Control) → control_at (blocks tape program) block ≡ Some c
+    → IsBelow (found program) (seen_line (loud tape) found (line program block) c)
+
+abbrev pub IsClosed : List ControlProgram → (ℕ → ℕ → Option ℕ) → (ℕ → Option ℕ) → Type 0
+IsClosed tape line found = (program : ℕ) → IsClosedAt tape line found program
+
+-- what was found is the least line of each program and what it opens
+abbrev pub AreQuietLines : List ControlProgram → (ℕ → ℕ → Option ℕ) → (ℕ → Option ℕ) → Type 0
+AreQuietLines tape line found = (program : ℕ) → IsLeast (LineFrom tape line program) (found program)
+
+abbrev pub first_of : Lines → Option ℕ
+first_of [] = None
+first_of (line ∷ lines) = line
+
+-- the lines of a whole path; where it begins anew its last part has the first one's blocks too
+abbrev pub closed : PieceLines → Ending → Lines
+closed lines Stops = lines.done.items ++ lines.last ∷ []
+closed lines Returns = lines.done.items ++ earlier lines.last (first_of lines.done.items) ∷ []

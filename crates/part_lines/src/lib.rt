@@ -1,0 +1,15 @@
+//! The least line of each part of a path, among the blocks that are looked for.
+//!
+//! [`least_lines`] goes through a tape as its calls are unfolded, and makes the lines of each program once.
+//! What is looked for, a [`BlockLines`] tells: this crate knows of no variable.
+#![tactic(auto)]
+
+mod known;
+mod least;
+mod lines;
+mod listing;
+mod piece;
+mod quiet;
+
+pub use lines::BlockLines;
+pub use listing::least_lines;

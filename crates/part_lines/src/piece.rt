@@ -1,0 +1,111 @@
+//! The least lines of one program.
+ghost use Rattle.std.specs.Prelude.{◌≡◌, ◌<◌, ◌∷◌, None, OnOk, IfOk};
+ghost use Rattle.part_lines.specs.Lines.{Lines};
+ghost use Rattle.part_lines.specs.Pieces.{shown, stop_of, IsSeen, AreJoined, AreAdded};
+
+use crate::least::earlier;
+use nc_number::NoMemory;
+use std::alloc::Global;
+
+/// What comes behind the lines of a program.
+#[derive(Clone, Copy, Debug, PartialEq, Eq)]
+pub(crate) enum Ending {
+    /// Nothing: the path ends there.
+    Stops,
+    /// The caller goes on.
+    Returns,
+}
+
+/// The least line of each part that ends in a program, and of the part in which the program ends.
+#[derive(Debug, Drop)]
+pub(crate) struct PieceLines {
+    pub(crate) done: Vec<Option<u32>>,
+    pub(crate) last: Option<u32>,
+}
+
+/// The lines of a program, and what comes behind them.
+#[derive(Debug, Drop)]
+pub(crate) struct Piece {
+    pub(crate) lines: PieceLines,
+    pub(crate) ending: Ending,
+}
+
+impl PieceLines {
+    /// No line, and no wait.
+    pub(crate) fn new(alloc: Global) -> Self
+        ensures { (behind : Lines) → shown result behind ≡ behind }
+    {
+        PieceLines {
+            done: Vec::new(alloc),
+            last: None,
+        }
+    }
+
+    /// Takes a line.
+    pub(crate) fn see(&mut self, line: Option<u32>)
+        ensures { IsSeen self.old self.new line }
+    {
+        self.last = earlier(self.last, line);
+    }
+
+    /// Takes a wait.
+    pub(crate) fn pass(&mut self) -> Result<(), NoMemory>
+        ensures { OnOk result ((behind : Lines) → shown self.new behind ≡ shown self.old (None ∷ behind)) }
+    {
+        self.done.push(self.last)?;
+        self.last = None;
+        Ok(())
+    }
+
+    /// Takes the lines of a program that was called once.
+    fn join(&mut self, more: &PieceLines) -> Result<(), NoMemory>
+        ensures { OnOk result ((behind : Lines) → shown self.new behind ≡ shown self.old (shown more.now behind)) }
+    {
+        for line in &more.done {
+            self.see(*line);
+            self.pass()?;
+        }
+        self.see(more.last);
+        Ok(())
+    }
+
+    /// Takes the lines of a program that was called so many times. Repeats without a wait cost nothing.
+    fn join_times(&mut self, more: &PieceLines, times: u16) -> Result<(), NoMemory>
+        requires { 0 < times }
+        ensures { OnOk result (AreJoined self.old self.new times more.now) }
+    {
+        if more.done.is_empty() {
+            self.see(more.last);
+            return Ok(());
+        }
+        for _time in 0..times {
+            self.join(more)?;
+        }
+        Ok(())
+    }
+}
+
+impl Piece {
+    /// Adds these lines to those of the program that makes the call so many times, at least once. The
+    /// ending of that program, where nothing comes behind these lines.
+    pub(crate) fn add_to(
+        &self,
+        lines: &mut PieceLines,
+        times: u16,
+    ) -> Result<Option<Ending>, NoMemory>
+        requires { 0 < times }
+        ensures added { OnOk result (AreAdded self.now.ending lines.old lines.new times self.now.lines) }
+        ensures stops { IfOk result (λ ending. ending ≡ stop_of self.now.ending) }
+    {
+        match self.ending {
+            Ending::Stops => {
+                lines.join(&self.lines)?;
+                Ok(Some(Ending::Stops))
+            }
+            Ending::Returns => {
+                lines.join_times(&self.lines, times)?;
+                Ok(None)
+            }
+        }
+    }
+}

@@ -1,0 +1,120 @@
+-- The items ahead of a place, as its running frame moves.
+use Rattle.std.proofs.Common.{◌≡◌, ℕ, zero, suc, ◌+◌, Bool, true, false, List, [], ◌∷◌, ◌++◌, length, take, drop, Some, refl, ap, sym, ◌∙◌, arith}
+use Rattle.std.proofs.lemmas.List.{length-append}
+use Rattle.block_order.specs.declared.control.Control.{Control}
+use Rattle.block_order.specs.declared.control.Control.TheVariants.{Wait, Call, Back}
+use Rattle.block_order.specs.declared.frame.Frame.{Frame}
+use Rattle.block_order.specs.declared.label.Mark.{Mark}
+use Rattle.block_order.specs.declared.label.Mark.TheVariants as mark
+use Rattle.block_order.specs.declared.program.ControlBlock.{ControlBlock}
+use Rattle.block_order.specs.declared.program.ControlProgram.{ControlProgram}
+use Rattle.block_order.specs.Order.{blocks, control_at}
+use Rattle.block_order.specs.Loud.{loud, mark_of, marks, stretch}
+use Rattle.block_order.specs.Labels.{room, counts}
+use Rattle.block_order.specs.Steps.{at}
+use Rattle.block_order.proofs.MarksFrom.{marks-at, marks-drop}
+use Rattle.part_order.specs.Parts.{Item, Stretch, Meets, times, items, whole, items_from, stretch_at, behind, ahead}
+
+pub ahead-counts : (tape : List ControlProgram) (f : Frame) (stack : List Frame) → counts tape f.program stack ≡ true
+    → ahead tape (f ∷ stack)
+    ≡ items_from tape (room stack) f.program (stretch_at tape f.program f.block) f.left (behind tape stack)
+ahead-counts tape f stack e = rw e
+
+pub ahead-quiet : (tape : List ControlProgram) (f : Frame) (stack : List Frame) → counts tape f.program stack ≡ false
+    → ahead tape (f ∷ stack) ≡ ahead tape stack
+ahead-quiet tape f stack e = rw e
+
+-- behind a block stand the marks before it and its own
+pub stretch_next : (ld : ℕ → Bool) (bs : List ControlBlock) (i : ℕ) (c : Control) → control_at bs i ≡ Some c
+    → stretch ld bs (suc i) ≡ length (mark_of ld c) + stretch ld bs i
+stretch_next ld [] i c e = absurd cc
+stretch_next ld (b ∷ bs) zero c e =
+    let same : b.control ≡ c = cc in
+    length-append (mark_of ld b.control) [] ∙ ap (λ x. length (mark_of ld x) + 0) same
+stretch_next ld (b ∷ bs) (suc i) c e =
+    let above = stretch_next ld bs i c e in
+    let long = length-append (mark_of ld b.control) (marks ld (take (suc i) bs)) in
+    let short = length-append (mark_of ld b.control) (marks ld (take i bs)) in
+    omega arith
+
+-- a frame that stays in its stretch keeps the items ahead; a quiet one may move anywhere
+pub moves_kept : (tape : List ControlProgram) (f : Frame) (stack : List Frame) (block : ℕ)
+    → (counts tape f.program stack ≡ true → stretch_at tape f.program block ≡ stretch_at tape f.program f.block)
+    → ahead tape (at f block ∷ stack) ≡ ahead tape (f ∷ stack)
+moves_kept tape f stack block same = go (counts tape f.program stack) refl
+  where
+    go : (b : Bool) → counts tape f.program stack ≡ b → ahead tape (at f block ∷ stack) ≡ ahead tape (f ∷ stack)
+    go true e =
+        rw e (ap (λ k. items_from tape (room stack) f.program k f.left (behind tape stack)) (same e))
+    go false e = rw e refl
+
+pub unmarked_next : (tape : List ControlProgram) (p block : ℕ) (c : Control) → control_at (blocks tape p) block ≡ Some c
+    → mark_of (loud tape) c ≡ [] → stretch_at tape p (suc block) ≡ stretch_at tape p block
+unmarked_next tape p block c is none =
+    let next = stretch_next (loud tape) (blocks tape p) block c is in
+    let none' = ap length none in
+    omega arith
+
+-- behind a mark begins the next stretch
+pub marked_next : (tape : List ControlProgram) (p block : ℕ) (c : Control) (m : Mark) → control_at (blocks tape p) block ≡ Some c
+    → mark_of (loud tape) c ≡ m ∷ [] → stretch_at tape p (suc block) ≡ suc (stretch_at tape p block)
+marked_next tape p block c m is one =
+    let next = stretch_next (loud tape) (blocks tape p) block c is in
+    let one' = ap length one in
+    omega arith
+
+-- the marks from a block's stretch on begin with the block's own
+pub marks_here : (tape : List ControlProgram) (p block : ℕ) (c : Control) → control_at (blocks tape p) block ≡ Some c
+    → drop (stretch_at tape p block) (marks (loud tape) (blocks tape p))
+    ≡ mark_of (loud tape) c ++ drop (stretch_at tape p (suc block)) (marks (loud tape) (blocks tape p))
+marks_here tape p block c is =
+    sym (marks-drop (loud tape) (blocks tape p) block)
+    ∙ (marks-at (loud tape) (blocks tape p) block c is
+    ∙ ap (λ ms. mark_of (loud tape) c ++ ms) (marks-drop (loud tape) (blocks tape p) (suc block)))
+
+-- a block's stretch comes first
+pub stretch_first : (tape : List ControlProgram) (called : ℕ → List Item → List Item) (p s : ℕ) (ms : List Mark) (rest : List Item)
+    → (xs : List Item) × (items called p s ms rest ≡ Stretch p s ∷ xs)
+stretch_first tape called p s [] rest = ([], refl)
+stretch_first tape called p s (mark.Wait code ∷ ms) rest = (Meets ∷ items called p (suc s) ms rest, refl)
+stretch_first tape called p s (mark.End ∷ ms) rest = ([], refl)
+stretch_first tape called p s (mark.Call q r ∷ ms) rest = (times r (called q) (items called p (suc s) ms rest), refl)
+stretch_first tape called p s (mark.Back ∷ ms) rest = (rest, refl)
+stretch_first tape called p s (mark.Past ∷ ms) rest = ([], refl)
+
+-- a call of a loud program opens behind its stretch
+pub call_opens : (tape : List ControlProgram) (n m p block left q more : ℕ) (rest : List Item) → n ≡ suc m
+    → control_at (blocks tape p) block ≡ Some (Call q (suc more)) → loud tape q ≡ true
+    → items_from tape n p (stretch_at tape p block) left rest
+    ≡ Stretch p (stretch_at tape p block)
+    ∷ items_from tape m q 0 more (items_from tape n p (stretch_at tape p (suc block)) left rest)
+unfolding whole
+call_opens tape n m p block left q more rest e is noisy =
+    let one : mark_of (loud tape) (Call q (suc more)) ≡ mark.Call q (suc more) ∷ [] = rw noisy refl in
+    rw (
+      e,
+      marks_here tape p block (Call q (suc more)) is,
+      marked_next tape p block (Call q (suc more)) (mark.Call q (suc more)) is one,
+      noisy,
+    ) refl
+
+-- a return with a repeat left begins the program anew
+pub repeat_begins : (tape : List ControlProgram) (n p block left : ℕ) (rest : List Item)
+    → control_at (blocks tape p) block ≡ Some Back
+    → items_from tape n p (stretch_at tape p block) (suc left) rest
+    ≡ Stretch p (stretch_at tape p block) ∷ items_from tape n p 0 left rest
+unfolding whole
+repeat_begins tape n p block left rest is = rw (marks_here tape p block Back is) refl
+
+-- a last return leads to what stands behind
+pub last_returns : (tape : List ControlProgram) (n p block : ℕ) (rest : List Item)
+    → control_at (blocks tape p) block ≡ Some Back
+    → items_from tape n p (stretch_at tape p block) 0 rest ≡ Stretch p (stretch_at tape p block) ∷ rest
+last_returns tape n p block rest is = rw (marks_here tape p block Back is) refl
+
+pub wait_begins : (tape : List ControlProgram) (n p block left code : ℕ) (rest : List Item)
+    → control_at (blocks tape p) block ≡ Some (Wait code)
+    → items_from tape n p (stretch_at tape p block) left rest
+    ≡ Stretch p (stretch_at tape p block) ∷ Meets ∷ items_from tape n p (stretch_at tape p (suc block)) left rest
+wait_begins tape n p block left code rest is =
+    rw (marks_here tape p block (Wait code) is, marked_next tape p block (Wait code) (mark.Wait code) is refl) refl

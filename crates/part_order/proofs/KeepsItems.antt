@@ -1,0 +1,180 @@
+-- Each step leads on in the items, past no wait.
+use Rattle.std.proofs.Common.{◌≡◌, ℕ, zero, suc, ◌<◌, inl, inr, Bool, true, false, List, [], ◌∷◌, length, Some, refl, ap, sym, subst, ◌∙◌, arith}
+use Rattle.block_order.specs.declared.control.Control.{Control}
+use Rattle.block_order.specs.declared.control.Control.TheVariants.{Next, Goto, While, Do, EndLoop, Wait, End, Call, Back, BackTo}
+use Rattle.block_order.specs.declared.frame.Frame.{Frame}
+use Rattle.block_order.specs.declared.program.ControlProgram.{ControlProgram}
+use Rattle.block_order.specs.Order.{blocks, control_at, IsLoop}
+use Rattle.block_order.specs.Loud.{loud, mark_of}
+use Rattle.block_order.specs.Labels.{room, counts, IsTarget, Counts, IsUnforked}
+use Rattle.block_order.specs.Steps.{at, returned, ReturnsTo, Goes, IsPlace, standing, passed}
+use Rattle.block_order.proofs.LoudReaches.{AreLoud}
+use Rattle.block_order.proofs.CallChains.{counts_below, main_below}
+use Rattle.part_order.specs.Parts.{Stretch, Meets, Anew, Follows, behind_stretch, behind_wait, anew, stretch_at, behind, ahead, path_items}
+use Rattle.part_order.proofs.ItemsAhead.{ahead-counts, ahead-quiet, moves_kept, unmarked_next, call_opens, repeat_begins, last_returns, wait_begins}
+
+-- behind n waits of the list the items ahead of the place follow
+abbrev pub Stands : List ControlProgram → ℕ → List Frame → Type 0
+Stands tape n place = Follows (path_items tape) n (ahead tape place)
+
+same : (tape : List ControlProgram) (n : ℕ) (from to : List Frame) → ahead tape to ≡ ahead tape from → Stands tape n from → Stands tape n to
+same tape n from to e s = subst (Follows (path_items tape) n) (sym e) s
+
+-- a stretch is left behind
+leaves : (tape : List ControlProgram) (n p s : ℕ) (from to : List Frame) → ahead tape from ≡ Stretch p s ∷ ahead tape to
+    → Stands tape n from → Stands tape n to
+leaves tape n p s from to e st =
+    behind_stretch n p s (ahead tape to) (subst (Follows (path_items tape) n) e st)
+
+Counts-from : (tape : List ControlProgram) (f : Frame) (stack : List Frame) → IsPlace tape (f ∷ stack)
+    → counts tape f.program stack ≡ true → Counts tape f.program
+Counts-from tape f [] place e = inl place.0
+Counts-from tape f (g ∷ stack) place e = inr e
+
+next_kept : (tape : List ControlProgram) (f : Frame) (stack : List Frame) (c : Control)
+    → control_at (blocks tape f.program) f.block ≡ Some c → mark_of (loud tape) c ≡ []
+    → ahead tape (at f (suc f.block) ∷ stack) ≡ ahead tape (f ∷ stack)
+next_kept tape f stack c is none = moves_kept tape f stack (suc f.block) (λ _. unmarked_next tape f.program f.block c is none)
+
+jump_kept : (tape : List ControlProgram) → IsUnforked tape → (f : Frame) (stack : List Frame)
+    → IsPlace tape (f ∷ stack) → (c : Control) → control_at (blocks tape f.program) f.block ≡ Some c
+    → (target : ℕ) → IsTarget tape f.program f.block c target
+    → ahead tape (at f target ∷ stack) ≡ ahead tape (f ∷ stack)
+jump_kept tape un f stack place c is target to =
+    moves_kept tape f stack target (λ e. sym (un.jumps f.program f.block target c (Counts-from tape f stack place e) is to))
+
+exit_kept : (tape : List ControlProgram) → IsUnforked tape → (f : Frame) (stack : List Frame)
+    → IsPlace tape (f ∷ stack) → (close : ℕ) → IsLoop (blocks tape f.program) f.block close
+    → ahead tape (at f (suc close) ∷ stack) ≡ ahead tape (f ∷ stack)
+exit_kept tape un f stack place close loop =
+    moves_kept tape f stack (suc close)
+    (λ e. unmarked_next tape f.program close (EndLoop loop.name) loop.is_close refl
+    ∙ sym (un.loops f.program f.block close (Counts-from tape f stack place e) loop))
+
+loop_kept : (tape : List ControlProgram) → IsUnforked tape → (f : Frame) (stack : List Frame)
+    → IsPlace tape (f ∷ stack) → (head : ℕ) → IsLoop (blocks tape f.program) head f.block
+    → ahead tape (at f head ∷ stack) ≡ ahead tape (f ∷ stack)
+loop_kept tape un f stack place head loop =
+    moves_kept tape f stack head (λ e. un.loops f.program head f.block (Counts-from tape f stack place e) loop)
+
+call_stands : (tape : List ControlProgram) → AreLoud tape → (n : ℕ) (f : Frame) (stack : List Frame) (q more : ℕ)
+    → control_at (blocks tape f.program) f.block ≡ Some (Call q (suc more)) → length stack < 8
+    → Stands tape n (f ∷ stack) → Stands tape n (record { program = q; block = 0; left = more } ∷ f ∷ stack)
+call_stands tape are n f stack q more is few s = go (loud tape q) refl
+  where
+    inner : Frame
+    inner = record { program = q; block = 0; left = more }
+
+    go : (b : Bool) → loud tape q ≡ b → Stands tape n (inner ∷ f ∷ stack)
+    go false e = same tape n (f ∷ stack) (inner ∷ f ∷ stack) (ahead-quiet tape inner (f ∷ stack) e) s
+    go true e =
+        let deep : room stack ≡ suc (room (f ∷ stack)) = omega arith in
+        leaves tape n f.program (stretch_at tape f.program f.block) (f ∷ stack) (inner ∷ f ∷ stack)
+        (ahead-counts tape f stack (counts_below tape are f stack q (suc more) is e)
+        ∙ (call_opens tape (room stack) (room (f ∷ stack)) f.program f.block f.left q more (behind tape stack) deep is e
+        ∙ ap (λ xs. Stretch f.program (stretch_at tape f.program f.block) ∷ xs) (sym (ahead-counts tape inner (f ∷ stack) e)))) s
+
+back_stands : (tape : List ControlProgram) → AreLoud tape → (n : ℕ) (f g : Frame) (stack : List Frame)
+    → IsPlace tape (f ∷ g ∷ stack) → control_at (blocks tape f.program) f.block ≡ Some Back
+    → (left : ℕ) → f.left ≡ left
+    → Stands tape n (f ∷ g ∷ stack) → Stands tape n (returned left f (g ∷ stack))
+back_stands tape are n f g stack place is zero l s = go (loud tape f.program) refl
+  where
+    after : Frame
+    after = at g (suc g.block)
+
+    go : (b : Bool) → loud tape f.program ≡ b → Stands tape n (after ∷ stack)
+    go false e =
+        same tape n (f ∷ g ∷ stack) (after ∷ stack)
+        (next_kept tape g stack (Call f.program place.0) place.1 (rw e refl) ∙ sym (ahead-quiet tape f (g ∷ stack) e)) s
+    go true e =
+        leaves tape n f.program (stretch_at tape f.program f.block) (f ∷ g ∷ stack) (after ∷ stack)
+        (ahead-counts tape f (g ∷ stack) e
+        ∙ (rw l (last_returns tape (room (g ∷ stack)) f.program f.block (behind tape (g ∷ stack)) is)
+        ∙ ap (λ xs. Stretch f.program (stretch_at tape f.program f.block) ∷ xs)
+        (sym (ahead-counts tape after stack (counts_below tape are g stack f.program place.0 place.1 e))))) s
+back_stands tape are n f g stack place is (suc left) l s = go (loud tape f.program) refl
+  where
+    again : Frame
+    again = record { program = f.program; block = 0; left = left }
+
+    go : (b : Bool) → loud tape f.program ≡ b → Stands tape n (again ∷ g ∷ stack)
+    go false e =
+        same tape n (f ∷ g ∷ stack) (again ∷ g ∷ stack)
+        (ahead-quiet tape again (g ∷ stack) e ∙ sym (ahead-quiet tape f (g ∷ stack) e)) s
+    go true e =
+        leaves tape n f.program (stretch_at tape f.program f.block) (f ∷ g ∷ stack) (again ∷ g ∷ stack)
+        (ahead-counts tape f (g ∷ stack) e
+        ∙ (rw l (repeat_begins tape (room (g ∷ stack)) f.program f.block left (behind tape (g ∷ stack)) is)
+        ∙ ap (λ xs. Stretch f.program (stretch_at tape f.program f.block) ∷ xs) (sym (ahead-counts tape again (g ∷ stack) e)))) s
+
+back_to_kept : (tape : List ControlProgram) → AreLoud tape → IsUnforked tape → (f : Frame) (stack : List Frame)
+    → IsPlace tape (f ∷ stack) → (k : ℕ) → control_at (blocks tape f.program) f.block ≡ Some (BackTo k)
+    → (to : List Frame) → ReturnsTo tape f stack k to → ahead tape to ≡ ahead tape (f ∷ stack)
+back_to_kept tape are un f [] place k is to (target, leads, e) =
+    rw e (jump_kept tape un f [] place (BackTo k) is target (place.0, leads))
+back_to_kept tape are un f (g ∷ stack) place k is to (target, leads, e) = rw e (go (loud tape f.program) refl)
+  where
+    go : (b : Bool) → loud tape f.program ≡ b → ahead tape (at g target ∷ stack) ≡ ahead tape (f ∷ g ∷ stack)
+    go true noisy = absurd (main_below tape are un f g stack place noisy (un.backs f.program f.block k noisy is))
+    go false quiet =
+        jump_kept tape un g stack place.3 (Call f.program place.0) place.1 target (quiet, f.block, k, is, leads)
+        ∙ sym (ahead-quiet tape f (g ∷ stack) quiet)
+
+restart_stands : (tape : List ControlProgram) (n : ℕ) (f : Frame) → IsPlace tape (f ∷ [])
+    → control_at (blocks tape f.program) f.block ≡ Some Back
+    → (to : List Frame) → Goes tape f [] Back to → Stands tape n (f ∷ []) → Stands tape n to
+restart_stands tape n f place is to e s =
+    let here : ahead tape (f ∷ []) ≡ Stretch f.program (stretch_at tape f.program f.block) ∷ Anew ∷ [] =
+    rw place.1 (last_returns tape 8 f.program f.block (Anew ∷ []) is) in
+    let there : path_items tape ≡ ahead tape to = rw (e, place.0, place.1) refl in
+    subst (Follows (path_items tape) n) there
+    (anew n [] (behind_stretch n f.program (stretch_at tape f.program f.block) (Anew ∷ [])
+    (subst (Follows (path_items tape) n) here s)))
+
+pub goes_stands : (tape : List ControlProgram) → AreLoud tape → IsUnforked tape → (n : ℕ) (f : Frame) (stack : List Frame)
+    → IsPlace tape (f ∷ stack) → (c : Control) → control_at (blocks tape f.program) f.block ≡ Some c
+    → (to : List Frame) → Goes tape f stack c to → Stands tape n (f ∷ stack) → Stands tape n to
+goes_stands tape are un n f stack place Next is to e s =
+    same tape n (f ∷ stack) to (rw e (next_kept tape f stack Next is refl)) s
+goes_stands tape are un n f stack place (Goto k) is to (inl e) s =
+    same tape n (f ∷ stack) to (rw e (next_kept tape f stack (Goto k) is refl)) s
+goes_stands tape are un n f stack place (Goto k) is to (inr (number, target, may, leads, e)) s =
+    same tape n (f ∷ stack) to (rw e (jump_kept tape un f stack place (Goto k) is target (number, may, leads))) s
+goes_stands tape are un n f stack place (While m) is to (inl e) s =
+    same tape n (f ∷ stack) to (rw e (next_kept tape f stack (While m) is refl)) s
+goes_stands tape are un n f stack place (While m) is to (inr (close, loop, e)) s =
+    same tape n (f ∷ stack) to (rw e (exit_kept tape un f stack place close loop)) s
+goes_stands tape are un n f stack place (Do m) is to e s =
+    same tape n (f ∷ stack) to (rw e (next_kept tape f stack (Do m) is refl)) s
+goes_stands tape are un n f stack place (EndLoop m) is to (head, loop, e) s =
+    same tape n (f ∷ stack) to (rw e (loop_kept tape un f stack place head loop)) s
+goes_stands tape are un n f stack place (Wait code) is to e s = absurd e
+goes_stands tape are un n f stack place End is to e s = absurd e
+goes_stands tape are un n f stack place (Call q r) is to (more, more_is, few, e) s =
+    subst (Stands tape n) (sym e)
+    (call_stands tape are n f stack q more (is ∙ ap (λ k. Some (Call q k)) more_is) few s)
+goes_stands tape are un n f [] place Back is to e s = restart_stands tape n f place is to e s
+goes_stands tape are un n f (g ∷ stack) place Back is to e s =
+    subst (Stands tape n) (sym e) (back_stands tape are n f g stack place is f.left refl s)
+goes_stands tape are un n f stack place (BackTo k) is to e s =
+    same tape n (f ∷ stack) to (back_to_kept tape are un f stack place k is to e) s
+
+wait_counts : (tape : List ControlProgram) → AreLoud tape → (f : Frame) (stack : List Frame) (code : ℕ)
+    → control_at (blocks tape f.program) f.block ≡ Some (Wait code) → counts tape f.program stack ≡ true
+wait_counts tape are f [] code is = refl
+wait_counts tape are f (g ∷ stack) code is = are.waits f.program f.block code is
+
+pub passed_stands : (tape : List ControlProgram) → AreLoud tape → (n code : ℕ) (place : List Frame)
+    → standing tape place ≡ Some (Wait code) → Stands tape n place → Stands tape (suc n) (passed place)
+passed_stands tape are n code [] is s = absurd cc
+passed_stands tape are n code (f ∷ stack) is s =
+    let after = at f (suc f.block) in
+    let own = stretch_at tape f.program f.block in
+    let e : counts tape f.program stack ≡ true = wait_counts tape are f stack code is in
+    let here : ahead tape (f ∷ stack) ≡ Stretch f.program own ∷ Meets ∷ ahead tape (after ∷ stack) =
+    ahead-counts tape f stack e
+    ∙ (wait_begins tape (room stack) f.program f.block f.left code (behind tape stack) is
+    ∙ ap (λ xs. Stretch f.program own ∷ Meets ∷ xs) (sym (ahead-counts tape after stack e))) in
+    behind_wait n (ahead tape (after ∷ stack))
+    (behind_stretch n f.program own (Meets ∷ ahead tape (after ∷ stack)) (subst (Follows (path_items tape) n) here s))

@@ -1,0 +1,5 @@
+pub mod ItemsAhead
+pub mod KeepsItems
+pub mod Standing
+pub mod Folded
+pub mod Counted

@@ -1,0 +1,5 @@
+use Rattle.part_order.proofs.Counted.{waits_agree}
+use Rattle.part_order.proofs.laws.equal_lists_have_equally_many_waits.Goals as goal
+
+pub returns : goal.returns
+returns c = waits_agree

@@ -1,0 +1,5 @@
+use Rattle.part_order.proofs.Folded.{parts_repeat}
+use Rattle.part_order.proofs.laws.parts_repeat_with_the_waits.Goals as goal
+
+pub returns : goal.returns
+returns c = parts_repeat

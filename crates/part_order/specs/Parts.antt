@@ -1,0 +1,111 @@
+-- The parts of a path: the blocks that its list, with all calls unfolded, has between one wait and the next. Which block runs
+-- there hangs on the variables; which block may run there does not.
+use Rattle.std.specs.Prelude.{◌≡◌, ℕ, zero, suc, ◌+◌, ◌<◌, false, List, [], ◌∷◌, drop, Some, if◌then◌else◌}
+use Rattle.block_order.specs.declared.control.Control.TheVariants.{Wait, Call}
+use Rattle.block_order.specs.declared.frame.Frame.{Frame}
+use Rattle.block_order.specs.declared.label.Mark.{Mark}
+use Rattle.block_order.specs.declared.label.Mark.TheVariants as mark
+use Rattle.block_order.specs.declared.program.ControlProgram.{ControlProgram}
+use Rattle.block_order.specs.Order.{blocks, control_at}
+use Rattle.block_order.specs.Loud.{loud, marks, stretch}
+use Rattle.block_order.specs.Labels.{room, counts, start}
+use Rattle.block_order.specs.Steps.{Step, standing, passed}
+
+-- What stands in the list: a stretch of a program, a wait, or that the list begins anew.
+pub data Item : Type 0 where
+  Stretch : (program number : ℕ) → Item
+  Meets : Item
+  Anew : Item
+
+-- what the program gives n times, one after another
+abbrev pub times : ℕ → (List Item → List Item) → List Item → List Item
+times zero f rest = rest
+times (suc n) f rest = f (times n f rest)
+
+-- The items of a program's marks from a stretch on, where called gives those of a called program, and rest follows behind the
+-- return. Each mark ends a stretch.
+abbrev pub items : (ℕ → List Item → List Item) → ℕ → ℕ → List Mark → List Item → List Item
+items called program number [] rest = Stretch program number ∷ []
+items called program number (mark.Wait code ∷ ms) rest =
+    Stretch program number ∷ Meets ∷ items called program (suc number) ms rest
+items called program number (mark.End ∷ ms) rest = Stretch program number ∷ []
+items called program number (mark.Call q repeats ∷ ms) rest =
+    Stretch program number ∷ times repeats (called q) (items called program (suc number) ms rest)
+items called program number (mark.Back ∷ ms) rest = Stretch program number ∷ rest
+items called program number (mark.Past ∷ ms) rest = Stretch program number ∷ []
+
+-- the items of a program that is called with n further calls left, and rest behind them
+unfoldable pub whole : List ControlProgram → ℕ → ℕ → List Item → List Item
+whole tape zero program rest = rest
+whole tape (suc n) program rest = items (λ q k. whole tape n q k) program 0 (marks (loud tape) (blocks tape program)) rest
+
+-- from a stretch of the program on, with n further calls left
+abbrev pub items_from : List ControlProgram → ℕ → ℕ → ℕ → ℕ → List Item → List Item
+items_from tape n program number left rest =
+    items (λ q k. whole tape n q k) program number (drop number (marks (loud tape) (blocks tape program)))
+    (times left (λ k. whole tape (suc n) program k) rest)
+
+-- the stretch of a block
+abbrev pub stretch_at : List ControlProgram → ℕ → ℕ → ℕ
+stretch_at tape program block = stretch (loud tape) (blocks tape program) block
+
+-- what comes once the running program has returned to these frames, the inner first
+abbrev pub behind : List ControlProgram → List Frame → List Item
+behind tape [] = Anew ∷ []
+behind tape (f ∷ stack) =
+    items_from tape (room stack) f.program (stretch_at tape f.program (suc f.block)) f.left (behind tape stack)
+
+-- the items from a place on; a quiet program has none of its own
+abbrev pub ahead : List ControlProgram → List Frame → List Item
+ahead tape [] = []
+ahead tape (f ∷ stack) =
+    if counts tape f.program stack
+    then items_from tape (room stack) f.program (stretch_at tape f.program f.block) f.left (behind tape stack)
+    else ahead tape stack
+
+-- the list of a path
+abbrev pub path_items : List ControlProgram → List Item
+path_items tape = ahead tape (start tape)
+
+-- how many waits the items have, before they begin anew
+abbrev pub waits_in : List Item → ℕ
+waits_in [] = 0
+waits_in (Stretch program number ∷ xs) = waits_in xs
+waits_in (Meets ∷ xs) = suc (waits_in xs)
+waits_in (Anew ∷ xs) = 0
+
+-- how many waits the list of a path has
+abbrev pub path_waits : List ControlProgram → ℕ
+path_waits tape = waits_in (path_items tape)
+
+-- Behind n waits of the list, which begins anew wherever it says so, these items follow.
+pub data Follows (all : List Item) : ℕ → List Item → Type 0 where
+  first : Follows all 0 all
+  behind_stretch : (n program number : ℕ) (rest : List Item) → Follows all n (Stretch program number ∷ rest) → Follows all n rest
+  behind_wait : (n : ℕ) (rest : List Item) → Follows all n (Meets ∷ rest) → Follows all (suc n) rest
+  anew : (n : ℕ) (rest : List Item) → Follows all n (Anew ∷ rest) → Follows all n all
+
+-- The block is in part n of the path: its stretch stands behind n waits of the list, or it is a block of a quiet program that a
+-- block of part n calls.
+pub data IsInPart (tape : List ControlProgram) (n : ℕ) : ℕ → ℕ → Type 0 where
+  listed : (program block : ℕ) (rest : List Item)
+      → Follows (path_items tape) n (Stretch program (stretch_at tape program block) ∷ rest) → IsInPart tape n program block
+  called : (caller there program block repeats : ℕ) → IsInPart tape n caller there
+      → control_at (blocks tape caller) there ≡ Some (Call program repeats) → loud tape program ≡ false → IsInPart tape n program block
+
+-- some steps of the path, and n waits that it passed, lead from its start to the place
+pub data IsReached (tape : List ControlProgram) : ℕ → List Frame → Type 0 where
+  starts : IsReached tape 0 (start tape)
+  steps : (n : ℕ) (from to : List Frame) → IsReached tape n from → Step tape from to → IsReached tape n to
+  passes : (n code : ℕ) (from : List Frame) → IsReached tape n from → standing tape from ≡ Some (Wait code)
+      → IsReached tape (suc n) (passed from)
+
+-- behind n waits each block that a path may come to is in part n
+abbrev pub StandsInParts : List ControlProgram → Type 0
+StandsInParts tape =
+    (n : ℕ) (f : Frame) (stack : List Frame) → IsReached tape n (f ∷ stack) → IsInPart tape n f.program f.block
+
+-- Behind more waits than the list has, the parts are those of a round before; without a wait all is part 0.
+pub record PartsRepeat (tape : List ControlProgram) : Type 0 where
+  pub before : (n program block : ℕ) → 0 < n → IsInPart tape (n + path_waits tape) program block → IsInPart tape n program block
+  pub alone : (n program block : ℕ) → path_waits tape ≡ 0 → IsInPart tape n program block → n ≡ 0

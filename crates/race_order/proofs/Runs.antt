@@ -1,0 +1,210 @@
+-- Where no part has a race, all runs of the machine that finish have the same moves, the same paths and the same values.
+use Rattle.std.proofs.Common.{◌≡◌, ℕ, ◌+◌, Bool, true, List, [], ◌∷◌, ◌++◌, Option, Some, None, refl, ap, sym, subst, ◌∙◌, arith, append-nil, append_assoc}
+use Rattle.nc_number.specs.declared.path.Path.{Path}
+use Rattle.nc_number.specs.declared.path.Path.TheVariants.{One, Two}
+use Rattle.nc_number.specs.declared.value.Var.{Var}
+use Rattle.nc_number.specs.declared.value.Var.TheVariants.{Vacant}
+use Rattle.nc_moves.specs.declared.alarm.Alarm.{Alarm}
+use Rattle.nc_moves.specs.declared.motion.Moves.{Moves}
+use Rattle.common_vars.specs.declared.links.Write.{Write}
+use Rattle.path_state.specs.View.{PathView}
+use Rattle.path_state.specs.Statements.{Write as Written}
+use Rattle.two_path.specs.Machine.{Part, MachineView, own_first, opening}
+use Rattle.two_path.specs.Turns.{Blocks, Tapes, TurnResult, unless_idle, block_turn, turn_of}
+use Rattle.two_path.specs.Histories.{Event, TurnOf, behind_event, run}
+use Rattle.race_order.proofs.Alone.{PathOf}
+use Rattle.race_order.proofs.Together.{Pair, pair_at, Goes, one, two, meet, IsRun, begun, gone, IsFree, race_free_runs_agree}
+use Rattle.race_order.proofs.Calm.{finished_calm}
+use Rattle.race_order.proofs.Stable.{var_stable}
+use Rattle.race_order.specs.Agreement.{moves_in, turn_moves, moves_by, AreDone, unstamped, but_for_order, AreMixed, Agree}
+use Rattle.race_order.specs.Agreement as mixed
+use Rattle.race_order.proofs.Machines.{Known, Told, nothing_told, path_of}
+use Rattle.race_order.proofs.Turns.{shown, waits, IsTold, IsFit, IsShown, own_shown}
+
+abbrev swapped : {V : Type 0} → (p q : PathOf V) → Pair V p q → Pair V q p
+swapped p q m = pair_at q p m.second m.first m.env
+
+goes_swapped : {V : Type 0} → (p q : PathOf V) (m to : Pair V p q) → Goes p q m to → Goes q p (swapped p q m) (swapped p q to)
+goes_swapped p q m _ one = two
+goes_swapped p q m _ two = one
+goes_swapped p q m _ (meet here there) = meet there here
+
+run_swapped : {V : Type 0} → (p q : PathOf V) (m to : Pair V p q) → IsRun p q m to → IsRun q p (swapped p q m) (swapped p q to)
+run_swapped p q m _ begun = begun
+run_swapped p q m _ (gone at to before goes) =
+    gone (swapped p q at) (swapped p q to) (run_swapped p q m at before) (goes_swapped p q at to goes)
+
+run_on : {V : Type 0} → (p q : PathOf V) (m between to : Pair V p q) → IsRun p q m between → IsRun p q between to → IsRun p q m to
+run_on p q m between _ before begun = before
+run_on p q m between _ before (gone at to more goes) = gone at to (run_on p q m between at before more) goes
+
+mixed_swapped : (mine yours : List Written) (writes : List Write) → AreMixed mine yours writes → AreMixed yours mine writes
+mixed_swapped _ _ _ mixed.none = mixed.none
+mixed_swapped _ _ _ (mixed.one mine yours writes stamp w m) = mixed.two yours mine writes stamp w (mixed_swapped mine yours writes m)
+mixed_swapped _ _ _ (mixed.two mine yours writes stamp w m) = mixed.one yours mine writes stamp w (mixed_swapped mine yours writes m)
+
+told_swapped : (m : MachineView) (t u : Told) → IsTold m t u → IsTold (own_first Two m) u t
+told_swapped m t u told = record {
+  count = (let all = told.count in omega arith);
+  writes = mixed_swapped t.writes u.writes m.writes told.writes;
+}
+
+abbrev tapes_with : Blocks → Blocks → Tapes
+tapes_with b d = record { first = b; second = d }
+
+turn_shown : (b d : Blocks) (k : Known b) (l : Known d) (x : Pair Var (path_of b k) (path_of d l)) (path : Path) (m : MachineView) (mine yours : List Moves)
+    → IsShown b d k l x m mine yours → (turn_of (tapes_with b d) path m).machine.alarm ≡ None
+    → IsShown b d k l x (turn_of (tapes_with b d) path m).machine
+    (mine ++ turn_moves One path (turn_of (tapes_with b d) path m).turn) (yours ++ turn_moves Two path (turn_of (tapes_with b d) path m).turn)
+turn_shown b d k l x One m mine yours s calm =
+    let next = own_shown b d k l One m mine yours s.one_told s.two_told s.env s.holds s.told s.first s.second calm in
+    let to = (turn_of (tapes_with b d) One m).machine in
+    let log = mine ++ moves_in (turn_of (tapes_with b d) One m).turn in
+    subst (λ ys. IsShown b d k l x to log ys) (sym (append-nil yours)) (record {
+      env = next.env;
+      one_told = next.one_told;
+      two_told = next.two_told;
+      run = run_on (path_of b k) (path_of d l) x (shown b d k l m mine yours s.one_told s.two_told s.env)
+          (shown b d k l to log yours next.one_told next.two_told next.env) s.run next.run;
+      told = next.told;
+      holds = next.holds;
+      first = next.first;
+      second = next.second;
+    })
+turn_shown b d k l x Two m mine yours s calm =
+    let next = own_shown d b l k Two (own_first Two m) yours mine s.two_told s.one_told s.env s.holds
+    (told_swapped m s.one_told s.two_told s.told) s.second s.first calm in
+    let to = (turn_of (tapes_with b d) Two m).machine in
+    let log = yours ++ moves_in (turn_of (tapes_with b d) Two m).turn in
+    subst (λ ys. IsShown b d k l x to ys log) (sym (append-nil mine)) (record {
+      env = next.env;
+      one_told = next.two_told;
+      two_told = next.one_told;
+      run = run_on (path_of b k) (path_of d l) x (shown b d k l m mine yours s.one_told s.two_told s.env)
+          (shown b d k l to mine log next.two_told next.one_told next.env) s.run
+          (run_swapped (path_of d l) (path_of b k) (shown d b l k (own_first Two m) yours mine s.two_told s.one_told s.env)
+          (shown d b l k (own_first Two to) log mine next.one_told next.two_told next.env) next.run);
+      told = told_swapped (own_first Two to) next.one_told next.two_told next.told;
+      holds = next.holds;
+      first = next.second;
+      second = next.first;
+    })
+
+halted : (m : MachineView) (o : Option Alarm) (a : Alarm) → o ≡ Some a → (f : Bool) (w : Option ℕ) (r : TurnResult) → (unless_idle m o f w r).machine ≡ m
+halted m (Some x) a e f w r = refl
+halted m None a e f w r = absurd cc
+
+halted_event : (tapes : Tapes) (path : Path) (m : MachineView) (a : Alarm) → m.alarm ≡ Some a → (behind_event tapes (TurnOf path) m).alarm ≡ Some a
+halted_event tapes One m a e =
+    ap (λ (x : MachineView). x.alarm) (halted m m.alarm a e m.first.finished m.first.waiting (block_turn tapes.first One m)) ∙ e
+halted_event tapes Two m a e =
+    ap (λ (x : MachineView). x.alarm)
+    (halted (own_first Two m) m.alarm a e m.second.finished m.second.waiting (block_turn tapes.second Two (own_first Two m))) ∙ e
+
+halted_run : (tapes : Tapes) (m : MachineView) (a : Alarm) → m.alarm ≡ Some a → (events : List Event) → (run tapes m events).alarm ≡ Some a
+halted_run tapes m a e [] = e
+halted_run tapes m a e (TurnOf path ∷ events) =
+    halted_run tapes (behind_event tapes (TurnOf path) m) a (halted_event tapes path m a e) events
+
+calm_before : (tapes : Tapes) (m : MachineView) (events : List Event) → (run tapes m events).alarm ≡ None → m.alarm ≡ None
+calm_before tapes m events calm = go m.alarm refl
+  where
+    go : (o : Option Alarm) → m.alarm ≡ o → m.alarm ≡ None
+    go (Some a) e = let on = halted_run tapes m a e events in absurd cc
+    go None e = e
+
+run_shown : (b d : Blocks) (k : Known b) (l : Known d) (x : Pair Var (path_of b k) (path_of d l)) (m : MachineView) (mine yours : List Moves)
+    → IsShown b d k l x m mine yours → (events : List Event) → (run (tapes_with b d) m events).alarm ≡ None
+    → IsShown b d k l x (run (tapes_with b d) m events)
+    (mine ++ moves_by (tapes_with b d) One m events) (yours ++ moves_by (tapes_with b d) Two m events)
+run_shown b d k l x m mine yours s [] calm =
+    subst (λ xs. IsShown b d k l x m xs (yours ++ [])) (sym (append-nil mine))
+    (subst (λ ys. IsShown b d k l x m mine ys) (sym (append-nil yours)) s)
+run_shown b d k l x m mine yours s (TurnOf path ∷ events) calm =
+    let tapes = tapes_with b d in
+    let to = (turn_of tapes path m).machine in
+    let t = (turn_of tapes path m).turn in
+    let next = turn_shown b d k l x path m mine yours s (calm_before tapes to events calm) in
+    let more = run_shown b d k l x to (mine ++ turn_moves One path t) (yours ++ turn_moves Two path t) next events calm in
+    subst (λ xs. IsShown b d k l x (run tapes to events) xs (yours ++ moves_by tapes Two m (TurnOf path ∷ events)))
+    (append_assoc mine (turn_moves One path t) (moves_by tapes One to events))
+    (subst (λ ys. IsShown b d k l x (run tapes to events) ((mine ++ turn_moves One path t) ++ moves_by tapes One to events) ys)
+    (append_assoc yours (turn_moves Two path t) (moves_by tapes Two to events)) more)
+
+same_part : (a b : Part) → a.path ≡ b.path → a.values ≡ b.values → a.waiting ≡ b.waiting → a.finished ≡ b.finished
+    → unstamped a ≡ unstamped b
+same_part a b path values waiting finished =
+    λ i. record { path = path i; values = values i; stamps = []; waiting = waiting i; finished = finished i; since = 0 }
+
+same_machine : (m n : MachineView) → unstamped m.first ≡ unstamped n.first → unstamped m.second ≡ unstamped n.second
+    → m.count ≡ n.count → m.alarm ≡ n.alarm → but_for_order m ≡ but_for_order n
+same_machine m n first second count alarm =
+    λ i. record { first = first i; second = second i; writes = []; count = count i; alarm = alarm i }
+
+-- what has finished does not wait
+done_waits : (part : Part) → IsFit part → part.finished ≡ true → part.waiting ≡ None
+done_waits part fit done = go part.waiting refl
+  where
+    go : (o : Option ℕ) → part.waiting ≡ o → part.waiting ≡ None
+    go None e = e
+    go (Some code) e = let open_still = fit code e in absurd cc
+
+-- what both told is all that there is
+told_count : (m : MachineView) (t u : Told) → IsTold m t u → m.first.waiting ≡ None → m.second.waiting ≡ None
+    → m.count ≡ t.records + u.records
+told_count m t u told first second =
+    let one : waits m.first.waiting ≡ 0 = ap waits first in
+    let two : waits m.second.waiting ≡ 0 = ap waits second in
+    let all = told.count in omega arith
+
+pub runs_agree : (b d : Blocks) (k : Known b) (l : Known d) → IsFree (path_of b k) (path_of d l) → (first second : PathView)
+    → k.In 0 first → l.In 0 second → (events others : List Event)
+    → AreDone (run (tapes_with b d) (opening first second) events) → AreDone (run (tapes_with b d) (opening first second) others)
+    → Agree (tapes_with b d) (opening first second) events others
+runs_agree b d k l free first second here there events others done also =
+    let tapes = tapes_with b d in
+    let start = opening first second in
+    let m = run tapes start events in
+    let n = run tapes start others in
+    let x = shown b d k l start [] [] nothing_told nothing_told (λ _. Vacant) in
+    let begins : IsShown b d k l x start [] [] = record {
+      env = λ _. Vacant;
+      one_told = nothing_told;
+      two_told = nothing_told;
+      run = begun;
+      told = record { count = refl; writes = mixed.none };
+      holds = λ v i late. refl;
+      first = λ code waits. refl;
+      second = λ code waits. refl;
+    } in
+    let calm = finished_calm tapes first second events done.first done.second in
+    let also_calm = finished_calm tapes first second others also.first also.second in
+    let a = run_shown b d k l x start [] [] begins events calm in
+    let o = run_shown b d k l x start [] [] begins others also_calm in
+    let same = race_free_runs_agree var_stable (path_of b k) (path_of d l) free x
+    (shown b d k l m (moves_by tapes One start events) (moves_by tapes Two start events) a.one_told a.two_told a.env)
+    (shown b d k l n (moves_by tapes One start others) (moves_by tapes Two start others) o.one_told o.two_told o.env)
+    here there a.run o.run (rw done.first refl, rw done.second refl) (rw also.first refl, rw also.second refl) in
+    let one : a.one_told ≡ o.one_told = ap (λ y. y.first.state.2) same in
+    let two : a.two_told ≡ o.two_told = ap (λ y. y.second.state.2) same in
+    let rest = done_waits m.first a.first done.first in
+    let rest' = done_waits m.second a.second done.second in
+    let also_rest = done_waits n.first o.first also.first in
+    let also_rest' = done_waits n.second o.second also.second in
+    record {
+      machine = same_machine m n
+          (same_part m.first n.first (ap (λ y. y.first.state.0) same) (ap (λ y. y.first.values) same) (rest ∙ sym also_rest) (done.first ∙ sym also.first))
+          (same_part m.second n.second (ap (λ y. y.second.state.0) same) (ap (λ y. y.second.values) same) (rest' ∙ sym also_rest') (done.second ∙ sym also.second))
+          (told_count m a.one_told a.two_told a.told rest rest'
+          ∙ (ap (λ (t : Told). t.records + a.two_told.records) one ∙ (ap (λ (t : Told). o.one_told.records + t.records) two
+          ∙ sym (told_count n o.one_told o.two_told o.told also_rest also_rest'))))
+          (calm ∙ sym also_calm);
+      first_moves = ap (λ y. y.first.state.1) same;
+      second_moves = ap (λ y. y.second.state.1) same;
+      first_writes = a.one_told.writes;
+      second_writes = a.two_told.writes;
+      written = a.told.writes;
+      also_written = subst (λ ys. AreMixed a.one_told.writes ys n.writes) (sym (ap (λ (t : Told). t.writes) two))
+          (subst (λ xs. AreMixed xs o.two_told.writes n.writes) (sym (ap (λ (t : Told). t.writes) one)) o.told.writes);
+      values = λ v. a.holds v m.count (omega arith) ∙ (ap (λ y. y.env v) same ∙ sym (o.holds v n.count (omega arith)));
+    }

@@ -1,0 +1,233 @@
+-- A turn of the machine is none, one or two turns of the pair.
+use Rattle.std.proofs.Common.{◌≡◌, ◌==◌, ◌&&◌, nat_le, ℕ, ◌+◌, ◌≤◌, Bool, true, false, List, [], ◌∷◌, ◌++◌, Option, Some, None, refl, ap, sym, subst, ◌∙◌, if◌then◌else◌, arith, append-nil}
+use Rattle.std.proofs.lemmas.Bool.{le-leb}
+use Rattle.nc_number.specs.declared.path.Path.{Path}
+use Rattle.nc_number.specs.declared.value.Var.{Var}
+use Rattle.nc_moves.specs.declared.alarm.Alarm.{Alarm}
+use Rattle.nc_moves.specs.declared.motion.Moves.{Moves}
+use Rattle.common_vars.specs.declared.links.Write.{Write}
+use Rattle.common_vars.specs.Writes.{value_after}
+use Rattle.common_vars.proofs.Laws.{seen_from_its_stamp}
+use Rattle.path_state.specs.Statements.{Write as Written}
+use Rattle.path_state.specs.Effect.{Effect}
+use Rattle.path_state.specs.Effect as effect
+use Rattle.two_path.specs.declared.turn.Turn.{Turn}
+use Rattle.two_path.specs.declared.turn.Turn.TheVariants as turn
+use Rattle.two_path.specs.Machine.{Part, MachineView}
+use Rattle.two_path.specs.Turns.{Blocks, TurnResult, result, with_write, behind_meeting, alarm_result, crossed_waits, result_by, result_at_wait, unless_idle, block_turn, own_turn}
+use Rattle.race_order.proofs.Alone.{PathOf, Half, half_at, Solo, solo_at, Mode, Running, Waiting, Finished, set_at}
+use Rattle.race_order.proofs.Alone as alone
+use Rattle.race_order.proofs.Together.{Pair, pair_at, one, meet, IsRun, begun, gone, behind_wait}
+use Rattle.race_order.specs.Agreement.{moves_in, AreMixed}
+use Rattle.race_order.specs.Agreement as mixed
+use Rattle.race_order.proofs.Machines.{Known, Told, one_record, one_write, Logged, moved_on, logged, seen, path_of}
+
+abbrev pub mode_of : Bool → Option ℕ → Mode
+mode_of true waiting = Finished
+mode_of false (Some code) = Waiting
+mode_of false None = Running
+
+abbrev pub half_of : Part → List Moves → Told → Half Logged Var
+half_of part moves told = half_at (part.path, moves, told) part.values (mode_of part.finished part.waiting)
+
+-- the record of a path's arrival at a wait, which the path counts as it passes
+abbrev pub waits : Option ℕ → ℕ
+waits None = 0
+waits (Some code) = 1
+
+-- the values, at this record and any later one
+abbrev pub Holds : MachineView → (ℕ → Var) → Type 0
+Holds m env = (v k : ℕ) → m.count ≤ k → value_after k v m.writes ≡ env v
+
+-- what waits has not finished
+abbrev pub IsFit : Part → Type 0
+IsFit part = (code : ℕ) → part.waiting ≡ Some code → part.finished ≡ false
+
+abbrev pub shown : (b d : Blocks) (k : Known b) (l : Known d) → MachineView → List Moves → List Moves → Told → Told → (ℕ → Var)
+    → Pair Var (path_of b k) (path_of d l)
+shown b d k l m mine yours t u env =
+    pair_at (path_of b k) (path_of d l) (half_of m.first mine t) (half_of m.second yours u) env
+
+-- what both paths told is what the machine holds
+pub record IsTold (m : MachineView) (t u : Told) : Type 0 where
+  pub count : m.count ≡ (t.records + u.records) + (waits m.first.waiting + waits m.second.waiting)
+  pub writes : AreMixed t.writes u.writes m.writes
+
+-- the pair leads to what shows the machine
+pub record IsShown (b d : Blocks) (k : Known b) (l : Known d) (from : Pair Var (path_of b k) (path_of d l)) (m : MachineView) (mine yours : List Moves) : Type 0 where
+  pub env : ℕ → Var
+  pub one_told : Told
+  pub two_told : Told
+  pub run : IsRun (path_of b k) (path_of d l) from (shown b d k l m mine yours one_told two_told env)
+  pub told : IsTold m one_told two_told
+  pub holds : Holds m env
+  pub first : IsFit m.first
+  pub second : IsFit m.second
+
+step_to : {V : Type 0} → (p q : PathOf V) (h to : Half p.S V) (g : Half q.S V) (env new : ℕ → V) → alone.turn p h env ≡ solo_at to new
+    → IsRun p q (pair_at p q h g env) (pair_at p q to g new)
+step_to p q h to g env new e =
+    subst (λ y. IsRun p q (pair_at p q h g env) (pair_at p q y.half g y.env)) e
+    (gone (pair_at p q h g env) (pair_at p q (alone.turn p h env).half g (alone.turn p h env).env) begun one)
+
+written_holds : (m : MachineView) (env : ℕ → Var) (w : Written) → Holds m env → (v k : ℕ) → m.count + 1 ≤ k
+    → value_after k v (with_write (m.count + 1) (Some w) m.writes) ≡ set_at env w.variable w.value v
+written_holds m env w holds v k late =
+    let write : Write = record { stamp = m.count + 1; variable = w.variable; value = w.value } in
+    let seen_now : nat_le (m.count + 1) k ≡ true = le-leb (m.count + 1) k late in
+    let before = holds v k (omega arith) in
+    seen_from_its_stamp m.writes write k v ∙ rw (seen_now, before) (go (w.variable == v))
+  where
+    go : (b : Bool) → (if b && true then w.value else env v) ≡ (if b then w.value else env v)
+    go true = refl
+    go false = refl
+
+-- where the turn raises no alarm the pair leads there
+abbrev pub Shows : (b d : Blocks) → Known b → Known d → MachineView → List Moves → List Moves → Told → Told → (ℕ → Var) → TurnResult → Type 0
+Shows b d k l m mine yours t u env r =
+    r.machine.alarm ≡ None → IsShown b d k l (shown b d k l m mine yours t u env) r.machine (mine ++ moves_in r.turn) yours
+
+-- a turn of the first path
+pub own_shown : (b d : Blocks) (k : Known b) (l : Known d) (path : Path) (m : MachineView) (mine yours : List Moves) (t u : Told)
+    (env : ℕ → Var) → Holds m env → IsTold m t u → IsFit m.first → IsFit m.second
+    → (own_turn b path m).machine.alarm ≡ None
+    → IsShown b d k l (shown b d k l m mine yours t u env) (own_turn b path m).machine (mine ++ moves_in (own_turn b path m).turn) yours
+own_shown b d k l path m mine yours t u env holds told fit fits calm =
+    go m.alarm refl m.first.finished refl m.first.waiting refl calm
+  where
+    idle : (answer : Turn) → moves_in answer ≡ []
+        → IsShown b d k l (shown b d k l m mine yours t u env) m (mine ++ moves_in answer) yours
+    idle answer none =
+        let same : mine ≡ mine ++ moves_in answer = rw none (sym (append-nil mine)) in
+        record {
+          env = env;
+          one_told = t;
+          two_told = u;
+          run = subst (λ log. IsRun (path_of b k) (path_of d l) (shown b d k l m mine yours t u env) (shown b d k l m log yours t u env)) same begun;
+          told = told;
+          holds = holds;
+          first = fit;
+          second = fits;
+        }
+
+    by : m.first.finished ≡ false → m.first.waiting ≡ None → (e : Effect) → b.effect m.first.path m.first.values ≡ e
+        → alone.turn (path_of b k) (half_of m.first mine t) env
+        ≡ alone.by_effect (half_of m.first mine t) env (seen b (m.first.path, mine, t) e)
+    by f w e is = rw (f, w, is) refl
+
+    counted : m.first.waiting ≡ None → m.count ≡ (t.records + u.records) + waits m.second.waiting
+    counted w = let own : waits m.first.waiting ≡ 0 = ap waits w in let all = told.count in omega arith
+
+    met : m.first.finished ≡ false → m.first.waiting ≡ None → (code : ℕ) → b.effect m.first.path m.first.values ≡ effect.AtWait code
+        → (there : ℕ) → m.second.waiting ≡ Some there → (same : Bool)
+        → Shows b d k l m mine yours t u env (if same then result (turn.Met code) (behind_meeting m) else alarm_result (crossed_waits path (b.line m.first.path.place)) m)
+    met f w code is there other true calm =
+        let g : m.second.finished ≡ false = fits there other in
+        let here = half_at (m.first.path, mine, t) [] Waiting in
+        let arrived : IsRun (path_of b k) (path_of d l) (shown b d k l m mine yours t u env) (pair_at (path_of b k) (path_of d l) here (half_of m.second yours u) env) =
+        step_to (path_of b k) (path_of d l) (half_of m.first mine t) here (half_of m.second yours u) env env (by f w (effect.AtWait code) is) in
+        let waits : (half_of m.second yours u).mode ≡ Waiting = rw (g, other) refl in
+        let on = gone (pair_at (path_of b k) (path_of d l) here (half_of m.second yours u) env)
+        (pair_at (path_of b k) (path_of d l) (behind_wait (path_of b k) here) (behind_wait (path_of d l) (half_of m.second yours u)) env)
+        arrived (meet refl waits) in
+        let same : pair_at (path_of b k) (path_of d l) (behind_wait (path_of b k) here) (behind_wait (path_of d l) (half_of m.second yours u)) env
+        ≡ shown b d k l (behind_meeting m) (mine ++ []) yours (one_record t) (one_record u) env = rw (f, g, append-nil mine) refl in
+        record {
+          env = env;
+          one_told = one_record t;
+          two_told = one_record u;
+          run = subst (λ y. IsRun (path_of b k) (path_of d l) (shown b d k l m mine yours t u env) y) same on;
+          told = record { count = met_count w there other; writes = told.writes };
+          holds = λ v i late. holds v i (omega arith);
+          first = λ code waits. absurd (cc);
+          second = λ code waits. absurd (cc);
+        }
+      where
+        met_count : m.first.waiting ≡ None → (there : ℕ) → m.second.waiting ≡ Some there
+            → m.count + 1 ≡ ((t.records + 1) + (u.records + 1)) + (0 + 0)
+        met_count w there other = let own : waits m.second.waiting ≡ 1 = ap waits other in let all = counted w in omega arith
+    met f w code is there other false calm = absurd cc
+
+    at_wait : m.first.finished ≡ false → m.first.waiting ≡ None → (code : ℕ) → b.effect m.first.path m.first.values ≡ effect.AtWait code
+        → (there : Option ℕ) → m.second.waiting ≡ there → Shows b d k l m mine yours t u env (result_at_wait path (b.line m.first.path.place) m code there)
+    at_wait f w code is None other calm = record {
+      env = env;
+      one_told = t;
+      two_told = u;
+      run = step_to (path_of b k) (path_of d l) (half_of m.first mine t)
+          (half_at (m.first.path, mine ++ [], t) [] (mode_of m.first.finished (Some code))) (half_of m.second yours u) env env
+          (by f w (effect.AtWait code) is ∙ rw (f, append-nil mine) refl);
+      told = record { count = (let all = counted w in omega arith); writes = told.writes };
+      holds = λ v i late. holds v i (omega arith);
+      first = λ _ _. f;
+      second = fits;
+    }
+    at_wait f w code is (Some there) other calm = met f w code is there other (code == there) calm
+
+    ended : (e : Effect) → m.first.waiting ≡ None → m.count + 1 ≡ ((t.records + 1) + u.records) + (waits m.first.waiting + waits m.second.waiting)
+    ended e w = let own : waits m.first.waiting ≡ 0 = ap waits w in let all = counted w in omega arith
+
+    block : m.first.finished ≡ false → m.first.waiting ≡ None → (e : Effect) → b.effect m.first.path m.first.values ≡ e
+        → Shows b d k l m mine yours t u env (result_by path (b.line m.first.path.place) m e)
+    block f w (effect.Need v) is calm = record {
+      env = env;
+      one_told = t;
+      two_told = u;
+      run = step_to (path_of b k) (path_of d l) (half_of m.first mine t)
+          (half_at (m.first.path, mine ++ [], t) (m.first.values ++ value_after m.count v m.writes ∷ []) (mode_of m.first.finished m.first.waiting))
+          (half_of m.second yours u) env env
+          (by f w (effect.Need v) is ∙ rw (f, w, append-nil mine, holds v m.count (omega arith)) refl);
+      told = record { count = told.count; writes = told.writes };
+      holds = holds;
+      first = fit;
+      second = fits;
+    }
+    block f w (effect.Done after None moves) is calm = record {
+      env = env;
+      one_told = one_record t;
+      two_told = u;
+      run = step_to (path_of b k) (path_of d l) (half_of m.first mine t)
+          (half_at (logged b (m.first.path, mine, t) after moves) [] (mode_of m.first.finished m.first.waiting)) (half_of m.second yours u) env env
+          (by f w (effect.Done after None moves) is ∙ rw (f, w) refl);
+      told = record { count = ended (effect.Done after None moves) w; writes = told.writes };
+      holds = λ v i late. holds v i (omega arith);
+      first = fit;
+      second = fits;
+    }
+    block f w (effect.Done after (Some write) moves) is calm = record {
+      env = set_at env write.variable write.value;
+      one_told = one_write write t;
+      two_told = u;
+      run = step_to (path_of b k) (path_of d l) (half_of m.first mine t)
+          (half_at (moved_on b (m.first.path, mine, t) after moves (one_write write t)) [] (mode_of m.first.finished m.first.waiting)) (half_of m.second yours u)
+          env (set_at env write.variable write.value)
+          (by f w (effect.Done after (Some write) moves) is ∙ rw (f, w) refl);
+      told = record {
+        count = ended (effect.Done after (Some write) moves) w;
+        writes = mixed.one t.writes u.writes m.writes (m.count + 1) write told.writes;
+      };
+      holds = written_holds m env write holds;
+      first = fit;
+      second = fits;
+    }
+    block f w (effect.AtWait code) is calm = at_wait f w code is m.second.waiting refl calm
+    block f w (effect.AtEnd after moves) is calm = record {
+      env = env;
+      one_told = one_record t;
+      two_told = u;
+      run = step_to (path_of b k) (path_of d l) (half_of m.first mine t)
+          (half_at (logged b (m.first.path, mine, t) after moves) [] Finished) (half_of m.second yours u) env env
+          (by f w (effect.AtEnd after moves) is);
+      told = record { count = ended (effect.AtEnd after moves) w; writes = told.writes };
+      holds = λ v i late. holds v i (omega arith);
+      first = λ code waits. absurd (cc);
+      second = fits;
+    }
+    block f w (effect.Alarm number value) is calm = absurd cc
+
+    go : (a : Option Alarm) → m.alarm ≡ a → (f : Bool) → m.first.finished ≡ f → (w : Option ℕ) → m.first.waiting ≡ w
+        → Shows b d k l m mine yours t u env (unless_idle m a f w (block_turn b path m))
+    go (Some alarm) ea f ef w ew calm = idle (turn.Halted alarm) refl
+    go None ea true ef w ew calm = idle turn.Finished refl
+    go None ea false ef (Some code) ew calm = idle (turn.Waiting code) refl
+    go None ea false ef None ew calm = block ef ew (b.effect m.first.path m.first.values) refl calm

@@ -1,0 +1,92 @@
+-- When two runs of a machine come to the same.
+use Rattle.std.specs.Prelude.{◌≡◌, ℕ, Bool, true, List, [], ◌∷◌, ◌++◌}
+use Rattle.nc_number.specs.declared.path.Path.{Path}
+use Rattle.nc_number.specs.declared.path.Path.TheVariants.{One, Two}
+use Rattle.nc_moves.specs.declared.motion.Moves.{Moves}
+use Rattle.common_vars.specs.declared.links.Write.{Write}
+use Rattle.common_vars.specs.Writes.{value_after}
+use Rattle.block_order.specs.Labels.{start}
+use Rattle.tape_flow.specs.declared.flow.Flow.{Flow}
+use Rattle.path_state.specs.View.{PathView}
+use Rattle.path_state.specs.Looks.{is_shared}
+use Rattle.path_state.specs.Statements.{Write as Written}
+use Rattle.two_path.specs.declared.turn.Turn.{Turn}
+use Rattle.two_path.specs.declared.turn.Turn.TheVariants as turn
+use Rattle.two_path.specs.Machine.{Part, MachineView, opening}
+use Rattle.two_path.specs.Turns.{Tapes, tapes_of, turn_of}
+use Rattle.two_path.specs.Histories.{Event, TurnOf, behind_event, run}
+use Rattle.race_order.specs.Races.{HasNoRace}
+
+-- the moves that a turn answers
+abbrev pub moves_in : Turn → List Moves
+moves_in (turn.Did moves) = moves ∷ []
+moves_in (turn.Ended moves) = moves ∷ []
+moves_in (turn.Read variable stamp) = []
+moves_in (turn.Arrived code) = []
+moves_in (turn.Met code) = []
+moves_in (turn.Waiting code) = []
+moves_in turn.Finished = []
+moves_in (turn.Alarm alarm) = []
+moves_in (turn.Halted alarm) = []
+
+-- the moves of one path in a turn of a path
+abbrev pub turn_moves : Path → Path → Turn → List Moves
+turn_moves One One turn = moves_in turn
+turn_moves Two Two turn = moves_in turn
+turn_moves One Two turn = []
+turn_moves Two One turn = []
+
+-- the moves of a path in a run
+abbrev pub moves_by : Tapes → Path → MachineView → List Event → List Moves
+moves_by tapes who m [] = []
+moves_by tapes who m (TurnOf path ∷ events) =
+    turn_moves who path (turn_of tapes path m).turn ++ moves_by tapes who (behind_event tapes (TurnOf path) m) events
+
+-- both paths have finished
+pub record AreDone (m : MachineView) : Type 0 where
+  pub first : m.first.finished ≡ true
+  pub second : m.second.finished ≡ true
+
+-- a path but for the numbers of records that it holds
+abbrev pub unstamped : Part → Part
+unstamped part = record part { stamps = []; since = 0 }
+
+-- the machine but for the writes, and for those numbers
+abbrev pub but_for_order : MachineView → MachineView
+but_for_order m = record m { first = unstamped m.first; second = unstamped m.second; writes = [] }
+
+-- these writes are those of the first path and those of the second, each in their order
+pub data AreMixed : List Written → List Written → List Write → Type 0 where
+  none : AreMixed [] [] []
+  one : (mine yours : List Written) (writes : List Write) (stamp : ℕ) (w : Written) → AreMixed mine yours writes
+      → AreMixed (mine ++ w ∷ []) yours (writes ++ record { stamp = stamp; variable = w.variable; value = w.value } ∷ [])
+  two : (mine yours : List Written) (writes : List Write) (stamp : ℕ) (w : Written) → AreMixed mine yours writes
+      → AreMixed mine (yours ++ w ∷ []) (writes ++ record { stamp = stamp; variable = w.variable; value = w.value } ∷ [])
+
+-- Two runs come to the same: one machine but for the order of its records and their numbers, and the moves of each path. Each
+-- path has written the same in the same order, and each variable holds the same.
+pub record Agree (tapes : Tapes) (start : MachineView) (events others : List Event) : Type 0 where
+  pub machine : but_for_order (run tapes start events) ≡ but_for_order (run tapes start others)
+  pub first_moves : moves_by tapes One start events ≡ moves_by tapes One start others
+  pub second_moves : moves_by tapes Two start events ≡ moves_by tapes Two start others
+  pub first_writes : List Written
+  pub second_writes : List Written
+  pub written : AreMixed first_writes second_writes (run tapes start events).writes
+  pub also_written : AreMixed first_writes second_writes (run tapes start others).writes
+  pub values : (v : ℕ) → value_after (run tapes start events).count v (run tapes start events).writes
+      ≡ value_after (run tapes start others).count v (run tapes start others).writes
+
+-- the path is at the start of its flow, and shares these variables with the other
+pub record IsBeginning (flow : Flow) (shared : ℕ → Bool) (path : PathView) : Type 0 where
+  pub place : path.place ≡ start flow.order
+  pub shares : (v : ℕ) → is_shared path.fixed v ≡ shared v
+
+-- Where there is no race, all runs that finish come to the same, whichever path has which turn.
+abbrev pub RaceFreeRunsAgree : Flow → Flow → Type 0
+RaceFreeRunsAgree left right =
+    (shared : ℕ → Bool) → HasNoRace shared left right
+    → (first second : PathView) → IsBeginning left shared first → IsBeginning right shared second
+    → (events others : List Event)
+    → AreDone (run (tapes_of left right) (opening first second) events)
+    → AreDone (run (tapes_of left right) (opening first second) others)
+    → Agree (tapes_of left right) (opening first second) events others
