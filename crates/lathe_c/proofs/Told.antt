@@ -1,0 +1,18 @@
+-- What an export says is what the call said.
+use Rattle.std.proofs.Common.{◌≡◌, ℕ, List, subst}
+use Rattle.nc_verify.specs.Verdict.{Texts}
+use Rattle.lathe_calls.specs.declared.event.Event.{Event}
+use Rattle.lathe_calls.specs.declared.question.Question.{Question}
+use Rattle.lathe_calls.specs.declared.said.Said.{Said}
+use Rattle.lathe_calls.specs.Due.{IsAnswerTo}
+use Rattle.lathe_calls.specs.Order.{AreToldOf}
+
+pub answered : (question : Question) {texts these : Texts} {before after : List ℕ} {it told : Said} → texts ≡ these → it ≡ told
+    → IsAnswerTo question texts before after it → IsAnswerTo question these before after told
+answered question {texts} {these} {before} {after} {it} {told} same is answer =
+    subst (λ t. IsAnswerTo question t before after told) same (subst (λ i. IsAnswerTo question texts before after i) is answer)
+
+pub events_told : (order : List ℕ) {texts these : Texts} {before after : List Event} {it told : Said} → texts ≡ these → it ≡ told
+    → AreToldOf order texts before after it → AreToldOf order these before after told
+events_told order {texts} {these} {before} {after} {it} {told} same is events =
+    subst (λ t. AreToldOf order t before after told) same (subst (λ i. AreToldOf order texts before after i) is events)

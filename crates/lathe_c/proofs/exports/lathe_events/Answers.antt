@@ -1,0 +1,5 @@
+use Rattle.lathe_c.proofs.Told.{events_told}
+use Rattle.lathe_c.proofs.exports.lathe_events.Goals as goal
+
+pub returns : goal.returns
+returns c = events_told c.args.order.now c.of-texts.ensures c.told.ensures c.events.ensures

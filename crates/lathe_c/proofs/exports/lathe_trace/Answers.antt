@@ -1,0 +1,6 @@
+use Rattle.lathe_calls.specs.declared.question.Question.TheVariants as ask
+use Rattle.lathe_c.proofs.Told.{answered}
+use Rattle.lathe_c.proofs.exports.lathe_trace.Goals as goal
+
+pub returns : goal.returns
+returns c = answered (ask.Trace c.args.limit) c.of-texts.ensures c.told.ensures c.answer.ensures

@@ -1,0 +1,131 @@
+//! The calls of `include/lathe.h`. Each is total for every memory that C passes rightly: as many bytes as the lengths say,
+//! and a room and a length of the caller's own.
+ghost use Rattle.std.specs.Prelude.{◌≡◌, Some};
+ghost use Rattle.lathe_calls.specs.declared.question.Question.TheVariants as ask;
+ghost use Rattle.lathe_calls.specs.Due.{IsAnswerTo};
+ghost use Rattle.lathe_calls.specs.Order.{AreToldOf};
+ghost use Rattle.lathe_calls.specs.Said.{said};
+ghost use Rattle.lathe_calls.specs.Texts.{three_texts};
+
+use lathe_calls::{Event, PairTexts, Question, Said, answer, events};
+use open_order::Outside;
+use std::alloc::Global;
+
+/// The status of what a call said; its length goes where C wants it.
+fn told(it: Said, len: &mut usize) -> u8
+    ensures { it ≡ said result len.new }
+{
+    *len = it.len;
+    it.status
+}
+
+/// The verdict of two tapes under the settings of the cell.
+#[unsafe(no_mangle)]
+pub extern "C" fn lathe_verify(
+    alloc: Global,
+    left: &[u8],
+    right: &[u8],
+    settings: &[u8],
+    room: &mut [u8],
+    len: &mut usize,
+) -> u8
+    ensures { IsAnswerTo ask.Verify (three_texts left.now right.now settings.now) room.old room.new (said result len.new) }
+{
+    let texts = PairTexts::of(left, right, settings);
+    told(answer(alloc, &texts, Question::Verify, room), len)
+}
+
+/// The report of the run whose paths take turns, of so many records at most.
+#[unsafe(no_mangle)]
+pub extern "C" fn lathe_run(
+    alloc: Global,
+    left: &[u8],
+    right: &[u8],
+    settings: &[u8],
+    limit: u32,
+    room: &mut [u8],
+    len: &mut usize,
+) -> u8
+    ensures { IsAnswerTo (ask.Run limit) (three_texts left.now right.now settings.now) room.old room.new (said result len.new) }
+{
+    let texts = PairTexts::of(left, right, settings);
+    told(answer(alloc, &texts, Question::Run(limit), room), len)
+}
+
+/// The trace of that run.
+#[unsafe(no_mangle)]
+pub extern "C" fn lathe_trace(
+    alloc: Global,
+    left: &[u8],
+    right: &[u8],
+    settings: &[u8],
+    limit: u32,
+    room: &mut [u8],
+    len: &mut usize,
+) -> u8
+    ensures { IsAnswerTo (ask.Trace limit) (three_texts left.now right.now settings.now) room.old room.new (said result len.new) }
+{
+    let texts = PairTexts::of(left, right, settings);
+    told(answer(alloc, &texts, Question::Trace(limit), room), len)
+}
+
+/// The state of the machine behind the records of that run.
+#[unsafe(no_mangle)]
+pub extern "C" fn lathe_state(
+    alloc: Global,
+    left: &[u8],
+    right: &[u8],
+    settings: &[u8],
+    limit: u32,
+    room: &mut [u8],
+    len: &mut usize,
+) -> u8
+    ensures { IsAnswerTo (ask.State limit) (three_texts left.now right.now settings.now) room.old room.new (said result len.new) }
+{
+    let texts = PairTexts::of(left, right, settings);
+    told(answer(alloc, &texts, Question::State(limit), room), len)
+}
+
+/// The meetings of both tapes, read for their waits alone. They may lack the programs from `least` to `greatest`.
+#[unsafe(no_mangle)]
+pub extern "C" fn lathe_waits(
+    alloc: Global,
+    left: &[u8],
+    right: &[u8],
+    settings: &[u8],
+    least: u16,
+    greatest: u16,
+    room: &mut [u8],
+    len: &mut usize,
+) -> u8
+    ensures { IsAnswerTo (ask.Waits (Some (record { least = least; greatest = greatest })))
+        (three_texts left.now right.now settings.now) room.old room.new (said result len.new) }
+{
+    let texts = PairTexts::of(left, right, settings);
+    told(
+        answer(
+            alloc,
+            &texts,
+            Question::Waits(Some(Outside { least, greatest })),
+            room,
+        ),
+        len,
+    )
+}
+
+/// The events of the run whose paths get their turns in an order, a byte for each turn, 1 or 2.
+#[unsafe(no_mangle)]
+pub extern "C" fn lathe_events(
+    alloc: Global,
+    left: &[u8],
+    right: &[u8],
+    settings: &[u8],
+    order: &[u8],
+    room: &mut [Event],
+    len: &mut usize,
+) -> u8
+    ensures { AreToldOf order.now (three_texts left.now right.now settings.now) room.old room.new (said result len.new) }
+{
+    let texts = PairTexts::of(left, right, settings);
+    told(events(alloc, &texts, order, room), len)
+}

@@ -1,0 +1,29 @@
+-- What a call says, from what was told and handed out.
+use Rattle.std.proofs.Common.{◌≡◌, ℕ, List, [], true, length, refl, sym, subst, ◌∙◌, ap, arith}
+use Rattle.nc_verify.specs.Verdict.{Texts}
+use Rattle.lathe_looks.specs.Answers as answers
+use Rattle.lathe_looks.specs.Answers.{Answer, tells, Ends}
+use Rattle.lathe_calls.specs.declared.event.Event.{Event}
+use Rattle.lathe_calls.specs.declared.said.Said.{Said}
+use Rattle.lathe_calls.specs.Order.{AreDue, AreToldOf}
+use Rattle.lathe_calls.specs.Said.{IsHanded, IsSaid, handed, said}
+use Rattle.lathe_calls.specs.Said as says
+use Rattle.lathe_calls.specs.Texts.{are_fit, written}
+
+-- what was told into a text in memory was handed out
+pub said_of : {IsDue : Answer → Type 0} {texts : Texts} {text before after : List ℕ} {it : Said} (status : ℕ) → are_fit texts ≡ true
+    → Ends IsDue (written []) (written text) status → IsHanded status text before after it
+    → IsSaid texts (λ s t. IsDue (tells s t)) before after it
+said_of status fit ends (says.lacking is same left) = says.lacking fit same left
+said_of {IsDue} status fit (answers.whole {text = told} due is) (says.whole some same left) =
+    says.whole fit (subst (λ t. IsDue (tells status t)) (sym is) due) same left
+said_of status fit (answers.cut due rose n is) (says.whole some same left) = absurd (omega (arith, rose))
+said_of status fit (answers.unwritten due n is) (says.whole some same left) = absurd (some refl)
+said_of status fit (answers.untold due is) (says.whole some same left) = absurd (some refl)
+
+-- events were handed out
+pub events_said : {order : List ℕ} {texts : Texts} {list given before after : List Event} {it : Said} (status : ℕ) → are_fit texts ≡ true
+    → AreDue order texts status list → given ≡ list → it ≡ said status (length given) → after ≡ handed given before
+    → AreToldOf order texts before after it
+events_said {before = before} status fit due same is left =
+    says.whole fit due (is ∙ ap (λ (es : List Event). said status (length es)) same) (left ∙ ap (λ (es : List Event). handed es before) same)

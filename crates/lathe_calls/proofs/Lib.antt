@@ -1,0 +1,6 @@
+pub mod FitTexts
+pub mod Handed
+pub mod PairTold
+pub mod TurnByTurn
+pub mod EventsDue
+pub mod OfFiles

@@ -1,0 +1,33 @@
+-- What is answered of the pair of texts, from what was put.
+use Rattle.std.proofs.Common.{◌≡◌, ℕ, List, sym, subst}
+use Rattle.nc_number.specs.declared.fault.Failing.{Failing}
+use Rattle.nc_number.specs.declared.fault.Failing.TheVariants.{Fault, NoMemory}
+use Rattle.block_order.specs.Answers.{IfFault}
+use Rattle.nc_verify.specs.declared.refusal.Refusal.{Refusal}
+use Rattle.nc_verify.specs.declared.verified.Verified.{Verified}
+use Rattle.nc_verify.specs.Verdict.{Texts, IsRefusalOf}
+use Rattle.run_records.specs.declared.entry.Entry.{Entry}
+use Rattle.turn_order.specs.declared.ending.TurnsEnd.{TurnsEnd}
+use Rattle.lathe_looks.specs.Answers.{Answer, tells, IsJust}
+use Rattle.lathe_looks.specs.Judged.{IsRefusing}
+use Rattle.lathe_looks.specs.Standing.{report_of, state_of}
+use Rattle.lathe_looks.specs.Statuses as exit
+use Rattle.lathe_looks.specs.Traced.{end_of, end_reason, end_status}
+use Rattle.lathe_calls.specs.Due.{AreRecordsInTurn, IsOfPair, IsReportOf, IsStateOf, ran, refused, stands, unjudged}
+
+-- a refusal of the texts is answered by itself
+pub refused_texts : {IsDue : Verified → Answer → Type 0} {texts : Texts} (error : Failing Refusal) → IfFault error (IsRefusalOf texts)
+    → (answer : Answer) → IsRefusing error answer → IsOfPair IsDue texts answer
+refused_texts {IsDue} {texts} (Fault refusal) of_texts answer is = subst (IsOfPair IsDue texts) (sym is.2) (refused of_texts is.1)
+refused_texts {IsDue} {texts} NoMemory of_texts answer is = subst (IsOfPair IsDue texts) (sym is) unjudged
+
+-- the report of a run whose paths took turns, which ended so
+pub reported : (limit : ℕ) (pair : Verified) (entries : List Entry) (end : TurnsEnd) → AreRecordsInTurn limit pair entries
+    → end ≡ end_of pair entries → IsReportOf limit pair (tells (end_status end) (report_of pair entries (end_reason end)))
+reported limit pair entries end run is =
+    subst (λ e. IsReportOf limit pair (tells (end_status e) (report_of pair entries (end_reason e)))) (sym is) (ran entries run)
+
+-- the state behind its records
+pub state_told : (limit : ℕ) (pair : Verified) (entries : List Entry) → AreRecordsInTurn limit pair entries
+    → (answer : Answer) → IsJust (tells exit.done (state_of pair entries)) answer → IsStateOf limit pair answer
+state_told limit pair entries run answer is = subst (IsStateOf limit pair) (sym is) (stands entries run)

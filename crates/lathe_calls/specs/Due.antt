@@ -1,0 +1,54 @@
+-- What is due to three texts and a question: what the program's command answers of files with these texts.
+use Rattle.std.specs.Prelude.{ℕ, min, List, Some}
+use Rattle.nc_restart.specs.Pair.{IsPairOf, tapes_in, opening_of}
+use Rattle.nc_verify.specs.declared.refusal.Refusal.{Refusal}
+use Rattle.nc_verify.specs.declared.verified.Verified.{Verified}
+use Rattle.nc_verify.specs.Verdict.{Texts, IsRefusalOf}
+use Rattle.nc_verify.specs.Printed.{IsVerdictText}
+use Rattle.run_records.specs.declared.entry.Entry.{Entry}
+use Rattle.turn_order.specs.InTurn.{IsInTurn}
+use Rattle.lathe_looks.specs.Answers.{Answer, tells, nothing}
+use Rattle.lathe_looks.specs.Judged.{IsJudged}
+use Rattle.lathe_looks.specs.Standing.{report_of, state_of}
+use Rattle.lathe_looks.specs.Traced.{IsTraced, end_of, end_reason, end_status}
+use Rattle.lathe_looks.specs.Waited.{AreWaits}
+use Rattle.lathe_looks.specs.Statuses as exit
+use Rattle.lathe_calls.specs.declared.said.Said.{Said}
+use Rattle.lathe_calls.specs.declared.question.Question.{Question}
+use Rattle.lathe_calls.specs.declared.question.Question.TheVariants as ask
+use Rattle.lathe_calls.specs.Said.{IsSaid}
+
+-- the records of the run of a pair whose paths take turns, of so many at most and of no more than the settings allow
+abbrev pub AreRecordsInTurn : ℕ → Verified → List Entry → Type 0
+AreRecordsInTurn limit pair entries = IsInTurn (tapes_in pair) (opening_of pair) (min limit pair.settings.records) entries
+
+-- the report of that run, and how it ended; or nothing for want of memory
+pub data IsReportOf (limit : ℕ) (pair : Verified) : Answer → Type 0 where
+  ran : (entries : List Entry) → AreRecordsInTurn limit pair entries → IsReportOf limit pair
+      (tells (end_status (end_of pair entries)) (report_of pair entries (end_reason (end_of pair entries))))
+  unran : IsReportOf limit pair nothing
+
+-- the state of the machine behind the records of that run; or nothing for want of memory
+pub data IsStateOf (limit : ℕ) (pair : Verified) : Answer → Type 0 where
+  stands : (entries : List Entry) → AreRecordsInTurn limit pair entries
+      → IsStateOf limit pair (tells exit.done (state_of pair entries))
+  unran : IsStateOf limit pair nothing
+
+-- what is due to the pair of accepted texts; 1 where they are refused, with the line of that; nothing for want of memory
+pub data IsOfPair (IsDue : Verified → Answer → Type 0) (texts : Texts) : Answer → Type 0 where
+  accepted : (pair : Verified) {answer : Answer} → IsPairOf texts pair → IsDue pair answer → IsOfPair IsDue texts answer
+  refused : {refusal : Refusal} {text : List ℕ} → IsRefusalOf texts refusal → IsVerdictText (Some refusal) text
+      → IsOfPair IsDue texts (tells exit.refused text)
+  unjudged : IsOfPair IsDue texts nothing
+
+-- what is due to three texts and a question
+abbrev pub IsDueTo : Question → Texts → Answer → Type 0
+IsDueTo ask.Verify texts = IsJudged texts
+IsDueTo (ask.Run limit) texts = IsOfPair (IsReportOf limit) texts
+IsDueTo (ask.Trace limit) texts = IsTraced limit texts
+IsDueTo (ask.State limit) texts = IsOfPair (IsStateOf limit) texts
+IsDueTo (ask.Waits outside) texts = AreWaits outside texts
+
+-- what a call says of three texts and a question, and what it leaves in the room
+abbrev pub IsAnswerTo : Question → Texts → List ℕ → List ℕ → Said → Type 0
+IsAnswerTo question texts before after it = IsSaid texts (λ status text. IsDueTo question texts (tells status text)) before after it

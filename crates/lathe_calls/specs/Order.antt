@@ -1,0 +1,75 @@
+-- The events of a run whose paths get their turns in the order that a caller gives.
+use Rattle.std.specs.Prelude.{◌≡◌, ℕ, ◌==◌, ◌||◌, Bool, true, false, if◌then◌else◌, nat_le, List, [], ◌∷◌, ◌++◌, map, unwrap_or}
+use Rattle.std.specs.List.{list_all}
+use Rattle.nc_number.specs.declared.path.Path.{Path}
+use Rattle.nc_number.specs.declared.path.Path.TheVariants.{One, Two}
+use Rattle.nc_restart.specs.Pair.{IsPairOf, tapes_in, opening_of}
+use Rattle.nc_verify.specs.declared.refusal.Refusal.{Refusal}
+use Rattle.nc_verify.specs.declared.verified.Verified.{Verified}
+use Rattle.nc_verify.specs.Verdict.{Texts, IsRefusalOf}
+use Rattle.two_path.specs.Machine.{MachineView}
+use Rattle.two_path.specs.Turns.{Tapes, turn_of}
+use Rattle.two_path.specs.Histories.{Event as TurnEvent, TurnOf, IsLegal, history, run}
+use Rattle.turn_order.specs.declared.ending.TurnsEnd.{TurnsEnd}
+use Rattle.turn_order.specs.declared.ending.TurnsEnd.TheVariants as ends
+use Rattle.turn_order.specs.Ending.{end_of}
+use Rattle.lathe_looks.specs.Statuses as exit
+use Rattle.lathe_looks.specs.Traced.{end_status}
+use Rattle.lathe_calls.specs.declared.event.Event.{Event}
+use Rattle.lathe_calls.specs.declared.said.Said.{Said}
+use Rattle.lathe_calls.specs.Said.{IsSaid}
+use Rattle.lathe_calls.specs.Events.{placed_event, stamp_of, turn_events}
+
+-- each byte of an order names a path
+abbrev pub is_order : List ℕ → Bool
+is_order order = list_all (λ byte. byte == 1 || byte == 2) order
+
+-- the path that a byte of an order names
+abbrev pub path_at : ℕ → Path
+path_at byte = if byte == 2 then Two else One
+
+-- the turns of an order that are given: none once there are as many records as there may be
+abbrev pub given : Tapes → ℕ → MachineView → List Path → List Path
+given tapes most m [] = []
+given tapes most m (path ∷ order) =
+    if nat_le most m.count then [] else path ∷ given tapes most (turn_of tapes path m).machine order
+
+abbrev pub turns_of : List Path → List TurnEvent
+turns_of order = map TurnOf order
+
+-- what the turns of these paths came to, from a machine on
+abbrev pub events_from : Tapes → MachineView → List Path → List Event
+events_from tapes m [] = []
+events_from tapes m (path ∷ order) =
+    turn_events (stamp_of tapes path m) (turn_of tapes path m).turn ++ events_from tapes (turn_of tapes path m).machine order
+
+-- where both turrets begin
+abbrev pub placed_events : MachineView → List Event
+placed_events m = placed_event One m.first.path.position ∷ placed_event Two m.second.path.position ∷ []
+
+-- how far a run has come that may have so many records: it has ended, or there are so many, or the order is over
+abbrev pub end_after : ℕ → MachineView → TurnsEnd
+end_after most m = unwrap_or (end_of m) (if nat_le most m.count then ends.Full else ends.Stopped)
+
+-- The events of two tapes from a machine on, of which the paths get their turns in this order: where both turrets begin, and what each
+-- turn came to, up to so many records. The records of these turns are one legal history, and the status says how far it has come.
+pub record AreEventsFrom (tapes : Tapes) (start : MachineView) (most : ℕ) (order : List Path) (status : ℕ) (list : List Event) : Type 0 where
+  pub legal : IsLegal tapes start (history tapes start (turns_of (given tapes most start order)))
+  pub events : list ≡ placed_events start ++ events_from tapes start (given tapes most start order)
+  pub ends : status ≡ end_status (end_after most (run tapes start (turns_of (given tapes most start order))))
+
+-- the events of a pair, up to as many records as the settings allow
+abbrev pub AreEventsOf : Verified → List Path → ℕ → List Event → Type 0
+AreEventsOf pair order status list = AreEventsFrom (tapes_in pair) (opening_of pair) pair.settings.records order status list
+
+-- What is due to three texts and an order: 2 where it has a byte that names no path, 1 where the texts are refused, and else the
+-- events of their pair.
+pub data AreDue (order : List ℕ) (texts : Texts) : ℕ → List Event → Type 0 where
+  disordered : is_order order ≡ false → AreDue order texts exit.usage []
+  refused : {refusal : Refusal} → is_order order ≡ true → IsRefusalOf texts refusal → AreDue order texts exit.refused []
+  ran : (pair : Verified) {status : ℕ} {list : List Event} → is_order order ≡ true → IsPairOf texts pair
+      → AreEventsOf pair (map path_at order) status list → AreDue order texts status list
+
+-- what a call says of three texts and an order, and what it leaves in the room
+abbrev pub AreToldOf : List ℕ → Texts → List Event → List Event → Said → Type 0
+AreToldOf order texts before after it = IsSaid texts (AreDue order texts) before after it

@@ -1,0 +1,27 @@
+-- What a call says, and what it leaves in the room that it was given.
+use Rattle.std.specs.Prelude.{◌≡◌, ◌≢◌, ℕ, true, false, List, ◌++◌, length, take, drop}
+use Rattle.nc_verify.specs.Verdict.{Texts}
+use Rattle.lathe_looks.specs.Statuses as exit
+use Rattle.lathe_calls.specs.declared.said.Said.{Said}
+use Rattle.lathe_calls.specs.Texts.{are_fit}
+
+-- this status, and a whole of so many items
+abbrev pub said : ℕ → ℕ → Said
+said status len = record { status = status; len = len }
+
+-- the room with the front of a list in it, and behind that what was there before
+abbrev pub handed : {A : Type 0} → List A → List A → List A
+handed list room = take (length room) list ++ drop (length list) room
+
+-- a text was handed out with this status, or memory ran out and nothing was
+pub data IsHanded (status : ℕ) (text before after : List ℕ) (it : Said) : Type 0 where
+  whole : status ≢ exit.no_memory → it ≡ said status (length text) → after ≡ handed text before → IsHanded status text before after it
+  lacking : status ≡ exit.no_memory → it ≡ said exit.no_memory 0 → after ≡ before → IsHanded status text before after it
+
+-- What a call says of three texts: the status and the length of what is due, of which the room holds the front; or 13, where a text
+-- is too long, or 12, where memory ran out, and the room is as it was.
+pub data IsSaid {A : Type 0} (texts : Texts) (IsDue : ℕ → List A → Type 0) (before after : List A) (it : Said) : Type 0 where
+  whole : {status : ℕ} {list : List A} → are_fit texts ≡ true → IsDue status list → it ≡ said status (length list)
+      → after ≡ handed list before → IsSaid texts IsDue before after it
+  too_long : are_fit texts ≡ false → it ≡ said exit.no_file 0 → after ≡ before → IsSaid texts IsDue before after it
+  lacking : are_fit texts ≡ true → it ≡ said exit.no_memory 0 → after ≡ before → IsSaid texts IsDue before after it

@@ -1,0 +1,215 @@
+//! The events of a run, as C has them.
+ghost use Rattle.std.specs.Prelude.{◌≡◌};
+ghost use Rattle.lathe_calls.specs.Events.{alarm_event, arc_event, bare_event, coded_event, counting_event, flag, move_event, moving_event, placed_event};
+
+use nc_moves::{Alarm, Centre, Move};
+use nc_number::{Path, Point};
+
+/// What an event is.
+#[derive(Clone, Copy, Debug, PartialEq, Eq)]
+pub enum Kind {
+    /// The turret of the path stands here before its first block.
+    Placed = 0,
+    Rapid = 1,
+    Feed = 2,
+    Thread = 3,
+    Arc = 4,
+    Dwell = 5,
+    /// The speed of the spindle.
+    Speed = 6,
+    /// The highest speed of the spindle.
+    Limit = 7,
+    Tool = 8,
+    /// An auxiliary code.
+    Aux = 9,
+    /// A block without a move.
+    Block = 10,
+    /// The path came to its wait, and waits.
+    Arrived = 11,
+    /// The path came to its wait, at which the other one waits, and both go on.
+    Met = 12,
+    /// The path has ended.
+    Ended = 13,
+    /// The path raised an alarm, which stops both.
+    Alarm = 14,
+    /// The block of the path read a shared variable, and is not done yet. It makes no record.
+    Read = 15,
+}
+
+/// An event of a run. What its kind has no use for is 0. Points are in machine coordinates, lengths in 0.001 mm.
+#[repr(C)]
+#[derive(Clone, Copy, Debug, PartialEq, Eq)]
+pub struct Event {
+    /// How many records there are with its own; of a read, how many there are.
+    pub records: u32,
+    /// The line of the path's tape; 0 where the turret is placed.
+    pub line: u32,
+    /// The path, 1 or 2.
+    pub path: u8,
+    /// What it is, as the number of a `Kind`.
+    pub kind: u8,
+    /// The code of a wait or an auxiliary code, the tool and its offset, or the number of an alarm.
+    pub code: u16,
+    /// Whether a feed is per revolution, 1 or 0.
+    pub per_revolution: u8,
+    /// Whether an arc goes clockwise, 1 or 0.
+    pub clockwise: u8,
+    /// Whether an arc is given by its centre, and not by its radius, 1 or 0.
+    pub by_centre: u8,
+    /// Whether a speed is in metres per minute at the surface, 1 or 0.
+    pub at_surface: u8,
+    /// The milliseconds of a dwell, the speed of the spindle, its highest speed, or the number of a variable that was read.
+    pub amount: u64,
+    /// Where the turret stands, or comes to, along X.
+    pub x: i64,
+    /// The same along Z.
+    pub z: i64,
+    /// Of an arc the way from its start to its centre along X, or its radius.
+    pub i: i64,
+    /// Of an arc the way from its start to its centre along Z.
+    pub k: i64,
+    /// The feed or the lead of a thread, or what a macro alarm was given, in millionths.
+    pub value: i64,
+}
+
+/// When and where an event is: the records with its own, its path, and the line of that path's tape.
+#[derive(Clone, Copy, Debug, PartialEq, Eq)]
+pub(crate) struct Stamp {
+    pub(crate) records: u32,
+    pub(crate) path: Path,
+    pub(crate) line: u32,
+}
+
+/// An event of which nothing is told but its kind.
+pub(crate) fn bare_event(at: Stamp, kind: Kind) -> Event
+    ensures { result ≡ bare_event at kind }
+{
+    Event {
+        records: at.records,
+        line: at.line,
+        path: at.path.number(),
+        kind: kind as u8,
+        code: 0,
+        per_revolution: 0,
+        clockwise: 0,
+        by_centre: 0,
+        at_surface: 0,
+        amount: 0,
+        x: 0,
+        z: 0,
+        i: 0,
+        k: 0,
+        value: 0,
+    }
+}
+
+/// An event with a code.
+pub(crate) fn coded_event(at: Stamp, kind: Kind, code: u16) -> Event
+    ensures { result ≡ coded_event at kind code }
+{
+    Event {
+        code,
+        ..bare_event(at, kind)
+    }
+}
+
+/// That the turret of a path stands at a point.
+pub(crate) fn placed_event(path: Path, to: Point) -> Event
+    ensures { result ≡ placed_event path to }
+{
+    let at = Stamp {
+        records: 0,
+        path,
+        line: 0,
+    };
+    moving_event(at, Kind::Placed, to)
+}
+
+/// That a path raised an alarm.
+pub(crate) fn alarm_event(at: Stamp, alarm: &Alarm) -> Event
+    ensures { result ≡ alarm_event at alarm.now }
+{
+    Event {
+        value: alarm.value.micro(),
+        ..coded_event(at, Kind::Alarm, u16::from(alarm.cause))
+    }
+}
+
+fn flag(is: bool) -> u8
+    ensures { result ≡ flag is }
+{
+    if is { 1 } else { 0 }
+}
+
+fn moving_event(at: Stamp, kind: Kind, to: Point) -> Event
+    ensures { result ≡ moving_event at kind to }
+{
+    Event {
+        x: to.x,
+        z: to.z,
+        ..bare_event(at, kind)
+    }
+}
+
+/// An event with an amount.
+pub(crate) fn counting_event(at: Stamp, kind: Kind, amount: u64) -> Event
+    ensures { result ≡ counting_event at kind amount }
+{
+    Event {
+        amount,
+        ..bare_event(at, kind)
+    }
+}
+
+fn arc_event(at: Stamp, to: Point, centre: Centre) -> Event
+    ensures { result ≡ arc_event at to centre }
+{
+    let arc = moving_event(at, Kind::Arc, to);
+    match centre {
+        Centre::Offset { i, k } => Event {
+            by_centre: 1,
+            i,
+            k,
+            ..arc
+        },
+        Centre::Radius { r } => Event { i: r, ..arc },
+    }
+}
+
+/// A move of a block.
+pub(crate) fn move_event(at: Stamp, what: &Move) -> Event
+    ensures { result ≡ move_event at what.now }
+{
+    match *what {
+        Move::Rapid { to } => moving_event(at, Kind::Rapid, to),
+        Move::Feed { to, feed, per_rev } => Event {
+            per_revolution: flag(per_rev),
+            value: feed.micro(),
+            ..moving_event(at, Kind::Feed, to)
+        },
+        Move::Thread { to, lead } => Event {
+            value: lead.micro(),
+            ..moving_event(at, Kind::Thread, to)
+        },
+        Move::Arc {
+            clockwise,
+            to,
+            centre,
+            feed,
+            per_rev,
+        } => Event {
+            per_revolution: flag(per_rev),
+            clockwise: flag(clockwise),
+            value: feed.micro(),
+            ..arc_event(at, to, centre)
+        },
+        Move::Dwell { ms } => counting_event(at, Kind::Dwell, ms),
+        Move::Speed { surface, s } => Event {
+            at_surface: flag(surface),
+            ..counting_event(at, Kind::Speed, u64::from(s))
+        },
+        Move::Limit { s } => counting_event(at, Kind::Limit, u64::from(s)),
+        Move::Tool { t } => coded_event(at, Kind::Tool, t),
+        Move::Aux { m } => coded_event(at, Kind::Aux, m),
+    }
+}

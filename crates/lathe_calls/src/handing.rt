@@ -1,0 +1,51 @@
+//! How a caller gets what there is.
+ghost use Rattle.std.specs.Prelude.{◌≡◌, length};
+ghost use Rattle.lathe_calls.specs.Said.{IsHanded, handed, said};
+
+use crate::event::Event;
+use crate::said::Said;
+use lathe_looks::Status;
+
+/// Copies the front of a text into the room that there is, and tells how long the text is.
+fn hand_out(text: &[u8], room: &mut [u8]) -> usize
+    ensures room { room.new ≡ handed text.now room.old }
+    ensures len { result ≡ length text.now }
+{
+    let count = text.len().min(room.len());
+    room[..count].copy_from_slice(&text[..count]);
+    text.len()
+}
+
+/// Copies the front of a list of events into the room that there is, and tells how long the list is.
+fn hand_out_events(list: &[Event], room: &mut [Event]) -> usize
+    ensures room { room.new ≡ handed list.now room.old }
+    ensures len { result ≡ length list.now }
+{
+    let count = list.len().min(room.len());
+    room[..count].copy_from_slice(&list[..count]);
+    list.len()
+}
+
+/// Hands out a text that was told with this status. Where memory ran out there is none.
+pub(crate) fn hand_text(status: u8, text: &[u8], room: &mut [u8]) -> Said
+    ensures { IsHanded status text.now room.old room.new result }
+{
+    if status == Status::NoMemory as u8 {
+        return Said::nothing(Status::NoMemory as u8);
+    }
+    Said {
+        status,
+        len: hand_out(text, room),
+    }
+}
+
+/// Hands out events that were told with this status.
+pub(crate) fn hand_events(status: u8, list: &[Event], room: &mut [Event]) -> Said
+    ensures said { result ≡ said status (length list.now) }
+    ensures room { room.new ≡ handed list.now room.old }
+{
+    Said {
+        status,
+        len: hand_out_events(list, room),
+    }
+}

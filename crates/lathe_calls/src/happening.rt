@@ -1,0 +1,131 @@
+//! The events of a run in the order of turns that the caller gives.
+ghost use Rattle.std.specs.Prelude.{◌≡◌, true, [], IfOk, map};
+ghost use Rattle.nc_number.specs.declared.fault.Failing.TheVariants.{Fault};
+ghost use Rattle.two_path.specs.Turns.{tapes_of};
+ghost use Rattle.move_list.specs.Report.{machine_at_start};
+ghost use Rattle.lathe_looks.specs.Statuses as exit;
+ghost use Rattle.lathe_calls.specs.Texts.{are_fit, texts_of};
+ghost use Rattle.lathe_calls.specs.Order.{AreDue, AreEventsFrom, AreEventsOf, AreToldOf, path_at, placed_events};
+
+use crate::event::{Event, placed_event};
+use crate::handing::hand_events;
+use crate::ordering::{end_after, give_turns, is_order};
+use crate::pair_texts::PairTexts;
+use crate::running::end_status;
+use crate::said::Said;
+use cell_settings::Settings;
+use lathe_looks::Status;
+use nc_number::{Failing, NoMemory, Path};
+use nc_verify::{Refusal, Verified, verdict};
+use std::alloc::Global;
+use tape_flow::Flow;
+use two_path::{Machine, a_machine_begins_without_waits, histories_are_runs};
+
+/// Events, and the status that goes with them.
+#[derive(Drop)]
+struct Happened {
+    status: u8,
+    list: Vec<Event>,
+}
+
+/// No event, only this status.
+fn nothing_happened(alloc: Global, status: u8) -> Happened
+    ensures status { result.status ≡ status }
+    ensures list { result.list.items ≡ [] }
+{
+    Happened {
+        status,
+        list: Vec::new(alloc),
+    }
+}
+
+/// The events of where both turrets begin.
+fn first_events(alloc: Global, machine: &Machine) -> Result<Vec<Event>, NoMemory>
+    ensures { IfOk result (λ list. list.items ≡ placed_events machine.now.machine) }
+{
+    let mut list = Vec::new(alloc);
+    list.push(placed_event(Path::One, machine.path(Path::One).position()))?;
+    list.push(placed_event(Path::Two, machine.path(Path::Two).position()))?;
+    Ok(list)
+}
+
+/// The events of two flows whose paths get their turns in this order.
+fn events_in(
+    alloc: Global,
+    left: &Flow,
+    right: &Flow,
+    settings: &Settings,
+    order: &[u8],
+) -> Result<Happened, NoMemory>
+    ensures { IfOk result (λ happened. AreEventsFrom (tapes_of left.now right.now)
+        (machine_at_start left.now right.now settings.now) settings.now.records
+        (map path_at order.now) happened.status happened.list.items) }
+{
+    histories_are_runs();
+    a_machine_begins_without_waits();
+    let mut machine = Machine::new(alloc, left, right, settings)?;
+    let mut list = first_events(alloc, &machine)?;
+    give_turns(
+        &mut list,
+        &mut machine,
+        left,
+        right,
+        settings.records,
+        order,
+    )?;
+    let status = end_status(&end_after(&machine, settings.records));
+    Ok(Happened { status, list })
+}
+
+/// The events of a pair whose paths get their turns in this order.
+fn events_of(alloc: Global, pair: &Verified, order: &[u8]) -> Result<Happened, NoMemory>
+    ensures { IfOk result (λ happened. AreEventsOf pair.now (map path_at order.now) happened.status happened.list.items) }
+{
+    events_in(alloc, pair.left(), pair.right(), pair.settings(), order)
+}
+
+/// No event, since the texts are refused.
+fn refused_events(alloc: Global, error: Failing<Refusal>) -> Result<Happened, NoMemory>
+    ensures { IfOk result (λ happened. (happened.status ≡ exit.refused) × (happened.list.items ≡ [])
+        × ((refusal : Refusal) × (error ≡ Fault refusal))) }
+{
+    match error {
+        Failing::Fault(refusal) => {
+            let _refusal = refusal;
+            Ok(nothing_happened(alloc, Status::Refused as u8))
+        }
+        Failing::NoMemory => Err(NoMemory),
+    }
+}
+
+/// The events that are due to the texts and an order.
+fn events_due(alloc: Global, texts: &PairTexts<'_>, order: &[u8]) -> Result<Happened, NoMemory>
+    requires { are_fit (texts_of texts.now) ≡ true }
+    ensures { IfOk result (λ happened. AreDue order.now (texts_of texts.now) happened.status happened.list.items) }
+{
+    if !is_order(order) {
+        return Ok(nothing_happened(alloc, Status::Usage as u8));
+    }
+    match verdict(alloc, texts.left, texts.right, texts.settings) {
+        Ok(pair) => events_of(alloc, &pair, order),
+        Err(error) => refused_events(alloc, error),
+    }
+}
+
+/// The events of a pair whose paths get their turns in this order, a byte for each turn, 1 or 2: where both turrets begin,
+/// and then what each turn came to. A path that waits or has ended is passed over, and so are both behind an alarm or with
+/// as many records as the settings allow.
+///
+/// Statuses: 0 both paths have ended, 3 an alarm, 10 the order is over, 14 as many records as the settings allow. Without
+/// an event: 1 the texts are refused, 2 the order has another byte, 12 out of memory, 13 a text is too long.
+pub fn events(alloc: Global, texts: &PairTexts<'_>, order: &[u8], room: &mut [Event]) -> Said
+    ensures { AreToldOf order.now (texts_of texts.now) room.old room.new result }
+{
+    if !texts.are_fit() {
+        return Said::nothing(Status::NoFile as u8);
+    }
+    match events_due(alloc, texts, order) {
+        Ok(happened) => hand_events(happened.status, happened.list.as_slice(), room),
+        Err(NoMemory) => Said::nothing(Status::NoMemory as u8),
+    }
+}

@@ -1,0 +1,38 @@
+ghost use Rattle.std.specs.Prelude.{◌≡◌};
+ghost use Rattle.lathe_calls.specs.Texts.{are_fit, texts_of, three_texts};
+
+/// The most bytes of a tape.
+const LONGEST_TAPE: usize = 4_194_304;
+
+/// The most bytes of the settings.
+const LONGEST_SETTINGS: usize = 65_536;
+
+/// The texts of a call: the tape of path 1, that of path 2, and the settings of the cell.
+#[derive(Clone, Copy, Debug)]
+pub struct PairTexts<'a> {
+    pub left: &'a [u8],
+    pub right: &'a [u8],
+    pub settings: &'a [u8],
+}
+
+impl<'a> PairTexts<'a> {
+    /// The tape of path 1, that of path 2, and the settings.
+    pub fn of(left: &'a [u8], right: &'a [u8], settings: &'a [u8]) -> PairTexts<'a>
+        ensures { texts_of result ≡ three_texts left.now right.now settings.now }
+    {
+        PairTexts {
+            left,
+            right,
+            settings,
+        }
+    }
+
+    /// Whether none of them is longer than a file of its kind may be.
+    pub fn are_fit(&self) -> bool
+        ensures { result ≡ are_fit (texts_of self.now) }
+    {
+        self.left.len() <= LONGEST_TAPE
+            && self.right.len() <= LONGEST_TAPE
+            && self.settings.len() <= LONGEST_SETTINGS
+    }
+}

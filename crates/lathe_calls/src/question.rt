@@ -1,0 +1,16 @@
+use open_order::Outside;
+
+/// What is asked of three texts.
+#[derive(Clone, Copy, Debug, PartialEq, Eq)]
+pub enum Question {
+    /// The verdict.
+    Verify,
+    /// The report of the run whose paths take turns, of so many records at most.
+    Run(u32),
+    /// The trace of that run.
+    Trace(u32),
+    /// The state of the machine behind the records of that run.
+    State(u32),
+    /// The meetings of both tapes, read for their waits alone; they may lack the programs outside.
+    Waits(Option<Outside>),
+}

@@ -1,0 +1,127 @@
+//! The texts of the run of a pair whose paths take turns.
+ghost use Rattle.std.specs.Prelude.{◌≡◌, ◌≤◌, length, true};
+ghost use Rattle.nc_restart.specs.Pair.{opening_of, tapes_in};
+ghost use Rattle.two_path.specs.Histories.{IsLegal};
+ghost use Rattle.lathe_looks.specs.Answers.{Ends, IsJust, tells};
+ghost use Rattle.lathe_looks.specs.Standing.{state_of};
+ghost use Rattle.lathe_looks.specs.Statuses as exit;
+ghost use Rattle.lathe_looks.specs.Traced.{IsTraceOf, IsTraced, end_reason, end_status};
+ghost use Rattle.lathe_calls.specs.Due.{IsOfPair, IsReportOf, IsStateOf};
+ghost use Rattle.lathe_calls.specs.Texts.{are_fit, texts_of};
+
+use crate::machine::machine_behind;
+use crate::pair_texts::PairTexts;
+use lathe_looks::{Status, refuse, status_behind};
+use move_list::{Reason, write_report, write_state};
+use nc_outside::Sink;
+use nc_verify::{Verified, verdict};
+use run_records::EntryList;
+use std::alloc::Global;
+use trace_list::write_trace;
+use turn_order::{TurnsEnd, records_in_turn};
+
+/// How a run ended, as a report says it.
+fn end_reason(end: &TurnsEnd) -> Reason
+    ensures { result ≡ end_reason end.now }
+{
+    match end {
+        TurnsEnd::Done => Reason::Done,
+        TurnsEnd::Alarm(alarm) => Reason::Alarm(*alarm),
+        TurnsEnd::Full => Reason::Full,
+        TurnsEnd::Stopped => Reason::Stopped,
+    }
+}
+
+/// The status of that.
+pub(crate) fn end_status(end: &TurnsEnd) -> u8
+    ensures { result ≡ end_status end.now }
+{
+    match end {
+        TurnsEnd::Done => Status::Done as u8,
+        TurnsEnd::Alarm(_) => Status::Alarm as u8,
+        TurnsEnd::Full => Status::Full as u8,
+        TurnsEnd::Stopped => Status::Stopped as u8,
+    }
+}
+
+/// Writes the report of a pair, and gives its status.
+fn report_pair<K: Sink>(alloc: Global, pair: &Verified, limit: u32, out: &mut K) -> u8
+    ensures { Ends (IsReportOf limit pair.now) (K.state out.old) (K.state out.new) result }
+{
+    match records_in_turn(alloc, pair, limit) {
+        Ok(run) => {
+            let put = write_report(alloc, pair, &run.entries, end_reason(&run.end), out);
+            status_behind(put, end_status(&run.end))
+        }
+        Err(_) => Status::NoMemory as u8,
+    }
+}
+
+/// Writes the trace of a pair, and gives its status.
+fn trace_pair<K: Sink>(alloc: Global, pair: &Verified, limit: u32, out: &mut K) -> u8
+    ensures { Ends (IsTraceOf limit pair.now) (K.state out.old) (K.state out.new) result }
+{
+    match records_in_turn(alloc, pair, limit) {
+        Ok(run) => {
+            let put = write_trace(alloc, pair, &run.entries, end_reason(&run.end), out);
+            status_behind(put, end_status(&run.end))
+        }
+        Err(_) => Status::NoMemory as u8,
+    }
+}
+
+/// Writes the state of the machine behind a history of a pair.
+fn show_machine<K: Sink>(alloc: Global, pair: &Verified, entries: &EntryList, out: &mut K) -> u8
+    requires legal { IsLegal (tapes_in pair.now) (opening_of pair.now) entries.now.items }
+    requires few { length entries.now.items ≤ 4000000 }
+    ensures { Ends (IsJust (tells exit.done (state_of pair.now entries.now.items)))
+        (K.state out.old) (K.state out.new) result }
+{
+    match machine_behind(alloc, pair, entries) {
+        Ok(machine) => status_behind(write_state(pair, &machine, out), Status::Done as u8),
+        Err(_) => Status::NoMemory as u8,
+    }
+}
+
+/// Writes the state of a pair, and gives its status.
+fn show_pair<K: Sink>(alloc: Global, pair: &Verified, limit: u32, out: &mut K) -> u8
+    ensures { Ends (IsStateOf limit pair.now) (K.state out.old) (K.state out.new) result }
+{
+    match records_in_turn(alloc, pair, limit) {
+        Ok(run) => show_machine(alloc, pair, &run.entries, out),
+        Err(_) => Status::NoMemory as u8,
+    }
+}
+
+/// Writes the report of the run of the texts, and gives its status.
+pub(crate) fn report<K: Sink>(alloc: Global, texts: &PairTexts<'_>, limit: u32, out: &mut K) -> u8
+    requires { are_fit (texts_of texts.now) ≡ true }
+    ensures { Ends (IsOfPair (IsReportOf limit) (texts_of texts.now)) (K.state out.old) (K.state out.new) result }
+{
+    match verdict(alloc, texts.left, texts.right, texts.settings) {
+        Ok(pair) => report_pair(alloc, &pair, limit, out),
+        Err(error) => refuse(&error, out),
+    }
+}
+
+/// Writes the trace of the run of the texts, and gives its status.
+pub(crate) fn trace<K: Sink>(alloc: Global, texts: &PairTexts<'_>, limit: u32, out: &mut K) -> u8
+    requires { are_fit (texts_of texts.now) ≡ true }
+    ensures { Ends (IsTraced limit (texts_of texts.now)) (K.state out.old) (K.state out.new) result }
+{
+    match verdict(alloc, texts.left, texts.right, texts.settings) {
+        Ok(pair) => trace_pair(alloc, &pair, limit, out),
+        Err(error) => refuse(&error, out),
+    }
+}
+
+/// Writes the state of the machine behind the records of the run of the texts, and gives its status.
+pub(crate) fn show<K: Sink>(alloc: Global, texts: &PairTexts<'_>, limit: u32, out: &mut K) -> u8
+    requires { are_fit (texts_of texts.now) ≡ true }
+    ensures { Ends (IsOfPair (IsStateOf limit) (texts_of texts.now)) (K.state out.old) (K.state out.new) result }
+{
+    match verdict(alloc, texts.left, texts.right, texts.settings) {
+        Ok(pair) => show_pair(alloc, &pair, limit, out),
+        Err(error) => refuse(&error, out),
+    }
+}

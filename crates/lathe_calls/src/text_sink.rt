@@ -1,0 +1,55 @@
+//! A text in memory.
+ghost use Rattle.std.specs.Prelude.{◌≡◌, ◌≢◌, [], ◌++◌, Err, if◌then◌else◌, is_ok};
+ghost use Rattle.lathe_calls.specs.Texts.{written};
+
+use nc_outside::{PutFault, Sink};
+use std::alloc::Global;
+use std::marker::Model;
+
+/// A text in memory. It fails only for want of memory.
+#[derive(Drop)]
+pub(crate) struct TextSink {
+    bytes: Vec<u8>,
+}
+
+impl Model for TextSink {
+    ghost use Rattle.std.specs.Prelude.{ℕ, List};
+
+    ghost Value = { List ℕ };
+
+    ghost view = { λ text. text.bytes.items };
+}
+
+impl TextSink {
+    /// A text without a byte.
+    pub(crate) fn empty(alloc: Global) -> Self
+        ensures { result ≡ [] }
+    {
+        TextSink {
+            bytes: Vec::new(alloc),
+        }
+    }
+
+    /// What was written.
+    pub(crate) fn as_slice(&self) -> &[u8]
+        ensures { result.now ≡ self.now }
+    {
+        self.bytes.as_slice()
+    }
+}
+
+impl Sink for TextSink {
+    ghost state = { written };
+
+    fn faults(&self) -> u64 {
+        0
+    }
+
+    fn put(&mut self, piece: &[u8]) -> Result<(), PutFault>
+        ensures never { result ≢ Err PutFault.Failed }
+        ensures new { self.new ≡ (if is_ok result then self.old ++ piece.now else self.old) }
+    {
+        self.bytes.extend_from_slice(piece)?;
+        Ok(())
+    }
+}

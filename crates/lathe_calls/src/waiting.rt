@@ -1,0 +1,43 @@
+//! The meetings of texts that are read for their waits alone.
+ghost use Rattle.std.specs.Prelude.{◌≡◌, true};
+ghost use Rattle.open_order.specs.Basis.{seen};
+ghost use Rattle.wait_verify.specs.Printed.{waits_text};
+ghost use Rattle.lathe_looks.specs.Answers.{Ends, IsJust, tells};
+ghost use Rattle.lathe_looks.specs.Statuses as exit;
+ghost use Rattle.lathe_looks.specs.Waited.{AreWaits};
+ghost use Rattle.lathe_calls.specs.Texts.{are_fit, texts_of};
+
+use crate::pair_texts::PairTexts;
+use lathe_looks::{Status, refuse, write_text};
+use nc_outside::Sink;
+use open_order::Outside;
+use std::alloc::Global;
+use wait_verify::{WaitPair, push_waits, verdict};
+
+/// Writes the text of a pair that is accepted for its waits.
+fn tell_waits<K: Sink>(alloc: Global, pair: &WaitPair, out: &mut K) -> u8
+    ensures { Ends (IsJust (tells exit.done (waits_text pair.now.left pair.now.right (seen pair.now.trust))))
+        (K.state out.old) (K.state out.new) result }
+{
+    let mut text = Vec::new(alloc);
+    if push_waits(&mut text, pair).is_err() {
+        return Status::NoMemory as u8;
+    }
+    write_text(out, text.as_slice(), Status::Done as u8)
+}
+
+/// Writes the meetings of the texts, and gives their status.
+pub(crate) fn judge_waits<K: Sink>(
+    alloc: Global,
+    texts: &PairTexts<'_>,
+    outside: Option<Outside>,
+    out: &mut K,
+) -> u8
+    requires { are_fit (texts_of texts.now) ≡ true }
+    ensures { Ends (AreWaits outside (texts_of texts.now)) (K.state out.old) (K.state out.new) result }
+{
+    match verdict(alloc, texts.left, texts.right, texts.settings, outside) {
+        Ok(pair) => tell_waits(alloc, &pair, out),
+        Err(error) => refuse(&error, out),
+    }
+}

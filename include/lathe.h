@@ -1,0 +1,117 @@
+/* The proved core of a two-turret lathe, for programs in C, C++ and whatever calls C.
+ *
+ * Link liblathe.a or liblathe.so, which scripts/build_library makes. The calls keep nothing between them, start no
+ * thread, take no lock and touch no file, so any threads may call at once, each with rooms of its own. Call none from a
+ * signal handler, nor in the forked child of a process with threads.
+ *
+ * Each call takes three texts, the tape of path 1, the tape of path 2 and the settings of the cell, each as a pointer and a
+ * number of bytes. Nothing checks what the caller owes: as many readable bytes, or events, as the number says, and as many
+ * writable ones in the room; the room and the length overlap nothing else that is passed. With the number 0 a pointer may be
+ * NULL. The pointer to the length is never NULL.
+ *
+ * A call writes the front of what it has to say into the room, as much as there is room for, and leaves what lies behind it
+ * as it was; *length is that of the whole. So call once with a room of 0, or with a guess, and again if *length is more.
+ */
+#ifndef LATHE_H
+#define LATHE_H
+
+#include <stddef.h>
+#include <stdint.h>
+
+#ifdef __cplusplus
+extern "C" {
+#endif
+
+/* What a call answers: the exit status of the program for the same texts. */
+enum lathe_status {
+    LATHE_DONE = 0,       /* accepted; or both paths ran to their ends; or the text of a state or of the waits */
+    LATHE_REFUSED = 1,    /* the texts are refused: the text is the line of the refusal, and of lathe_events there is none */
+    LATHE_ORDER = 2,      /* of lathe_events: the order has a byte other than 1 and 2 */
+    LATHE_ALARM = 3,      /* a path raised an alarm, which stopped both */
+    LATHE_STOPPED = 10,   /* as many records as were asked for; of lathe_events: the order is over */
+    LATHE_NO_MEMORY = 12, /* no memory: *length is 0, and the room as it was */
+    LATHE_TOO_LONG = 13,  /* a tape of more than 4,194,304 bytes, or settings of more than 65,536: the same */
+    LATHE_FULL = 14       /* as many records as the settings allow */
+};
+
+/* The verdict: 0 `accepted`, or 1 and the line of the refusal. */
+uint8_t lathe_verify(const uint8_t *left, size_t left_length, const uint8_t *right, size_t right_length,
+                     const uint8_t *settings, size_t settings_length,
+                     uint8_t *room, size_t room_length, size_t *length);
+
+/* The report of the run whose paths take turns, from path 1 on, of at most `limit` records: 0, 1, 3, 10 or 14. */
+uint8_t lathe_run(const uint8_t *left, size_t left_length, const uint8_t *right, size_t right_length,
+                  const uint8_t *settings, size_t settings_length, uint32_t limit,
+                  uint8_t *room, size_t room_length, size_t *length);
+
+/* The trace of that run, as the program's `trace` with `--blocks limit`: 0, 1, 3, 10 or 14. */
+uint8_t lathe_trace(const uint8_t *left, size_t left_length, const uint8_t *right, size_t right_length,
+                    const uint8_t *settings, size_t settings_length, uint32_t limit,
+                    uint8_t *room, size_t room_length, size_t *length);
+
+/* The state of the machine behind the records of that run: 0 or 1. */
+uint8_t lathe_state(const uint8_t *left, size_t left_length, const uint8_t *right, size_t right_length,
+                    const uint8_t *settings, size_t settings_length, uint32_t limit,
+                    uint8_t *room, size_t room_length, size_t *length);
+
+/* The meetings of both paths, read for their waits alone: 0 or 1. The tapes may lack the programs from `least` to `greatest`,
+ * which the control has; with least = 1 and greatest = 0 they may lack none. */
+uint8_t lathe_waits(const uint8_t *left, size_t left_length, const uint8_t *right, size_t right_length,
+                    const uint8_t *settings, size_t settings_length, uint16_t least, uint16_t greatest,
+                    uint8_t *room, size_t room_length, size_t *length);
+
+/* What an event is. */
+enum lathe_kind {
+    LATHE_PLACED = 0,   /* the turret stands at x, z before the first block of its path */
+    LATHE_RAPID = 1,    /* to x, z at rapid traverse */
+    LATHE_FEED = 2,     /* to x, z in a straight cut; value, per_revolution */
+    LATHE_THREAD = 3,   /* to x, z along a thread; value is the lead */
+    LATHE_ARC = 4,      /* to x, z along a circle; clockwise, by_centre, i, k, value, per_revolution */
+    LATHE_DWELL = 5,    /* a rest of so many milliseconds; amount */
+    LATHE_SPEED = 6,    /* the speed of the spindle; amount, at_surface */
+    LATHE_LIMIT = 7,    /* the highest speed of the spindle; amount */
+    LATHE_TOOL = 8,     /* the tool and its offset, as the T word has them; code */
+    LATHE_AUX = 9,      /* an auxiliary code; code */
+    LATHE_BLOCK = 10,   /* a block without a move */
+    LATHE_ARRIVED = 11, /* the path came to its wait, and waits; code */
+    LATHE_MET = 12,     /* the path came to its wait, at which the other one waits, and both go on; code */
+    LATHE_ENDED = 13,   /* the path has ended */
+    LATHE_RAISED = 14,  /* the path raised an alarm, which stops both; code, and value of a macro alarm */
+    LATHE_READ = 15     /* the block read the shared variable #amount, and is not done yet; it makes no record */
+};
+
+/* An event of a run. What its kind has no use for is 0. Points are in machine coordinates, in 0.001 mm; x is a diameter, i and k
+ * are radius values. */
+struct lathe_event {
+    uint32_t records;       /* how many records there are with its own; of LATHE_READ, how many there are */
+    uint32_t line;          /* the line of the path's tape; 0 where the turret is placed */
+    uint8_t path;           /* 1 or 2 */
+    uint8_t kind;           /* enum lathe_kind */
+    uint16_t code;          /* the code of a wait, an auxiliary code, the tool, or the number of an alarm */
+    uint8_t per_revolution; /* 1: the feed is per revolution, 0: per minute */
+    uint8_t clockwise;      /* of an arc */
+    uint8_t by_centre;      /* of an arc: 1: i and k lead from its start to its centre; 0: i is its radius */
+    uint8_t at_surface;     /* of a speed: 1: metres per minute at the surface, 0: revolutions per minute */
+    uint64_t amount;        /* milliseconds, the speed, or the number of a variable */
+    int64_t x, z;           /* where the turret comes to, in 0.001 mm */
+    int64_t i, k;           /* of an arc, in 0.001 mm */
+    int64_t value;          /* the feed or lead, or what a macro alarm was given, in millionths */
+};
+
+/* The events of the run whose paths get their turns in an order, a byte for each turn, 1 or 2: first where both turrets begin,
+ * and then what each turn came to. A turn is a block, a read of a shared variable, or nothing: a path that waits or has ended
+ * is passed over, and so are both behind an alarm or with as many records as the settings allow. The room and *length count
+ * events. 0 both paths have ended, 3 an alarm, 10 the order is over, 14 as many records as the settings allow; without an
+ * event 1, 2, 12 or 13.
+ *
+ * A simulator whose own times decide the order calls again with a longer order. Where no shared variable is read, a path's
+ * moves do not depend on the order. */
+uint8_t lathe_events(const uint8_t *left, size_t left_length, const uint8_t *right, size_t right_length,
+                     const uint8_t *settings, size_t settings_length, const uint8_t *order, size_t order_length,
+                     struct lathe_event *room, size_t room_length, size_t *length);
+
+#ifdef __cplusplus
+}
+#endif
+
+#endif
