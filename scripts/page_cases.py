@@ -386,7 +386,10 @@ def rows_of_promises(row, hand, browser):
     """What the page says of itself."""
     browser.drop(trace("flange"))
     said = hand.shown(".honest")
-    row("it says what is proved, of this run only", "Proved" in said and "in this run" in said and "each run" not in said, said)
+    of_each = [sentence for sentence in said.split(".") if "each run" in sentence.lower()]
+    row("it says what is proved of this run", "Proved" in said and "each line is what the tapes do in this run" in said, said)
+    row("of each run it says the order of waits and meetings alone",
+        len(of_each) == 1 and "waits and meetings" in of_each[0] and "as far as it gets" in of_each[0] and "line" not in of_each[0], said)
     row("it says what is a guess, and what nobody looked for", all(word in said for word in ("A guess:", "collisions", "race")), said)
     waits = browser.run("[...document.querySelectorAll('#meetings td:nth-child(6)')].map(e => e.textContent).filter(t => /\\d/.test(t))")
     row("each guessed wait has its sign", waits and all("\u2248" in wait for wait in waits), waits)

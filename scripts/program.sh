@@ -46,7 +46,7 @@ lines_below() {
         }' "$root/crates.txt"
 }
 
-# Copies the sources of the program and of all below it to the new folder $1, as a repository of its own: without the crates of tests and
+# Copies the sources of the program, or of the crate $2, and of all below it to the new folder $1, as a repository of its own: without the crates of tests and
 # without planted bugs, so that a build does not wait for those.
 copy_sources() {
     local name kind
@@ -58,7 +58,7 @@ copy_sources() {
         for kind in src specs proofs data args stdin stdout status; do
             [[ ! -e $root/crates/$name/$kind ]] || cp -r -- "$root/crates/$name/$kind" "$1/crates/$name" || return
         done
-    done < <(lines_below twin_lathe)
+    done < <(lines_below "${2:-twin_lathe}")
 }
 
 # What the mark of the program $1 as it stands has.

@@ -4,12 +4,14 @@
 # Each command: its name, its words, its options, what it does, and an example. LEFT RIGHT SETTINGS are the files that it judges, so
 # what is said about their lines (scripts/explain) is said for each command whose words begin with these three.
 commands='verify|LEFT RIGHT SETTINGS||judges the two tapes: can they deadlock at a wait?|verify examples/upper.nc examples/lower.nc examples/cell.txt
+waits|LEFT RIGHT SETTINGS|outside|judges the waits of any two tapes, and lists where the paths meet|waits examples/shaft_upper.nc examples/shaft_lower.nc examples/plain.txt --outside 9000-9999
 trace|LEFT RIGHT SETTINGS|blocks|prints each move, wait and meeting of a run in its place, without a journal|trace examples/upper.nc examples/lower.nc examples/cell.txt
 run|LEFT RIGHT SETTINGS|blocks turret1 turret2|judges the tapes, runs both, and prints the moves of each turret|run examples/upper.nc examples/lower.nc examples/cell.txt
 resume||blocks turret1 turret2|continues the run of the journal after a stop or a crash|resume
 moves|||prints the moves that the journal has|moves
 state|||prints where both paths are, and their offsets and variables|state
-make|N|turret1 turret2|runs a generated test job of some 10,000 blocks (N: 0 to 999999)|make 7'
+make|N|turret1 turret2|runs a generated test job of some 10,000 blocks (N: 0 to 999999)|make 7
+expand|TAPE||writes a tape with its G71 and G70 over contours of lines as plain blocks|expand examples/roughing.nc'
 
 # The row of the command $1.
 row_of() {
@@ -27,7 +29,13 @@ words_of() { row_of "$1" | cut -d '|' -f 2; }
 options_of() { row_of "$1" | cut -d '|' -f 3; }
 
 # The text of an option, as it is written in the help.
-text_of_option() { [[ $1 == blocks ]] && printf 'N' || printf 'FILE'; }
+text_of_option() {
+    case $1 in
+        blocks) printf 'N' ;;
+        outside) printf 'A-B' ;;
+        *) printf 'FILE' ;;
+    esac
+}
 
 # The words and the options of the command $1, as they are written in the help.
 usage_of() {
@@ -42,6 +50,12 @@ judges_files() { [[ $(words_of "$1") == 'LEFT RIGHT SETTINGS'* ]]; }
 
 # Whether $3 is a whole number from $1 to $2, in at most seven digits.
 is_between() { [[ $3 =~ ^[0-9]{1,7}$ ]] && ((10#$3 >= $1 && 10#$3 <= $2)); }
+
+# Whether $1 is a range of O numbers: A-B, each from 1 to 9999, B not below A.
+is_range() {
+    local least=${1%%-*} greatest=${1#*-}
+    [[ $1 == *-* ]] && is_between 1 9999 "$least" && is_between 1 9999 "$greatest" && ((10#$least <= 10#$greatest))
+}
 
 # What is wrong with the words, in one line; nothing if they are those of a command.
 fault_of_words() {
@@ -88,6 +102,9 @@ judge_words() {
         seen+="$option "
         if [[ $option == blocks ]]; then
             is_between 1 1000000 "$text" || { printf -- '--blocks takes a number from 1 to 1000000, and not %s\n' "'$text'"; return; }
+        elif [[ $option == outside ]]; then
+            is_range "$text" ||
+                { printf -- '--outside takes two numbers from 1 to 9999 with - between them, the second not below the first, and not %s\n' "'$text'"; return; }
         elif [[ -z $text ]]; then
             printf -- '--%s needs the name of a file\n' "$option"
             return
@@ -118,10 +135,11 @@ help_of_all() {
 
 LEFT is the tape of path 1, RIGHT the tape of path 2. SETTINGS describes the machine: which M codes are waits, start and home
 positions, offsets (examples/cell.txt explains each line; an empty file takes the defaults). Options: --blocks N stops after N
-records; --turret1 FILE and --turret2 FILE write what each turret gets to a file or a named pipe, a line a call, during the run.
+records; --turret1 FILE and --turret2 FILE write what each turret gets to a file or a named pipe, a line a call, during the run;
+--outside A-B: the tapes may lack the programs O A to O B. `waits` assumes something of the machine: see `help waits`.
 `run` and `make` begin the journal twin.journal in the current folder; `resume`, `moves` and `state` read it there.
 
-  twin_lathe try verify examples/upper.nc examples/lower.nc examples/cell.txt
+  twin_lathe try waits examples/upper.nc examples/lower.nc examples/cell.txt
 
 The first call of a command without `try` proves and builds the program. Only the program's text goes to standard output.
 At a terminal, or with TWIN_LATHE_EXPLAIN=1, standard error says what a refusal means and what to do (docs/ERRORS.md has every
@@ -138,7 +156,30 @@ help_of() {
     if judges_files "$name"; then
         printf '\nLEFT is the tape of path 1, RIGHT the tape of path 2, SETTINGS the file that describes the machine.\n'
     fi
+    if [[ $name == waits ]]; then
+        cat <<'END'
+
+It prints how often the paths meet, each meeting with the line of both tapes, and how both tapes end: `end`, `again` (M99 of both
+main programs) or `off` (past their last blocks). It does not look into cycles, unknown codes and expressions.
+
+It assumes this of the machine, and no proof covers it: a path that has run a block goes on where that block says. After a jump that
+is its sequence number or the next block; after a call, the called program; after M99, the caller; after every other block, the next
+one. At a waiting code a path stands until the other path stands at one; then both go on. At M02 and M30 it stays. Anything else is
+an alarm that stops both paths.
+The line `goes on` names every code and program for which only this assumption speaks: see that no parameter makes such a code a call.
+END
+    fi
+    if [[ $name == expand ]]; then
+        cat <<'END'
+
+TAPE is the tape of one path; standard output is the new tape. All other lines stay byte for byte. G71 is understood in its
+two-block form, directly behind a block `G00 X.. Z..`, with a contour of G01 lines whose X does not fall and whose Z does not rise;
+G70 directly behind a block `G00 X.. Z..`. No move of the new blocks cuts into the contour: it is proved.
+END
+    fi
     [[ " $options " != *' blocks '* ]] || printf '%s\n' '--blocks N stops after N records (1 to 1000000; 100000 if it is not given).'
+    [[ " $options " != *' outside '* ]] ||
+        printf '%s\n' '--outside A-B: the tapes may lack the programs O A to O B (1 to 9999). You promise that none of them waits or ends.'
     [[ " $options " != *' turret1 '* ]] ||
         printf '%s\n' '--turret1 FILE, --turret2 FILE: a file or a named pipe for what that turret gets, a line a call, during the run.'
 }

@@ -1,0 +1,290 @@
+"""library_rows.py ROOT LIBRARY PROGRAM WORK: compares what the library answers with what the program answers. Used by library_rows,
+which has made WORK/simulator and WORK/memory."""
+import concurrent.futures
+import ctypes
+import os
+import random
+import re
+import subprocess
+import sys
+import threading
+import time
+
+ROOT, LIBRARY, PROGRAM, WORK = sys.argv[1:]
+EXAMPLES = os.path.join(ROOT, "examples")
+sys.path.insert(0, EXAMPLES)
+import simulator  # noqa: E402
+
+ALL = 4000000
+CHANGED = 3000
+LATHE = simulator.Lathe(LIBRARY)
+passed = failed = 0
+
+
+def check(name, is_right, said=""):
+    global passed, failed
+    passed += bool(is_right)
+    failed += not is_right
+    if not is_right and failed <= 20:
+        print(f"library row FAILED: {name}: {said}"[:400])
+
+
+def read(name):
+    with open(os.path.join(EXAMPLES, name), "rb") as file:
+        return file.read()
+
+
+class Program:
+    """The program, each call in a folder of its own."""
+    rooms = threading.local()
+
+    def __call__(self, texts, *words):
+        room = getattr(self.rooms, "name", None)
+        if room is None:
+            room = self.rooms.name = os.path.join(WORK, f"room{threading.get_ident()}")
+            os.mkdir(room)
+        for name, text in zip(("left", "right", "cell"), texts):
+            with open(os.path.join(room, name), "wb") as file:
+                file.write(text)
+        return self.again(*words)
+
+    def again(self, *words):
+        ran = subprocess.run([PROGRAM, *words], cwd=self.rooms.name, stdin=subprocess.DEVNULL, stdout=subprocess.PIPE,
+                             stderr=subprocess.DEVNULL, timeout=60)
+        return simulator.Answer(ran.returncode, ran.stdout)
+
+    def forget(self):
+        journal = os.path.join(self.rooms.name, "twin.journal")
+        if os.path.exists(journal):
+            os.remove(journal)
+
+
+PROGRAM_OF = Program()
+FILES = ("left", "right", "cell")
+
+
+def made_tape(picker, path, waits):
+    """A tape of moves, arcs, cycles, loops and calls, with these waits."""
+    lines = ["%", f"O{path:04}", "G21 G40 G97 G99", f"T0{path}0{path}", "G97 S900 M03", "G00 X60. Z5."]
+    for wait in waits:
+        for _ in range(picker.randrange(1, 7)):
+            x, z = picker.randrange(10, 60), -picker.randrange(0, 40)
+            lines += picker.choice([
+                [f"G01 X{x}.5 Z{z}. F0.{picker.randrange(1, 5)}"], [f"G00 X{x}. Z{z}."],
+                [f"G02 U4. W-2. R{picker.randrange(4, 9)}."], [f"G04 P{picker.randrange(1, 999)}"], [f"G90 X{x}. Z{z}. F0.2"],
+                ["M08"], [f"#1{picker.randrange(0, 33):02}=[{x}+#3]*2"], ["M98 P900 L2"], [f"G96 S{x + 100}"],
+                ["#1=0", "WHILE[#1LT3]DO1", "#1=#1+1", "G00 U-1.", "END1"], ["G98 G01 W-1. F80"], [f"G65 P901 A{x}."]])
+        lines.append(f"M{wait}")
+    return ("\n".join([*lines, "M30", "O0900", "G01 U-1. W-1. F0.1", "M99", "O0901", "G00 X#1", "M99", "%"]) + "\n").encode()
+
+
+def made_pair(number):
+    picker = random.Random(number)
+    waits = [100 + picker.randrange(0, 90) for _ in range(picker.randrange(0, 6))]
+    return made_tape(picker, 1, waits), made_tape(picker, 2, waits), read("cell.txt")
+
+
+def changed(picker, text):
+    """A text with up to three changes."""
+    text = bytearray(text)
+    for _ in range(picker.choice([0, 1, 1, 2, 3])):
+        at, kind = picker.randrange(len(text) + 1), picker.randrange(5)
+        if kind == 0 and text:
+            is_plain = picker.random() < 0.9
+            text[at % len(text)] = picker.choice(b"0123456789XZMGN#[]=.-+% \n(") if is_plain else picker.randrange(256)
+        elif kind == 1:
+            del text[at:at + picker.randrange(1, 6)]
+        elif kind == 2:
+            text[at:at] = picker.choice([b"M101\n", b"#1=#2+1\n", b"GOTO 50\n", b"WHILE[#1LT3]DO1\nEND1\n", b"IF[#100EQ1]GOTO90\n",
+                                         b"G65P1\n", b"(", b"M98P2\n", b"#500=#501/3.\n"])
+        elif kind == 3 and b"\n" in text:
+            lines = bytes(text).split(b"\n")
+            one, two = picker.randrange(len(lines)), picker.randrange(len(lines))
+            lines[one], lines[two] = lines[two], lines[one]
+            text = bytearray(b"\n".join(lines))
+        else:
+            text += text[at:at + 40]
+    return bytes(text)
+
+
+def triples():
+    names = sorted(it for it in os.listdir(EXAMPLES) if it.endswith(".nc"))
+    tapes = [read(it) for it in names]
+    pairs = [(i, j) for i in range(len(names)) for j in range(len(names))]
+    found = [(f"{names[i]} {names[j]}", (tapes[i], tapes[j], read("cell.txt"))) for i, j in pairs]
+    found += [(f"{a} {b} {c}", (read(a), read(b), read(c))) for a, b, c in (
+        ("bolt_upper.nc", "bolt_lower.nc", "bolt.txt"), ("deadlock_upper.nc", "deadlock_lower.nc", "plain.txt"),
+        ("upper.nc", "lower.nc", "plain.txt"), ("upper.nc", "lower.nc", "bolt.txt"))]
+    return found + [(f"made pair {number}", made_pair(number)) for number in range(60)]
+
+
+def changed_triples():
+    picker = random.Random(5)
+    tapes = [read(it) for it in sorted(os.listdir(EXAMPLES)) if it.endswith(".nc")]
+    tapes += [made_pair(number)[0] for number in range(9)]
+    cell = read("cell.txt")
+    for number in range(CHANGED):
+        texts = changed(picker, picker.choice(tapes)), changed(picker, picker.choice(tapes))
+        yield f"changed triple {number}", (*texts, changed(picker, cell) if picker.random() < 0.2 else cell)
+
+
+def compare_texts(given):
+    """Verdict, meetings and trace of a triple."""
+    name, texts = given
+    rows = [(f"{name}: verify", LATHE.verify(*texts), PROGRAM_OF(texts, "verify", *FILES)),
+            (f"{name}: waits", LATHE.waits(*texts), PROGRAM_OF.again("waits", *FILES)),
+            (f"{name}: trace", LATHE.trace(*texts, limit=500), PROGRAM_OF.again("trace", "--blocks", "500", *FILES))]
+    if name.startswith("changed"):
+        return rows[:1] if rows[0][1].status else rows
+    rows.append((f"{name}: waits outside", LATHE.waits(*texts, least=900, greatest=999),
+                 PROGRAM_OF.again("waits", "--outside", "900-999", *FILES)))
+    return rows
+
+
+def reads_none(texts):
+    return not any(it.kind == simulator.READ for it in LATHE.events(*texts, bytes([1, 2]) * 20000).list)
+
+
+def compare_run(given):
+    """Report and state of a whole run, where they hang on no order of turns."""
+    name, texts = given
+    report = LATHE.run(*texts, limit=20000)
+    if report.status != 0 or not reads_none(texts):
+        return []
+    due = PROGRAM_OF(texts, "run", *FILES)
+    state = PROGRAM_OF.again("state")
+    PROGRAM_OF.forget()
+    return [(f"{name}: run", report, due), (f"{name}: state", LATHE.state(*texts, limit=20000), state)]
+
+
+NAMES = {simulator.RAPIDLY: "rapid", simulator.FEED: "feed", simulator.THREAD: "thread"}
+
+
+def shown(event):
+    """A move as a report has it, up to its place; a wait, a meeting and an end as a trace has them."""
+    if event.kind in NAMES or event.kind == simulator.ARC:
+        way = NAMES.get(event.kind) or ("cw" if event.clockwise else "ccw")
+        return f"{event.line} {way} X{event.x / 1000:.3f} Z{event.z / 1000:.3f}"
+    return None
+
+
+def moves_of(report):
+    found, path = {1: [], 2: []}, 0
+    for line in report.decode().split("\n"):
+        head = re.fullmatch(r"path ([12]) moves \d+", line)
+        move = re.match(r"\d+ (rapid|feed|thread|cw|ccw) X\S+ Z\S+", line)
+        if head:
+            path = int(head[1])
+        elif move and path:
+            found[path].append(move[0])
+    return found
+
+
+def check_events(name, texts):
+    """The moves of each path are those of the report, in whatever order the turns come."""
+    report = LATHE.run(*texts, limit=2000)
+    if report.status != 0 or not reads_none(texts):
+        return
+    due = moves_of(report.text)
+    for order in (bytes([1, 2]), bytes([2, 1]), bytes([1, 1, 1, 2]), bytes([2] * 40 + [1] * 7)):
+        status, events = LATHE.events(*texts, order * 4000)
+        found = {path: [shown(it) for it in events if it.path == path and shown(it)] for path in (1, 2)}
+        counts = [it.records for it in events if it.kind not in (simulator.PLACED, simulator.READ)]
+        is_counted = sorted(set(counts)) == list(range(1, len(set(counts)) + 1)) and counts == sorted(counts)
+        check(f"{name}: events {order[:4]}", status == 0 and found == due and is_counted, f"status {status}")
+
+
+def check_rooms(name, texts):
+    """The room has the front of the text, and what lies behind it is as it was."""
+    whole = LATHE.trace(*texts, limit=300)
+    size = len(whole.text)
+    call = LATHE.library.lathe_trace
+    given = [it for text in texts for it in (ctypes.c_char_p(text), ctypes.c_size_t(len(text)))]
+    for room in {0, 1, size // 2, max(size - 1, 0), size, size + 9}:
+        held = ctypes.create_string_buffer(b"." * (size + 30), size + 30)
+        length = ctypes.c_size_t(77)
+        status = call(*given, ctypes.c_uint32(300), held, ctypes.c_size_t(room), ctypes.byref(length))
+        due = whole.text[:room] + b"." * (size + 30 - min(room, size))
+        check(f"{name}: a room of {room}", (status, length.value, held.raw) == (whole.status, size, due), f"status {status}")
+    nothing = ctypes.c_char_p(None), ctypes.c_size_t(0)
+    length = ctypes.c_size_t(77)
+    status = LATHE.library.lathe_verify(*given[:4], *nothing, *nothing, ctypes.byref(length))
+    due = LATHE.verify(texts[0], texts[1], b"")
+    check(f"{name}: no room and no settings", (status, length.value) == (due.status, len(due.text)), f"status {status}")
+
+
+def check_refusals():
+    texts = read("upper.nc"), read("lower.nc"), read("cell.txt")
+    for place, size in ((0, 4194305), (1, 4194305), (2, 65537)):
+        longer = list(texts)
+        longer[place] = b"%" * size
+        due = PROGRAM_OF(longer, "verify", *FILES).status
+        check(f"text {place} is too long", LATHE.verify(*longer) == (due, b""), f"{due} is due")
+        check(f"text {place} is too long: events", LATHE.events(*longer, b"\1\2") == (due, []), f"{due} is due")
+    check("an order with a 3", LATHE.events(*texts, b"\1\2\3") == (2, []))
+    check("an order with a 0", LATHE.events(*texts, b"\0") == (2, []))
+    check("refused texts have no event", LATHE.events(read("deadlock_upper.nc"), read("deadlock_lower.nc"), b"", b"\1") == (1, []))
+    check("no turn", [it.kind for it in LATHE.events(*texts, b"").list] == [0, 0])
+
+
+def check_threads(given):
+    """Four threads at once answer what one answers."""
+    due = [(LATHE.verify(*texts), LATHE.trace(*texts, limit=200)) for _, texts in given]
+    answers = [None] * 4
+
+    def work(number):
+        lathe = simulator.Lathe(LIBRARY)
+        answers[number] = [(lathe.verify(*texts), lathe.trace(*texts, limit=200)) for _, texts in given]
+
+    threads = [threading.Thread(target=work, args=(number,)) for number in range(4)]
+    for it in threads:
+        it.start()
+    for it in threads:
+        it.join()
+    for number in range(4):
+        check(f"thread {number}", answers[number] == due)
+
+
+# The simulator in Python, over the library that is named first.
+IN_PYTHON = """import sys, simulator
+simulator.Lathe.__init__.__defaults__ = (sys.argv[1],)
+sys.exit(simulator.main(sys.argv[2:]))"""
+
+
+def check_simulators():
+    """The simulators in C and in Python print the same time line."""
+    for names in ("upper.nc lower.nc cell.txt", "bolt_upper.nc bolt_lower.nc plain.txt", "dividing.nc idle.nc plain.txt",
+                  "deadlock_upper.nc deadlock_lower.nc plain.txt", "passes.nc passes.nc cell.txt", "none.nc lower.nc cell.txt"):
+        how = {"cwd": EXAMPLES, "stdout": subprocess.PIPE, "stderr": subprocess.PIPE, "timeout": 120}
+        in_c = subprocess.run([os.path.join(WORK, "simulator"), *names.split()], **how)
+        in_python = subprocess.run([sys.executable, "-c", IN_PYTHON, LIBRARY, *names.split()], **how)
+        is_same = (in_c.returncode, in_c.stdout) == (in_python.returncode, in_python.stdout)
+        is_silent = not in_c.stderr + in_python.stderr
+        check(f"simulators: {names}", is_same and is_silent and in_c.stdout, f"{in_c.returncode} {in_python.returncode}")
+
+
+def main():
+    began, given = time.monotonic(), triples()
+    with concurrent.futures.ThreadPoolExecutor(4) as pool:
+        for rows in pool.map(compare_texts, [*given, *changed_triples()]):
+            for name, answer, due in rows:
+                check(name, answer == due, f"{answer.status} {answer.text[:80]}, and {due.status} {due.text[:80]} is due")
+        for rows in pool.map(compare_run, given):
+            for name, answer, due in rows:
+                check(name, answer == due, f"{answer.status} {answer.text[-80:]}, and {due.status} {due.text[-80:]} is due")
+    for name, texts in given[::7]:
+        check_events(name, texts)
+    for name, texts in given[::11]:
+        check_rooms(name, texts)
+    PROGRAM_OF(given[0][1], "verify", *FILES)
+    check_refusals()
+    check_threads(given)
+    check_simulators()
+    ran = subprocess.run([os.path.join(WORK, "memory"), "upper.nc", "lower.nc", "cell.txt"], cwd=EXAMPLES, stdout=subprocess.PIPE)
+    check("refused memory", ran.returncode == 0, ran.stdout.decode())
+    print(f"library rows: {time.monotonic() - began:.0f} seconds")
+    print(f"library rows: {passed} passed, {failed} failed")
+    return failed > 0 or passed == 0
+
+
+sys.exit(main())
