@@ -54,7 +54,7 @@ impl Model for Code {
 
 impl Code {
     /// Its instructions, first to last.
-    pub(crate) fn instrs(&self) -> &[Instr]
+    pub fn instrs(&self) -> &[Instr]
         ensures all { result.now ≡ postfix self.now }
         ensures runs { fits OPERANDS result.now 0 ≡ true }
     {

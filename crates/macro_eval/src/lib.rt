@@ -16,7 +16,7 @@ mod scope;
 mod stepping;
 mod whole;
 
-pub use code::{Code, compile};
+pub use code::{Code, Instr, compile};
 pub use code_list::{CodeList, compile_statement};
 pub use compare::holds;
 pub use running::{count_reads, each_variable_takes_one_read_at_most, eval, evaluate};

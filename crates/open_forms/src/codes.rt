@@ -121,7 +121,7 @@ pub(crate) fn cycle_of(words: &[Word]) -> Role
 {
     if has_g(words, 70_000_000) {
         Role::Finishing
-    } else if is_roughing(words) && has_contour(words) {
+    } else if has_contour(words) && is_roughing(words) {
         Role::Roughing
     } else {
         Role::Other

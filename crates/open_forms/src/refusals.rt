@@ -38,7 +38,7 @@ fn is_not_fixed(role: Role, waits: WaitCodes, words: &[Word]) -> bool
     requires { role ≡ role_of waits words.now }
     ensures { result ≡ is_not_fixed waits words.now }
 {
-    has_computed(words, fixed_letters(role)) || (has_g(words, SETTING) && has_computed(words, b"L"))
+    has_computed(words, fixed_letters(role)) || (has_computed(words, b"L") && has_g(words, SETTING))
 }
 
 fn is_parameter(kind: u32) -> bool
@@ -51,7 +51,7 @@ fn is_parameter(kind: u32) -> bool
 fn writes_parameters(words: &[Word]) -> bool
     ensures { result ≡ writes_parameters words.now }
 {
-    has_g(words, SETTING) && names_parameters(words)
+    names_parameters(words) && has_g(words, SETTING)
 }
 
 fn names_parameters(words: &[Word]) -> bool
@@ -194,7 +194,7 @@ fn is_unknown(role: Role, waits: WaitCodes, words: &[Word]) -> bool
 fn waits_there(waits: WaitCodes, words: &[Word]) -> bool
     ensures { result ≡ waits_there waits words.now }
 {
-    !has_g(words, MACRO_CALL) && has_wait(words, waits)
+    has_wait(words, waits) && !has_g(words, MACRO_CALL)
 }
 
 /// 57: a wait beside another word than P.
@@ -248,7 +248,7 @@ fn has_lone_m(words: &[Word]) -> bool
 fn has_two_m(words: &[Word]) -> bool
     ensures { result ≡ has_two_m words.now }
 {
-    !has_g(words, MACRO_CALL) && 1 < count_of(words, b"M") && has_lone_m(words)
+    1 < count_of(words, b"M") && has_lone_m(words) && !has_g(words, MACRO_CALL)
 }
 
 /// Whether the G word is a dwell or the setting of an offset, whose P is its own.
@@ -339,7 +339,7 @@ fn is_out_of_range(role: Role, waits: WaitCodes, words: &[Word]) -> bool
     requires { role ≡ role_of waits words.now }
     ensures { result ≡ is_out_of_range waits words.now }
 {
-    !is_in_range(role, words) || (!has_g(words, MACRO_CALL) && !are_in(words, b"M", 0, 99_999_999))
+    !is_in_range(role, words) || (!are_in(words, b"M", 0, 99_999_999) && !has_g(words, MACRO_CALL))
 }
 
 /// 5: a word that must be written out has too many digits, or the L of G10, which may write parameters.
@@ -347,7 +347,7 @@ fn is_long(role: Role, waits: WaitCodes, words: &[Word]) -> bool
     requires { role ≡ role_of waits words.now }
     ensures { result ≡ is_long waits words.now }
 {
-    has_long(words, fixed_letters(role)) || (has_g(words, SETTING) && has_long(words, b"L"))
+    has_long(words, fixed_letters(role)) || (has_long(words, b"L") && has_g(words, SETTING))
 }
 
 /// Why the block is refused: of the refusals that hold of it the one of the least number.
