@@ -1,4 +1,2 @@
-pub mod TextLines
 pub mod Switches
 pub mod Kept
-pub mod LineByLine

@@ -1,5 +1,5 @@
 -- The settings that a text gives.
-use Rattle.std.specs.Prelude.{ℕ, ◌+◌, ◌^◌, Bool, true, List, [], ◌∷◌, Option, Some, None, Result, Ok, Err, pos, slice_index, slice_set, bit_or}
+use Rattle.std.specs.Prelude.{ℕ, ◌^◌, Bool, true, List, [], ◌∷◌, Result, pos, slice_index, slice_set, bit_or}
 use Rattle.std.specs.Str.Lines.{lines}
 use Rattle.nc_number.specs.declared.path.Path.{Path}
 use Rattle.nc_number.specs.declared.point.Point.{Point}
@@ -7,6 +7,7 @@ use Rattle.nc_number.specs.Path.{index_of}
 use Rattle.cell_settings.specs.declared.preset.Preset.{Preset}
 use Rattle.cell_settings.specs.declared.entry.Entry.{Entry}
 use Rattle.cell_settings.specs.declared.entry.Entry.TheVariants as says
+use Rattle.field_lines.specs.Line.{entries_of, first_refused, unless_refused}
 use Rattle.cell_settings.specs.Entry.{line_says}
 use Rattle.cell_settings.specs.Preset.{with_preset}
 
@@ -63,28 +64,6 @@ abbrev pub all_taken : Cell → List Entry → Cell
 all_taken cell [] = cell
 all_taken cell (entry ∷ entries) = all_taken (taken cell entry) entries
 
-abbrev pub with_entry : Option Entry → List Entry → List Entry
-with_entry None entries = entries
-with_entry (Some entry) entries = entry ∷ entries
-
--- what each line says
-abbrev pub entries_of : List (List ℕ) → List Entry
-entries_of [] = []
-entries_of (line ∷ lines) = with_entry (line_says line) (entries_of lines)
-
-abbrev pub if_refused : Option Entry → ℕ → Option ℕ → Option ℕ
-if_refused None number rest = Some number
-if_refused (Some entry) number rest = rest
-
--- the number of the first line that is not allowed, where the first of all has this number
-abbrev pub first_refused : ℕ → List (List ℕ) → Option ℕ
-first_refused number [] = None
-first_refused number (line ∷ lines) = if_refused (line_says line) number (first_refused (number + 1) lines)
-
-abbrev pub unless_refused : Option ℕ → Cell → Result Cell ℕ
-unless_refused None cell = Ok cell
-unless_refused (Some number) cell = Err number
-
 -- the settings of a text, or the number of its first line that is not allowed
 unfoldable pub settings_of : List ℕ → Result Cell ℕ
-settings_of text = unless_refused (first_refused 1 (lines text)) (all_taken standard (entries_of (lines text)))
+settings_of text = unless_refused (first_refused line_says 1 (lines text)) (all_taken standard (entries_of line_says (lines text)))

@@ -1,23 +1,17 @@
 -- What a line of settings says. A line that is none of these is not allowed.
-use Rattle.std.specs.Prelude.{ℕ, ◌-◌, ◌≤◌, Bool, true, false, ◌==◌, List, [], ◌∷◌, Option, Some, None, codes, if◌then◌else◌}
-use Rattle.std.specs.List.{list_any}
+use Rattle.std.specs.Prelude.{ℕ, ◌-◌, ◌≤◌, true, false, List, [], ◌∷◌, Option, Some, None, codes, if◌then◌else◌}
 use Rattle.std.specs.Str.{bytes_eq}
-use Rattle.nc_number.specs.declared.path.Path.{Path}
-use Rattle.nc_number.specs.declared.path.Path.TheVariants.{One, Two}
 use Rattle.cell_settings.specs.declared.preset.PresetKind.{PresetKind}
 use Rattle.cell_settings.specs.declared.preset.PresetKind.TheVariants.{Work, Geometry, Wear}
 use Rattle.cell_settings.specs.declared.entry.Entry.{Entry}
 use Rattle.cell_settings.specs.declared.entry.Entry.TheVariants as says
 use Rattle.nc_number.specs.Options.{◌>>=◌}
 use Rattle.nc_number.specs.declared.point.TheConstants.{TOOL_OFFSETS}
-use Rattle.cell_settings.specs.Field.{number_in, fields_of}
-use Rattle.cell_settings.specs.Length.{point_of}
+use Rattle.field_lines.specs.Field.{number_in, path_of}
+use Rattle.field_lines.specs.Length.{point_of}
+use Rattle.field_lines.specs.Line.{line_fields}
 use Rattle.nc_number.specs.Position.{IsPosition}
 use Rattle.cell_settings.specs.Preset.{IsPreset}
-
--- 1 or 2
-unfoldable pub path_of : List ℕ → Option Path
-path_of text = if bytes_eq text (codes "1") then Some One else (if bytes_eq text (codes "2") then Some Two else None)
 
 -- the first and the last waiting code
 unfoldable pub wait_of : List (List ℕ) → Option Entry
@@ -123,19 +117,16 @@ named_point_of name values =
     else (if bytes_eq name (codes "wear") then tool_of Wear values
     else named_of name values))))
 
--- a line that begins with a bracket is a comment
-abbrev pub is_comment : List ℕ → Bool
-is_comment [] = false
-is_comment (first ∷ others) = first == 40
-
--- an empty line and a comment say nothing
+-- what fields say: a name and its values; no field says nothing
 unfoldable pub fields_say : List (List ℕ) → Option Entry
 fields_say [] = Some says.Nothing
-fields_say (name ∷ values) = if is_comment name then Some says.Nothing else named_point_of name values
+fields_say (name ∷ values) = named_point_of name values
 
--- a line says what its fields say; a carriage return in it is not allowed
+-- a line says what its fields say
 unfoldable pub line_says : List ℕ → Option Entry
-line_says line = if list_any (λ b. b == 13) line then None else fields_say (fields_of line)
+line_says line = do
+  fields ← line_fields line
+  fields_say fields
 
 -- the conditions of a line
 abbrev pub IsAllowed : Entry → Type 0

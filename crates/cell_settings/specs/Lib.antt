@@ -1,5 +1,3 @@
-pub mod Field
-pub mod Length
 pub mod Preset
 pub mod Entry
 pub mod Cell

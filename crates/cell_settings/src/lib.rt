@@ -7,9 +7,6 @@
 #![tactic(auto)]
 
 mod entry;
-mod field;
-mod length;
-mod line;
 mod named;
 mod preset;
 mod reading;

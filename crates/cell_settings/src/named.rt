@@ -1,25 +1,12 @@
-ghost use Rattle.std.specs.Prelude.{◌≡◌, ◌≤◌, IfSome};
-ghost use Rattle.cell_settings.specs.Field.{texts};
-ghost use Rattle.cell_settings.specs.Entry.{path_of, wait_of, shared100_of, shared500_of, paths_of, skip_of, place_of, home_of, work_number, work_of, tool_of, records_of, named_of, named_point_of, fields_say, IsAllowed};
+ghost use Rattle.std.specs.Prelude.{◌≡◌, ◌≤◌, IfOk, IfSome};
+ghost use Rattle.field_lines.specs.Field.{texts};
+ghost use Rattle.cell_settings.specs.Entry.{wait_of, shared100_of, shared500_of, paths_of, skip_of, place_of, home_of, work_number, work_of, tool_of, records_of, named_of, named_point_of, fields_say, line_says, IsAllowed};
 
 use crate::entry::Entry;
-use crate::field::number_in;
-use crate::length::read_point;
 use crate::preset::{Preset, PresetKind};
-use nc_number::{Path, TOOL_OFFSETS};
-
-#[tactic(auto, unfolding(crate::specs::Entry::path_of))]
-fn read_path(text: &[u8]) -> Option<Path>
-    ensures { result ≡ path_of text.now }
-{
-    if text == b"1".as_slice() {
-        Some(Path::One)
-    } else if text == b"2".as_slice() {
-        Some(Path::Two)
-    } else {
-        None
-    }
-}
+use field_lines::{line_fields, number_in, read_path, read_point};
+use nc_number::TOOL_OFFSETS;
+use std::alloc::{AllocError, Global};
 
 #[tactic(auto, unfolding(crate::specs::Entry::wait_of))]
 fn wait(values: &[&[u8]]) -> Option<Entry>
@@ -259,18 +246,24 @@ fn named_point(name: &[u8], values: &[&[u8]]) -> Option<Entry>
 
 /// What the fields of a line say.
 #[tactic(auto, unfolding(crate::specs::Entry::fields_say))]
-pub(crate) fn read_fields(fields: &[&[u8]]) -> Option<Entry>
+fn read_fields(fields: &[&[u8]]) -> Option<Entry>
     ensures value { result ≡ fields_say (texts fields.now) }
     ensures allowed { IfSome result IsAllowed }
 {
     match fields {
         [] => Some(Entry::Nothing),
-        [name, values @ ..] => {
-            if name.first() == Some(&b'(') {
-                Some(Entry::Nothing)
-            } else {
-                named_point(name, values)
-            }
-        }
+        [name, values @ ..] => named_point(name, values),
+    }
+}
+
+/// What a line says, if it is allowed.
+#[tactic(auto, unfolding(crate::specs::Entry::line_says))]
+pub(crate) fn read_line(alloc: Global, line: &[u8]) -> Result<Option<Entry>, AllocError>
+    ensures value { IfOk result (λ entry. entry ≡ line_says line.now) }
+    ensures allowed { IfOk result (λ entry. IfSome entry IsAllowed) }
+{
+    match line_fields(alloc, line)? {
+        Some(fields) => Ok(read_fields(fields.as_slice())),
+        None => Ok(None),
     }
 }

@@ -4,8 +4,9 @@ ghost use Rattle.nc_number.specs.Causes.{cause_number};
 ghost use Rattle.cell_settings.specs.Cell.{settings_of};
 ghost use Rattle.cell_settings.specs.View.{view, line_of};
 
-use crate::line::{cut_line, read_line};
+use crate::named::read_line;
 use crate::settings::Settings;
+use field_lines::cut_line;
 use nc_number::{Cause, Failing};
 use std::alloc::Global;
 use thiserror::Error;

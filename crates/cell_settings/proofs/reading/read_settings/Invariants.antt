@@ -1,13 +1,15 @@
 use Rattle.std.proofs.Common.{◌≡◌, ◌+◌, ◌≤◌, length}
 use Rattle.std.specs.Str.Lines.{lines}
-use Rattle.cell_settings.specs.Cell.{standard, all_taken, entries_of, first_refused}
+use Rattle.field_lines.specs.Line.{entries_of, first_refused}
+use Rattle.cell_settings.specs.Entry.{line_says}
+use Rattle.cell_settings.specs.Cell.{standard, all_taken}
 use Rattle.cell_settings.specs.View.{view}
 use Rattle.cell_settings.proofs.reading.read_settings.Given as goal
 
 abbrev pub invariant-loop-rest : goal.invariant-loop-rest
 invariant-loop-rest l = record {
-  refused : first_refused (l.line + 1) (lines l.rest) ≡ first_refused 1 (lines l.text);
-  taken : all_taken (view l.settings) (entries_of (lines l.rest)) ≡ all_taken standard (entries_of (lines l.text));
+  refused : first_refused line_says (l.line + 1) (lines l.rest) ≡ first_refused line_says 1 (lines l.text);
+  taken : all_taken (view l.settings) (entries_of line_says (lines l.rest)) ≡ all_taken standard (entries_of line_says (lines l.text));
   counted : l.line + length l.rest ≤ length l.text;
 }
 

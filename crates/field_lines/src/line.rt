@@ -1,11 +1,9 @@
-ghost use Rattle.std.specs.Prelude.{◌≡◌, ◌<◌, ◌+◌, ◌∷◌, length, position, ◌==◌, IfOk, IfSome};
-ghost use Rattle.std.specs.List.{position_or_len, before_first, after_first};
+ghost use Rattle.std.specs.Prelude.{◌≡◌, ◌<◌, ◌+◌, ◌∷◌, ◌==◌, length, position, option_map, IfOk};
 ghost use Rattle.std.specs.Str.Lines.{lines, strip_carriage_return};
-ghost use Rattle.cell_settings.specs.Entry.{line_says, IsAllowed};
+ghost use Rattle.field_lines.specs.Field.{texts};
+ghost use Rattle.field_lines.specs.Line.{is_comment, line_fields};
 
-use crate::entry::Entry;
 use crate::field::fields;
-use crate::named::read_fields;
 use std::alloc::{AllocError, Global};
 
 /// The place of the first line end.
@@ -26,7 +24,7 @@ fn without_carriage_return(line: &[u8]) -> &[u8]
 }
 
 /// The first line of a text without what ends it, and the text behind it.
-pub(crate) fn cut_line(text: &[u8]) -> (&[u8], &[u8])
+pub fn cut_line(text: &[u8]) -> (&[u8], &[u8])
     requires { 0 < length text.now }
     ensures lines { lines text.now ≡ result.0.now ∷ lines result.1.now }
     ensures shorter { length result.1.now < length text.now }
@@ -41,15 +39,28 @@ pub(crate) fn cut_line(text: &[u8]) -> (&[u8], &[u8])
     }
 }
 
-/// What a line says, if it is allowed.
-#[tactic(auto, unfolding(crate::specs::Entry::line_says))]
-pub(crate) fn read_line(alloc: Global, line: &[u8]) -> Result<Option<Entry>, AllocError>
-    ensures value { IfOk result (λ entry. entry ≡ line_says line.now) }
-    ensures allowed { IfOk result (λ entry. IfSome entry IsAllowed) }
+/// Whether the line begins with a bracket.
+fn is_comment(fields: &[&[u8]]) -> bool
+    ensures { result ≡ is_comment (texts fields.now) }
+{
+    match fields {
+        [[b'(', ..], ..] => true,
+        _ => false,
+    }
+}
+
+/// The fields of a line, none for an empty line and for a comment, which begins with `(`. None for a line
+/// that has a carriage return.
+#[tactic(auto, unfolding(crate::specs::Line::line_fields))]
+pub fn line_fields(alloc: Global, line: &[u8]) -> Result<Option<Vec<&[u8]>>, AllocError>
+    ensures { IfOk result (λ fields. option_map (λ v. texts v.items) fields ≡ line_fields line.now) }
 {
     if line.contains(&b'\r') {
         return Ok(None);
     }
     let fields = fields(alloc, line)?;
-    Ok(read_fields(fields.as_slice()))
+    if is_comment(fields.as_slice()) {
+        return Ok(Some(Vec::new(alloc)));
+    }
+    Ok(Some(fields))
 }

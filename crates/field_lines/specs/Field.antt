@@ -1,7 +1,10 @@
--- The fields of a line of settings.
-use Rattle.std.specs.Prelude.{ℕ, ◌+◌, ◌-◌, ◌*◌, Bool, not, ◌&&◌, ◌==◌, nat_lt, nat_le, slice_index, List, length, map, fold, filter, Option, Some, None, if◌then◌else◌}
+-- The fields of a line.
+use Rattle.std.specs.Prelude.{ℕ, ◌+◌, ◌-◌, ◌*◌, Bool, not, ◌&&◌, ◌==◌, nat_lt, nat_le, slice_index, List, length, map, fold, filter, Option, Some, None, codes, if◌then◌else◌}
 use Rattle.std.specs.List.{slice_split, list_all}
+use Rattle.std.specs.Str.{bytes_eq}
 use Rattle.std.specs.Char.{is_ascii_digit}
+use Rattle.nc_number.specs.declared.path.Path.{Path}
+use Rattle.nc_number.specs.declared.path.Path.TheVariants.{One, Two}
 use denote.Ref.{Bor}
 
 -- the texts that references point to
@@ -27,3 +30,7 @@ is_number text = (not (length text == 0) && list_all is_ascii_digit text) && not
 unfoldable pub number_in : ℕ → ℕ → List ℕ → Option ℕ
 number_in low high text =
     if (is_number text && nat_le low (value_of text)) && nat_le (value_of text) high then Some (value_of text) else None
+
+-- 1 or 2
+unfoldable pub path_of : List ℕ → Option Path
+path_of text = if bytes_eq text (codes "1") then Some One else (if bytes_eq text (codes "2") then Some Two else None)

@@ -1,6 +1,6 @@
 use Rattle.std.proofs.Common.{◌≡◌, ◌-◌, ◌^◌, min, take}
-use Rattle.cell_settings.specs.Field.{value_of}
-use Rattle.cell_settings.proofs.field.value.Given as goal
+use Rattle.field_lines.specs.Field.{value_of}
+use Rattle.field_lines.proofs.field.value.Given as goal
 
 abbrev pub invariant-loop-digit : goal.invariant-loop-digit
 invariant-loop-digit l = l.n ≡ min (value_of (take l.digit-index l.digits)) (2 ^ 64 - 1)

@@ -1,7 +1,7 @@
 use Rattle.std.proofs.Common.{eqb, not, length, rules, tests}
 use Rattle.std.proofs.lemmas.Iterator.Consumers.{map_from_collect, YieldsList-from_filter}
 use Rattle.std.proofs.lemmas.Iterator.Splits.{YieldsList-from_slice_split}
-use Rattle.cell_settings.proofs.field.fields.Goals as goal
+use Rattle.field_lines.proofs.field.fields.Goals as goal
 
 pub returns : goal.returns
 returns c =

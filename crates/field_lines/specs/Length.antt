@@ -1,4 +1,4 @@
--- The lengths of the settings, in 0.001 mm.
+-- The lengths of a line, in 0.001 mm.
 use Rattle.std.specs.Prelude.{ℕ, nat_le, if◌then◌else◌, List, [], ◌∷◌, Option, Some, None, Result, Ok, Err, ℤ, unsigned_abs, ◌==◌}
 use Rattle.nc_number.specs.declared.point.Point.{Point}
 use Rattle.nc_number.specs.declared.literal.Literal.{Literal}

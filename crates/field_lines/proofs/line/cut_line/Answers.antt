@@ -1,6 +1,6 @@
 use Rattle.std.proofs.Common.{sym}
-use Rattle.cell_settings.proofs.TextLines.{lines_at, lines_last}
-use Rattle.cell_settings.proofs.line.cut_line.Goals as goal
+use Rattle.field_lines.proofs.TextLines.{lines_at, lines_last}
+use Rattle.field_lines.proofs.line.cut_line.Goals as goal
 
 pub returns-in-Some-clause-lines : goal.returns-in-Some-clause-lines
 returns-in-Some-clause-lines c =

@@ -1,8 +1,9 @@
 ghost use Rattle.std.specs.Prelude.{◌≡◌, ◌-◌, ◌^◌, ◌<◌, ◌≤◌, length, min, IfOk, IfSome};
-ghost use Rattle.cell_settings.specs.Field.{texts, fields_of, value_of, is_number, number_in};
+ghost use Rattle.field_lines.specs.Field.{texts, fields_of, value_of, is_number, number_in, path_of};
 ghost use Rattle.std.specs.Char.{is_ascii_digit};
 ghost use Rattle.std.specs.List.{list_all};
 
+use nc_number::Path;
 use std::alloc::{AllocError, Global};
 
 /// The fields of a line, without the spaces round them.
@@ -40,9 +41,9 @@ fn value(digits: &[u8]) -> u64
     n
 }
 
-/// The number of a field, from `low` to `high`.
+/// The number of a field, from `low` to `high`: decimal digits, without a sign and without a leading zero.
 #[tactic(auto, unfolding(crate::specs::Field::number_in))]
-pub(crate) fn number_in(low: u32, high: u32, text: &[u8]) -> Option<u32>
+pub fn number_in(low: u32, high: u32, text: &[u8]) -> Option<u32>
     ensures value { result ≡ number_in low high text.now }
     ensures range { IfSome result (λ n. (low ≤ n) × (n ≤ high)) }
 {
@@ -52,6 +53,20 @@ pub(crate) fn number_in(low: u32, high: u32, text: &[u8]) -> Option<u32>
     let n = value(text);
     if u64::from(low) <= n && n <= u64::from(high) {
         Some(n as u32)
+    } else {
+        None
+    }
+}
+
+/// The path that a field names: `1` or `2`.
+#[tactic(auto, unfolding(crate::specs::Field::path_of))]
+pub fn read_path(text: &[u8]) -> Option<Path>
+    ensures { result ≡ path_of text.now }
+{
+    if text == b"1".as_slice() {
+        Some(Path::One)
+    } else if text == b"2".as_slice() {
+        Some(Path::Two)
     } else {
         None
     }
