@@ -8,8 +8,6 @@
 mod grammar;
 mod law;
 mod reading;
-#[cfg(test)]
-mod tests;
 
 pub use grammar::program;
 pub use law::law_of_clap;

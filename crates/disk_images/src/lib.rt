@@ -9,8 +9,6 @@ mod disk;
 mod ended;
 mod growing;
 mod image;
-#[cfg(test)]
-mod rows;
 
 pub use disk::ImagesDisk;
 pub use image::Image;

@@ -1,5 +1,5 @@
-//! Tests of a journal on a disk: over the files of the system, and over a folder whose calls can be made to fail and whose medium has only
-//! what a sync put there; and of files of gates over a disk that keeps every image.
+//! Tests of the outside on a real machine: of a journal on a disk, over the files of the system, and over a folder whose calls can be made to
+//! fail and whose medium has only what a sync put there; of files of gates over a disk that keeps every image; of files, outputs and turrets.
 #![tactic(auto)]
 
 #[cfg(test)]
@@ -11,4 +11,10 @@ mod medium;
 #[cfg(test)]
 mod medium_tests;
 #[cfg(test)]
+mod shelf_tests;
+#[cfg(test)]
+mod sink_tests;
+#[cfg(test)]
 mod system_tests;
+#[cfg(test)]
+mod turret_tests;

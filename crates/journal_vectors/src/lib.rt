@@ -13,6 +13,8 @@ mod disks;
 #[cfg(test)]
 mod gates;
 #[cfg(test)]
+mod image_rows;
+#[cfg(test)]
 mod journals;
 #[cfg(test)]
 mod records;

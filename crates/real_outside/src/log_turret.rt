@@ -28,24 +28,3 @@ impl Turret for LogTurret {
         Ok(())
     }
 }
-
-#[cfg(test)]
-mod tests {
-    use super::*;
-    use nc_moves::Move;
-    use std::test::Fail;
-
-    #[test]
-    fn every_move_is_taken(rt: HostRuntime) -> Result<(), Fail> {
-        let mut turret = LogTurret;
-        assert_eq!(rt; turret.place(Point { x: 1, z: -1 }), Ok(()));
-        let tool = LinedMove {
-            line: 1,
-            what: Move::Tool { t: 101 },
-        };
-        assert_eq!(rt; turret.hand(&tool), Ok(()));
-        assert_eq!(rt; turret.settle(), Ok(()));
-        assert_eq!(rt; turret.faults(), 0);
-        Ok(())
-    }
-}

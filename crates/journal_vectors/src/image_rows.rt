@@ -1,5 +1,5 @@
 //! Rows of disks that keep every image: what the calls answer, and which images a crash since some time may have left.
-use crate::{Image, ImagesDisk};
+use disk_images::{Image, ImagesDisk};
 use disk_model::{Disk, Failed};
 use std::alloc::{AllocError, Global};
 use std::test::Fail;

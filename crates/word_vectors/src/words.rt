@@ -1,6 +1,6 @@
 //! Word lists with the commands that they give.
 
-use crate::reading::read_words;
+use clap_reading::read_words;
 use command_words::{Command, ProgramRange, TurretFiles, WordsFault};
 use std::alloc::{AllocError, Global};
 use std::test::Fail;
@@ -54,6 +54,13 @@ waits l r s --outside -> usage
 waits l r s --outside 1-2 --outside 1-2 -> usage
 waits l r s --blocks 7 -> usage
 verify l r s --outside 1-2 -> usage
+races l r s -> races [l] [r] [s]
+races l r -> usage
+races l r s t -> usage
+races l -- r s -> races [l] [r] [s]
+races l r s --blocks 5 -> usage
+races l r s --outside 1-2 -> usage
+Races l r s -> usage
 trace l r s -> trace [l] [r] [s] 100000
 trace l r -> usage
 trace l r s t -> usage
@@ -135,6 +142,13 @@ moves --blocks 5 -> usage
 moves --turret1 a -> usage
 state -> state
 state state -> usage
+zones q -> zones [q]
+zones -- --q -> zones [--q]
+zones -> usage
+zones q r -> usage
+zones q --blocks 7 -> usage
+zones --q -> usage
+zone q -> usage
 make 0 -> make 0
 make 0000007 -> make 7
 make 999999 -> make 999999
@@ -194,6 +208,12 @@ fn shown(alloc: Global, answer: Result<Command, WordsFault>) -> Result<String, A
             let outside = outside.as_str();
             format!(in alloc; "waits [{left}] [{right}] [{settings}]{outside}")
         }
+        Ok(Command::Races(left, right, settings)) => {
+            let left = left.as_str();
+            let right = right.as_str();
+            let settings = settings.as_str();
+            format!(in alloc; "races [{left}] [{right}] [{settings}]")
+        }
         Ok(Command::Trace(left, right, settings, blocks)) => {
             let left = left.as_str();
             let right = right.as_str();
@@ -215,6 +235,10 @@ fn shown(alloc: Global, answer: Result<Command, WordsFault>) -> Result<String, A
         }
         Ok(Command::Moves) => String::from_str(alloc, "moves"),
         Ok(Command::State) => String::from_str(alloc, "state"),
+        Ok(Command::Zones(zones)) => {
+            let zones = zones.as_str();
+            format!(in alloc; "zones [{zones}]")
+        }
         Ok(Command::Make(number, files)) => {
             let files = files_shown(alloc, &files)?;
             let files = files.as_str();
