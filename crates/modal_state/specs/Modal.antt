@@ -1,7 +1,9 @@
-use Rattle.std.specs.Prelude.{ℕ, ◌+◌, ◌-◌, List, Option, Some, None, unwrap_or, ◌==◌, if◌then◌else◌}
-use Rattle.std.specs.Option.{option_map}
+use Rattle.std.specs.Prelude.{ℕ, Bool, true, false, ◌+◌, ◌-◌, List, Option, Some, None, unwrap_or, ◌==◌, if◌then◌else◌}
+use Rattle.std.specs.Option.{option_map, option_map_or}
 use Rattle.nc_number.specs.declared.value.Var.TheVariants.{Vacant}
 use Rattle.nc_number.specs.declared.point.Point.{Point}
+use Rattle.code_tables.specs.declared.kind.CodeKind.{CodeKind}
+use Rattle.code_tables.specs.declared.kind.CodeKind.TheVariants.{Rapid, Surface, PerRev}
 use Rattle.code_tables.specs.declared.row.Row.{Row}
 use Rattle.code_tables.specs.declared.group.TheConstants.{MOTION_GROUP, SPINDLE_GROUP, FEED_GROUP, UNIT_GROUP, NOSE_GROUP, WORK_GROUP, FIRST_WORK_CODE}
 use Rattle.code_tables.specs.Codes.{last_of_group, is_work_code}
@@ -10,6 +12,22 @@ pub use Rattle.modal_state.specs.View.{ModalView}
 -- the code of the group behind the block: its last one there, else the one in force before
 abbrev pub in_force_after : List Row → ℕ → ℕ → ℕ
 in_force_after rows group before = unwrap_or (option_map (λ row. row.code) (last_of_group rows group)) before
+
+-- what a block with an axis word does behind these codes: by the last motion code, else as before
+abbrev pub motion_after : ModalView → List Row → CodeKind
+motion_after before rows = unwrap_or (option_map (λ row. row.kind) (last_of_group rows MOTION_GROUP)) before.motion
+
+abbrev pub is_surface : CodeKind → Bool
+is_surface Surface = true
+is_surface other = false
+
+abbrev pub is_per_rev : CodeKind → Bool
+is_per_rev PerRev = true
+is_per_rev other = false
+
+-- whether what a group has in force does that: by the kind of its last code, else as before
+abbrev pub does_after : (CodeKind → Bool) → List Row → ℕ → Bool → Bool
+does_after does rows group before = option_map_or (λ row. does row.kind) (last_of_group rows group) before
 
 -- the code of the work offset behind the block; a row that names none of G54 to G59 sets none
 abbrev pub work_after : List Row → ℕ → ℕ
@@ -26,6 +44,9 @@ opening_modal = record {
   g06 = 21;
   g07 = 40;
   g14 = 54;
+  motion = Rapid;
+  surface = false;
+  per_rev = true;
   feed = Vacant;
   speed = Vacant;
   tool = 0;
@@ -34,7 +55,7 @@ opening_modal = record {
   cycle = None;
 }
 
--- the modal state with a block's G codes taken: each group has its last code,
+-- the modal state with a block's G codes taken: each group has its last code and does what that does,
 -- and the end of a cycle stays only where the motion group kept its code
 abbrev pub with_codes : ModalView → List Row → ModalView
 with_codes before rows =
@@ -46,6 +67,9 @@ with_codes before rows =
       g06 = in_force_after rows UNIT_GROUP before.g06;
       g07 = in_force_after rows NOSE_GROUP before.g07;
       g14 = work_after rows before.g14;
+      motion = motion_after before rows;
+      surface = does_after is_surface rows SPINDLE_GROUP before.surface;
+      per_rev = does_after is_per_rev rows FEED_GROUP before.per_rev;
       cycle = if motion == before.g01 then before.cycle else None;
     }
 

@@ -1,12 +1,14 @@
-use Rattle.std.specs.Prelude.{◌≡◌, ℕ, ◌≤◌, IsTrue, Option, IfSome}
+use Rattle.std.specs.Prelude.{◌≡◌, ℕ, Bool, ◌≤◌, IsTrue, Option, IfSome}
 use Rattle.nc_number.specs.declared.value.Var.{Var}
 use Rattle.nc_number.specs.declared.point.Point.{Point}
 use Rattle.nc_number.specs.declared.point.TheConstants.{TOOL_OFFSETS}
 use Rattle.nc_number.specs.Position.{IsPosition}
+use Rattle.code_tables.specs.declared.kind.CodeKind.{CodeKind}
 use Rattle.code_tables.specs.Codes.{is_work_code}
 use Rattle.modal_state.specs.Said.{tool_offset}
 
--- what clauses see of the modal state: the code of each group, and what the words set last
+-- what clauses see of the modal state: the code of each group, what the codes do whatever their numbers, and what the words
+-- set last
 pub record ModalView : Type 0 where
   pub g01 : ℕ
   pub g02 : ℕ
@@ -14,6 +16,12 @@ pub record ModalView : Type 0 where
   pub g06 : ℕ
   pub g07 : ℕ
   pub g14 : ℕ
+  -- what a block with an axis word does
+  pub motion : CodeKind
+  -- the speed is a constant surface speed
+  pub surface : Bool
+  -- the feed is by the revolution
+  pub per_rev : Bool
   pub feed : Var
   pub speed : Var
   pub tool : ℕ

@@ -1,22 +1,23 @@
 ghost use Rattle.std.specs.Prelude.{◌≡◌, ◌≤◌, IsTrue, IfSome, OnOk, OnErr};
 ghost use Rattle.std.specs.Result.{result_err};
 ghost use Rattle.nc_number.specs.Position.{IsPosition};
-ghost use Rattle.code_tables.specs.declared.group.TheConstants.{WORK_GROUP};
+ghost use Rattle.code_tables.specs.declared.group.TheConstants.{WORK_GROUP, SPINDLE_GROUP, FEED_GROUP};
 ghost use Rattle.code_tables.specs.Codes.{is_work_code, names_work_offsets};
-ghost use Rattle.modal_state.specs.Modal.{opening_modal, in_force_after, work_after, with_codes, code_of, work_of};
+ghost use Rattle.modal_state.specs.Modal.{opening_modal, in_force_after, work_after, motion_after, is_surface, is_per_rev, does_after, with_codes, code_of, work_of};
 ghost use Rattle.nc_number.specs.declared.point.TheConstants.{TOOL_OFFSETS};
 ghost use Rattle.modal_state.specs.Words.{with_words, tool_fault};
 
 use crate::fault::ModalFault;
 use crate::words::{ModalWords, offset_of, said_or};
 use code_tables::{
-    FEED_GROUP, FIRST_WORK_CODE, LAST_WORK_CODE, MOTION_GROUP, NOSE_GROUP, Row, SPINDLE_GROUP,
-    UNIT_GROUP, WORK_GROUP, last_of_group,
+    CodeKind, FEED_GROUP, FIRST_WORK_CODE, LAST_WORK_CODE, MOTION_GROUP, NOSE_GROUP, Row,
+    SPINDLE_GROUP, UNIT_GROUP, WORK_GROUP, last_of_group,
 };
 use nc_number::{Point, Var};
 use std::marker::Model;
 
-/// What is in force for a path: the code of each modal group, and what its words set last.
+/// What is in force for a path: the code of each modal group, what the codes do whatever their numbers, and what its
+/// words set last.
 ///
 /// One of G54 to G59 is in force, the tool offset is one that exists, or 0 for none, and the cycle in
 /// force ends at a position.
@@ -28,6 +29,9 @@ pub struct Modal {
     g06: u16,
     g07: u16,
     g14: u16,
+    motion: CodeKind,
+    surface: bool,
+    per_rev: bool,
     feed: Var,
     speed: Var,
     tool: u16,
@@ -55,6 +59,9 @@ impl Model for Modal {
       g06 = v.g06;
       g07 = v.g07;
       g14 = v.g14;
+      motion = v.motion;
+      surface = v.surface;
+      per_rev = v.per_rev;
       feed = v.feed;
       speed = v.speed;
       tool = v.tool;
@@ -76,6 +83,9 @@ impl Modal {
             g06: 21,
             g07: 40,
             g14: 54,
+            motion: CodeKind::Rapid,
+            surface: false,
+            per_rev: true,
             feed: Var::Vacant,
             speed: Var::Vacant,
             tool: 0,
@@ -98,6 +108,34 @@ impl Modal {
             WORK_GROUP => Some(self.g14),
             _ => None,
         }
+    }
+
+    /// What a block with an axis word does.
+    pub fn motion(&self) -> CodeKind
+        ensures { result ≡ self.now.motion }
+    {
+        self.motion
+    }
+
+    /// What a block with an axis word does behind G codes of these rows: what the last motion code among them does.
+    pub fn motion_after(&self, rows: &[Row]) -> CodeKind
+        ensures { result ≡ motion_after self.now rows.now }
+    {
+        last_of_group(rows, MOTION_GROUP).map_or(self.motion, |row| row.kind)
+    }
+
+    /// Whether S is a constant surface speed.
+    pub fn is_surface_speed(&self) -> bool
+        ensures { result ≡ self.now.surface }
+    {
+        self.surface
+    }
+
+    /// Whether F is by the revolution.
+    pub fn is_per_revolution(&self) -> bool
+        ensures { result ≡ self.now.per_rev }
+    {
+        self.per_rev
     }
 
     /// The work offset in force, from 1 at G54 to 6 at G59.
@@ -166,12 +204,15 @@ impl Modal {
         if motion != self.g01 {
             self.cycle = None;
         }
+        self.motion = self.motion_after(rows);
         self.g01 = motion;
         self.g02 = in_force_after(rows, SPINDLE_GROUP, self.g02);
         self.g05 = in_force_after(rows, FEED_GROUP, self.g05);
         self.g06 = in_force_after(rows, UNIT_GROUP, self.g06);
         self.g07 = in_force_after(rows, NOSE_GROUP, self.g07);
         self.g14 = work_after(rows, self.g14);
+        self.surface = surface_after(rows, self.surface);
+        self.per_rev = per_rev_after(rows, self.per_rev);
     }
 
     /// Takes F, S and T of a block: alarm 40 exactly where the tool offset of T is none of 0 to 64. Then
@@ -206,6 +247,32 @@ fn in_force_after(rows: &[Row], group: u8, before: u16) -> u16
     ensures { result ≡ in_force_after rows.now group before }
 {
     last_of_group(rows, group).map_or(before, |row| row.code)
+}
+
+// Whether S is a constant surface speed behind these rows, where it was so before them or not.
+fn surface_after(rows: &[Row], before: bool) -> bool
+    ensures { result ≡ does_after is_surface rows.now SPINDLE_GROUP before }
+{
+    last_of_group(rows, SPINDLE_GROUP).map_or(before, |row| is_surface(row.kind))
+}
+
+fn is_surface(kind: CodeKind) -> bool
+    ensures { result ≡ is_surface kind }
+{
+    matches!(kind, CodeKind::Surface)
+}
+
+// Whether F is by the revolution behind these rows, where it was so before them or not.
+fn per_rev_after(rows: &[Row], before: bool) -> bool
+    ensures { result ≡ does_after is_per_rev rows.now FEED_GROUP before }
+{
+    last_of_group(rows, FEED_GROUP).map_or(before, |row| is_per_rev(row.kind))
+}
+
+fn is_per_rev(kind: CodeKind) -> bool
+    ensures { result ≡ is_per_rev kind }
+{
+    matches!(kind, CodeKind::PerRev)
 }
 
 // The code of the work offset behind these rows, where this one was in force before them.

@@ -1,6 +1,7 @@
--- Where the moves of a block end: an axis without a word stays, and all ends are positions.
-use Rattle.std.proofs.Common.{◌≡◌, Bool, true, false, [], ◌∷◌, ℤ, Option, Some, None, IfSome, Result, Ok, Err, IfOk, if◌then◌else◌, refl, arith}
-use Rattle.std.proofs.lemmas.List.Elements.{All-nil, All-cons}
+-- Where the moves of a block end and how far they reach: an axis without a word stays, all ends are positions, and I, K and
+-- R are no larger than the block has them.
+use Rattle.std.proofs.Common.{◌≡◌, ◌≤◌, ℕ, Bool, true, false, List, [], ◌∷◌, All, ℤ, pos, unsigned_abs, Option, Some, None, IfSome, Result, Ok, Err, IfOk, if◌then◌else◌, refl, arith}
+use Rattle.std.proofs.lemmas.List.Elements.{All-nil, All-cons, All-weaker}
 use Rattle.std.proofs.lemmas.Bool.Decides.{nat_tests}
 use Rattle.code_tables.specs.declared.kind.CodeKind.{CodeKind}
 use Rattle.code_tables.specs.declared.kind.CodeKind.TheVariants.{Rapid, Feed, ArcCw, ArcCcw, Thread, Home, Machine}
@@ -10,7 +11,7 @@ use Rattle.nc_number.specs.Results.{◌>>=◌}
 use Rattle.nc_number.specs.Arithmetic.{is_zero}
 use Rattle.nc_moves.specs.declared.motion.Move.{Move}
 use Rattle.nc_moves.specs.declared.motion.Centre.{Centre}
-use Rattle.nc_moves.specs.declared.motion.Move.TheVariants.{Rapid as RapidMove, Arc}
+use Rattle.nc_moves.specs.declared.motion.Move.TheVariants.{Rapid as RapidMove, Feed as FeedMove, Thread as ThreadMove, Arc}
 use Rattle.nc_moves.specs.Motion.{end_of}
 use Rattle.nc_number.specs.declared.axis.Axis.{Axis}
 use Rattle.nc_number.specs.declared.axis.Axis.TheVariants.{Keep, To, By}
@@ -19,10 +20,11 @@ use Rattle.motion_track.specs.declared.fault.MotionFault.{MotionFault}
 use Rattle.nc_number.specs.Axes.{is_named}
 use Rattle.motion_track.specs.Target.{part_of, reached, in_travel, target_of}
 use Rattle.motion_track.specs.Cut.{at_feed, line_of, thread_of}
-use Rattle.motion_track.specs.Centre.{centre_of}
+use Rattle.motion_track.specs.Centre.{centre_of, IsLengthWithin, IsGivenWithin}
 use Rattle.motion_track.specs.Circle.{misses, arc_of}
 use Rattle.motion_track.specs.Home.{named, home_moves}
-use Rattle.motion_track.specs.Block.{AllEnd, KeepsUnnamed, origin, target_in, arc_in, moves_due}
+use Rattle.motion_track.specs.Block.{IsBlockWithin, AllEnd, KeepsUnnamed, origin, target_in, arc_in, moves_due}
+use Rattle.motion_track.specs.Within.{centre_in, AreMovesWithin}
 
 -- what the next step makes of whatever the step before gives
 after : {A B : Type 0} (step : Result A MotionFault) (next : A → Result B MotionFault) (P : A → Type 0) (Q : B → Type 0) → IfOk step P → ((a : A) → P a → IfOk (next a) Q) → IfOk (step >>= next) Q
@@ -48,49 +50,58 @@ targeted to = given_where (is_position to) to _ IsPosition (passed to)
 targeted_at : (P : Point → Type 0) (to : Point) → P to → IfOk (in_travel to) P
 targeted_at P to holds = given_where (is_position to) to _ P (λ _. holds)
 
--- a cut ends at its target
-cut_ends : (P : Point → Type 0) (feed : ℤ) (move : Move) → IfSome (end_of move) P → IfOk (at_feed feed move) (λ move. IfSome (end_of move) P)
-cut_ends P feed move holds = given_unless (is_zero feed) _ (Ok move) (λ move. IfSome (end_of move) P) holds
+-- a move that ends where P holds, if it goes somewhere, with a centre of which C holds
+abbrev Leads : (Point → Type 0) → (Option Centre → Type 0) → Move → Type 0
+Leads P C move = IfSome (end_of move) P × C (centre_in move)
 
-arc_ends : (P : Point → Type 0) (at to : Point) (clockwise : Bool) (centre : Option Centre) (feed : ℤ) (per_rev : Bool) → P to → IfOk (arc_of at to clockwise centre feed per_rev) (λ move. IfSome (end_of move) P)
-arc_ends P at to clockwise None feed per_rev holds = tt
-arc_ends P at to clockwise (Some centre) feed per_rev holds =
-    given_unless (misses at to centre) _ (at_feed feed (Arc clockwise to centre feed per_rev)) (λ move. IfSome (end_of move) P)
-    (cut_ends P feed (Arc clockwise to centre feed per_rev) holds)
+-- a cut, where the feed is not 0
+cut_leads : (P : Point → Type 0) (C : Option Centre → Type 0) (feed : ℤ) (move : Move) → Leads P C move → IfOk (at_feed feed move) (Leads P C)
+cut_leads P C feed move holds = given_unless (is_zero feed) _ (Ok move) (Leads P C) holds
 
-one_ends : (P : Point → Type 0) (move : Move) → IfSome (end_of move) P → AllEnd P (move ∷ [])
-one_ends P move holds = All-cons (λ move. IfSome (end_of move) P) move [] holds (All-nil (λ move. IfSome (end_of move) P))
+arc_leads : (P : Point → Type 0) (C : Option Centre → Type 0) (at to : Point) (clockwise : Bool) (centre : Option Centre) (feed : ℤ) (per_rev : Bool) → P to → C centre → IfOk (arc_of at to clockwise centre feed per_rev) (Leads P C)
+arc_leads P C at to clockwise None feed per_rev holds given = tt
+arc_leads P C at to clockwise (Some centre) feed per_rev holds given =
+    given_unless (misses at to centre) _ (at_feed feed (Arc clockwise to centre feed per_rev)) (Leads P C)
+    (cut_leads P C feed (Arc clockwise to centre feed per_rev) (holds, given))
 
-home_ends : (P : Point → Type 0) (between home : Point) → P between → P home → AllEnd P (RapidMove between ∷ RapidMove home ∷ [])
-home_ends P between home there here = All-cons (λ move. IfSome (end_of move) P) (RapidMove between) (RapidMove home ∷ []) there (one_ends P (RapidMove home) here)
+one_leads : (P : Point → Type 0) (C : Option Centre → Type 0) (move : Move) → Leads P C move → All (Leads P C) (move ∷ [])
+one_leads P C move holds = All-cons (Leads P C) move [] holds (All-nil (Leads P C))
+
+home_leads : (P : Point → Type 0) (C : Option Centre → Type 0) (between home : Point) → C None → P between → P home → All (Leads P C) (RapidMove between ∷ RapidMove home ∷ [])
+home_leads P C between home none there here = All-cons (Leads P C) (RapidMove between) (RapidMove home ∷ []) (there, none) (one_leads P C (RapidMove home) (here, none))
 
 -- an arc to the target ends where the target does
-arc_all_end : (P : Point → Type 0) (clockwise : Bool) (block : BlockMotion) → IfOk (target_in block) P → IfOk (arc_in clockwise block >>= λ cut. Ok (cut ∷ [])) (AllEnd P)
-arc_all_end P clockwise block target =
+arc_all_lead : (P : Point → Type 0) (C : Option Centre → Type 0) (clockwise : Bool) (block : BlockMotion) → C (centre_of block.i block.k block.r) → IfOk (target_in block) P → IfOk (arc_in clockwise block >>= λ cut. Ok (cut ∷ [])) (All (Leads P C))
+arc_all_lead P C clockwise block given target =
     let arc : Point → Result Move MotionFault = λ to. arc_of block.start to clockwise (centre_of block.i block.k block.r) block.feed block.per_rev in
-    let cut : IfOk (arc_in clockwise block) (λ move. IfSome (end_of move) P) =
-    after (target_in block) arc P (λ move. IfSome (end_of move) P) target
-    (λ to holds. arc_ends P block.start to clockwise (centre_of block.i block.k block.r) block.feed block.per_rev holds) in
-    after (arc_in clockwise block) (λ cut. Ok (cut ∷ [])) (λ move. IfSome (end_of move) P) (AllEnd P) cut (one_ends P)
+    let cut : IfOk (arc_in clockwise block) (Leads P C) =
+    after (target_in block) arc P (Leads P C) target
+    (λ to holds. arc_leads P C block.start to clockwise (centre_of block.i block.k block.r) block.feed block.per_rev holds given) in
+    after (arc_in clockwise block) (λ cut. Ok (cut ∷ [])) (Leads P C) (All (Leads P C)) cut (one_leads P C)
 
--- what holds of each target, and of the way home, holds of all ends
-all_end : (P : Point → Type 0) (kind : CodeKind) (block : BlockMotion) → IfOk (target_in block) P → IfOk (target_of block.start origin block.x block.z) P → ((to : Point) → P to → P (named block.start to (is_named block.x) (is_named block.z))) → P (named block.start block.home (is_named block.x) (is_named block.z)) → IfOk (moves_due kind block) (AllEnd P)
-all_end P Rapid block target machine between home =
-    after (target_in block) (λ to. Ok (RapidMove to ∷ [])) P (AllEnd P) target (λ to holds. one_ends P (RapidMove to) holds)
-all_end P Feed block target machine between home =
-    after (target_in block) (λ to. line_of to block.feed block.per_rev >>= λ cut. Ok (cut ∷ [])) P (AllEnd P) target
-    (λ to holds. after (line_of to block.feed block.per_rev) (λ cut. Ok (cut ∷ [])) (λ move. IfSome (end_of move) P) (AllEnd P) (cut_ends P block.feed _ holds) (one_ends P))
-all_end P ArcCw block target machine between home = arc_all_end P true block target
-all_end P ArcCcw block target machine between home = arc_all_end P false block target
-all_end P Thread block target machine between home =
-    after (target_in block) (λ to. thread_of to block.feed >>= λ cut. Ok (cut ∷ [])) P (AllEnd P) target
-    (λ to holds. after (thread_of to block.feed) (λ cut. Ok (cut ∷ [])) (λ move. IfSome (end_of move) P) (AllEnd P) (cut_ends P block.feed _ holds) (one_ends P))
-all_end P Home block target machine between home =
-    after (target_in block) (λ to. Ok (home_moves block.start to block.home (is_named block.x) (is_named block.z))) P (AllEnd P) target
-    (λ to holds. home_ends P (named block.start to (is_named block.x) (is_named block.z)) (named block.start block.home (is_named block.x) (is_named block.z)) (between to holds) home)
-all_end P Machine block target machine between home =
-    after (target_of block.start origin block.x block.z) (λ to. Ok (RapidMove to ∷ [])) P (AllEnd P) machine (λ to holds. one_ends P (RapidMove to) holds)
-all_end P _ block target machine between home = All-nil (λ move. IfSome (end_of move) P)
+-- what holds of each target, and of the way home, holds of all ends; what holds of the block's centre, of the centre of each arc
+all_lead : (P : Point → Type 0) (C : Option Centre → Type 0) (kind : CodeKind) (block : BlockMotion) → C None → C (centre_of block.i block.k block.r) → IfOk (target_in block) P → IfOk (target_of block.start origin block.x block.z) P → ((to : Point) → P to → P (named block.start to (is_named block.x) (is_named block.z))) → P (named block.start block.home (is_named block.x) (is_named block.z)) → IfOk (moves_due kind block) (All (Leads P C))
+all_lead P C Rapid block none given target machine between home =
+    after (target_in block) (λ to. Ok (RapidMove to ∷ [])) P (All (Leads P C)) target (λ to holds. one_leads P C (RapidMove to) (holds, none))
+all_lead P C Feed block none given target machine between home =
+    after (target_in block) (λ to. line_of to block.feed block.per_rev >>= λ cut. Ok (cut ∷ [])) P (All (Leads P C)) target
+    (λ to holds. after (line_of to block.feed block.per_rev) (λ cut. Ok (cut ∷ [])) (Leads P C) (All (Leads P C)) (cut_leads P C block.feed (FeedMove to block.feed block.per_rev) (holds, none)) (one_leads P C))
+all_lead P C ArcCw block none given target machine between home = arc_all_lead P C true block given target
+all_lead P C ArcCcw block none given target machine between home = arc_all_lead P C false block given target
+all_lead P C Thread block none given target machine between home =
+    after (target_in block) (λ to. thread_of to block.feed >>= λ cut. Ok (cut ∷ [])) P (All (Leads P C)) target
+    (λ to holds. after (thread_of to block.feed) (λ cut. Ok (cut ∷ [])) (Leads P C) (All (Leads P C)) (cut_leads P C block.feed (ThreadMove to block.feed) (holds, none)) (one_leads P C))
+all_lead P C Home block none given target machine between home =
+    after (target_in block) (λ to. Ok (home_moves block.start to block.home (is_named block.x) (is_named block.z))) P (All (Leads P C)) target
+    (λ to holds. home_leads P C (named block.start to (is_named block.x) (is_named block.z)) (named block.start block.home (is_named block.x) (is_named block.z)) none (between to holds) home)
+all_lead P C Machine block none given target machine between home =
+    after (target_of block.start origin block.x block.z) (λ to. Ok (RapidMove to ∷ [])) P (All (Leads P C)) machine (λ to holds. one_leads P C (RapidMove to) (holds, none))
+all_lead P C _ block none given target machine between home = All-nil (Leads P C)
+
+-- of moves that lead so, where they end
+ends_alone : (P : Point → Type 0) (C : Option Centre → Type 0) (made : Result (List Move) MotionFault) → IfOk made (All (Leads P C)) → IfOk made (AllEnd P)
+ends_alone P C (Ok moves) lead = All-weaker (Leads P C) (λ move. IfSome (end_of move) P) (λ move leads. leads.0) moves lead
+ends_alone P C (Err alarm) lead = tt
 
 -- an axis without a word stays
 part_kept : (at shift : ℤ) (axis : Axis) → is_named axis ≡ false → part_of at shift axis ≡ at
@@ -106,11 +117,12 @@ named_kept block to = (λ x. rw x refl, λ z. rw z refl)
 
 pub unnamed_stay : (kind : CodeKind) (block : BlockMotion) → IfOk (moves_due kind block) (AllEnd (KeepsUnnamed block))
 unnamed_stay kind block =
-    all_end (KeepsUnnamed block) kind block
+    ends_alone (KeepsUnnamed block) (λ _. Unit {0}) (moves_due kind block)
+    (all_lead (KeepsUnnamed block) (λ _. Unit {0}) kind block tt tt
     (targeted_at (KeepsUnnamed block) _ (reached_kept block block.shift))
     (targeted_at (KeepsUnnamed block) _ (reached_kept block origin))
     (λ to _. named_kept block to)
-    (named_kept block block.home)
+    (named_kept block block.home))
 
 -- the named parts of one position and the others of another are a position
 named_position : (at to : Point) (x z : Bool) → IsPosition at → IsPosition to → IsPosition (named at to x z)
@@ -119,9 +131,18 @@ named_position at to true false start there = (there.0, start.1)
 named_position at to false true start there = (start.0, there.1)
 named_position at to false false start there = start
 
-pub ends_in_range : (kind : CodeKind) (block : BlockMotion) → IsPosition block.start → IsPosition block.home → IfOk (moves_due kind block) (AllEnd IsPosition)
-ends_in_range kind block start home =
-    all_end IsPosition kind block
+-- the centre that a block gives is no larger than its I, K and R
+centre_within : (far : ℕ) (i k r : Option ℤ) → IsLengthWithin far i → IsLengthWithin far k → IsLengthWithin far r → IsGivenWithin far (centre_of i k r)
+centre_within far i k (Some r) at_i at_k at_r = at_r
+centre_within far None None None at_i at_k at_r = tt
+centre_within far (Some i) None None at_i at_k at_r = let zero : unsigned_abs (pos 0) ≤ far = omega arith in (at_i, zero)
+centre_within far None (Some k) None at_i at_k at_r = let zero : unsigned_abs (pos 0) ≤ far = omega arith in (zero, at_k)
+centre_within far (Some i) (Some k) None at_i at_k at_r = (at_i, at_k)
+
+pub moves_within : (far : ℕ) (kind : CodeKind) (block : BlockMotion) → IsBlockWithin far block → IsPosition block.start → IsPosition block.home → IfOk (moves_due kind block) (AreMovesWithin far)
+moves_within far kind block within start home =
+    all_lead IsPosition (IsGivenWithin far) kind block tt
+    (centre_within far block.i block.k block.r within.i within.k within.r)
     (targeted (reached block.start block.shift block.x block.z))
     (targeted (reached block.start origin block.x block.z))
     (λ to there. named_position block.start to (is_named block.x) (is_named block.z) start there)

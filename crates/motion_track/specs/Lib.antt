@@ -1,4 +1,5 @@
 pub mod Block
+pub mod Within
 pub mod Target
 pub mod Cut
 pub mod Centre

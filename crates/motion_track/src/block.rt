@@ -1,6 +1,7 @@
 ghost use Rattle.std.specs.Prelude.{◌≡◌, ◌≤◌, [], ◌∷◌, length, IfOk};
 ghost use Rattle.nc_number.specs.Position.{IsPosition};
 ghost use Rattle.motion_track.specs.Block.{IsBlockWithin, AllEnd, KeepsUnnamed, moves_due, moves_of};
+ghost use Rattle.motion_track.specs.Within.{AreMovesWithin};
 
 use crate::centre::centre_of;
 use crate::circle::arc;
@@ -46,14 +47,14 @@ pub struct BlockMotion {
 /// G00, G01, G02, G03, G28, G32 and G53 move where an axis is named, G02 and G03 also by I or K alone, which
 /// is a full circle; elsewhere there is no move and no alarm. Of the alarms 41 of the target goes first, then
 /// those of an arc or a cut. Other kinds have no move here: the cycles, a dwell, and what only sets something.
-#[tactic(auto, using(crate::proofs::Ends::unnamed_stay, crate::proofs::Ends::ends_in_range))]
+#[tactic(auto, using(crate::proofs::Ends::unnamed_stay, crate::proofs::Ends::moves_within))]
 pub fn track(kind: CodeKind, block: &BlockMotion) -> Result<MoveList, MotionFault>
     requires { IsBlockWithin LONGEST block.now }
     ensures moves { result ≡ moves_of kind block.now }
     ensures few { IfOk result (λ moves. length moves ≤ 2) }
     ensures unnamed_axes_stay { IfOk result (AllEnd (KeepsUnnamed block.now)) }
-    ensures positions { IsPosition block.now.start → IsPosition block.now.home
-        → IfOk result (AllEnd IsPosition) }
+    ensures within { IsPosition block.now.start → IsPosition block.now.home
+        → IfOk result (AreMovesWithin LONGEST) }
 {
     if block.is_move_due(kind) {
         moves_due(kind, block)

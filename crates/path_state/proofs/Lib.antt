@@ -17,4 +17,3 @@ mod StandingLevels
 pub mod Decided
 pub mod NextBlocks
 mod StatementCodes
-pub mod KindsInForce

@@ -1,6 +1,9 @@
 -- What a path answers to the turn of a block.
 use Rattle.std.specs.Prelude.{◌≡◌, ◌≤◌, ℕ, length, Option, Some, None}
 use Rattle.nc_number.specs.declared.value.Var.{Var}
+use Rattle.nc_moves.specs.declared.motion.Moves.{Moves}
+use Rattle.motion_track.specs.declared.targets.TheConstants.{LONGEST}
+use Rattle.motion_track.specs.Within.{AreMovesWithin}
 use Rattle.path_state.specs.declared.advance.Advance.{Advance}
 use Rattle.path_state.specs.declared.advance.Advance.TheVariants as advance
 use Rattle.path_state.specs.View.{PathView}
@@ -23,12 +26,18 @@ StaysUnlessDone (advance.AtWait code) before after = after ≡ before
 StaysUnlessDone (advance.AtEnd moves) before after = Unit {0}
 StaysUnlessDone (advance.Alarm cause value) before after = after ≡ before
 
--- the moves are at most seven, of the block at this line
+-- the moves of the block at this line: at most seven, which lead to positions and have no I, K or R past the longest length
+pub record AreMovesOf (line : ℕ) (moves : Moves) : Type 0 where
+  pub here : moves.line ≡ line
+  pub few : length moves.list ≤ 7
+  pub within : AreMovesWithin LONGEST moves.list
+
+-- the moves of an answer are those of the block at this line
 abbrev pub AreMovesAt : ℕ → Advance → Type 0
 AreMovesAt line (advance.Need variable) = Unit {0}
-AreMovesAt line (advance.Effect write moves) = (moves.line ≡ line) × (length moves.list ≤ 7)
+AreMovesAt line (advance.Effect write moves) = AreMovesOf line moves
 AreMovesAt line (advance.AtWait code) = Unit {0}
-AreMovesAt line (advance.AtEnd moves) = (moves.line ≡ line) × (length moves.list ≤ 7)
+AreMovesAt line (advance.AtEnd moves) = AreMovesOf line moves
 AreMovesAt line (advance.Alarm cause value) = Unit {0}
 
 -- the path behind an effect; where nothing was done it is as before

@@ -23,7 +23,7 @@ use Rattle.path_state.specs.Effect.{Effect, Need, Done, AtWait, AtEnd, Alarm, Mo
 -- the path behind the words of a block, at the same place
 abbrev pub behind_words : PathView → WordsStep → PathView
 behind_words path step = record path {
-  modal = step.in_force;
+  modal = step.modal;
   offsets = with_set_offset path.offsets step.offset;
   position = step.position;
 }

@@ -6,10 +6,7 @@ use Rattle.nc_number.specs.Axes.{axis_of}
 use Rattle.nc_number.specs.Results.{◌>>=◌}
 use Rattle.nc_number.specs.Variables.{or_zero}
 use Rattle.code_tables.specs.declared.kind.CodeKind.{CodeKind}
-use Rattle.code_tables.specs.declared.kind.CodeKind.TheVariants.{Rapid, Dwell, Setting}
-use Rattle.code_tables.specs.declared.row.Row.{Row}
-use Rattle.code_tables.specs.Codes.{row_of}
-use Rattle.code_tables.specs.SystemA.{system_a_rows}
+use Rattle.code_tables.specs.declared.kind.CodeKind.TheVariants.{Dwell, Setting}
 use Rattle.modal_state.specs.View.{ModalView}
 use Rattle.modal_state.specs.Modal.{work_of}
 use Rattle.motion_track.specs.declared.block.BlockMotion.{BlockMotion}
@@ -51,22 +48,9 @@ abbrev pub offset_number : {A : Type 0} → Result A OffsetFault → Result A �
 offset_number (Ok value) = Ok value
 offset_number (Err fault) = Err fault.number
 
-abbrev pub kind_of_row : Option Row → CodeKind
-kind_of_row None = Rapid
-kind_of_row (Some row) = row.kind
-
--- the kind of the motion code in force
-abbrev pub motion_in_force : ModalView → CodeKind
-motion_in_force modal = kind_of_row (row_of system_a_rows modal.g01)
-
 -- the kind of the code that decides the motion
 abbrev pub motion_kind : ModalView → Option CodeKind → CodeKind
-motion_kind modal one_shot = unwrap_or one_shot (motion_in_force modal)
-
--- the kind of the motion code behind a block, by the last motion row of the block
-abbrev pub kind_behind : CodeKind → Option Row → CodeKind
-kind_behind before None = before
-kind_behind before (Some row) = row.kind
+motion_kind modal one_shot = unwrap_or one_shot modal.motion
 
 abbrev pub x_axis : Values → Axis
 x_axis values = axis_of values.x values.u
@@ -86,7 +70,7 @@ block_motion fixed path modal values = record {
   k = values.k;
   r = values.r;
   feed = or_zero modal.feed;
-  per_rev = modal.g05 == 99;
+  per_rev = modal.per_rev;
 }
 
 -- G10: with L a work offset, without it a tool's; alarm 40 of its number, then 41 of the offset

@@ -18,7 +18,7 @@ whole_or_zero (Some n) = unsigned_abs n
 abbrev pub speed_moves : Bool → ModalView → Var → List Move
 speed_moves limits modal Vacant = []
 speed_moves true modal (Is s) = move.Limit (whole_or_zero (whole_of s)) ∷ []
-speed_moves false modal (Is s) = move.Speed (modal.g02 == 96) (whole_or_zero (whole_of s)) ∷ []
+speed_moves false modal (Is s) = move.Speed modal.surface (whole_or_zero (whole_of s)) ∷ []
 
 abbrev pub tool_moves : Option ℕ → List Move
 tool_moves None = []

@@ -7,9 +7,6 @@ use Rattle.nc_number.specs.declared.value.Var.{Var}
 use Rattle.nc_number.specs.declared.value.Var.TheVariants.{Vacant, Is}
 use Rattle.nc_number.specs.Arithmetic.{whole_of}
 use Rattle.nc_number.specs.Conversions.{thousandths_of}
-use Rattle.code_tables.specs.declared.row.Row.{Row}
-use Rattle.code_tables.specs.Codes.{row_of}
-use Rattle.code_tables.specs.SystemA.{system_a_rows}
 use Rattle.code_tables.specs.Kinds.{is_arc}
 use Rattle.block_forms.specs.declared.word.FlowWord.{FlowWord}
 use Rattle.block_forms.specs.declared.word.WordValue.{WordValue}
@@ -17,8 +14,9 @@ use Rattle.block_forms.specs.declared.word.WordValue.TheVariants.{Fixed as Writt
 use Rattle.block_forms.specs.declared.purpose.Purpose.{Purpose}
 use Rattle.block_forms.specs.declared.purpose.Purpose.TheVariants.{Dwell, Setting}
 use Rattle.block_forms.specs.Words.{is_one_of}
-use Rattle.block_forms.specs.Codes.{gives, is_setting, natural}
+use Rattle.block_forms.specs.Codes.{gives, is_setting, natural, rows}
 use Rattle.block_forms.specs.Ranges.{range_of, fits}
+use Rattle.modal_state.specs.Modal.{motion_after}
 use Rattle.path_state.specs.View.{Fixed, PathView}
 use Rattle.path_state.specs.Outcomes.{Outcome, Gives, ◌>>=◌, reading_none, evaluated}
 
@@ -60,20 +58,16 @@ nothing_said = record {
 -- what decides the meaning of a word in its block
 pub record Sense : Type 0 where
   pub purpose : Purpose
-  -- an arc is in force or given, beside which I, K and R are read
+  -- an arc is in force behind the block's own codes; beside it I, K and R are read
   pub arc : Bool
   -- the setting of an offset is given, beside which R is read and ignored
   pub setting : Bool
 
-abbrev pub is_arc_row : Option Row → Bool
-is_arc_row None = false
-is_arc_row (Some row) = is_arc row.kind
-
--- the sense of a block: the code in force is that before the block
+-- the sense of a block: the motion code in force is that behind the block's own G codes
 abbrev pub sense_of : PathView → Purpose → List FlowWord → Sense
 sense_of path purpose words = record {
   purpose = purpose;
-  arc = is_arc_row (row_of system_a_rows path.modal.g01) || gives is_arc words;
+  arc = is_arc (motion_after path.modal (rows words));
   setting = gives is_setting words;
 }
 

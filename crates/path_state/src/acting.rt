@@ -1,7 +1,7 @@
 //! What the words of a block do: its codes, its settings, its motion and all its moves.
 ghost use Rattle.std.specs.Prelude.{◌≡◌, ◌≤◌, Ok, IfOk, IfSome, length, codes};
 ghost use Rattle.nc_number.specs.Position.{IsPosition};
-ghost use Rattle.motion_track.specs.Block.{AllEnd};
+ghost use Rattle.motion_track.specs.Within.{AreMovesWithin};
 ghost use Rattle.block_forms.specs.Codes.{one_shot, gives, is_limit, m_code};
 ghost use Rattle.block_forms.specs.Words.{has};
 ghost use Rattle.path_state.specs.Effect.{acted, moved_by};
@@ -13,7 +13,7 @@ ghost use Rattle.path_state.specs.Fits.{IsFit};
 ghost use Rattle.path_state.specs.Seen.{values_seen};
 ghost use Rattle.path_state.specs.Within.{AreLengthsSaid};
 
-use crate::in_force::InForce;
+use crate::modal::modal_behind;
 use crate::motion::{Motion, MotionWords, motion_of};
 use crate::moves::{all_moves, last_end};
 use crate::path::PathState;
@@ -21,6 +21,7 @@ use crate::values::Values;
 use crate::words_step::WordsStep;
 use block_forms::FlowWords;
 use modal_state::Modal;
+use motion_track::LONGEST;
 use nc_moves::MoveList;
 
 /// What the words say to the motion of the block.
@@ -45,25 +46,20 @@ fn motion_words(values: &Values) -> MotionWords
 impl PathState {
     /// The motion of a block of these words, where this is in force behind its codes and words.
     #[tactic(auto, using(crate::proofs::Hanging::motion_hangs))]
-    fn motion_behind(
-        &self,
-        in_force: &InForce,
-        words: &FlowWords,
-        values: &Values,
-    ) -> Result<Motion, u8>
+    fn motion_behind(&self, modal: &Modal, words: &FlowWords, values: &Values) -> Result<Motion, u8>
         requires { AreLengthsSaid values.now }
-        ensures motion { seen result ≡ motion_of self.now.fixed self.now in_force.now
-            (motion_kind in_force.now (one_shot words.now.words)) (has (codes "L") words.now.words) (values_seen values.now) }
+        ensures motion { seen result ≡ motion_of self.now.fixed self.now modal.now
+            (motion_kind modal.now (one_shot words.now.words)) (has (codes "L") words.now.words) (values_seen values.now) }
         ensures few { IfOk result (λ motion. length motion.moves ≤ 4) }
-        ensures ends { IfOk result (λ motion. AllEnd IsPosition motion.moves) }
+        ensures within { IfOk result (λ motion. AreMovesWithin LONGEST motion.moves) }
         ensures cycle { IfOk result (λ motion. IfSome motion.cycle IsPosition) }
         ensures offset { IfOk result (λ motion. IfSome motion.offset (λ set. IsPosition set.1)) }
     {
-        let kind = words.one_shot.unwrap_or(in_force.motion());
+        let kind = words.one_shot.unwrap_or(modal.motion());
         motion_of(
             self.position,
             self.fixed.home,
-            in_force.modal(),
+            modal,
             &self.offsets,
             kind,
             words.has_l(),
@@ -81,12 +77,12 @@ impl PathState {
         ensures fit { IfOk result IsFit }
         ensures acted { moved_seen self.now result ≡ acted self.now.fixed self.now words.now.words (values_seen values.now) }
     {
-        let in_force = match self.in_force.behind(words, values) {
-            Ok(in_force) => in_force,
+        let modal = match modal_behind(&self.modal, words, values) {
+            Ok(modal) => modal,
             Err(number) => return Err(number),
         };
-        match &self.motion_behind(&in_force, words, values) {
-            Ok(motion) => Ok(self.step_of(in_force, motion, words, values)),
+        match &self.motion_behind(&modal, words, values) {
+            Ok(motion) => Ok(self.step_of(modal, motion, words, values)),
             Err(number) => Err(*number),
         }
     }
@@ -94,25 +90,25 @@ impl PathState {
     /// The step of a block whose motion is known.
     fn step_of(
         &self,
-        in_force: InForce,
+        modal: Modal,
         motion: &Motion,
         words: &FlowWords,
         values: &Values,
     ) -> WordsStep
         requires few { length motion.now.moves ≤ 4 }
-        requires ends { AllEnd IsPosition motion.now.moves }
+        requires within { AreMovesWithin LONGEST motion.now.moves }
         requires cycle { IfSome motion.now.cycle IsPosition }
         requires offset { IfSome motion.now.offset (λ set. IsPosition set.1) }
         ensures fit { IsFit result }
-        ensures moved { moved_seen self.now (Ok result) ≡ Ok (moved_by self.now in_force words.now.words
+        ensures moved { moved_seen self.now (Ok result) ≡ Ok (moved_by self.now modal words.now.words
             (values_seen values.now) (motion_view motion.now)) }
     {
-        let moves = all_moves_of(words, values, in_force.modal(), &motion.moves);
+        let moves = all_moves_of(words, values, &modal, &motion.moves);
         let position = last_end(self.position, moves.as_slice());
-        let mut after = in_force;
+        let mut after = modal;
         after.set_cycle(motion.cycle);
         WordsStep {
-            in_force: after,
+            modal: after,
             offset: motion.offset,
             position,
             moves,
@@ -127,7 +123,7 @@ fn all_moves_of(words: &FlowWords, values: &Values, modal: &Modal, motion: &Move
     ensures moves { result ≡ all_moves (gives is_limit words.now.words) modal.now (values_seen values.now)
         motion.now (m_code words.now.words) }
     ensures few { length result ≤ 7 }
-    ensures positions { AllEnd IsPosition motion.now → AllEnd IsPosition result }
+    ensures within { AreMovesWithin LONGEST motion.now → AreMovesWithin LONGEST result }
 {
     all_moves(
         words.gives_limit(),

@@ -6,8 +6,9 @@ ghost use Rattle.block_forms.specs.declared.purpose.Purpose.TheVariants.{MacroCa
 ghost use Rattle.block_forms.specs.Controls.{control_of_words};
 ghost use Rattle.block_order.specs.declared.control.Control.{Control};
 ghost use Rattle.block_order.specs.declared.program.ControlProgram.{ControlProgram};
-ghost use Rattle.code_tables.specs.Codes.{row_of};
-ghost use Rattle.code_tables.specs.SystemA.{system_a_rows};
+ghost use Rattle.block_forms.specs.Codes.{rows};
+ghost use Rattle.code_tables.specs.Kinds.{is_arc};
+ghost use Rattle.modal_state.specs.Modal.{motion_after};
 ghost use Rattle.path_state.specs.View.{PathView};
 ghost use Rattle.path_state.specs.Effect.{Alarm, acted, alarm_of, block_at, block_of_words, controlled, effect_of, effect_of_body, macro_effect, of_after, of_moved, words_effect};
 ghost use Rattle.path_state.specs.Decisions.{behind_words, decided, of_arguments_said, of_said, stopped, MayTake};
@@ -16,7 +17,7 @@ ghost use Rattle.path_state.specs.Fits.{HasFitWords, IsFit};
 ghost use Rattle.macro_expr.specs.Tree.{sentence_of};
 ghost use Rattle.nc_number.specs.declared.value.Var.{Var};
 ghost use Rattle.block_order.specs.declared.control.Control.TheVariants as Control;
-ghost use Rattle.path_state.specs.Values.{is_arc_row, sense_of};
+ghost use Rattle.path_state.specs.Values.{sense_of};
 ghost use Rattle.path_state.specs.Purposes.{is_macro_call};
 ghost use Rattle.path_state.specs.Seen.{sense_seen, values_seen};
 ghost use Rattle.path_state.specs.Within.{AreLengthsSaid};
@@ -36,9 +37,10 @@ use local_levels::LOCALS;
 use nc_number::{Cause, Value, Var};
 use tape_flow::Flow;
 
-/// What the block at which a path stands comes to.
+/// What the block at which a path stands comes to. [`decide`](PathState::decide) looks, and
+/// [`take`](PathState::take) does it.
 #[derive(Drop)]
-pub(crate) enum Decision {
+pub enum Decision {
     /// This shared variable must be read next.
     Need(u32),
     /// The path is at a wait of this code.
@@ -111,23 +113,23 @@ fn macro_call(words: &FlowWords, control: Control) -> Option<(u16, u16)>
 }
 
 impl PathState {
-    /// What decides the meaning of the words of a block, by the code in force before it.
+    /// What decides the meaning of the words of a block.
     fn sense_of(&self, words: &FlowWords) -> Sense
         requires { is_macro_call words.now.purpose ≡ false }
         ensures { sense_seen result ≡ sense_of self.now words.now.purpose words.now.words }
     {
         Sense {
             purpose: words.purpose,
-            arc: self.is_arc_in_force() || words.gives_arc(),
+            arc: self.is_arc_behind(words),
             setting: words.gives_setting(),
         }
     }
 
-    /// Whether the motion code in force is that of an arc.
-    fn is_arc_in_force(&self) -> bool
-        ensures { result ≡ is_arc_row (row_of system_a_rows self.now.modal.g01) }
+    /// Whether the motion code in force behind the codes of a block is that of an arc.
+    fn is_arc_behind(&self, words: &FlowWords) -> bool
+        ensures { result ≡ is_arc (motion_after self.now.modal (rows words.now.words)) }
     {
-        self.in_force.motion().is_arc()
+        self.modal.motion_after(words.rows.as_slice()).is_arc()
     }
 
     /// What the words of a block say, or why they say nothing.
@@ -305,9 +307,10 @@ impl PathState {
         }
     }
 
-    /// What the block at which the path stands comes to, with these values read so far. It looks only.
+    /// What the block at which the path stands comes to, with these values of shared variables that were
+    /// read for it so far. It looks only.
     #[tactic(auto, using(crate::proofs::Decided::may_take))]
-    pub(crate) fn decide(&self, flow: &Flow, reads: &[Var]) -> Decision
+    pub fn decide(&self, flow: &Flow, reads: &[Var]) -> Decision
         ensures decided { decided self.now result ≡ effect_of flow.now self.now reads.now }
         ensures fit { HasFitWords result }
         ensures may { MayTake self.now result }

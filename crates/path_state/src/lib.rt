@@ -4,8 +4,9 @@
 //! were read: its words evaluated in order, the codes and words taken, the motion, the moves, control.
 //! The code evaluates the words of a block and the arguments of a macro call ([`words_taken`],
 //! [`arguments_taken`]), generic over what is known of each variable, and makes the modal state, the
-//! motion and the moves of what they say. A [`PathState`] is the scope of its own variables, and decides
-//! what a statement comes to before anything of it changes. The whole is to come.
+//! motion and the moves of what they say. A [`PathState`] is the scope of its own variables. It decides
+//! what a block comes to before anything of it changes; the layer above leans on [`PathState::advance`],
+//! and on [`PathState::decide`] and [`PathState::take`], its two halves.
 #![tactic(auto)]
 
 mod acting;
@@ -13,7 +14,6 @@ mod advance;
 mod arguments;
 mod control_law;
 mod decision;
-mod in_force;
 mod laws;
 mod modal;
 mod motion;
@@ -40,6 +40,7 @@ pub use control_law::{
     each_block_keeps_the_labels, the_flow_of_an_accepted_tape_is_unforked,
     waits_and_ends_stop_a_path, what_is_needed_is_shared, what_is_written_is_shared,
 };
+pub use decision::Decision;
 pub use laws::words_are_taken_by_what_a_path_holds;
 pub use modal::{modal_after, modal_states_hang_on_their_rows};
 pub use motion::{Motion, MotionWords, motion_of, motions_hang_on_their_words, setting};

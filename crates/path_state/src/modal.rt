@@ -3,10 +3,13 @@ ghost use Rattle.std.specs.Prelude.{◌≡◌, List};
 ghost use Rattle.modal_state.specs.View.{ModalView};
 ghost use Rattle.block_forms.specs.declared.word.FlowWord.{FlowWord};
 ghost use Rattle.block_forms.specs.Codes.{rows};
-ghost use Rattle.path_state.specs.Values.{Values};
+ghost use Rattle.path_state.specs.Values as said;
 ghost use Rattle.path_state.specs.Effect.{modal_after, speed_word};
+ghost use Rattle.path_state.specs.Seen.{values_seen};
 ghost use Rattle.path_state.specs.Drawn.{settings_said, has_limit, modal_behind};
 
+use crate::values::Values;
+use block_forms::FlowWords;
 use code_tables::{CodeKind, Row};
 use modal_state::{Modal, ModalWords, SpeedWord};
 use nc_number::Var;
@@ -36,6 +39,19 @@ pub fn modal_after(
     }
 }
 
+/// The modal state behind the codes and words of a block. Alarm 40 of T, as its number.
+pub(crate) fn modal_behind(modal: &Modal, words: &FlowWords, values: &Values) -> Result<Modal, u8>
+    ensures { result ≡ modal_after modal.now words.now.words (values_seen values.now) }
+{
+    modal_after(
+        modal,
+        words.rows.as_slice(),
+        values.feed,
+        values.speed,
+        values.tool,
+    )
+}
+
 // Whether G50 is among these rows.
 fn has_limit(rows: &[Row]) -> bool
     ensures { result ≡ has_limit rows.now }
@@ -57,6 +73,6 @@ fn speed_word(limits: bool, speed: Var) -> SpeedWord
 /// and T.
 #[tactic(auto, using(crate::proofs::Hanging::modal_hangs))]
 pub fn modal_states_hang_on_their_rows()
-    ensures { (modal : ModalView) (words : List FlowWord) (values : Values) → modal_after modal words values
+    ensures { (modal : ModalView) (words : List FlowWord) (values : said.Values) → modal_after modal words values
         ≡ modal_behind modal (rows words) (settings_said values.feed values.speed values.tool) }
 {}

@@ -1,8 +1,9 @@
 //! The motion of a block: by its one-shot code if it has one, else by the motion code in force.
-ghost use Rattle.std.specs.Prelude.{Bool, ◌≡◌, ◌≤◌, ◌==◌, ◌∷◌, [], length, None, IfOk, IfSome};
+ghost use Rattle.std.specs.Prelude.{Bool, ◌≡◌, ◌≤◌, ◌∷◌, [], length, None, IfOk, IfSome};
 ghost use Rattle.nc_number.specs.Position.{IsPosition};
 ghost use Rattle.nc_moves.specs.declared.motion.Move.TheVariants.{Dwell};
-ghost use Rattle.motion_track.specs.Block.{IsBlockWithin, AllEnd};
+ghost use Rattle.motion_track.specs.Block.{IsBlockWithin};
+ghost use Rattle.motion_track.specs.Within.{AreMovesWithin};
 ghost use Rattle.turn_cycles.specs.Pass.{cycle_kind_of};
 ghost use Rattle.path_state.specs.Motion.{form_of, setting_of, block_motion, cut_motion, motion_of};
 ghost use Rattle.path_state.specs.Drawn.{seen, homed, standing_at, motion_said, motion_part, AreLengthsWithin};
@@ -11,16 +12,13 @@ ghost use Rattle.path_state.specs.Values.{Values};
 ghost use Rattle.modal_state.specs.View.{ModalView};
 ghost use Rattle.code_tables.specs.declared.kind.CodeKind.{CodeKind};
 
-use code_tables::{CodeKind, FEED_GROUP};
+use code_tables::CodeKind;
 use modal_state::Modal;
 use motion_track::{BlockMotion, LONGEST, MotionFault, track};
 use nc_moves::{Move, MoveList};
 use nc_number::{Axis, Point};
 use offset_store::{OffsetFault, OffsetForm, Offsets, Slot};
 use turn_cycles::{CycleKind, cycle_pass};
-
-/// The code of a feed by the revolution.
-const PER_REVOLUTION: u16 = 99;
 
 /// What the words of a block say to its motion. Lengths are in 0.001 mm.
 #[derive(Clone, Copy, Debug, PartialEq, Eq)]
@@ -53,7 +51,7 @@ pub struct Motion {
 ///
 /// Alarms, as their numbers: 40 of an offset that does not exist, 41 past the range, 43 of an arc without
 /// a centre, 42 of one that ends off its circle, 44 of a cut without a feed.
-#[tactic(auto, using(crate::proofs::Ends::none_stand))]
+#[tactic(auto, using(crate::proofs::Ends::none_within))]
 pub fn motion_of(
     position: Point,
     home: Point,
@@ -68,7 +66,7 @@ pub fn motion_of(
     ensures motion { seen result ≡ motion_of (homed home) (standing_at position offsets.now)
         modal.now kind has_l (motion_said words.now) }
     ensures few { IfOk result (λ motion. length motion.moves ≤ 4) }
-    ensures ends { IsPosition home → IfOk result (λ motion. AllEnd IsPosition motion.moves) }
+    ensures within { IsPosition home → IfOk result (λ motion. AreMovesWithin LONGEST motion.moves) }
     ensures cycle { IfOk result (λ motion. IfSome motion.cycle IsPosition) }
     ensures offset { IfOk result (λ motion. IfSome motion.offset (λ set. IsPosition set.1)) }
 {
@@ -93,9 +91,9 @@ pub fn motion_of(
 }
 
 // A rest alone.
-#[tactic(auto, using(crate::proofs::Ends::dwell_stands))]
+#[tactic(auto, using(crate::proofs::Ends::dwell_within))]
 fn dwell(cycle: Option<Point>, ms: u64) -> Motion
-    ensures ends { AllEnd IsPosition result.moves }
+    ensures within { AreMovesWithin LONGEST result.moves }
     ensures motion { result ≡ record { moves = Dwell ms ∷ []; cycle = cycle; offset = None } }
 {
     let mut moves = MoveList::empty();
@@ -160,17 +158,7 @@ fn block_motion(
         k: words.k,
         r: words.r,
         feed: modal.feed().or_zero(),
-        per_rev: is_by_revolution(modal),
-    }
-}
-
-// Whether the feed in force is by the revolution.
-fn is_by_revolution(modal: &Modal) -> bool
-    ensures { result ≡ (modal.now.g05 == 99) }
-{
-    match modal.code(FEED_GROUP) {
-        Some(code) => code == PER_REVOLUTION,
-        None => false,
+        per_rev: modal.is_per_revolution(),
     }
 }
 
@@ -184,8 +172,8 @@ fn cut_motion(
     requires block { IsBlockWithin LONGEST block.now }
     ensures motion { seen result ≡ cut_motion (cycle_kind_of kind) kind kept block.now }
     ensures few { IfOk result (λ motion. length motion.moves ≤ 4) }
-    ensures ends { IsPosition block.now.start → IsPosition block.now.home
-        → IfOk result (λ motion. AllEnd IsPosition motion.moves) }
+    ensures within { IsPosition block.now.start → IsPosition block.now.home
+        → IfOk result (λ motion. AreMovesWithin LONGEST motion.moves) }
     ensures cycle { IfOk result (λ motion. IfSome motion.cycle IsPosition) }
     ensures no_offset { IfOk result (λ motion. motion.offset ≡ None) }
 {

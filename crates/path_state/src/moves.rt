@@ -3,20 +3,17 @@ ghost use Rattle.std.specs.Prelude.{ℕ, Bool, List, Option, ◌≡◌, ◌≤�
 ghost use Rattle.nc_number.specs.declared.value.Var.TheVariants.{Vacant};
 ghost use Rattle.nc_number.specs.Arithmetic.{whole_of};
 ghost use Rattle.nc_number.specs.Position.{IsPosition};
-ghost use Rattle.motion_track.specs.Block.{AllEnd};
+ghost use Rattle.motion_track.specs.Within.{AreMovesWithin};
 ghost use Rattle.modal_state.specs.View.{ModalView};
 ghost use Rattle.nc_moves.specs.declared.motion.Move.{Move};
 ghost use Rattle.path_state.specs.Values.{Values};
 ghost use Rattle.path_state.specs.Moves.{whole_or_zero, speed_moves, tool_moves, auxiliary_moves, is_auxiliary, all_moves, last_end};
 ghost use Rattle.path_state.specs.Drawn.{settings_said};
 
-use code_tables::SPINDLE_GROUP;
 use modal_state::Modal;
+use motion_track::LONGEST;
 use nc_moves::{Move, MoveList};
 use nc_number::{Point, Value, Var};
-
-/// The code of a constant surface speed.
-const SURFACE: u16 = 96;
 
 /// All moves of a block: its highest speed (beside G50) or its speed, its tool, its motion, and its
 /// auxiliary code. M02, M30, M98 and M99 are the control's own, and no moves.
@@ -31,7 +28,7 @@ pub fn all_moves(
     requires { length motion.now ≤ 4 }
     ensures moves { result ≡ all_moves limits modal.now (settings_said Vacant speed tool) motion.now code }
     ensures few { length result ≤ 7 }
-    ensures positions { AllEnd IsPosition motion.now → AllEnd IsPosition result }
+    ensures within { AreMovesWithin LONGEST motion.now → AreMovesWithin LONGEST result }
 {
     let mut moves = MoveList::empty();
     put_speed(&mut moves, limits, modal, speed);
@@ -45,7 +42,7 @@ pub fn all_moves(
 /// somewhere.
 pub fn last_end(at: Point, moves: &[Move]) -> Point
     ensures last { result ≡ last_end at moves.now }
-    ensures position { IsPosition at → AllEnd IsPosition moves.now → IsPosition result }
+    ensures position { IsPosition at → AreMovesWithin LONGEST moves.now → IsPosition result }
 {
     let mut end = at;
     for step in moves {
@@ -66,20 +63,10 @@ fn put_speed(moves: &mut MoveList, limits: bool, modal: &Modal, speed: Var)
             Move::Limit { s }
         } else {
             Move::Speed {
-                surface: is_surface_speed(modal),
+                surface: modal.is_surface_speed(),
                 s,
             }
         });
-    }
-}
-
-// Whether a constant surface speed is in force.
-fn is_surface_speed(modal: &Modal) -> bool
-    ensures { result ≡ (modal.now.g02 == 96) }
-{
-    match modal.code(SPINDLE_GROUP) {
-        Some(code) => code == SURFACE,
-        None => false,
     }
 }
 

@@ -15,7 +15,6 @@ ghost use Rattle.path_state.specs.Statements.{standing_of, with_standing};
 ghost use Rattle.path_state.specs.Routes.{gone};
 ghost use Rattle.path_state.specs.Opening.{opening_path, preset_slot, with_preset, with_presets};
 
-use crate::in_force::InForce;
 use crate::route::Route;
 use crate::standing::Standing;
 use block_order::{BlockOrder, Place};
@@ -48,7 +47,7 @@ pub(crate) struct Fixed {
 pub struct PathState {
     pub(crate) standing: Standing,
     pub(crate) own: Own,
-    pub(crate) in_force: InForce,
+    pub(crate) modal: Modal,
     pub(crate) offsets: Offsets,
     pub(crate) position: Point,
     pub(crate) fixed: Fixed,
@@ -60,9 +59,9 @@ impl Model for PathState {
 
     ghost Value = { PathView };
 
-    ghost view = { λ p. path_of p.standing p.own p.in_force p.offsets p.position p.fixed };
+    ghost view = { λ p. path_of p.standing p.own p.modal p.offsets p.position p.fixed };
 
-    ghost invariant = { λ p. IsKept (path_of p.standing p.own p.in_force p.offsets p.position p.fixed) };
+    ghost invariant = { λ p. IsKept (path_of p.standing p.own p.modal p.offsets p.position p.fixed) };
 }
 
 /// Each block of a checked tape has a number for the one behind it.
@@ -132,7 +131,7 @@ impl PathState {
         Ok(PathState {
             standing: Standing::start(flow.main()),
             own,
-            in_force: InForce::new(),
+            modal: Modal::new(),
             offsets: preset_offsets(path, settings.presets.as_slice()),
             position: settings.place[path.index()],
             fixed: Fixed {
@@ -186,7 +185,7 @@ impl PathState {
     pub fn modal(&self) -> &Modal
         ensures { result.now ≡ self.now.modal }
     {
-        self.in_force.modal()
+        &self.modal
     }
 
     /// Its offsets.

@@ -1,6 +1,6 @@
 /// Where control goes behind a block that is done.
 #[derive(Clone, Copy, Debug, PartialEq, Eq)]
-pub(crate) enum Route {
+pub enum Route {
     /// To the next block.
     Next,
     /// To a block of the running program.

@@ -84,7 +84,7 @@ impl PathState {
         ensures shift { result ≡ shift_now self.now }
         ensures range { IsWithin shift_travel result }
     {
-        self.offsets.shift(self.in_force.modal().work(), self.in_force.modal().offset())
+        self.offsets.shift(self.modal.work(), self.modal.offset())
     }
 
     /// The programmed position along an axis: that of the machine without the shift.
@@ -118,10 +118,10 @@ impl PathState {
             Variable::Null => Var::Vacant,
             Variable::Local(i) => self.standing.levels().get(i),
             Variable::Common(v) => return Ok(self.common(v)),
-            Variable::Code(group) => code_in_force(self.in_force.modal().code(group)),
-            Variable::Feed => self.in_force.modal().feed(),
-            Variable::Speed => self.in_force.modal().speed(),
-            Variable::Tool => in_units(self.in_force.modal().tool()),
+            Variable::Code(group) => code_in_force(self.modal.code(group)),
+            Variable::Feed => self.modal.feed(),
+            Variable::Speed => self.modal.speed(),
+            Variable::Tool => in_units(self.modal.tool()),
             Variable::Programmed(axis) => self.programmed(axis),
             Variable::Machine(axis) => in_millimetres(part(axis, &self.position)),
             Variable::Work(n, axis) => in_millimetres(part(axis, &self.offsets.work(n))),

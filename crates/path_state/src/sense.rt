@@ -7,7 +7,7 @@ use block_forms::Purpose;
 #[derive(Clone, Copy, Debug, PartialEq, Eq)]
 pub struct Sense {
     pub purpose: Purpose,
-    /// An arc is in force or given, beside which I, K and R are read.
+    /// An arc is in force behind the block's own codes; beside it I, K and R are read.
     pub arc: bool,
     /// The setting of an offset is given, beside which R is read and ignored.
     pub setting: bool,

@@ -27,12 +27,12 @@ impl PathState {
         ensures moves { result ≡ step.moves }
     {
         let WordsStep {
-            in_force,
+            modal,
             offset,
             position,
             moves,
         } = step;
-        self.in_force = in_force;
+        self.modal = modal;
         if let Some((slot, to)) = offset {
             self.offsets.put(&slot, to);
         }
@@ -40,8 +40,11 @@ impl PathState {
         moves
     }
 
-    /// Does what was decided, and tells it with the line of the block.
-    fn take(&mut self, line: u32, decision: Decision) -> Advance
+    /// Does what was decided of the block at which the path stands, and tells it with the line of the block.
+    ///
+    /// Where the block must read, stands at a wait or raises an alarm, nothing changes. At its end the path
+    /// takes the effects of the block, and stays on it.
+    pub fn take(&mut self, line: u32, decision: Decision) -> Advance
         requires fit { HasFitWords decision }
         requires may { MayTake self.old decision }
         ensures effect { effect_seen result self.new ≡ decided self.old decision }

@@ -1,15 +1,15 @@
 //! What the words of a block do to its path, but for where control goes.
 
-use crate::in_force::InForce;
+use modal_state::Modal;
 use nc_moves::MoveList;
 use nc_number::Point;
 use offset_store::Slot;
 
 /// What the words of a block do to its path.
 #[derive(Drop)]
-pub(crate) struct WordsStep {
+pub struct WordsStep {
     /// What is in force behind the block.
-    pub(crate) in_force: InForce,
+    pub(crate) modal: Modal,
     /// The offset that is set, and to what.
     pub(crate) offset: Option<(Slot, Point)>,
     /// Where the turret stands behind the block.

@@ -7,7 +7,7 @@ use nc_number::{Point, Var};
 
 /// What is written, and its new value.
 #[derive(Clone, Copy, Debug, PartialEq, Eq)]
-pub(crate) enum Change {
+pub enum Change {
     /// A local variable of the running level, `#1` to `#33`.
     Local(u8, Var),
     /// A common variable of the path's own.
@@ -20,14 +20,14 @@ pub(crate) enum Change {
 
 /// A change that can be made: its variable exists, and an offset may be at its point.
 #[derive(Clone, Copy, Debug)]
-pub(crate) struct Writing {
+pub struct Writing {
     pub(crate) change: Change,
     ghost possible: { IsTrue (is_possible change) },
 }
 
 /// What a statement comes to.
 #[derive(Clone, Copy, Debug)]
-pub(crate) enum StatementStep {
+pub enum StatementStep {
     /// A variable takes a value, and the next block follows.
     Write(Writing),
     /// Control goes somewhere.

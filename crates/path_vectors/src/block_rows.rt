@@ -49,7 +49,23 @@ F1.|F2. X#4109||rapid X1.000 Z50.000~at X1.000 Z50.000~F 2~to 5
 |X1. R5.||alarm 56
 |X1. I#1||rapid X1.000 Z50.000~at X1.000 Z50.000~to 4
 |X1. I[1/0]||alarm 2
-G02 F1.|G00 I1.||G00~to 5
+G02 F1.|G00 I1.||alarm 56
+G02 F1.|G00 I#1||G00~to 5
+|G02 G00 I1.||alarm 56
+|G00 G03 W-20. K-10. F1.||ccw X100.000 Z30.000 I0.000 K-10.000 F1 rev~at X100.000 Z30.000~G03~F 1~to 4
+G02 F1.|X60. R50.||cw X60.000 Z50.000 R50.000 F1 rev~at X60.000 Z50.000~to 5
+G02 F1.|G90 X40. Z-30. R-3.7||alarm 56
+|G90 X40. Z-30. R-3.7 F0.2||alarm 56
+G03 F1.|G92 X40. Z0 R-1.||alarm 56
+|G92 X40. Z0 R-1. F2.||alarm 56
+G02 F1.|G94 X40. Z0 K1.||alarm 56
+|G94 X40. Z0 R1. F1.||alarm 56
+G03 F1.|G01 X40. R2.||alarm 56
+|G01 X40. R2. F1.||alarm 56
+|G00 X40. K1.||alarm 56
+G02 F1.|G32 Z0 I1.||alarm 56
+|G32 Z0 R1. F2.||alarm 56
+G02 F1.|G10 P1 X1. R5.||wear 1 X1.000 Z0.000~to 5
 |G02 I5. F1.||cw X100.000 Z50.000 I5.000 K0.000 F1 rev~G02~F 1~to 4
 |G10 P1 X1. R5.||wear 1 X1.000 Z0.000~to 4
 |G10 P2 Z1. Q3||wear 2 X0.000 Z1.000~to 4

@@ -1,6 +1,7 @@
 ghost use Rattle.std.specs.Prelude.{◌≡◌, ◌≤◌, length, IfOk, IfSome};
 ghost use Rattle.nc_number.specs.Position.{IsPosition};
-ghost use Rattle.motion_track.specs.Block.{IsBlockWithin, AllEnd};
+ghost use Rattle.motion_track.specs.Block.{IsBlockWithin};
+ghost use Rattle.motion_track.specs.Within.{AreMovesWithin};
 ghost use Rattle.turn_cycles.specs.Pass.{pass_of};
 
 use crate::end::cycle_end;
@@ -31,7 +32,7 @@ pub fn cycle_pass(
     requires block { IsBlockWithin LONGEST block.now }
     ensures pass { result ≡ pass_of kind kept block.now }
     ensures few { IfOk result (λ pass. length pass.moves ≤ 4) }
-    ensures positions { IsPosition block.now.start → IfOk result (λ pass. AllEnd IsPosition pass.moves) }
+    ensures within { IsPosition block.now.start → IfOk result (λ pass. AreMovesWithin LONGEST pass.moves) }
     ensures kept { IfOk result (λ pass. IfSome pass.kept IsPosition) }
 {
     let mut moves = MoveList::empty();

@@ -1,10 +1,10 @@
 ghost use Rattle.std.specs.Prelude.{◌≡◌, IfOk};
 ghost use Rattle.nc_number.specs.Position.{IsPosition};
-ghost use Rattle.motion_track.specs.Block.{AllEnd};
+ghost use Rattle.motion_track.specs.Within.{AreMovesWithin};
 ghost use Rattle.turn_cycles.specs.Cycles.{cycle_of};
 
 use code_tables::CodeKind;
-use motion_track::{MotionFault, is_feed_zero};
+use motion_track::{LONGEST, MotionFault, is_feed_zero};
 use nc_moves::Move;
 use nc_number::{Cause, Point, Value};
 
@@ -38,7 +38,7 @@ impl CycleKind {
 /// The moves of a cycle, in machine coordinates. G90 and G92 go first across to the end's X, G94 first
 /// along to the end's Z; the last move leads back to the start. The feed of G92 is the lead of its
 /// thread. Alarm 44 exactly where the feed is 0.
-#[tactic(auto, using(crate::proofs::Positions::cycle_ends))]
+#[tactic(auto, using(crate::proofs::Positions::cycle_within))]
 pub fn cycle(
     kind: CycleKind,
     start: Point,
@@ -47,7 +47,7 @@ pub fn cycle(
     per_rev: bool,
 ) -> Result<[Move; 4], MotionFault>
     ensures moves { result ≡ cycle_of kind start end feed per_rev }
-    ensures positions { IsPosition start → IsPosition end → IfOk result (AllEnd IsPosition) }
+    ensures within { IsPosition start → IsPosition end → IfOk result (AreMovesWithin LONGEST) }
 {
     if is_feed_zero(&feed) {
         return Err(MotionFault::of(Cause::FeedZero));

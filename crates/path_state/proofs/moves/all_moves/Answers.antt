@@ -1,17 +1,17 @@
 use Rattle.std.proofs.Common.{rules, subst, sym}
 use Rattle.nc_number.specs.declared.value.Var.TheVariants.{Vacant}
-use Rattle.nc_number.specs.Position.{IsPosition}
-use Rattle.motion_track.specs.Block.{AllEnd}
+use Rattle.motion_track.specs.declared.targets.TheConstants.{LONGEST}
+use Rattle.motion_track.specs.Within.{AreMovesWithin}
 use Rattle.path_state.specs.Drawn.{settings_said}
-use Rattle.path_state.proofs.Ends.{all_stand}
+use Rattle.path_state.proofs.Ends.{all_within}
 use Rattle.path_state.proofs.moves.all_moves.Goals as goal
 
 pub returns-clause-moves : goal.returns-clause-moves
 returns-clause-moves c = search rules
 
--- the moves end at positions where those of the motion do
-pub returns-clause-positions : goal.returns-clause-positions
-returns-clause-positions c all =
+-- the moves lead no farther than those of the motion
+pub returns-clause-within : goal.returns-clause-within
+returns-clause-within c all =
     let values = settings_said Vacant c.args.speed c.args.tool in
-    subst (AllEnd IsPosition) (sym (returns-clause-moves c))
-    (all_stand c.args.limits c.args.modal.now values c.args.motion.now c.args.code all)
+    subst (AreMovesWithin LONGEST) (sym (returns-clause-moves c))
+    (all_within c.args.limits c.args.modal.now values c.args.motion.now c.args.code all)

@@ -2,7 +2,7 @@ use Rattle.std.proofs.Common.{ap, sym, ◌∙◌}
 use Rattle.path_state.specs.Drawn.{modal_behind, settings_said}
 use Rattle.path_state.specs.Seen.{values_seen}
 use Rattle.path_state.proofs.Hanging.{modal_hangs}
-use Rattle.path_state.proofs.in_force.modal_behind.Goals as goal
+use Rattle.path_state.proofs.modal.modal_behind.Goals as goal
 
 pub returns : goal.returns
 returns c =
