@@ -3,8 +3,6 @@ pub mod CauseByNumber
 pub mod InPieces
 pub mod EachFrom
 pub mod Fixed
-pub mod DoneAgain
-pub mod Replays
 pub mod SharedNumbers
 pub mod ReportOfMoves
 pub mod SummaryOfMoves

@@ -10,7 +10,8 @@ use Rattle.two_path.specs.Turns.{Tapes}
 use Rattle.nc_outside.specs.declared.lined_move.LinedMove.{LinedMove}
 use Rattle.move_list.specs.declared.end_line.Reason.{Reason}
 use Rattle.move_list.specs.EndText.{end_text}
-use Rattle.move_list.specs.Report.{moves_of, path_text, report_text}
+use Rattle.two_path.specs.Made.{moves_of}
+use Rattle.move_list.specs.Report.{path_text, report_text}
 
 pub report_put : (tapes : Tapes) (start : MachineView) (entries : List Entry) (reason : Reason) (one two : List LinedMove) (a b : SinkState)
     (result : Result (Unit {0}) PutFault) → one ≡ moves_of tapes start One entries → two ≡ moves_of tapes start Two entries

@@ -11,8 +11,9 @@ use Rattle.run_records.specs.declared.entry.Entry.{Entry}
 use Rattle.two_path.specs.Histories.{behind_entry, fold}
 use Rattle.two_path.specs.Machine.{MachineView}
 use Rattle.two_path.specs.Turns.{Tapes}
-use Rattle.move_list.specs.Report.{lined_text, lines_text, made_by, moves_in, moves_of, turns_from}
-use Rattle.move_list.proofs.Replays.{turn_at}
+use Rattle.two_path.specs.Made.{made_by, moves_in, moves_of, turns_from}
+use Rattle.move_list.specs.Report.{lined_text, lines_text}
+use Rattle.two_path.proofs.Replays.{turn_at}
 
 lines_same : (moves : List LinedMove) → flat_map got_text (map Moved moves) ≡ lines_text moves
 lines_same [] = refl

@@ -16,7 +16,8 @@ use Rattle.two_path.specs.Turns.{Tapes, tapes_of}
 use Rattle.two_path.specs.Histories.{fold}
 use Rattle.move_text.specs.Pieces.{point_text}
 use Rattle.move_list.specs.EndText.{records_text}
-use Rattle.move_list.specs.Report.{machine_at_start, moves_of}
+use Rattle.two_path.specs.Made.{moves_of}
+use Rattle.move_list.specs.Report.{machine_at_start}
 
 -- how many blocks a tape has, in all its programs
 abbrev pub block_count : List FlowProgram → ℕ

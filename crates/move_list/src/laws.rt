@@ -10,7 +10,8 @@ ghost use Rattle.run_records.specs.declared.entry.Entry.{Entry};
 ghost use Rattle.two_path.specs.Histories.{fold};
 ghost use Rattle.two_path.specs.Machine.{MachineView};
 ghost use Rattle.two_path.specs.Turns.{Tapes};
-ghost use Rattle.move_list.specs.Report.{head_text, lines_text, moves_of, path_text};
+ghost use Rattle.two_path.specs.Made.{moves_of};
+ghost use Rattle.move_list.specs.Report.{head_text, lines_text, path_text};
 
 /// A turret that was placed at a point, got exactly these moves and writes what it gets, writes the line of its place and then
 /// exactly the lines that a report has for these moves.

@@ -3,7 +3,8 @@ ghost use Rattle.std.specs.Prelude.{◌≡◌, ◌+◌, ◌≤◌, ◌++◌, len
 ghost use Rattle.nc_verify.specs.Printed.{IsPut};
 ghost use Rattle.two_path.specs.Turns.{tapes_of};
 ghost use Rattle.two_path.specs.Histories.{IsLegal, fold};
-ghost use Rattle.move_list.specs.Report.{machine_at_start, moves_of};
+ghost use Rattle.two_path.specs.Made.{moves_of};
+ghost use Rattle.move_list.specs.Report.{machine_at_start};
 ghost use Rattle.move_list.specs.Summary.{block_count, history_text, is_meeting, meetings_in, number_line, numbers_line, pair_text, place_text, places_text, summary_text};
 
 use crate::end_line::records_line;

@@ -1,22 +1,20 @@
 //! The moves of a history, whose records are done again one by one.
-ghost use Rattle.std.specs.Prelude.{◌≡◌, ◌≤◌, ◌<◌, ◌+◌, [], ◌++◌, length, IfOk, OnOk};
+ghost use Rattle.std.specs.Prelude.{◌≡◌, ◌≤◌, [], ◌++◌, length, IfOk, OnOk};
 ghost use Rattle.nc_number.specs.declared.path.Path.TheVariants.{One, Two};
 ghost use Rattle.nc_outside.specs.Lined.{lined};
-ghost use Rattle.two_path.specs.Machine.{without_reads};
 ghost use Rattle.two_path.specs.Turns.{tapes_of};
-ghost use Rattle.two_path.specs.Histories.{IsLegal, IsNext, fold};
-ghost use Rattle.two_path.specs.Joined.{AreAtTheirWaits};
-ghost use Rattle.two_path.specs.Again.{IsDoneAgain};
-ghost use Rattle.move_list.specs.Report.{made_by, made_in, machine_at_start, moves_of};
+ghost use Rattle.two_path.specs.Histories.{IsLegal, fold};
+ghost use Rattle.two_path.specs.Made.{made_by, made_in, moves_of};
+ghost use Rattle.move_list.specs.Report.{machine_at_start};
 
 use cell_settings::Settings;
 use nc_moves::{Move, Moves};
 use nc_number::{NoMemory, Path};
 use nc_outside::LinedMove;
-use run_records::{Entry, EntryList};
+use run_records::EntryList;
 use std::alloc::Global;
 use tape_flow::Flow;
-use two_path::{Machine, Turn, histories_are_runs};
+use two_path::{Machine, Turn, done_again, histories_are_runs};
 
 /// The moves of both paths in order, each with the line of the tape whose block made it.
 #[derive(Drop)]
@@ -73,21 +71,6 @@ impl PathMoves {
             Path::Two => add_turn(&mut self.two, turn),
         }
     }
-}
-
-/// Does a record again that is legal there.
-fn done_again(machine: &mut Machine, left: &Flow, right: &Flow, entry: &Entry) -> Turn
-    requires legal { IsNext (tapes_of left.now right.now) machine.old.machine entry.now }
-    requires room { 0 < machine.old.room }
-    requires few { machine.old.machine.count ≤ 4000000 }
-    requires no_reads { without_reads machine.old.machine ≡ machine.old.machine }
-    requires waits { AreAtTheirWaits left.now.order right.now.order machine.old.machine }
-    ensures done { IsDoneAgain (tapes_of left.now right.now) entry.now machine.old.machine machine.new.machine result }
-    ensures room { machine.old.machine.count + machine.old.room ≤ machine.new.machine.count + machine.new.room }
-    ensures no_reads { without_reads machine.new.machine ≡ machine.new.machine }
-    ensures waits { AreAtTheirWaits left.now.order right.now.order machine.new.machine }
-{
-    machine.apply(left, right, entry).unwrap()
 }
 
 /// A history that was done again: the moves that its records made, and the machine behind them.

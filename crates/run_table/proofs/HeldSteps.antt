@@ -25,7 +25,7 @@ use Rattle.run_table.specs.Kept.{TableView, tapes_in, opening_of, MayGoOn, HasRe
 use Rattle.run_table.specs.Since.{Since}
 use Rattle.run_table.specs.Stepping.{is_due, bound_of, drains, step_by, step_of, Answers, reason_behind, IsStep}
 use Rattle.run_table.specs.Stepping.Answers.{at_once, flushed, failed}
-use Rattle.run_table.specs.Made.{moves_of}
+use Rattle.two_path.specs.Made.{made_in}
 use Rattle.run_table.specs.Holding.{HeldView, held_of, answered_from, records_since, next_of, is_lost}
 use Rattle.run_table.proofs.OtherGoesOn.{waits_still}
 use Rattle.run_table.proofs.ListsGrow.{GrowsBy, fold_parts, shown_grows, lost_grows, turn_adds, turn_stays}
@@ -120,26 +120,26 @@ module _ {D : Type 0} (state : D → DiskState) (path : Path) (start t t' : Tabl
     kept : IsKept tapes (opening_of start.verified) t.recording.history t.machine
     kept = subst (λ (v : Verified). IsKept (tapes_in v) (opening_of v) t.recording.history t.machine) since.verified table.kept
 
-    same_moves : (k : EntryKind) → moves_of (turn_of_entry tapes (entry k) (fold tapes first since.made)) ≡ moves_of the_turn
+    same_moves : (k : EntryKind) → made_in (turn_of_entry tapes (entry k) (fold tapes first since.made)) ≡ made_in the_turn
     same_moves k =
         let there : fold tapes first since.made ≡ without_reads t.machine =
         sym (fold_parts tapes (opening_of start.verified) start.recording.history since.made) ∙ ap (fold tapes (opening_of start.verified)) (sym since.recording.history) ∙ kept.folds in
-        ap (λ (m : MachineView). moves_of (turn_of_entry tapes (entry k) m)) there
-        ∙ ap moves_of (redone tapes path t.machine k kept.lawful)
-        ∙ ap (λ (v : Verified). moves_of (turn_of (tapes_in v) path t.machine).turn) (sym since.verified)
+        ap (λ (m : MachineView). made_in (turn_of_entry tapes (entry k) m)) there
+        ∙ ap made_in (redone tapes path t.machine k kept.lawful)
+        ∙ ap (λ (v : Verified). made_in (turn_of (tapes_in v) path t.machine).turn) (sym since.verified)
 
     -- a record, and its answer
     module _ (k : EntryKind) (grown : t'.recording.history ≡ t.recording.history ++ entry k ∷ []) where
-      pub shown_grown : (is_lost result (length t.recording.history) (length t'.recording.history) ≡ false) → GrowsBy path (moves_of the_turn) before after
+      pub shown_grown : (is_lost result (length t.recording.history) (length t'.recording.history) ≡ false) → GrowsBy path (made_in the_turn) before after
       shown_grown kept_it =
           let now : shown' ≡ true = shown_is ∙ ap (λ (b : Bool). shown && not b) kept_it ∙ still shown ∙ shown_before in
-          subst (λ (b : Bool). GrowsBy path (moves_of the_turn) (λ p. answered_from tapes first p b (drop (length start.recording.history) t.recording.history)) after) (sym shown_before)
-          (subst (λ (b : Bool). GrowsBy path (moves_of the_turn) (λ p. answered_from tapes first p true (drop (length start.recording.history) t.recording.history))
+          subst (λ (b : Bool). GrowsBy path (made_in the_turn) (λ p. answered_from tapes first p b (drop (length start.recording.history) t.recording.history)) after) (sym shown_before)
+          (subst (λ (b : Bool). GrowsBy path (made_in the_turn) (λ p. answered_from tapes first p true (drop (length start.recording.history) t.recording.history))
           (λ p. answered_from tapes first p b (drop (length start.recording.history) t'.recording.history))) (sym now)
-          (subst (λ (l : List Entry). GrowsBy path (moves_of the_turn) (λ p. answered_from tapes first p true l)
+          (subst (λ (l : List Entry). GrowsBy path (made_in the_turn) (λ p. answered_from tapes first p true l)
           (λ p. answered_from tapes first p true (drop (length start.recording.history) t'.recording.history))) (sym behind)
-          (subst (λ (l : List Entry). GrowsBy path (moves_of the_turn) (λ p. answered_from tapes first p true since.made) (λ p. answered_from tapes first p true l)) (sym (behind' (entry k ∷ []) grown))
-          (shown_grows tapes first path since.made (entry k) refl (moves_of the_turn) (same_moves k)))))
+          (subst (λ (l : List Entry). GrowsBy path (made_in the_turn) (λ p. answered_from tapes first p true since.made) (λ p. answered_from tapes first p true l)) (sym (behind' (entry k ∷ []) grown))
+          (shown_grows tapes first path since.made (entry k) refl (made_in the_turn) (same_moves k)))))
 
       pub lost_grown : (is_lost result (length t.recording.history) (length t'.recording.history) ≡ true) → GrowsBy path [] before after
       lost_grown lost_it =

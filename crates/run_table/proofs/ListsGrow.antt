@@ -18,26 +18,27 @@ use Rattle.two_path.specs.Turns.{Tapes, kind_of}
 use Rattle.two_path.specs.Histories.{is_same, behind_entry, fold}
 use Rattle.two_path.specs.Again.{turn_of_entry}
 use Rattle.seat_table.specs.Turning.{Answers as Adds}
-use Rattle.run_table.specs.Made.{moves_of, if_of, shown_from}
+use Rattle.two_path.specs.Made.{made_in}
+use Rattle.run_table.specs.Made.{if_of, shown_from}
 use Rattle.run_table.specs.Holding.{lost_from, answered_from, handed, next_of_turn}
 
 -- one record more
 shown_more : (tapes : Tapes) (m : MachineView) (path : Path) (entries : List Entry) (e : Entry)
-    → shown_from tapes m path (entries ++ e ∷ []) ≡ shown_from tapes m path entries ++ if_of path e (moves_of (turn_of_entry tapes e (fold tapes m entries)))
-shown_more tapes m path [] e = append-nil (if_of path e (moves_of (turn_of_entry tapes e m)))
+    → shown_from tapes m path (entries ++ e ∷ []) ≡ shown_from tapes m path entries ++ if_of path e (made_in (turn_of_entry tapes e (fold tapes m entries)))
+shown_more tapes m path [] e = append-nil (if_of path e (made_in (turn_of_entry tapes e m)))
 shown_more tapes m path (f ∷ entries) e =
-    ap (λ (l : List (List LinedMove)). if_of path f (moves_of (turn_of_entry tapes f m)) ++ l) (shown_more tapes (behind_entry tapes f m) path entries e)
-    ∙ sym (append_assoc (if_of path f (moves_of (turn_of_entry tapes f m))) (shown_from tapes (behind_entry tapes f m) path entries)
-    (if_of path e (moves_of (turn_of_entry tapes e (fold tapes m (f ∷ entries))))))
+    ap (λ (l : List (List LinedMove)). if_of path f (made_in (turn_of_entry tapes f m)) ++ l) (shown_more tapes (behind_entry tapes f m) path entries e)
+    ∙ sym (append_assoc (if_of path f (made_in (turn_of_entry tapes f m))) (shown_from tapes (behind_entry tapes f m) path entries)
+    (if_of path e (made_in (turn_of_entry tapes e (fold tapes m (f ∷ entries))))))
 
 lost_more : (tapes : Tapes) (m : MachineView) (path : Path) (entries : List Entry) (e : Entry)
     → lost_from tapes m path (entries ++ e ∷ []) ≡ shown_from tapes m path entries ++ if_of path e []
 lost_more tapes m path [] e = refl
 lost_more tapes m path (f ∷ []) e =
-    ap (λ (l : List (List LinedMove)). l ++ if_of path e []) (sym (append-nil (if_of path f (moves_of (turn_of_entry tapes f m)))))
+    ap (λ (l : List (List LinedMove)). l ++ if_of path e []) (sym (append-nil (if_of path f (made_in (turn_of_entry tapes f m)))))
 lost_more tapes m path (f ∷ g ∷ entries) e =
-    ap (λ (l : List (List LinedMove)). if_of path f (moves_of (turn_of_entry tapes f m)) ++ l) (lost_more tapes (behind_entry tapes f m) path (g ∷ entries) e)
-    ∙ sym (append_assoc (if_of path f (moves_of (turn_of_entry tapes f m))) (shown_from tapes (behind_entry tapes f m) path (g ∷ entries)) (if_of path e []))
+    ap (λ (l : List (List LinedMove)). if_of path f (made_in (turn_of_entry tapes f m)) ++ l) (lost_more tapes (behind_entry tapes f m) path (g ∷ entries) e)
+    ∙ sym (append_assoc (if_of path f (made_in (turn_of_entry tapes f m))) (shown_from tapes (behind_entry tapes f m) path (g ∷ entries)) (if_of path e []))
 
 -- the machine behind a history in two parts
 pub fold_parts : (tapes : Tapes) (m : MachineView) (first second : List Entry) → fold tapes m (first ++ second) ≡ fold tapes (fold tapes m first) second
@@ -73,7 +74,7 @@ module _ (tapes : Tapes) (m : MachineView) (path : Path) (entries : List Entry) 
     others = λ p differ. more p ∙ ap (λ (l : List (List LinedMove)). shown_from tapes m p entries ++ l) (other path p e moves is differ) ∙ append-nil (shown_from tapes m p entries);
   }
 
-  pub shown_grows : (moves : List LinedMove) → moves_of (turn_of_entry tapes e (fold tapes m entries)) ≡ moves
+  pub shown_grows : (moves : List LinedMove) → made_in (turn_of_entry tapes e (fold tapes m entries)) ≡ moves
       → GrowsBy path moves (λ p. answered_from tapes m p true entries) (λ p. answered_from tapes m p true (entries ++ e ∷ []))
   shown_grows moves same =
       by_moves moves (λ p. shown_from tapes m p (entries ++ e ∷ []))
@@ -94,7 +95,7 @@ no_moves moves before after is = go (length moves.list == 0) refl
 
 module _ {H : Type 0} (old new : H) (before after : List (List LinedMove)) where
   -- a turn with a record
-  pub turn_adds : (t : Turn) (k : EntryKind) → kind_of t ≡ Some k → after ≡ before ++ moves_of t ∷ []
+  pub turn_adds : (t : Turn) (k : EntryKind) → kind_of t ≡ Some k → after ≡ before ++ made_in t ∷ []
       → MatchOption (next_of_turn t) (new ≡ old) (λ next. Adds before next after)
   turn_adds (turn.Read variable stamp) k is more = absurd (let clash : None ≡ Some k = is in cc)
   turn_adds (turn.Did moves) k is more = no_moves moves before after more

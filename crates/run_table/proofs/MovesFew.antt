@@ -59,7 +59,8 @@ use Rattle.two_path.specs.Turns.{TurnResult, blocks_of, tapes_of, tape_of, resul
 use Rattle.two_path.specs.Histories.{is_same, with_reads, behind_entry, fold}
 use Rattle.two_path.specs.Again.{turn_of_entry}
 use Rattle.run_table.specs.Kept.{tapes_in, opening_of}
-use Rattle.run_table.specs.Made.{moves_of, shown_from, moves_made}
+use Rattle.two_path.specs.Made.{made_in}
+use Rattle.run_table.specs.Made.{shown_from, moves_made}
 
 -- a track of two moves at most, and a pass and a motion of four, unless there is a fault
 abbrev FewTracked : {E : Type 0} → Result (List Move) E → Type 0
@@ -257,33 +258,33 @@ block_few flow path reads = found_few flow.order path (block_at flow.programs pa
 lined_few : (line : ℕ) (moves : List Move) → length moves ≤ 7 → length (map (lined_move line) moves) ≤ 7
 lined_few line moves few = omega (arith, few, length-map moves (lined_move line))
 
-wait_few : (path : Path) (line : ℕ) (m : MachineView) (code : ℕ) (there : Option ℕ) → length (moves_of (result_at_wait path line m code there).turn) ≤ 7
+wait_few : (path : Path) (line : ℕ) (m : MachineView) (code : ℕ) (there : Option ℕ) → length (made_in (result_at_wait path line m code there).turn) ≤ 7
 wait_few path line m code None = omega arith
 wait_few path line m code (Some there) = go (code == there) refl
   where
-    go : (b : Bool) → (code == there) ≡ b → length (moves_of (result_at_wait path line m code (Some there)).turn) ≤ 7
+    go : (b : Bool) → (code == there) ≡ b → length (made_in (result_at_wait path line m code (Some there)).turn) ≤ 7
     go true e = rw e (omega arith)
     go false e = rw e (omega arith)
 
-result_few : (path : Path) (line : ℕ) (m : MachineView) (e : Effect) → FewMoves e → length (moves_of (result_by path line m e).turn) ≤ 7
+result_few : (path : Path) (line : ℕ) (m : MachineView) (e : Effect) → FewMoves e → length (made_in (result_by path line m e).turn) ≤ 7
 result_few path line m (Need variable) few = omega arith
 result_few path line m (Done after write moves) few = lined_few line moves few
 result_few path line m (AtWait code) few = wait_few path line m code m.second.waiting
 result_few path line m (AtEnd after moves) few = lined_few line moves few
 result_few path line m (effect.Alarm number value) few = omega arith
 
-unless_few : (m : MachineView) (a : Option Alarm) (f : Bool) (w : Option ℕ) (rest : TurnResult) → length (moves_of rest.turn) ≤ 7 → length (moves_of (unless_idle m a f w rest).turn) ≤ 7
+unless_few : (m : MachineView) (a : Option Alarm) (f : Bool) (w : Option ℕ) (rest : TurnResult) → length (made_in rest.turn) ≤ 7 → length (made_in (unless_idle m a f w rest).turn) ≤ 7
 unless_few m (Some alarm) f w rest few = omega arith
 unless_few m None true w rest few = omega arith
 unless_few m None false (Some code) rest few = omega arith
 unless_few m None false None rest few = few
 
-turn_few : (flow : Flow) (path : Path) (m : MachineView) → length (moves_of (own_turn (blocks_of flow) path m).turn) ≤ 7
+turn_few : (flow : Flow) (path : Path) (m : MachineView) → length (made_in (own_turn (blocks_of flow) path m).turn) ≤ 7
 turn_few flow path m =
     unless_few m m.alarm m.first.finished m.first.waiting (block_turn (blocks_of flow) path m)
     (result_few path ((blocks_of flow).line m.first.path.place) m (effect_of flow m.first.path m.first.values) (block_few flow m.first.path m.first.values))
 
-either_few : (left right : Flow) (path own : Path) (m : MachineView) → length (moves_of (own_turn (tape_of (tapes_of left right) path) own m).turn) ≤ 7
+either_few : (left right : Flow) (path own : Path) (m : MachineView) → length (made_in (own_turn (tape_of (tapes_of left right) path) own m).turn) ≤ 7
 either_few left right One own m = turn_few left own m
 either_few left right Two own m = turn_few right own m
 
@@ -291,7 +292,7 @@ either_few left right Two own m = turn_few right own m
 records_few : (left right : Flow) (path : Path) (entries : List Entry) (m : MachineView) → length (moves_in (shown_from (tapes_of left right) m path entries)) ≤ 7 * length entries
 records_few left right path [] m = omega arith
 records_few left right path (e ∷ entries) m =
-    go (is_same path e.path) (moves_of (turn_of_entry (tapes_of left right) e m))
+    go (is_same path e.path) (made_in (turn_of_entry (tapes_of left right) e m))
     (either_few left right e.path e.path (with_reads (tape_of (tapes_of left right) e.path) e.stamps (own_first e.path m)))
     (records_few left right path entries (behind_entry (tapes_of left right) e m))
   where

@@ -24,7 +24,10 @@ use Rattle.two_path.specs.Turns.{Tapes, tape_of, own_turn}
 use Rattle.two_path.specs.Joined.{RoomyMachine, AreAtTheirWaits}
 use Rattle.two_path.specs.Histories.{behind_entry, with_reads, IsNext, IsLegal, IsKept, Keeps, fold}
 use Rattle.run_table.specs.Recording.{RecordingView, IsJournaled}
-use Rattle.run_table.specs.Kept.{tapes_in, opening_of, IsVerdictOf, HasReason, IsTable}
+use Rattle.run_table.specs.Kept.{TableView, tapes_in, opening_of, IsVerdictOf, HasReason, IsTable}
+use Rattle.run_table.specs.declared.draining.Owed.{Owed}
+use Rattle.run_table.specs.Draining.{none_owed}
+use Rattle.nc_outside.specs.declared.halt.Halt.{Halt}
 use Rattle.run_table.specs.Begun.{reason_in, recovered_table}
 use Rattle.run_table.specs.Recovered.{IsRecovered, HoldsAll}
 
@@ -47,6 +50,15 @@ legal_kept tapes start keeps (e ∷ after) before now k bare legal =
     subst (λ (x : MachineView). IsKept tapes start (before ++ e ∷ []) (behind_entry tapes e x)) bare (keeps.entry before now e k next) in
     subst (λ (l : List Entry). IsKept tapes start l (fold tapes (behind_entry tapes e now) after)) (append_assoc before (e ∷ []) after)
     (legal_kept tapes start keeps after (before ++ e ∷ []) (behind_entry tapes e now) then (bare_entry tapes e now) legal.1)
+
+-- a table of these parts is that of the recovery
+pub recovered_parts : {D : Type 0} (verified : Verified) (m : RoomyMachine) (entries : Entries) (log : Log D) (r : RecordingView D) (h : Option Halt) (o : Owed)
+    → r ≡ record { history = entries.items; room = entries.room; flushed = length entries.items; log = log }
+    → h ≡ reason_in m.machine.alarm → o ≡ none_owed
+    → ◌≡◌ {A = TableView D} (record { verified = verified; machine = m.machine; turns = m.room; recording = r; halt = h; budget = 0; owed = o })
+    (recovered_table verified m entries log)
+recovered_parts verified m entries log r h o recorded reason owed =
+    λ i. record { verified = verified; machine = m.machine; turns = m.room; recording = recorded i; halt = reason i; budget = 0; owed = owed i }
 
 -- where the disk holds all records, the journal is that of the history
 pub all_held : {D : Type 0} (state : D → DiskState) (header : Header) (entries : List Entry) (room : ℕ) (log : Log D)

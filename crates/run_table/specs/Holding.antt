@@ -23,7 +23,8 @@ use Rattle.run_table.specs.declared.answer.TableStep.TheVariants as step
 use Rattle.run_table.specs.declared.draining.Owed.{Owed}
 use Rattle.run_table.specs.Draining.{owes, is_wait}
 use Rattle.run_table.specs.Kept.{TableView, tapes_in, opening_of}
-use Rattle.run_table.specs.Made.{moves_of, if_of, shown_from, moves_made}
+use Rattle.two_path.specs.Made.{made_in}
+use Rattle.run_table.specs.Made.{if_of, shown_from, moves_made}
 use Rattle.run_table.specs.Since.{Since}
 use Rattle.run_table.specs.Stepping.{bound_by, is_waiting, step_of, IsStep}
 
@@ -75,7 +76,7 @@ abbrev pub lost_from : Tapes → MachineView → Path → List Entry → List (L
 lost_from tapes m path [] = []
 lost_from tapes m path (e ∷ []) = if_of path e []
 lost_from tapes m path (e ∷ f ∷ entries) =
-    if_of path e (moves_of (turn_of_entry tapes e m)) ++ lost_from tapes (behind_entry tapes e m) path (f ∷ entries)
+    if_of path e (made_in (turn_of_entry tapes e m)) ++ lost_from tapes (behind_entry tapes e m) path (f ∷ entries)
 
 abbrev pub answered_from : Tapes → MachineView → Path → Bool → List Entry → List (List LinedMove)
 answered_from tapes m path true entries = shown_from tapes m path entries

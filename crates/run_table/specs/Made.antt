@@ -2,23 +2,15 @@
 use Rattle.std.specs.Prelude.{ℕ, List, [], ◌∷◌, ◌++◌, take, drop, if◌then◌else◌}
 use Rattle.nc_number.specs.declared.path.Path.{Path}
 use Rattle.nc_outside.specs.declared.lined_move.LinedMove.{LinedMove}
-use Rattle.nc_outside.specs.Lined.{lined}
 use Rattle.nc_verify.specs.declared.verified.Verified.{Verified}
 use Rattle.run_records.specs.declared.entry.Entry.{Entry}
 use Rattle.seat_table.specs.Turning.{moves_in}
-use Rattle.two_path.specs.declared.turn.Turn.{Turn}
-use Rattle.two_path.specs.declared.turn.Turn.TheVariants as turn
 use Rattle.two_path.specs.Machine.{MachineView}
 use Rattle.two_path.specs.Turns.{Tapes}
 use Rattle.two_path.specs.Histories.{behind_entry, fold, is_same}
 use Rattle.two_path.specs.Again.{turn_of_entry}
+use Rattle.two_path.specs.Made.{made_in}
 use Rattle.run_table.specs.Kept.{tapes_in, opening_of}
-
--- the moves of a turn, each with the line of its block
-abbrev pub moves_of : Turn → List LinedMove
-moves_of (turn.Did moves) = lined moves
-moves_of (turn.Ended moves) = lined moves
-moves_of other = []
 
 -- the moves of a record, where it is one of the path
 abbrev pub if_of : Path → Entry → List LinedMove → List (List LinedMove)
@@ -28,7 +20,7 @@ if_of path entry moves = if is_same path entry.path then moves ∷ [] else []
 abbrev pub shown_from : Tapes → MachineView → Path → List Entry → List (List LinedMove)
 shown_from tapes m path [] = []
 shown_from tapes m path (e ∷ entries) =
-    if_of path e (moves_of (turn_of_entry tapes e m)) ++ shown_from tapes (behind_entry tapes e m) path entries
+    if_of path e (made_in (turn_of_entry tapes e m)) ++ shown_from tapes (behind_entry tapes e m) path entries
 
 -- the moves of the path's records of a history of the pair, from one number of records on up to another
 abbrev pub moves_made : Verified → Path → ℕ → ℕ → List Entry → List LinedMove

@@ -16,7 +16,7 @@ use Rattle.two_path.specs.Machine.{MachineView}
 use Rattle.two_path.specs.Turns.{Tapes}
 use Rattle.two_path.specs.Histories.{behind_entry, is_same}
 use Rattle.two_path.specs.Again.{turn_of_entry}
-use Rattle.move_list.specs.Report.{made_by, made_in, moves_in, moves_of, turns_from}
+use Rattle.two_path.specs.Made.{made_by, made_in, moves_in, moves_of, turns_from}
 use Rattle.trace_list.specs.declared.looking.Look.{Look}
 use Rattle.trace_list.specs.declared.looking.Standing.{Standing}
 use Rattle.trace_list.specs.Laws.{move_of, moves_traced}

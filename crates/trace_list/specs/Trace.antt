@@ -34,7 +34,7 @@ line_of tapes path m = (tape_of tapes path).line (path_in path m).place
 
 -- what a trace looks at of a path: its shift, and whether its spindle keeps a surface speed
 abbrev pub look_of : PathView → Look
-look_of path = record { shift = shift_now path; surface = path.modal.g02 == 96 }
+look_of path = record { shift = shift_now path; surface = path.modal.surface }
 
 -- and before a record of this path
 abbrev pub standing_of : Tapes → Path → MachineView → Standing

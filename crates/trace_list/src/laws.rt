@@ -10,7 +10,7 @@ ghost use Rattle.path_state.specs.View.{PathView};
 ghost use Rattle.two_path.specs.Histories.{IsLegal};
 ghost use Rattle.two_path.specs.Machine.{MachineView, opening};
 ghost use Rattle.two_path.specs.Turns.{Tapes, tapes_of};
-ghost use Rattle.move_list.specs.Report.{moves_of};
+ghost use Rattle.two_path.specs.Made.{moves_of};
 ghost use Rattle.trace_list.specs.Laws.{moves_traced};
 ghost use Rattle.trace_list.specs.Meetings.{ArePaired};
 ghost use Rattle.trace_list.specs.Stops.{Follows, stops_of};

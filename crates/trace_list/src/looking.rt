@@ -4,14 +4,10 @@ ghost use Rattle.two_path.specs.Turns.{tapes_of};
 ghost use Rattle.trace_list.specs.Trace.{is_same_point, is_same_way, line_here, look_of, standing_of};
 ghost use Rattle.path_state.specs.Looks.{shift_now};
 
-use code_tables::SPINDLE_GROUP;
 use nc_number::{Path, Point};
 use path_state::PathState;
 use tape_flow::Flow;
 use two_path::Machine;
-
-/// The code of a constant surface speed.
-const SURFACE: u16 = 96;
 
 /// What blocks of a path change without a move.
 #[derive(Clone, Copy, Debug, PartialEq, Eq)]
@@ -57,10 +53,7 @@ fn shift_of(path: &PathState) -> Point
 fn keeps_surface_speed(path: &PathState) -> bool
     ensures { result ≡ (look_of path.now).surface }
 {
-    match path.modal().code(SPINDLE_GROUP) {
-        Some(code) => code == SURFACE,
-        None => false,
-    }
+    path.modal().is_surface_speed()
 }
 
 /// What is in force for a path.

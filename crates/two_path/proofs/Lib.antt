@@ -12,7 +12,11 @@ mod NoCrossingBlocks
 mod Paired
 mod Behind
 mod Stays
+mod Settled
+mod NoMoves
 mod Steady
 mod Replayed
 mod Redone
 mod Ready
+pub mod DoneAgain
+pub mod Replays

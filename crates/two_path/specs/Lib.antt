@@ -4,3 +4,4 @@ pub mod Histories
 pub mod Stuck
 pub mod Joined
 pub mod Again
+pub mod Made

@@ -1,18 +1,23 @@
 //! A record that is done again, over the path's own part, the other's, and what both have in common.
 ghost use Rattle.std.specs.Prelude.{◌≡◌, ◌≤◌, ◌<◌, ◌||◌, is_some, OnOk, OnErr, IfOk};
+ghost use Rattle.motion_track.specs.Within.{AreMovesWithin};
+ghost use Rattle.path_state.specs.View.{PathView};
 ghost use Rattle.path_state.specs.Effect.{effect_of};
+ghost use Rattle.path_state.specs.Decisions.{decided};
 ghost use Rattle.two_path.specs.Machine.{part_without_reads};
 ghost use Rattle.two_path.specs.Turns.{blocks_of};
 ghost use Rattle.two_path.specs.Histories.{is_idle};
-ghost use Rattle.two_path.specs.Joined.{machine_of, AreShared, IsLasting};
+ghost use Rattle.two_path.specs.Made.{moves_of_turn};
+ghost use Rattle.two_path.specs.Joined.{machine_of, AreShared, IsDecided, IsLasting};
 ghost use Rattle.two_path.specs.Again.{AreReady, variable_due, kind_at_wait, kind_of_effect, IsReadAgain, IsUnread, HasRead, MayNotRead, IsFit, IsUnfit, IsStepDone, IsStepRefused};
 
 use crate::joint::Joint;
 use crate::part::Part;
 use crate::turn::Turn;
-use crate::turning::run_block;
+use crate::turning::settle;
+use motion_track::LONGEST;
 use path_state::{
-    Advance, a_block_asks_for_each_variable_once_at_most, control_goes_as_the_flow_orders,
+    Decision, a_block_asks_for_each_variable_once_at_most, control_goes_as_the_flow_orders,
 };
 use run_records::{Entry, EntryKind};
 use tape_flow::Flow;
@@ -30,8 +35,8 @@ fn variable_due(me: &Part, flow: &Flow, lowest: u32, highest: u32, stamp: u32) -
     if stamp < lowest || stamp > highest {
         return None;
     }
-    match me.peek(flow) {
-        Advance::Need(variable) => Some(variable),
+    match me.decide(flow) {
+        Decision::Need(variable) => Some(variable),
         _ => None,
     }
 }
@@ -85,16 +90,18 @@ fn kind_at_wait(code: u16, other: Option<u16>) -> EntryKind
     }
 }
 
-/// The kind of the record that the block would make, with what it has read.
-fn kind_due(me: &Part, other: &Part, flow: &Flow) -> Option<EntryKind>
-    ensures { result ≡ kind_of_effect (effect_of flow.now me.now.path me.now.values) other.now.waiting }
+/// The kind of the record that a block makes of which this was decided.
+fn kind_due(decision: &Decision, other: &Part) -> Option<EntryKind>
+    ensures { (path : PathView) → result ≡ kind_of_effect (decided path decision.now) other.now.waiting }
 {
-    match me.peek(flow) {
-        Advance::Need(_) => None,
-        Advance::Effect { .. } => Some(EntryKind::Did),
-        Advance::AtWait(code) => Some(kind_at_wait(code, other.waiting())),
-        Advance::AtEnd { .. } => Some(EntryKind::Ended),
-        Advance::Alarm { .. } => Some(EntryKind::Alarmed),
+    match decision {
+        Decision::Need(_) => None,
+        Decision::AtWait(code) => Some(kind_at_wait(*code, other.waiting())),
+        Decision::AtEnd(_) => Some(EntryKind::Ended),
+        Decision::Alarm { .. } => Some(EntryKind::Alarmed),
+        Decision::Words(_, _) | Decision::Macro { .. } | Decision::Statement(_) => {
+            Some(EntryKind::Did)
+        }
     }
 }
 
@@ -105,16 +112,17 @@ fn is_still(me: &Part, joint: &Joint) -> bool
     joint.alarm().is_some() || me.finished() || me.waiting().is_some()
 }
 
-/// The block reads again what the record's stamps stand for, and would then make that record.
+/// The block reads again what the record's stamps stand for, and is decided; it would then make that record.
 fn fits(
     me: &mut Part,
     other: &Part,
     joint: &Joint,
     flow: &Flow,
     entry: &Entry,
-) -> Result<(), Illegal>
+) -> Result<Decision, Illegal>
     requires shared { AreShared me.old joint.now }
     requires no_reads { part_without_reads me.old ≡ me.old }
+    ensures decided { IfOk result (IsDecided (blocks_of flow.now) me.new) }
     ensures fit { OnOk result (IsFit (blocks_of flow.now) entry.now other.now joint.now me.old me.new) }
     ensures refused { OnErr result (IsUnfit (blocks_of flow.now) entry.now other.now joint.now me.old me.new) }
 {
@@ -122,14 +130,15 @@ fn fits(
         return Err(Illegal);
     }
     read_all_again(me, joint, flow, entry.stamps.as_slice())?;
-    if kind_due(me, other, flow) == Some(entry.kind) {
-        Ok(())
+    let decision = me.decide(flow);
+    if kind_due(&decision, other) == Some(entry.kind) {
+        Ok(decision)
     } else {
         Err(Illegal)
     }
 }
 
-/// Does the record again: the path's block reads what its stamps stand for, and runs.
+/// Does the record again: the path's block reads what its stamps stand for, is decided once, and is done.
 pub(crate) fn do_again(
     me: &mut Part,
     other: &mut Part,
@@ -147,10 +156,14 @@ pub(crate) fn do_again(
         (machine_of me.old other.old joint.old) (machine_of me.new other.new joint.new)) }
     ensures lasting { IsLasting joint.old joint.new }
     ensures ready { AreReady flow.now.order other_flow.now.order me.new other.new joint.new }
+    ensures within { IfOk result (λ turn. AreMovesWithin LONGEST (moves_of_turn turn)) }
 {
     control_goes_as_the_flow_orders();
     match fits(me, other, joint, flow, entry) {
-        Ok(()) => Ok(run_block(me, other, joint, flow, other_flow, entry.path).turn),
+        Ok(decision) => {
+            let answer = me.take(flow, decision);
+            Ok(settle(me, other, joint, flow, other_flow, entry.path, answer).turn)
+        }
         Err(illegal) => {
             me.forget();
             Err(illegal)

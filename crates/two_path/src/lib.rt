@@ -13,6 +13,7 @@ mod machine;
 mod part;
 mod turn;
 mod turning;
+mod walk;
 
 pub use again::Illegal;
 pub use joint::MOST_RECORDS;
@@ -23,3 +24,4 @@ pub use laws::{
 };
 pub use machine::Machine;
 pub use turn::{Turn, Turned};
+pub use walk::done_again;

@@ -2,11 +2,13 @@
 ghost use Rattle.std.specs.Prelude.{◌≡◌, ◌≤◌, ◌<◌, ◌+◌, ◌↔◌, IsTrue, Some, None, IfOk, OnOk, OnErr};
 ghost use Rattle.nc_number.specs.declared.path.Path.TheVariants as Path;
 ghost use Rattle.common_vars.specs.Writes.{IsShared, value_after};
+ghost use Rattle.motion_track.specs.Within.{AreMovesWithin};
 ghost use Rattle.path_state.specs.Opening.{opening_path};
 ghost use Rattle.two_path.specs.Machine.{opening, own_first, without_reads};
 ghost use Rattle.two_path.specs.Turns.{tapes_of, turn_of, entry_of};
 ghost use Rattle.two_path.specs.Joined.{AreAtTheirWaits};
 ghost use Rattle.two_path.specs.Again.{IsDoneAgain, IsRefused};
+ghost use Rattle.two_path.specs.Made.{moves_of_turn};
 
 use crate::again::{Illegal, do_again};
 use crate::joint::Joint;
@@ -14,6 +16,7 @@ use crate::part::Part;
 use crate::turn::{Turn, Turned};
 use crate::turning::take_turn;
 use cell_settings::Settings;
+use motion_track::LONGEST;
 use nc_moves::Alarm;
 use nc_number::{NoMemory, Path, Var};
 use path_state::{PathState, control_goes_as_the_flow_orders};
@@ -73,7 +76,8 @@ impl Machine {
         self.joint.reserve(n)
     }
 
-    /// One turn of the path, with its record where it makes one. It takes no memory.
+    /// One turn of the path, with its record where it makes one. It takes no memory. Its moves lead to
+    /// positions, and no I, K or R of theirs is longer than the longest length.
     ///
     /// It asks for room for a record, and for fewer than 4,000,000 records.
     pub fn turn(&mut self, left: &Flow, right: &Flow, path: Path) -> Turned
@@ -85,6 +89,7 @@ impl Machine {
         ensures entry { result.entry ≡ entry_of (tapes_of left.now right.now) path self.old.machine }
         ensures room { self.old.machine.count + self.old.room ≤ self.new.machine.count + self.new.room }
         ensures waits { AreAtTheirWaits left.now.order right.now.order self.new.machine }
+        ensures moves { AreMovesWithin LONGEST (moves_of_turn result.turn) }
     {
         control_goes_as_the_flow_orders();
         match path {
@@ -110,7 +115,8 @@ impl Machine {
     /// Does the record again, and answers what its turn answered. It takes no memory.
     ///
     /// It asks for room for a record, for at most 4,000,000 records, and for a machine whose blocks have
-    /// read nothing. A record that can't follow those before it is illegal, and nothing changes.
+    /// read nothing. A record that can't follow those before it is illegal, and nothing changes. The moves
+    /// are as far as those of a turn.
     pub fn apply(&mut self, left: &Flow, right: &Flow, entry: &Entry) -> Result<Turn, Illegal>
         requires room { 0 < self.old.room }
         requires few { self.old.machine.count ≤ 4000000 }
@@ -123,6 +129,7 @@ impl Machine {
         ensures room { self.old.machine.count + self.old.room ≤ self.new.machine.count + self.new.room }
         ensures no_reads { without_reads self.new.machine ≡ self.new.machine }
         ensures waits { AreAtTheirWaits left.now.order right.now.order self.new.machine }
+        ensures moves { IfOk result (λ turn. AreMovesWithin LONGEST (moves_of_turn turn)) }
     {
         match entry.path {
             Path::One => do_again(

@@ -2,15 +2,16 @@
 ghost use Rattle.std.specs.Prelude.{◌≡◌, ◌<◌, ℕ, [], ◌∷◌, ◌++◌, Some, None, true, length};
 ghost use Rattle.block_order.specs.declared.control.Control.TheVariants.{Wait};
 ghost use Rattle.block_order.specs.Steps.{standing};
-ghost use Rattle.tape_flow.specs.Places.{line_at};
-ghost use Rattle.path_state.specs.Advances.{effect_seen, path_after, StaysUnlessDone, AreMovesAt};
+ghost use Rattle.path_state.specs.Decisions.{decided, MayTake};
 ghost use Rattle.path_state.specs.Effect.{effect_of};
+ghost use Rattle.path_state.specs.Fits.{HasFitWords};
 ghost use Rattle.two_path.specs.Machine.{opening_part, part_without_reads};
-ghost use Rattle.two_path.specs.Turns.{part_at, part_behind_wait};
+ghost use Rattle.two_path.specs.Turns.{blocks_of, part_at, part_behind_wait};
+ghost use Rattle.two_path.specs.Joined.{IsDecided, HasTaken};
 
 use arrayvec::ArrayVec;
 use nc_number::{Path, Var};
-use path_state::{Advance, PathState};
+use path_state::{Advance, Decision, PathState};
 use run_records::{Entry, EntryKind, StampList};
 use std::marker::Model;
 use std::mem;
@@ -93,21 +94,27 @@ impl Part {
 
     /// What its block comes to with what it has read. Its state is then behind the block.
     pub(crate) fn advance(&mut self, flow: &Flow) -> Advance
-        ensures effect { effect_seen result self.new.path ≡ effect_of flow.now self.old.path self.old.values }
-        ensures stays { StaysUnlessDone result self.old.path self.new.path }
-        ensures moves { AreMovesAt (line_at flow.now.order self.old.path.place) result }
-        ensures rest { self.new ≡ record self.old { path = self.new.path } }
+        ensures { HasTaken (blocks_of flow.now) self.old self.new result }
     {
         self.path.advance(flow, self.values.as_slice())
     }
 
-    /// What its block would come to.
-    pub(crate) fn peek(&self, flow: &Flow) -> Advance
-        ensures effect { effect_seen result (path_after self.now.path (effect_of flow.now self.now.path self.now.values))
-            ≡ effect_of flow.now self.now.path self.now.values }
-        ensures moves { AreMovesAt (line_at flow.now.order self.now.path.place) result }
+    /// What its block comes to with what it has read. It looks only.
+    pub(crate) fn decide(&self, flow: &Flow) -> Decision
+        ensures effect { decided self.now.path result ≡ effect_of flow.now self.now.path self.now.values }
+        ensures fit { HasFitWords result }
+        ensures may { MayTake self.now.path result }
     {
-        self.path.peek(flow, self.values.as_slice())
+        self.path.decide(flow, self.values.as_slice())
+    }
+
+    /// Does what was decided of its block, as [`advance`](Part::advance) would.
+    pub(crate) fn take(&mut self, flow: &Flow, decision: Decision) -> Advance
+        requires { IsDecided (blocks_of flow.now) self.old decision }
+        ensures { HasTaken (blocks_of flow.now) self.old self.new result }
+    {
+        let line = self.path.line(flow);
+        self.path.take(line, decision)
     }
 
     /// One read more of its block: a value, and how many records there were.

@@ -1,5 +1,5 @@
 //! A turn of a path, over its own part, the other's, and what both have in common.
-ghost use Rattle.std.specs.Prelude.{◌≡◌, ◌≤◌, ◌<◌, ◌+◌, ℕ, Some, None, length, IfSome};
+ghost use Rattle.std.specs.Prelude.{◌≡◌, ◌≤◌, ◌<◌, ◌+◌, ℕ, [], Some, None, length, IfSome};
 ghost use Rattle.block_order.specs.declared.control.Control.TheVariants.{Wait};
 ghost use Rattle.block_order.specs.Steps.{standing};
 ghost use Rattle.common_vars.specs.Writes.{IsShared};
@@ -9,13 +9,16 @@ ghost use Rattle.path_state.specs.StatementSteps.{write_seen};
 ghost use Rattle.path_state.specs.Effect.{Need, Done, AtWait, AtEnd};
 ghost use Rattle.two_path.specs.declared.turn.Turn.TheVariants as Turn;
 ghost use Rattle.two_path.specs.Machine as Machine;
-ghost use Rattle.two_path.specs.Joined.{machine_of, AreShared, IsAtItsWait, IsLasting};
+ghost use Rattle.two_path.specs.Joined.{machine_of, AreShared, HasTaken, IsAtItsWait, IsLasting};
 ghost use Rattle.two_path.specs.Turns.{with_alarm, with_arrival, behind_meeting, blocks_of, own_turn, block_turn, result_at_wait, result_by, kind_of, entry_with};
 ghost use Rattle.tape_flow.specs.Places.{line_at};
+ghost use Rattle.motion_track.specs.Within.{AreMovesWithin};
+ghost use Rattle.two_path.specs.Made.{moves_of_turn};
 
 use crate::joint::Joint;
 use crate::part::Part;
 use crate::turn::{Turn, Turned};
+use motion_track::LONGEST;
 use nc_moves::{Alarm, Moves};
 use nc_number::{Cause, Path, Value, Var};
 use path_state::{
@@ -26,6 +29,7 @@ use run_records::EntryKind;
 use tape_flow::Flow;
 
 /// Its block reads a shared variable.
+#[tactic(auto, using(crate::proofs::NoMoves::none_within))]
 fn read(me: &mut Part, joint: &Joint, variable: u32) -> Turned
     requires few { length me.old.values < 32 }
     requires shared { IsShared joint.now.shared.shared100 joint.now.shared.shared500 variable }
@@ -35,6 +39,7 @@ fn read(me: &mut Part, joint: &Joint, variable: u32) -> Turned
         → machine_of me.new other joint.now
         ≡ (result_by path line (machine_of me.old other joint.now) (Need variable)).machine }
     ensures entry { result.entry ≡ None }
+    ensures within { AreMovesWithin LONGEST (moves_of_turn result.turn) }
 {
     let stamp = joint.count();
     me.read(joint.at(stamp, variable), stamp);
@@ -55,12 +60,14 @@ fn did(
     requires room { 0 < joint.old.shared.room }
     requires few { joint.old.count ≤ 4000000 }
     requires shared { IfSome write (λ w. IsShared joint.old.shared.shared100 joint.old.shared.shared500 w.0) }
+    requires within { AreMovesWithin LONGEST moves.list }
     ensures turn { result.turn ≡ Turn.Did moves }
     ensures machine { (before : PathView) (line : ℕ) (other : Machine.Part) → machine_of me.new other joint.new
         ≡ (result_by path line (machine_of (record me.old { path = before }) other joint.old)
         (Done me.old.path (write_seen write) moves.list)).machine }
     ensures entry { result.entry ≡ entry_with path me.old.stamps (Some Kind.Did) }
     ensures lasting { IsLasting joint.old joint.new }
+    ensures within { AreMovesWithin LONGEST (moves_of_turn result.turn) }
 {
     let entry = me.entry(path, EntryKind::Did);
     joint.add(write);
@@ -75,12 +82,14 @@ fn did(
 fn ended(me: &mut Part, joint: &mut Joint, path: Path, moves: Moves) -> Turned
     requires room { 0 < joint.old.shared.room }
     requires few { joint.old.count ≤ 4000000 }
+    requires within { AreMovesWithin LONGEST moves.list }
     ensures turn { result.turn ≡ Turn.Ended moves }
     ensures machine { (before : PathView) (line : ℕ) (other : Machine.Part) → machine_of me.new other joint.new
         ≡ (result_by path line (machine_of (record me.old { path = before }) other joint.old)
         (AtEnd me.old.path moves.list)).machine }
     ensures entry { result.entry ≡ entry_with path me.old.stamps (Some Kind.Ended) }
     ensures lasting { IsLasting joint.old joint.new }
+    ensures within { AreMovesWithin LONGEST (moves_of_turn result.turn) }
 {
     let entry = me.entry(path, EntryKind::Ended);
     joint.add(None);
@@ -92,6 +101,7 @@ fn ended(me: &mut Part, joint: &mut Joint, path: Path, moves: Moves) -> Turned
 }
 
 /// It raises an alarm, which stops both paths.
+#[tactic(auto, using(crate::proofs::NoMoves::none_within))]
 fn alarmed(me: &mut Part, joint: &mut Joint, alarm: &Alarm) -> Turned
     requires few { joint.old.count ≤ 4000000 }
     ensures turn { result.turn ≡ Turn.Alarm alarm.now }
@@ -99,6 +109,7 @@ fn alarmed(me: &mut Part, joint: &mut Joint, alarm: &Alarm) -> Turned
         ≡ with_alarm alarm.now (machine_of me.old other joint.old) }
     ensures entry { result.entry ≡ entry_with alarm.now.path me.old.stamps (Some Kind.Alarmed) }
     ensures lasting { IsLasting joint.old joint.new }
+    ensures within { AreMovesWithin LONGEST (moves_of_turn result.turn) }
 {
     let entry = me.entry(alarm.path, EntryKind::Alarmed);
     joint.raise(*alarm);
@@ -109,6 +120,7 @@ fn alarmed(me: &mut Part, joint: &mut Joint, alarm: &Alarm) -> Turned
 }
 
 /// It arrives at a wait, where it waits.
+#[tactic(auto, using(crate::proofs::NoMoves::none_within))]
 fn arrived(me: &mut Part, joint: &mut Joint, path: Path, code: u16) -> Turned
     requires room { 0 < joint.old.shared.room }
     requires few { joint.old.count ≤ 4000000 }
@@ -117,6 +129,7 @@ fn arrived(me: &mut Part, joint: &mut Joint, path: Path, code: u16) -> Turned
         ≡ with_arrival code (machine_of me.old other joint.old) }
     ensures entry { result.entry ≡ entry_with path me.old.stamps (Some Kind.Arrived) }
     ensures lasting { IsLasting joint.old joint.new }
+    ensures within { AreMovesWithin LONGEST (moves_of_turn result.turn) }
 {
     let entry = me.entry(path, EntryKind::Arrived);
     joint.add(None);
@@ -128,6 +141,7 @@ fn arrived(me: &mut Part, joint: &mut Joint, path: Path, code: u16) -> Turned
 }
 
 /// It meets the other path, which waits at the same code, and both go on.
+#[tactic(auto, using(crate::proofs::NoMoves::none_within))]
 fn met(
     me: &mut Part,
     other: &mut Part,
@@ -145,6 +159,7 @@ fn met(
     ensures machine { machine_of me.new other.new joint.new ≡ behind_meeting (machine_of me.old other.old joint.old) }
     ensures entry { result.entry ≡ entry_with path me.old.stamps (Some Kind.Met) }
     ensures lasting { IsLasting joint.old joint.new }
+    ensures within { AreMovesWithin LONGEST (moves_of_turn result.turn) }
 {
     let entry = me.entry(path, EntryKind::Met);
     joint.add(None);
@@ -179,6 +194,7 @@ fn came_to_wait(
         (kind_of (result_at_wait path (line_at flow.now.order me.old.path.place)
         (machine_of me.old other.old joint.old) code other.old.waiting).turn) }
     ensures lasting { IsLasting joint.old joint.new }
+    ensures within { AreMovesWithin LONGEST (moves_of_turn result.turn) }
 {
     match other.waiting() {
         None => arrived(me, joint, path, code),
@@ -193,6 +209,54 @@ fn came_to_wait(
             };
             alarmed(me, joint, &alarm)
         },
+    }
+}
+
+/// Its block was taken with what it had read before, and this is the path's answer. Where it raises an
+/// alarm it stands where it stood, so that the line of its block is looked up for an alarm alone.
+#[inline]
+pub(crate) fn settle(
+    me: &mut Part,
+    other: &mut Part,
+    joint: &mut Joint,
+    flow: &Flow,
+    other_flow: &Flow,
+    path: Path,
+    answer: Advance,
+) -> Turned
+    requires room { 0 < joint.old.shared.room }
+    requires few { joint.old.count ≤ 4000000 }
+    requires there { IsAtItsWait other_flow.now.order other.old }
+    requires taken { (before : Machine.Part)
+        × (AreShared before joint.old × HasTaken (blocks_of flow.now) before me.old answer) }
+    ensures turn { (before : Machine.Part) → HasTaken (blocks_of flow.now) before me.old answer
+        → result.turn ≡ (block_turn (blocks_of flow.now) path (machine_of before other.old joint.old)).turn }
+    ensures machine { (before : Machine.Part) → HasTaken (blocks_of flow.now) before me.old answer
+        → machine_of me.new other.new joint.new
+        ≡ (block_turn (blocks_of flow.now) path (machine_of before other.old joint.old)).machine }
+    ensures entry { (before : Machine.Part) → HasTaken (blocks_of flow.now) before me.old answer
+        → result.entry ≡ entry_with path before.stamps
+        (kind_of (block_turn (blocks_of flow.now) path (machine_of before other.old joint.old)).turn) }
+    ensures lasting { IsLasting joint.old joint.new }
+    ensures within { AreMovesWithin LONGEST (moves_of_turn result.turn) }
+{
+    control_goes_as_the_flow_orders();
+    a_block_asks_for_each_variable_once_at_most();
+    what_is_written_is_shared();
+    match answer {
+        Advance::Need(variable) => read(me, joint, variable),
+        Advance::Effect { write, moves } => did(me, joint, path, write, moves),
+        Advance::AtWait(code) => came_to_wait(me, other, joint, flow, other_flow, path, code),
+        Advance::AtEnd { moves } => ended(me, joint, path, moves),
+        Advance::Alarm { cause, value } => {
+            let alarm = Alarm {
+                path,
+                line: me.path().line(flow),
+                cause,
+                value,
+            };
+            alarmed(me, joint, &alarm)
+        }
     }
 }
 
@@ -215,26 +279,10 @@ pub(crate) fn run_block(
     ensures entry { result.entry ≡ entry_with path me.old.stamps
         (kind_of (block_turn (blocks_of flow.now) path (machine_of me.old other.old joint.old)).turn) }
     ensures lasting { IsLasting joint.old joint.new }
+    ensures within { AreMovesWithin LONGEST (moves_of_turn result.turn) }
 {
-    control_goes_as_the_flow_orders();
-    a_block_asks_for_each_variable_once_at_most();
-    what_is_written_is_shared();
-    let line = me.path().line(flow);
-    match me.advance(flow) {
-        Advance::Need(variable) => read(me, joint, variable),
-        Advance::Effect { write, moves } => did(me, joint, path, write, moves),
-        Advance::AtWait(code) => came_to_wait(me, other, joint, flow, other_flow, path, code),
-        Advance::AtEnd { moves } => ended(me, joint, path, moves),
-        Advance::Alarm { cause, value } => {
-            let alarm = Alarm {
-                path,
-                line,
-                cause,
-                value,
-            };
-            alarmed(me, joint, &alarm)
-        }
-    }
+    let answer = me.advance(flow);
+    settle(me, other, joint, flow, other_flow, path, answer)
 }
 
 /// A turn of the path: nothing once there is an alarm, once it has ended, and while it waits; else
@@ -257,6 +305,7 @@ pub(crate) fn take_turn(
     ensures entry { result.entry ≡ entry_with path me.old.stamps
         (kind_of (own_turn (blocks_of flow.now) path (machine_of me.old other.old joint.old)).turn) }
     ensures lasting { IsLasting joint.old joint.new }
+    ensures within { AreMovesWithin LONGEST (moves_of_turn result.turn) }
 {
     if let Some(alarm) = joint.alarm() {
         return idle(Turn::Halted { alarm });
@@ -271,9 +320,12 @@ pub(crate) fn take_turn(
 }
 
 /// A turn in which nothing happens.
+#[tactic(auto, using(crate::proofs::NoMoves::none_within))]
 fn idle(turn: Turn) -> Turned
+    requires { moves_of_turn turn ≡ [] }
     ensures turn { result.turn ≡ turn }
     ensures entry { result.entry ≡ None }
+    ensures within { AreMovesWithin LONGEST (moves_of_turn result.turn) }
 {
     Turned { turn, entry: None }
 }

@@ -7,7 +7,7 @@ use Rattle.two_path.specs.Turns.{tapes_of}
 use Rattle.two_path.specs.Histories.{IsLegal, fold}
 use Rattle.two_path.specs.Joined.{AreAtTheirWaits}
 use Rattle.move_list.specs.Report.{machine_at_start}
-use Rattle.move_list.proofs.Replays.{records_from, records_to, moves_on, moves_at_end, next_is_legal, fold_more, counted, none_waits}
+use Rattle.two_path.proofs.Replays.{records_from, records_to, moves_on, moves_at_end, next_is_legal, fold_more, counted, none_waits}
 use Rattle.move_list.proofs.turns.history_done.Goals as goal
 
 pub loop-index-init : goal.loop-index-init

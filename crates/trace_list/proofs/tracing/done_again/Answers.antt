@@ -1,4 +1,4 @@
-use Rattle.move_list.proofs.DoneAgain.{is_done}
+use Rattle.two_path.proofs.DoneAgain.{is_done}
 use Rattle.trace_list.proofs.tracing.done_again.Goals as goal
 
 pub unwrap-requires : goal.unwrap-requires

@@ -1,7 +1,7 @@
-use Rattle.std.proofs.Common.{rules, ◌≡◌, ◌||◌, false, Some, is_some, refl, sym, subst, ◌∙◌}
+use Rattle.std.proofs.Common.{rules, ◌≡◌, ◌||◌, false, Some, is_some, refl, sym, ap, subst, ◌∙◌}
 use Rattle.two_path.specs.Turns.{blocks_of}
 use Rattle.two_path.specs.Histories.{is_idle}
-use Rattle.two_path.specs.Again.{HasRead, MayNotRead}
+use Rattle.two_path.specs.Again.{HasRead, MayNotRead, kind_of_effect}
 use Rattle.two_path.proofs.Redone.{differ, fit, unfit_kind, unfit_reads, on_err}
 use Rattle.two_path.proofs.again.fits.Goals as goal
 
@@ -19,7 +19,8 @@ returns-then-eq-clause-fit c =
     fit (blocks_of c.args.flow.now) c.args.entry.now c.args.me.now c.read_all_again.new.me c.args.other.now c.args.joint.now awake
     (subst (λ stamps. HasRead (blocks_of c.args.flow.now) c.args.joint.now stamps c.args.me.now c.read_all_again.new.me)
     c.as_slice.ensures.stamps c.in_ok-read_all_again.ensures.read)
-    (sym c.kind_due.ensures ∙ is)
+    (ap (λ e. kind_of_effect e c.args.other.now.waiting) (sym c.decide-decision.ensures.effect)
+    ∙ sym (c.kind_due.ensures c.read_all_again.new.me.path) ∙ is)
 
 pub returns-else-eq-clause-refused : goal.returns-else-eq-clause-refused
 returns-else-eq-clause-refused c =
@@ -27,4 +28,13 @@ returns-else-eq-clause-refused c =
     unfit_kind (blocks_of c.args.flow.now) c.args.entry.now c.args.me.now c.read_all_again.new.me c.args.other.now c.args.joint.now awake c.requires.no_reads
     (subst (λ stamps. HasRead (blocks_of c.args.flow.now) c.args.joint.now stamps c.args.me.now c.read_all_again.new.me)
     c.as_slice.ensures.stamps c.in_ok-read_all_again.ensures.read)
-    (λ is. differ _ refl refl refl refl refl c.kind_due.result c.args.entry.now.kind (sym c.eq.ensures ∙ c.if-eq.false) (c.kind_due.ensures ∙ is))
+    (λ is. differ _ refl refl refl refl refl c.kind_due.result c.args.entry.now.kind (sym c.eq.ensures ∙ c.if-eq.false)
+    (c.kind_due.ensures c.read_all_again.new.me.path
+    ∙ ap (λ e. kind_of_effect e c.args.other.now.waiting) c.decide-decision.ensures.effect ∙ is))
+
+pub returns-then-eq-clause-decided : goal.returns-then-eq-clause-decided
+returns-then-eq-clause-decided c = record {
+  effect = c.decide-decision.ensures.effect;
+  fit = c.decide-decision.ensures.fit;
+  may = c.decide-decision.ensures.may;
+}

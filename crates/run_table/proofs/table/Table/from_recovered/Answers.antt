@@ -6,7 +6,7 @@ use Rattle.run_table.specs.Recording.{RecordingView, IsJournaled}
 use Rattle.run_table.specs.Kept.{tapes_in, IsTable}
 use Rattle.run_table.specs.declared.draining.Owed.{Owed}
 use Rattle.run_table.specs.Begun.{reason_in}
-use Rattle.run_table.proofs.TablesBegin.{recovered_is, all_held}
+use Rattle.run_table.proofs.TablesBegin.{recovered_is, recovered_parts, all_held}
 use Rattle.run_table.proofs.table.Table.from_recovered.Goals.{in-Some, in-None}
 use Rattle.run_table.proofs.table.Table.from_recovered.Goals as goal
 
@@ -32,6 +32,16 @@ invariant_of-result g c =
       owed = o;
     })) (sym c.none.ensures)
     (recovered_is d c.args.verified c.args.machine c.args.entries c.args.journal keeps c.a_held_journal_leaves_its_records.ensures c.requires)))
+
+pub returns-clause-table : goal.returns-clause-table
+returns-clause-table g c =
+    let reason : c.match-alarm.halt ≡ reason_in c.args.machine.machine.alarm =
+    elim c.match-alarm.branch [
+      | in-Some w ↦ w.halt-is ∙ ap reason_in (sym w.in-Some.is ∙ c.alarm.ensures)
+      | in-None w ↦ w.halt-is ∙ ap reason_in (sym w.in-None.is ∙ c.alarm.ensures)
+    ] in
+    recovered_parts c.args.verified c.args.machine c.args.entries c.args.journal c.over.result c.match-alarm.halt c.none.result
+    c.over.ensures reason c.none.ensures
 
 pub returns-clause-journal : goal.returns-clause-journal
 returns-clause-journal g c = λ header holds.

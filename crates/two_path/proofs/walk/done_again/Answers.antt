@@ -1,5 +1,5 @@
-use Rattle.move_list.proofs.DoneAgain.{is_done}
-use Rattle.move_list.proofs.turns.done_again.Goals as goal
+use Rattle.two_path.proofs.DoneAgain.{is_done}
+use Rattle.two_path.proofs.walk.done_again.Goals as goal
 
 pub unwrap-requires : goal.unwrap-requires
 unwrap-requires c = is_done _ _ _ _ _ c.apply.ensures.refused c.requires.legal

@@ -12,7 +12,7 @@ use Rattle.two_path.specs.Histories.{HistoriesAreRuns, IsLegal, IsNext, behind_e
 use Rattle.two_path.specs.Joined.{AreAtTheirWaits}
 use Rattle.two_path.specs.Again.{turn_of_entry}
 use Rattle.nc_outside.specs.declared.lined_move.LinedMove.{LinedMove}
-use Rattle.move_list.specs.Report.{PathTurn, made_by, moves_in, turns_from}
+use Rattle.two_path.specs.Made.{PathTurn, made_by, moves_in, turns_from}
 
 -- the turn of a record
 abbrev pub turn_at : Tapes → MachineView → Entry → PathTurn

@@ -1,0 +1,8 @@
+-- A turn without a move reaches nowhere.
+use Rattle.std.proofs.Common.{[]}
+use Rattle.std.proofs.lemmas.List.Elements.{All-nil}
+use Rattle.motion_track.specs.declared.targets.TheConstants.{LONGEST}
+use Rattle.motion_track.specs.Within.{IsMoveWithin, AreMovesWithin}
+
+pub none_within : AreMovesWithin LONGEST []
+none_within = All-nil (IsMoveWithin LONGEST)

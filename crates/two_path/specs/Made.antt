@@ -1,0 +1,61 @@
+-- The moves of a history: of each of its records the turn, and of a turn its moves.
+use Rattle.std.specs.Prelude.{if◌then◌else◌, List, [], ◌∷◌}
+use Rattle.std.specs.List.{flat_map}
+use Rattle.nc_number.specs.declared.path.Path.{Path}
+use Rattle.nc_moves.specs.declared.motion.Move.{Move}
+use Rattle.nc_outside.specs.declared.lined_move.LinedMove.{LinedMove}
+use Rattle.nc_outside.specs.Lined.{lined}
+use Rattle.run_records.specs.declared.entry.Entry.{Entry}
+use Rattle.two_path.specs.declared.turn.Turn.{Turn}
+use Rattle.two_path.specs.declared.turn.Turn.TheVariants.{Read, Did, Arrived, Met, Ended, Waiting, Finished, Alarm, Halted}
+use Rattle.two_path.specs.Machine.{MachineView}
+use Rattle.two_path.specs.Turns.{Tapes}
+use Rattle.two_path.specs.Histories.{behind_entry, is_same}
+use Rattle.two_path.specs.Again.{turn_of_entry}
+
+-- the moves of a turn: those of the block that it did, or with which its path ended
+abbrev pub moves_of_turn : Turn → List Move
+moves_of_turn (Did moves) = moves.list
+moves_of_turn (Ended moves) = moves.list
+moves_of_turn (Read variable stamp) = []
+moves_of_turn (Arrived code) = []
+moves_of_turn (Met code) = []
+moves_of_turn (Waiting code) = []
+moves_of_turn Finished = []
+moves_of_turn (Alarm alarm) = []
+moves_of_turn (Halted alarm) = []
+
+-- the same, each with the line of its block
+abbrev pub made_in : Turn → List LinedMove
+made_in (Did moves) = lined moves
+made_in (Ended moves) = lined moves
+made_in (Read variable stamp) = []
+made_in (Arrived code) = []
+made_in (Met code) = []
+made_in (Waiting code) = []
+made_in Finished = []
+made_in (Alarm alarm) = []
+made_in (Halted alarm) = []
+
+-- a turn, and whose it was
+pub record PathTurn : Type 0 where
+  pub path : Path
+  pub turn : Turn
+
+-- the turns that the records of a history did, from a machine on
+unfoldable pub turns_from : Tapes → MachineView → List Entry → List PathTurn
+turns_from tapes m [] = []
+turns_from tapes m (e ∷ entries) =
+    record { path = e.path; turn = turn_of_entry tapes e m } ∷ turns_from tapes (behind_entry tapes e m) entries
+
+-- of a turn of the path its moves, and of the other path's none
+abbrev pub made_by : Path → PathTurn → List LinedMove
+made_by path t = if is_same path t.path then made_in t.turn else []
+
+-- the moves of a path in these turns, in order
+unfoldable pub moves_in : Path → List PathTurn → List LinedMove
+moves_in path turns = flat_map (made_by path) turns
+
+-- the moves of a path's records, in order
+abbrev pub moves_of : Tapes → MachineView → Path → List Entry → List LinedMove
+moves_of tapes m path entries = moves_in path (turns_from tapes m entries)
