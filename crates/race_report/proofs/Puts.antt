@@ -1,0 +1,47 @@
+-- The lines of races, put one after another.
+use Rattle.std.proofs.Common.{◌≡◌, ℕ, suc, ◌+◌, ◌<◌, ◌≤◌, List, [], ◌∷◌, length, drop, get_or, Result, Ok, Err, refl, ap, subst, ◌∙◌, arith}
+use Rattle.std.proofs.KnownBytes.{Appends-nil}
+use Rattle.std.proofs.Math.Seq.{drop-cons}
+use Rattle.std.proofs.Math.ListN.{drop_of_length-le}
+use Rattle.nc_outside.specs.declared.sink.PutFault.{PutFault}
+use Rattle.nc_outside.specs.declared.sink.PutFault.TheVariants.{Failed}
+use Rattle.nc_outside.specs.Written.{SinkState}
+use Rattle.nc_verify.specs.Printed.{IsPut}
+use Rattle.nc_verify.proofs.Put.{put_then, put_stops}
+use Rattle.race_report.specs.declared.race.Race.{Race}
+use Rattle.race_report.specs.Texts.{race_text, races_text}
+
+-- nothing is put where there is nothing to put
+put_nothing : (a : SinkState) → IsPut a a [] (Ok tt)
+put_nothing a = record {
+  ok = Appends-nil a.written;
+  err = tt;
+  tells = refl;
+  fault = record { later = omega arith; rose = λ failed. absurd (let e : ◌≡◌ {A = Result (Unit {0}) PutFault} (Ok tt) (Err Failed) = failed in cc); kept = λ none. refl };
+}
+
+-- whoever puts the rest from now on has put all
+abbrev pub PutsAll : SinkState → SinkState → List Race → List Race → Type 0
+PutsAll old now races rest =
+    (new : SinkState) (result : Result (Unit {0}) PutFault) → IsPut now new (races_text rest) result → IsPut old new (races_text races) result
+
+left_at : (races : List Race) (i : ℕ) (d : Race) → i < length races → drop i races ≡ get_or races i d ∷ drop (i + 1) races
+left_at races i d within =
+    let next : suc i ≡ i + 1 = omega arith in drop-cons races i d within ∙ ap (λ k. get_or races i d ∷ drop k races) next
+
+pub puts_on : (old now mid : SinkState) (races : List Race) (i : ℕ) (d : Race) → i < length races
+    → IsPut now mid (race_text (get_or races i d)) (Ok tt) → PutsAll old now races (drop i races) → PutsAll old mid races (drop (i + 1) races)
+puts_on old now mid races i d within one so new result rest =
+    let all = subst (PutsAll old now races) (left_at races i d within) so in
+    all new result (put_then now mid new (race_text (get_or races i d)) (races_text (drop (i + 1) races)) result one rest)
+
+pub puts_break : (old now new : SinkState) (races : List Race) (i : ℕ) (d : Race) (fault : PutFault) → i < length races
+    → IsPut now new (race_text (get_or races i d)) (Err fault) → PutsAll old now races (drop i races) → IsPut old new (races_text races) (Err fault)
+puts_break old now new races i d fault within one so =
+    let all = subst (PutsAll old now races) (left_at races i d within) so in
+    all new (Err fault) (put_stops now new (race_text (get_or races i d)) (races_text (drop (i + 1) races)) fault one)
+
+pub puts_end : (old now : SinkState) (races : List Race) (i : ℕ) → length races ≤ i → PutsAll old now races (drop i races)
+    → IsPut old now (races_text races) (Ok tt)
+puts_end old now races i past so =
+    (subst (PutsAll old now races) (drop_of_length-le races past) so) now (Ok tt) (put_nothing now)

@@ -1,0 +1,100 @@
+-- The lines that are looked for are those of the blocks that name or may write the variable.
+use Rattle.std.proofs.Common.{◌≡◌, ℕ, Bool, true, false, List, map, Option, Some, None, slice_get, refl, ap, sym, subst, ◌∙◌}
+use Rattle.std.specs.Option.{option_map}
+use Rattle.block_order.specs.Order.{blocks, blocks_of, control_of, control_at}
+use Rattle.block_forms.specs.declared.block.FlowBlock.{FlowBlock}
+use Rattle.block_forms.specs.Blocks.{block_form}
+use Rattle.tape_flow.specs.declared.flow.Flow.{Flow}
+use Rattle.tape_flow.specs.declared.program.FlowProgram.{FlowProgram}
+use Rattle.tape_flow.specs.Places.{flow_program, flow_blocks, flow_block}
+use Rattle.tape_flow.specs.Forms.{program_form}
+use Rattle.tape_flow.specs.Controls.{control_block, control_program, controls}
+use Rattle.tape_flow.proofs.Seen.{block_seen, program_seen}
+use Rattle.named_vars.specs.Names.{found_names, found_may_write}
+use Rattle.part_lines.specs.PartLines.{LineInPart}
+use Rattle.race_order.specs.Races.{PartNames, PartMayWrite}
+use Rattle.race_report.specs.declared.sought.Sought.{Sought}
+use Rattle.race_report.specs.declared.sought.Sought.TheVariants.{Writes, Names}
+use Rattle.race_report.specs.Lines.{does, line_if, block_line, sought_line}
+use Rattle.race_report.specs.RaceLists.{MayWriteAt, NamesAt}
+
+-- the control of a block that a flow has is that of its order
+control_there : (programs : List FlowProgram) (number place : ℕ) (block : FlowBlock) → flow_block programs number place ≡ Some block
+    → control_at (blocks (controls (map program_form programs)) number) place ≡ Some block.control
+control_there programs number place block is = rw (sym (program_seen programs number)) (go (flow_program programs number) is)
+  where
+    go : (found : Option FlowProgram) → slice_get (flow_blocks found) place ≡ Some block
+        → control_at (blocks_of (option_map (λ p. control_program (program_form p)) found)) place ≡ Some block.control
+    go None there = absurd cc
+    go (Some program) there =
+        ap (λ found. control_of found) (sym (block_seen program.blocks place))
+        ∙ ap (λ found. control_of (option_map (λ b. control_block (block_form b)) found)) there
+
+in_order : (flow : Flow) (number place : ℕ) (block : FlowBlock) → flow_block flow.programs number place ≡ Some block
+    → control_at (blocks flow.order number) place ≡ Some block.control
+in_order flow number place block is = rw (flow.agrees) (control_there flow.programs number place block is)
+
+-- a block that is found does it at its line
+abbrev DoesAt : Sought → ℕ → Option FlowBlock → ℕ → Type 0
+DoesAt sought v found k = (block : FlowBlock) × (found ≡ Some block) × (does sought v block ≡ true) × (block.line ≡ k)
+
+line_does : (sought : Sought) (v : ℕ) (found : Option FlowBlock) (k : ℕ) → block_line sought v found ≡ Some k → DoesAt sought v found k
+line_does sought v None k is = absurd cc
+line_does sought v (Some block) k is = go (does sought v block) refl is
+  where
+    go : (b : Bool) → does sought v block ≡ b → line_if b block.line ≡ Some k → DoesAt sought v (Some block) k
+    go false e is = absurd cc
+    go true e is = let same : block.line ≡ k = cc in (block, refl, e, same)
+
+does_line : (sought : Sought) (v : ℕ) (found : Option FlowBlock) (k : ℕ) → DoesAt sought v found k → block_line sought v found ≡ Some k
+does_line sought v found k (block, is, e, line) = rw (is, e) (ap Some line)
+
+-- part n of the path has a block of this line that does it
+abbrev pub SoughtAt : Flow → Sought → ℕ → ℕ → ℕ → Type 0
+SoughtAt flow Writes v n k = MayWriteAt flow n v k
+SoughtAt flow Names v n k = NamesAt flow n v k
+
+pub line_sought : (flow : Flow) (sought : Sought) (v n k : ℕ) → LineInPart flow.order (sought_line flow sought v) n k → SoughtAt flow sought v n k
+line_sought flow Writes v n k (program, place, c, inside, is, e) =
+    let at = line_does Writes v (flow_block flow.programs program place) k e in
+    (program, place, at.0, inside, at.1, subst (λ found. found_may_write found v ≡ true) (sym at.1) at.2, at.3)
+line_sought flow Names v n k (program, place, c, inside, is, e) =
+    let at = line_does Names v (flow_block flow.programs program place) k e in
+    (program, place, at.0, inside, at.1, subst (λ found. found_names found v ≡ true) (sym at.1) at.2, at.3)
+
+pub sought_is : (flow : Flow) (sought : Sought) (v n k : ℕ) → SoughtAt flow sought v n k → LineInPart flow.order (sought_line flow sought v) n k
+sought_is flow Writes v n k (program, place, block, inside, at, writes, line) = (
+  program,
+  place,
+  block.control,
+  inside,
+  in_order flow program place block at,
+  does_line Writes v (flow_block flow.programs program place) k (block, at, subst (λ found. found_may_write found v ≡ true) at writes, line),
+)
+sought_is flow Names v n k (program, place, block, inside, at, names, line) = (
+  program,
+  place,
+  block.control,
+  inside,
+  in_order flow program place block at,
+  does_line Names v (flow_block flow.programs program place) k (block, at, subst (λ found. found_names found v ≡ true) at names, line),
+)
+
+-- a part that may write the variable does so at some line
+writes_there : (found : Option FlowBlock) (v : ℕ) → found_may_write found v ≡ true → (block : FlowBlock) × (found ≡ Some block)
+writes_there None v e = absurd cc
+writes_there (Some block) v e = (block, refl)
+
+names_there : (found : Option FlowBlock) (v : ℕ) → found_names found v ≡ true → (block : FlowBlock) × (found ≡ Some block)
+names_there None v e = absurd cc
+names_there (Some block) v e = (block, refl)
+
+pub part_writes_at : (flow : Flow) (n v : ℕ) → PartMayWrite flow n v → (k : ℕ) × MayWriteAt flow n v k
+part_writes_at flow n v (program, place, inside, e) =
+    let there = writes_there (flow_block flow.programs program place) v e in
+    (there.0.line, (program, place, there.0, inside, there.1, e, refl))
+
+pub part_names_at : (flow : Flow) (n v : ℕ) → PartNames flow n v → (k : ℕ) × NamesAt flow n v k
+part_names_at flow n v (program, place, inside, e) =
+    let there = names_there (flow_block flow.programs program place) v e in
+    (there.0.line, (program, place, there.0, inside, there.1, e, refl))

@@ -1,0 +1,5 @@
+use Rattle.race_report.proofs.OneList.{one_list}
+use Rattle.race_report.proofs.laws.a_pair_has_one_list_of_races.Goals as goal
+
+pub returns : goal.returns
+returns c = one_list

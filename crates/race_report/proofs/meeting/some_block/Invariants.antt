@@ -1,0 +1,7 @@
+-- Those that are passed do not.
+use Rattle.std.proofs.Common.{◌≡◌, drop}
+use Rattle.race_report.specs.Meeting.{some_block}
+use Rattle.race_report.proofs.meeting.some_block.Given as goal
+
+abbrev pub invariant-loop-block : goal.invariant-loop-block
+invariant-loop-block l = some_block l.sought l.variable (drop l.block-index l.blocks) ≡ some_block l.sought l.variable l.blocks

@@ -1,0 +1,7 @@
+-- Those that are passed do not.
+use Rattle.std.proofs.Common.{◌≡◌, drop}
+use Rattle.race_report.specs.Meeting.{some_program}
+use Rattle.race_report.proofs.meeting.some_program.Given as goal
+
+abbrev pub invariant-loop-program : goal.invariant-loop-program
+invariant-loop-program l = some_program l.sought l.variable (drop l.program-index l.programs) ≡ some_program l.sought l.variable l.programs

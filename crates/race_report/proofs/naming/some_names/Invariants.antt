@@ -1,0 +1,7 @@
+-- Those that are passed do not name the variable.
+use Rattle.std.proofs.Common.{◌≡◌, drop}
+use Rattle.named_vars.specs.Names.{some_names}
+use Rattle.race_report.proofs.naming.some_names.Given as goal
+
+abbrev pub invariant-loop-code : goal.invariant-loop-code
+invariant-loop-code l = some_names (drop l.code-index l.codes) l.variable ≡ some_names l.codes l.variable

@@ -1,0 +1,7 @@
+-- Those that are passed do not read the variable.
+use Rattle.std.proofs.Common.{◌≡◌, drop}
+use Rattle.race_report.specs.Reads.{some_read}
+use Rattle.race_report.proofs.naming.some_read.Given as goal
+
+abbrev pub invariant-loop-instr : goal.invariant-loop-instr
+invariant-loop-instr l = some_read (drop l.instr-index l.instrs) l.variable ≡ some_read l.instrs l.variable

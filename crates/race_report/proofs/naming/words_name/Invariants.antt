@@ -1,0 +1,7 @@
+-- Those that are passed do not name the variable.
+use Rattle.std.proofs.Common.{◌≡◌, drop}
+use Rattle.named_vars.specs.Names.{words_name}
+use Rattle.race_report.proofs.naming.words_name.Given as goal
+
+abbrev pub invariant-loop-word : goal.invariant-loop-word
+invariant-loop-word l = words_name (drop l.word-index l.words) l.variable ≡ words_name l.words l.variable

@@ -1,0 +1,10 @@
+-- There are as many places as were made, and what stood stands.
+use Rattle.std.proofs.Common.{◌≡◌, ℕ, ◌≤◌, length}
+use Rattle.race_report.specs.Tables.{kept_lines}
+use Rattle.race_report.proofs.table.LineTable.make_room.Given as goal
+
+abbrev pub invariant-loop-at : goal.invariant-loop-at
+invariant-loop-at l = record {
+  many : l._at ≤ length l.self.programs.items;
+  same : (q : ℕ) → kept_lines l.self q ≡ kept_lines l.fn.self q;
+}

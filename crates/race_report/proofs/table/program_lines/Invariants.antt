@@ -1,0 +1,8 @@
+-- The lines so far, and those of the blocks that are left, are all.
+use Rattle.std.proofs.Common.{◌≡◌, ◌++◌, drop}
+use Rattle.race_report.specs.Tables.{lines_of}
+use Rattle.race_report.proofs.table.program_lines.Given as goal
+
+abbrev pub invariant-loop-block : goal.invariant-loop-block
+invariant-loop-block l =
+    l.lines.items ++ lines_of l.sought l.variable (drop l.block-index l.blocks) ≡ lines_of l.sought l.variable l.blocks

@@ -1,0 +1,7 @@
+-- The table tells all lines with those of the programs that are left.
+use Rattle.std.proofs.Common.{drop}
+use Rattle.race_report.specs.Tables.{IsToldWith}
+use Rattle.race_report.proofs.table.table_of.Given as goal
+
+abbrev pub invariant-loop-program : goal.invariant-loop-program
+invariant-loop-program l = IsToldWith l.flow l.sought l.variable l.table (drop l.program-index l.flow.programs)

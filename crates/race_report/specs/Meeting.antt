@@ -1,0 +1,23 @@
+-- Whether both paths come to a variable at all, in whatever part.
+use Rattle.std.specs.Prelude.{ℕ, ◌||◌, ◌&&◌, Bool, false, List, [], ◌∷◌}
+use Rattle.block_forms.specs.declared.block.FlowBlock.{FlowBlock}
+use Rattle.tape_flow.specs.declared.flow.Flow.{Flow}
+use Rattle.tape_flow.specs.declared.program.FlowProgram.{FlowProgram}
+use Rattle.race_report.specs.declared.sought.Sought.{Sought}
+use Rattle.race_report.specs.declared.sought.Sought.TheVariants.{Writes, Names}
+use Rattle.race_report.specs.Lines.{does}
+
+abbrev pub some_block : Sought → ℕ → List FlowBlock → Bool
+some_block sought v [] = false
+some_block sought v (block ∷ blocks) = does sought v block || some_block sought v blocks
+
+abbrev pub some_program : Sought → ℕ → List FlowProgram → Bool
+some_program sought v [] = false
+some_program sought v (program ∷ programs) = some_block sought v program.blocks || some_program sought v programs
+
+-- the one path has a block that may write the variable, and the other one that names it
+abbrev pub may_meet : ℕ → Flow → Flow → Bool
+may_meet v writer other = some_program Writes v writer.programs && some_program Names v other.programs
+
+abbrev pub may_race : ℕ → Flow → Flow → Bool
+may_race v left right = may_meet v left right || may_meet v right left

@@ -1,0 +1,22 @@
+-- What a pair without a race comes to.
+use Rattle.std.specs.Prelude.{List}
+use Rattle.nc_number.specs.declared.path.Path.TheVariants.{One, Two}
+use Rattle.cell_settings.specs.declared.settings.Settings.{Settings}
+use Rattle.tape_flow.specs.declared.flow.Flow.{Flow}
+use Rattle.path_state.specs.Opening.{opening_path}
+use Rattle.two_path.specs.Machine.{MachineView, opening}
+use Rattle.two_path.specs.Turns.{tapes_of}
+use Rattle.two_path.specs.Histories.{Event, run}
+use Rattle.race_order.specs.Agreement.{AreDone, Agree}
+
+-- the machine of a pair before its first turn
+abbrev pub opening_of : Settings → Flow → Flow → MachineView
+opening_of settings left right = opening (opening_path left settings One) (opening_path right settings Two)
+
+-- any two lists of turns after which both paths have finished come to the same
+abbrev pub HasOneOutcome : Settings → Flow → Flow → Type 0
+HasOneOutcome settings left right =
+    (events others : List Event)
+    → AreDone (run (tapes_of left right) (opening_of settings left right) events)
+    → AreDone (run (tapes_of left right) (opening_of settings left right) others)
+    → Agree (tapes_of left right) (opening_of settings left right) events others

@@ -1,0 +1,13 @@
+-- Which variables the instructions of a code read. One whose number is computed may be any.
+use Rattle.std.specs.Prelude.{ℕ, ◌==◌, ◌||◌, Bool, true, false, List, [], ◌∷◌}
+use Rattle.macro_eval.specs.declared.code.Instr.{Instr}
+use Rattle.macro_eval.specs.declared.code.Instr.TheVariants.{Variable, LookUp}
+
+abbrev pub may_read : Instr → ℕ → Bool
+may_read (Variable n) v = n == v
+may_read LookUp v = true
+may_read other v = false
+
+abbrev pub some_read : List Instr → ℕ → Bool
+some_read [] v = false
+some_read (i ∷ code) v = may_read i v || some_read code v

@@ -1,0 +1,53 @@
+-- The lines that were found, by programs and by parts.
+use Rattle.std.specs.Prelude.{◌≡◌, ℕ, List, map, Option, Some, None, slice_get}
+use Rattle.block_forms.specs.declared.block.FlowBlock.{FlowBlock}
+use Rattle.tape_flow.specs.declared.flow.Flow.{Flow}
+use Rattle.tape_flow.specs.declared.program.FlowProgram.{FlowProgram}
+use Rattle.tape_flow.specs.Places.{flow_program, flow_blocks}
+use Rattle.part_lines.specs.PartLines.{AreLeastLines}
+use Rattle.race_report.specs.declared.racing.PairLines.{PairLines}
+use Rattle.race_report.specs.declared.sought.Sought.{Sought}
+use Rattle.race_report.specs.declared.sought.Sought.TheVariants.{Writes, Names}
+use Rattle.race_report.specs.declared.table.LineTable.{LineTable}
+use Rattle.race_report.specs.declared.table.ProgramLines.{ProgramLines}
+use Rattle.race_report.specs.Lines.{does, line_if, block_line, sought_line}
+
+abbrev pub flat : {A : Type 0} → Option (Option A) → Option A
+flat None = None
+flat (Some found) = found
+
+-- the line at a place
+abbrev pub line_at : List (Option ℕ) → ℕ → Option ℕ
+line_at lines place = flat (slice_get lines place)
+
+abbrev pub program_line : Option ProgramLines → ℕ → Option ℕ
+program_line None place = None
+program_line (Some program) place = line_at program.lines.items place
+
+-- the lines of the program with this O number, if they are kept
+abbrev pub kept_lines : LineTable → ℕ → Option ProgramLines
+kept_lines table program = flat (slice_get table.programs.items program)
+
+abbrev pub table_line : LineTable → ℕ → ℕ → Option ℕ
+table_line table program place = program_line (kept_lines table program) place
+
+-- the lines of the blocks of a program
+abbrev pub lines_of : Sought → ℕ → List FlowBlock → List (Option ℕ)
+lines_of sought v blocks = map (λ block. line_if (does sought v block) block.line) blocks
+
+-- what is told of a program, or else what it has
+abbrev pub told_or : Sought → ℕ → Option ProgramLines → Option FlowProgram → ℕ → Option ℕ
+told_or sought v (Some program) found place = line_at program.lines.items place
+told_or sought v None found place = block_line sought v (slice_get (flow_blocks found) place)
+
+-- with the programs that are left the table tells all lines
+abbrev pub IsToldWith : Flow → Sought → ℕ → LineTable → List FlowProgram → Type 0
+IsToldWith flow sought v table rest =
+    (q place : ℕ) → told_or sought v (kept_lines table q) (flow_program rest q) place ≡ sought_line flow sought v q place
+
+-- the least lines of the parts of both paths, for one variable
+pub record ArePairLines (left right : Flow) (v : ℕ) (lines : PairLines) : Type 0 where
+  pub one_writes : AreLeastLines left.order (sought_line left Writes v) lines.one_writes.items
+  pub one_names : AreLeastLines left.order (sought_line left Names v) lines.one_names.items
+  pub two_writes : AreLeastLines right.order (sought_line right Writes v) lines.two_writes.items
+  pub two_names : AreLeastLines right.order (sought_line right Names v) lines.two_names.items

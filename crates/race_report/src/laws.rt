@@ -1,0 +1,20 @@
+//! What a list of races says: who calls the function has the law.
+ghost use Rattle.std.specs.Prelude.{◌≡◌, ℕ, Bool, [], List};
+ghost use Rattle.cell_settings.specs.declared.settings.Settings.{Settings};
+ghost use Rattle.tape_flow.specs.declared.flow.Flow.{Flow};
+ghost use Rattle.label_list.specs.Accepted.{IsAcceptedPair};
+ghost use Rattle.race_report.specs.declared.race.Race.{Race};
+ghost use Rattle.race_report.specs.RaceLists.{shared_by, IsRaceList};
+ghost use Rattle.race_report.specs.Outcomes.{HasOneOutcome};
+
+/// A pair whose list of races is empty comes to one outcome, whichever path has which turn.
+pub fn a_pair_without_races_has_one_outcome()
+    ensures { (settings : Settings) (left right : Flow) → IsAcceptedPair left.order right.order
+        → IsRaceList (shared_by settings) left right [] → HasOneOutcome settings left right }
+{}
+
+/// A pair has one list of races.
+pub fn a_pair_has_one_list_of_races()
+    ensures { (shared : ℕ → Bool) (left right : Flow) (one two : List Race) → IsRaceList shared left right one
+        → IsRaceList shared left right two → one ≡ two }
+{}

@@ -1,0 +1,45 @@
+//! Whether both paths come to a variable at all, in whatever part.
+ghost use Rattle.std.specs.Prelude.{◌≡◌};
+ghost use Rattle.race_report.specs.Meeting.{some_block, some_program, may_meet, may_race};
+
+use crate::naming::does;
+use crate::sought::Sought;
+use block_forms::FlowBlock;
+use tape_flow::{Flow, FlowProgram};
+
+fn some_block(sought: Sought, variable: u32, blocks: &[FlowBlock]) -> bool
+    ensures { result ≡ some_block sought variable blocks.now }
+{
+    for block in blocks {
+        if does(sought, variable, block) {
+            return true;
+        }
+    }
+    false
+}
+
+fn some_program(sought: Sought, variable: u32, programs: &[FlowProgram]) -> bool
+    ensures { result ≡ some_program sought variable programs.now }
+{
+    for program in programs {
+        if some_block(sought, variable, program.blocks.as_slice()) {
+            return true;
+        }
+    }
+    false
+}
+
+/// Whether the one path has a block that may write the variable, and the other one that names it.
+fn may_meet(variable: u32, writer: &Flow, other: &Flow) -> bool
+    ensures { result ≡ may_meet variable writer.now other.now }
+{
+    some_program(Sought::Writes, variable, writer.programs.as_slice())
+        && some_program(Sought::Names, variable, other.programs.as_slice())
+}
+
+/// Whether the variable can have a race, whichever path writes. It is far cheaper to tell than where.
+pub(crate) fn may_race(variable: u32, left: &Flow, right: &Flow) -> bool
+    ensures { result ≡ may_race variable left.now right.now }
+{
+    may_meet(variable, left, right) || may_meet(variable, right, left)
+}
