@@ -1,0 +1,83 @@
+-- What lies in clear areas lies apart.
+use Rattle.std.proofs.Common.{◌≡◌, ℕ, ◌≤◌, Bool, true, false, ◌||◌, List, ℤ, pos, neg_ℤ, ◌+ℤ◌, ◌-ℤ◌, ◌*ℤ◌, ◌≤ℤ◌, ◌<ℤ◌, refl, arith, ◌⊎◌, inl, inr, if◌then◌else◌}
+use Rattle.std.specs.Prelude.{int_lt}
+use Rattle.std.proofs.lemmas.Int.{ints}
+use Rattle.nc_number.specs.declared.point.Point.{Point}
+use Rattle.nc_moves.specs.declared.motion.Move.{Move}
+use Rattle.zone_area.specs.declared.area.Area.{Area}
+use Rattle.zone_area.specs.declared.frame.Frame.{Frame}
+use Rattle.zone_area.specs.Passing.{distance, MayPassSome, IsInside, AreApart, mirrored, point_in_cell}
+use Rattle.zone_area.specs.Area.{area_of, area_in_cell, is_beyond, is_clear}
+use Rattle.zone_area.proofs.Scaled.{scaled_lt, scaled_add, scaled_neg}
+use Rattle.zone_area.proofs.InArea.{all_inside}
+use Rattle.zone_area.proofs.Least.{area_holds}
+
+either : (a b : Bool) → (a || b) ≡ true → (a ≡ true) ⊎ (b ≡ true)
+either true b is = inl refl
+either false b is = inr is
+
+lt_is : (a b : ℤ) → int_lt a b ≡ true → a <ℤ b
+lt_is a b e = grind (arith, ints)
+
+-- the frame of a path moves a point and an area alike
+
+shifted : (d : ℕ) (low high shift q : ℤ) → (pos d *ℤ low) ≤ℤ q → q ≤ℤ (pos d *ℤ high)
+    → ((pos d *ℤ (low +ℤ shift)) ≤ℤ (q +ℤ pos d *ℤ shift)) × ((q +ℤ pos d *ℤ shift) ≤ℤ (pos d *ℤ (high +ℤ shift)))
+shifted d low high shift q l h =
+    let low_is = scaled_add d low shift in
+    let high_is = scaled_add d high shift in
+    (omega (arith, ints, low_is, l), omega (arith, ints, high_is, h))
+
+across : (d : ℕ) (mirror : Bool) (low high shift q : ℤ) → (pos d *ℤ low) ≤ℤ q → q ≤ℤ (pos d *ℤ high)
+    → ((pos d *ℤ (mirrored mirror (if mirror then high else low) +ℤ shift)) ≤ℤ (mirrored mirror q +ℤ pos d *ℤ shift))
+    × ((mirrored mirror q +ℤ pos d *ℤ shift) ≤ℤ (pos d *ℤ (mirrored mirror (if mirror then low else high) +ℤ shift)))
+across d false low high shift q l h = shifted d low high shift q l h
+across d true low high shift q l h =
+    let low_is = scaled_neg d low in
+    let high_is = scaled_neg d high in
+    shifted d (neg_ℤ high) (neg_ℤ low) shift (neg_ℤ q) (rw high_is (omega (arith, ints, h))) (rw low_is (omega (arith, ints, l)))
+
+in_cell : (d : ℕ) (frame : Frame) (area : Area) (q : Point) → IsInside d area q → IsInside d (area_in_cell frame area) (point_in_cell d frame q)
+in_cell d frame area q i =
+    let x = across d frame.mirror area.low.x area.high.x frame.shift.x q.x i.left i.right in
+    let z = shifted d area.low.z area.high.z frame.shift.z q.z i.below i.above in
+    record { left = x.0; right = x.1; below = z.0; above = z.1 }
+
+beyond : (d : ℕ) (gap high low p q : ℤ) → 1 ≤ d → is_beyond gap high low ≡ true → p ≤ℤ (pos d *ℤ high) → (pos d *ℤ low) ≤ℤ q
+    → (pos d *ℤ gap) <ℤ (q -ℤ p)
+beyond d gap high low p q some is ph lq =
+    let less = scaled_lt d (high +ℤ gap) low some (lt_is (high +ℤ gap) low is) in
+    let sum = scaled_add d high gap in
+    let less' : (pos d *ℤ high +ℤ pos d *ℤ gap) <ℤ (pos d *ℤ low) = rw sum at less in
+    omega (arith, ints, less', ph, lq)
+
+second_beyond : (g p q : ℤ) → g <ℤ (q -ℤ p) → g <ℤ pos (distance p q)
+second_beyond g p q less = omega (arith, ints, less)
+
+first_beyond : (g p q : ℤ) → g <ℤ (p -ℤ q) → g <ℤ pos (distance p q)
+first_beyond g p q less = omega (arith, ints, less)
+
+pub clear_apart : (d : ℕ) (gap : Point) (a b : Area) (p q : Point) → 1 ≤ d → is_clear gap a b ≡ true → IsInside d a p → IsInside d b q → AreApart d gap p q
+clear_apart d gap a b p q some clear i j = elim (either _ _ clear) [
+  | inl x ↦ (elim (either _ _ x) [
+    | inl up ↦ inl (second_beyond _ p.x q.x (beyond d gap.x a.high.x b.low.x p.x q.x some up i.right j.left))
+    | inr down ↦ inl (first_beyond _ p.x q.x (beyond d gap.x b.high.x a.low.x q.x p.x some down j.right i.left))
+  ])
+  | inr z ↦ (elim (either _ _ z) [
+    | inl up ↦ inr (second_beyond _ p.z q.z (beyond d gap.z a.high.z b.low.z p.z q.z some up i.above j.below))
+    | inr down ↦ inr (first_beyond _ p.z q.z (beyond d gap.z b.high.z a.low.z q.z p.z some down j.above i.below))
+  ])
+]
+
+pub cell_holds : (d : ℕ) (f : Frame) (at : Point) (moves : List Move) (q : Point) → MayPassSome d at moves q
+    → IsInside d (area_in_cell f (area_of at moves)) (point_in_cell d f q)
+cell_holds d f at moves q passed = in_cell d f (area_of at moves) q (all_inside d (area_of at moves) at moves q (area_holds at moves) passed)
+
+pub segments_apart : (d : ℕ) (gap : Point) (f g : Frame) (at to : Point) (left right : List Move) (p q : Point) → 1 ≤ d
+    → is_clear gap (area_in_cell f (area_of at left)) (area_in_cell g (area_of to right)) ≡ true
+    → MayPassSome d at left p → MayPassSome d to right q
+    → AreApart d gap (point_in_cell d f p) (point_in_cell d g q)
+segments_apart d gap f g at to left right p q some clear i j =
+    clear_apart d gap (area_in_cell f (area_of at left)) (area_in_cell g (area_of to right)) (point_in_cell d f p) (point_in_cell d g q) some clear
+    (in_cell d f (area_of at left) p (all_inside d (area_of at left) at left p (area_holds at left) i))
+    (in_cell d g (area_of to right) q (all_inside d (area_of to right) to right q (area_holds to right) j))

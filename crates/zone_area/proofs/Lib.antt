@@ -1,0 +1,6 @@
+mod Scaled
+mod LeastRoot
+mod InArea
+mod Least
+mod Apart
+mod Squares

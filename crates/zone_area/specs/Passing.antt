@@ -1,0 +1,82 @@
+-- The points that a move may pass. They are counted in parts of a count of 0.001 mm, d parts to a count: a law for
+-- every d leaves out no point between the whole counts.
+use Rattle.std.specs.Prelude.{◌≡◌, ℕ, ◌*◌, ◌≤◌, max, Bool, List, [], ◌∷◌, ◌⊎◌, Option, Some, None, unwrap_or, ℤ, pos, neg_ℤ, ◌+ℤ◌, ◌-ℤ◌, ◌*ℤ◌, ◌≤ℤ◌, ◌<ℤ◌, unsigned_abs, if◌then◌else◌}
+use Rattle.nc_number.specs.declared.point.Point.{Point}
+use Rattle.nc_moves.specs.declared.motion.Centre.{Centre}
+use Rattle.nc_moves.specs.declared.motion.Centre.TheVariants.{Offset, Radius}
+use Rattle.nc_moves.specs.declared.motion.Move.{Move}
+use Rattle.nc_moves.specs.Motion.{end_of}
+use Rattle.motion_track.specs.Circle.{place_of, centre_from, square_between}
+use Rattle.motion_track.specs.Within.{centre_in}
+use Rattle.zone_area.specs.declared.area.Area.{Area}
+use Rattle.zone_area.specs.declared.frame.Frame.{Frame}
+
+-- b lies between a and c
+abbrev pub IsBetween : ℤ → ℤ → ℤ → Type 0
+IsBetween a b c = ((a ≤ℤ b) × (b ≤ℤ c)) ⊎ ((c ≤ℤ b) × (b ≤ℤ a))
+
+-- a point of whole counts, in parts
+abbrev pub in_parts : ℕ → Point → Point
+in_parts d p = record { x = pos d *ℤ p.x; z = pos d *ℤ p.z }
+
+-- the middle of the circle that an arc may reach: its centre, or for an arc by its radius its start
+abbrev pub middle_of : Point → Centre → Point
+middle_of at (Offset i k) = record { x = at.x +ℤ pos 2 *ℤ i; z = at.z +ℤ k }
+middle_of at (Radius r) = at
+
+-- the square of how far it may reach, in 0.0005 mm: to the farther of its ends, as the test of an arc's end measures
+-- it, or twice its radius
+abbrev pub square_of : Point → Point → Centre → ℕ
+square_of at to (Offset i k) =
+    max (square_between (centre_from (place_of at) i k) (place_of at)) (square_between (centre_from (place_of at) i k) (place_of to))
+square_of at to (Radius r) = (4 * unsigned_abs r) * (4 * unsigned_abs r)
+
+-- where a move leads
+abbrev pub place_after : Point → Move → Point
+place_after at move = unwrap_or (end_of move) at
+
+-- A point, which is in parts, may be passed from a place by a move that leads there round this centre, or straight,
+-- or that goes nowhere.
+abbrev pub MayPassTo : ℕ → Point → Option Point → Option Centre → Point → Type 0
+MayPassTo d at None centre q = q ≡ in_parts d at
+MayPassTo d at (Some to) None q =
+    IsBetween (in_parts d at).x q.x (in_parts d to).x × IsBetween (in_parts d at).z q.z (in_parts d to).z
+MayPassTo d at (Some to) (Some centre) q =
+    (q ≡ in_parts d at) ⊎ (q ≡ in_parts d to)
+    ⊎ (square_between (place_of (in_parts d (middle_of at centre))) (place_of q) ≤ d * d * square_of at to centre)
+
+-- a move from a place may pass the point
+abbrev pub MayPass : ℕ → Point → Move → Point → Type 0
+MayPass d at move q = MayPassTo d at (end_of move) (centre_in move) q
+
+-- one of these moves may, or the point is the place where they begin
+abbrev pub MayPassSome : ℕ → Point → List Move → Point → Type 0
+MayPassSome d at [] q = q ≡ in_parts d at
+MayPassSome d at (move ∷ moves) q = MayPass d at move q ⊎ MayPassSome d (place_after at move) moves q
+
+-- a point in parts lies in an area of whole counts
+pub record IsInside (d : ℕ) (area : Area) (q : Point) : Type 0 where
+  pub left : (in_parts d area.low).x ≤ℤ q.x
+  pub right : q.x ≤ℤ (in_parts d area.high).x
+  pub below : (in_parts d area.low).z ≤ℤ q.z
+  pub above : q.z ≤ℤ (in_parts d area.high).z
+
+-- X, or under `mirror` its negative
+abbrev pub mirrored : Bool → ℤ → ℤ
+mirrored mirror x = if mirror then neg_ℤ x else x
+
+-- a point in parts, as it lies in the cell
+abbrev pub point_in_cell : ℕ → Frame → Point → Point
+point_in_cell d frame q = record {
+  x = mirrored frame.mirror q.x +ℤ (in_parts d frame.shift).x;
+  z = q.z +ℤ (in_parts d frame.shift).z;
+}
+
+-- how far two lengths are apart
+abbrev pub distance : ℤ → ℤ → ℕ
+distance a b = unsigned_abs (a -ℤ b)
+
+-- two points in parts differ by more than the gap in X or in Z
+abbrev pub AreApart : ℕ → Point → Point → Point → Type 0
+AreApart d gap p q =
+    ((in_parts d gap).x <ℤ pos (distance p.x q.x)) ⊎ ((in_parts d gap).z <ℤ pos (distance p.z q.z))

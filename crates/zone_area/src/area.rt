@@ -1,0 +1,65 @@
+ghost use Rattle.std.specs.Prelude.{◌≡◌, ◌≤◌, unsigned_abs};
+ghost use Rattle.std.specs.Int.{int_min, int_max};
+ghost use Rattle.nc_number.specs.Position.{IsPosition};
+ghost use Rattle.zone_area.specs.Area.{area_at, hull_of};
+ghost use Rattle.zone_area.specs.Range.{far_corner, IsNearArea};
+
+use nc_number::Point;
+
+/// A rectangle of whole counts of 0.001 mm, its edges included; X is a diameter.
+#[derive(Clone, Copy, Debug, PartialEq, Eq)]
+pub struct Area {
+    pub low: Point,
+    pub high: Point,
+}
+
+impl Area {
+    /// The area of one point.
+    pub(crate) fn at(point: &Point) -> Area
+        requires { IsPosition point.now }
+        ensures area { result ≡ area_at point.now }
+        ensures near { IsNearArea result }
+    {
+        Area {
+            low: *point,
+            high: *point,
+        }
+    }
+
+    /// The least area that holds both.
+    pub(crate) fn hull(&self, other: &Area) -> Area
+        requires me { IsNearArea self.now }
+        requires other { IsNearArea other.now }
+        ensures hull { result ≡ hull_of self.now other.now }
+        ensures near { IsNearArea result }
+    {
+        Area {
+            low: Point {
+                x: lesser(self.low.x, other.low.x),
+                z: lesser(self.low.z, other.low.z),
+            },
+            high: Point {
+                x: greater(self.high.x, other.high.x),
+                z: greater(self.high.z, other.high.z),
+            },
+        }
+    }
+}
+
+fn lesser(a: i64, b: i64) -> i64
+    requires a { unsigned_abs a ≤ far_corner }
+    requires b { unsigned_abs b ≤ far_corner }
+    ensures lesser { result ≡ int_min a b }
+    ensures near { unsigned_abs result ≤ far_corner }
+{
+    if b < a { b } else { a }
+}
+
+fn greater(a: i64, b: i64) -> i64
+    requires a { unsigned_abs a ≤ far_corner }
+    requires b { unsigned_abs b ≤ far_corner }
+    ensures greater { result ≡ int_max a b }
+    ensures near { unsigned_abs result ≤ far_corner }
+{
+    if b < a { a } else { b }
+}

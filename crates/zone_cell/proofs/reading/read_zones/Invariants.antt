@@ -1,0 +1,16 @@
+use Rattle.std.proofs.Common.{◌≡◌, ◌+◌, ◌≤◌, length}
+use Rattle.std.specs.Str.Lines.{lines}
+use Rattle.field_lines.specs.Line.{entries_of, first_refused}
+use Rattle.zone_cell.specs.Entry.{line_says}
+use Rattle.zone_cell.specs.Zones.{standard, with_entries}
+use Rattle.zone_cell.proofs.reading.read_zones.Given as goal
+
+abbrev pub invariant-loop-rest : goal.invariant-loop-rest
+invariant-loop-rest l = record {
+  refused : first_refused line_says (l.line + 1) (lines l.rest) ≡ first_refused line_says 1 (lines l.text);
+  taken : with_entries l.zones (entries_of line_says (lines l.rest)) ≡ with_entries standard (entries_of line_says (lines l.text));
+  counted : l.line + length l.rest ≤ length l.text;
+}
+
+abbrev pub decreases-loop-rest : goal.decreases-loop-rest
+decreases-loop-rest l = length l.rest

@@ -1,0 +1,58 @@
+ghost use Rattle.std.specs.Prelude.{◌≡◌, ◌<◌, ◌^◌, length};
+ghost use Rattle.nc_number.specs.Answers.{GivesBy};
+ghost use Rattle.zone_cell.specs.Zones.{zones_of};
+ghost use Rattle.zone_cell.specs.Faults.{fault_line, fault_name, fault_number};
+
+use crate::cell::Zones;
+use crate::named::read_line;
+use field_lines::cut_line;
+use nc_number::Failing;
+use std::alloc::Global;
+use thiserror::Error;
+
+/// The line of a text of zones that is not allowed, counted from 1.
+#[derive(Clone, Copy, Debug, PartialEq, Eq, Error)]
+#[error("line {line} of the zones is not allowed")]
+pub struct ZoneFault {
+    pub line: u32,
+}
+
+impl ZoneFault {
+    /// The number of the refusal.
+    pub fn number(self) -> u8
+        ensures { result ≡ fault_number }
+    {
+        92
+    }
+
+    /// The name that is printed beside the number.
+    pub fn name(self) -> &'static str
+        ensures { result.now ≡ fault_name }
+    {
+        "BadZone"
+    }
+}
+
+/// Reads a text of zones.
+///
+/// A line is empty, a comment that begins with `(`, or one of `frame p X.. Z..`, `mirror p` and `gap X.. Z..`. A later
+/// frame of a path and a later gap take the place of an earlier one.
+pub fn read_zones(alloc: Global, text: &[u8]) -> Result<Zones, Failing<ZoneFault>>
+    requires { length text.now < 2 ^ 32 }
+    // The zones that the text gives, or the first line that is not allowed, unless memory runs out.
+    ensures exact { GivesBy (λ zones. zones) fault_line result (zones_of text.now) }
+{
+    let mut zones = Zones::standard();
+    let mut rest = text;
+    let mut line = 0u32;
+    while !rest.is_empty() {
+        let (front, after) = cut_line(rest);
+        line += 1;
+        match read_line(alloc, front)? {
+            Some(entry) => zones.take(entry),
+            None => return Err(Failing::Fault(ZoneFault { line })),
+        }
+        rest = after;
+    }
+    Ok(zones)
+}

@@ -1,0 +1,130 @@
+-- The zones that are kept while records are done again are those of the segments.
+use Rattle.std.proofs.Common.{◌≡◌, ℕ, Bool, true, false, List, [], ◌∷◌, ◌++◌, map, refl, ap, sym, ◌∙◌, append_assoc, append-nil, if◌then◌else◌}
+use Rattle.std.proofs.lemmas.List.{map-append}
+use Rattle.nc_number.specs.declared.path.Path.{Path}
+use Rattle.nc_number.specs.declared.path.Path.TheVariants.{One, Two}
+use Rattle.nc_moves.specs.declared.motion.Move.{Move}
+use Rattle.nc_outside.specs.declared.lined_move.LinedMove.{LinedMove}
+use Rattle.nc_outside.specs.Lined.{lined_move}
+use Rattle.run_records.specs.declared.entry.Entry.{Entry}
+use Rattle.two_path.specs.declared.turn.Turn.{Turn}
+use Rattle.two_path.specs.declared.turn.Turn.TheVariants.{Read, Did, Arrived, Met, Ended, Waiting, Finished, Alarm, Halted}
+use Rattle.two_path.specs.Machine.{MachineView}
+use Rattle.two_path.specs.Turns.{Tapes}
+use Rattle.two_path.specs.Histories.{behind_entry, fold}
+use Rattle.two_path.specs.Again.{turn_of_entry}
+use Rattle.two_path.specs.Made.{moves_of_turn, made_in, made_by, moves_in, turns_from, moves_of}
+use Rattle.two_path.proofs.Replays.{turn_at, fold_more}
+use Rattle.zone_area.specs.Area.{SweptView, swept_at, swept_with, swept_along}
+use Rattle.zone_cell.specs.declared.cell.Zone.{Zone}
+use Rattle.zone_cell.specs.Zones.{ZonesView}
+use Rattle.zone_check.specs.Segments.{Segment, path_moves, segment_of, is_meeting, segments_from, zone_of, zones_of_history}
+use Rattle.zone_check.specs.Kept.{StandingView, KeptView, standing_at, moves_by, standing_with, zones_from}
+
+-- the moves of a block without its line
+what_lined : (line : ℕ) (moves : List Move) → map (λ (made : LinedMove). made.what) (map (lined_move line) moves) ≡ moves
+what_lined line [] = refl
+what_lined line (move ∷ moves) = ap (λ rest. move ∷ rest) (what_lined line moves)
+
+-- the moves of a turn
+what_made : (turn : Turn) → map (λ (made : LinedMove). made.what) (made_in turn) ≡ moves_of_turn turn
+what_made (Did moves) = what_lined moves.line moves.list
+what_made (Ended moves) = what_lined moves.line moves.list
+what_made (Read variable stamp) = refl
+what_made (Arrived code) = refl
+what_made (Met code) = refl
+what_made (Waiting code) = refl
+what_made Finished = refl
+what_made (Alarm alarm) = refl
+what_made (Halted alarm) = refl
+
+pub what_by : (path of : Path) (turn : Turn) → map (λ (made : LinedMove). made.what) (made_by path (record { path = of; turn = turn })) ≡ moves_by path of turn
+what_by One One turn = what_made turn
+what_by One Two turn = refl
+what_by Two One turn = refl
+what_by Two Two turn = what_made turn
+
+-- the moves of one record more
+moves_more : (tapes : Tapes) (m : MachineView) (path : Path) (front : List Entry) (e : Entry)
+    → moves_of tapes m path (front ++ e ∷ []) ≡ moves_of tapes m path front ++ made_by path (turn_at tapes (fold tapes m front) e)
+unfolding moves_in turns_from
+moves_more tapes m path [] e = append-nil (made_by path (turn_at tapes m e))
+moves_more tapes m path (x ∷ front) e =
+    ap (λ (ms : List LinedMove). made_by path (turn_at tapes m x) ++ ms) (moves_more tapes (behind_entry tapes x m) path front e)
+    ∙ sym (append_assoc (made_by path (turn_at tapes m x)) (moves_of tapes (behind_entry tapes x m) path front) (made_by path (turn_at tapes (fold tapes (behind_entry tapes x m) front) e)))
+
+path_more : (tapes : Tapes) (m : MachineView) (path : Path) (front : List Entry) (e : Entry)
+    → path_moves tapes m path (front ++ e ∷ [])
+    ≡ path_moves tapes m path front ++ moves_by path e.path (turn_of_entry tapes e (fold tapes m front))
+path_more tapes m path front e =
+    ap (map (λ (made : LinedMove). made.what)) (moves_more tapes m path front e)
+    ∙ map-append (λ (made : LinedMove). made.what) (moves_of tapes m path front) (made_by path (turn_at tapes (fold tapes m front) e))
+    ∙ ap (λ (ms : List Move). path_moves tapes m path front ++ ms) (what_by path e.path (turn_of_entry tapes e (fold tapes m front)))
+
+-- moves, and moves behind them
+swept_on : (s : SweptView) (front back : List Move) → swept_along s (front ++ back) ≡ swept_along (swept_along s front) back
+swept_on s [] back = refl
+swept_on s (move ∷ front) back = swept_on (swept_with s move) front back
+
+-- what is kept of a segment that has begun
+abbrev standing_of : Segment → StandingView
+standing_of s = record { left = swept_along (swept_at s.left_at) s.left; right = swept_along (swept_at s.right_at) s.right }
+
+standing_more : (tapes : Tapes) (m : MachineView) (front : List Entry) (e : Entry)
+    → standing_of (segment_of tapes m (front ++ e ∷ []))
+    ≡ standing_with (standing_of (segment_of tapes m front)) e.path (turn_of_entry tapes e (fold tapes m front))
+standing_more tapes m front e =
+    let left = swept_at m.first.path.position in
+    let right = swept_at m.second.path.position in
+    let turn = turn_of_entry tapes e (fold tapes m front) in
+    let at : SweptView → SweptView → StandingView = λ a b. record { left = a; right = b } in
+    let one : swept_along left (path_moves tapes m One (front ++ e ∷ [])) ≡ swept_along (swept_along left (path_moves tapes m One front)) (moves_by One e.path turn)
+    = ap (swept_along left) (path_more tapes m One front e) ∙ swept_on left (path_moves tapes m One front) (moves_by One e.path turn) in
+    let two : swept_along right (path_moves tapes m Two (front ++ e ∷ [])) ≡ swept_along (swept_along right (path_moves tapes m Two front)) (moves_by Two e.path turn)
+    = ap (swept_along right) (path_more tapes m Two front e) ∙ swept_on right (path_moves tapes m Two front) (moves_by Two e.path turn) in
+    ap (λ a. at a (swept_along right (path_moves tapes m Two (front ++ e ∷ [])))) one
+    ∙ ap (λ b. at (swept_along (swept_along left (path_moves tapes m One front)) (moves_by One e.path turn)) b) two
+
+-- a choice on both sides
+either_way : (test : Bool) (f : KeptView → List Zone) (g : List Segment → List Zone) (one two : KeptView) (some others : List Segment)
+    → f one ≡ g some → f two ≡ g others → f (if test then one else two) ≡ g (if test then some else others)
+either_way true f g one two some others meets goes_on = meets
+either_way false f g one two some others meets goes_on = goes_on
+
+-- a segment without a record
+begun : (tapes : Tapes) (m : MachineView) → standing_at m ≡ standing_of (segment_of tapes m [])
+unfolding moves_in turns_from
+begun tapes m = refl
+
+pub folded : (tapes : Tapes) (zones : ZonesView) (m : MachineView) (front : List Entry) (done : List Zone) (entries : List Entry)
+    → zones_from tapes zones (fold tapes m front) (record { list = done; standing = standing_of (segment_of tapes m front) }) entries
+    ≡ done ++ map (zone_of zones) (segments_from tapes m front entries)
+folded tapes zones m front done [] = refl
+folded tapes zones m front done (e ∷ entries) =
+    let now = fold tapes m front in
+    let turn = turn_of_entry tapes e now in
+    let zone = zone_of zones (segment_of tapes m front) in
+    let next = fold tapes m (front ++ e ∷ []) in
+    let is_next : behind_entry tapes e now ≡ next = fold_more tapes m now front (front ++ e ∷ []) e refl refl in
+    let meeting : zones_from tapes zones (behind_entry tapes e now) (record { list = done ++ zone ∷ []; standing = standing_at (behind_entry tapes e now) }) entries
+    ≡ done ++ map (zone_of zones) (segment_of tapes m front ∷ segments_from tapes next [] entries)
+    = ap (λ (x : MachineView). zones_from tapes zones x (record { list = done ++ zone ∷ []; standing = standing_at x }) entries) is_next
+    ∙ (ap (λ (s : StandingView). zones_from tapes zones next (record { list = done ++ zone ∷ []; standing = s }) entries) (begun tapes next)
+    ∙ (folded tapes zones next [] (done ++ zone ∷ []) entries
+    ∙ append_assoc done (zone ∷ []) (map (zone_of zones) (segments_from tapes next [] entries)))) in
+    let other : zones_from tapes zones (behind_entry tapes e now) (record { list = done; standing = standing_with (standing_of (segment_of tapes m front)) e.path turn }) entries
+    ≡ done ++ map (zone_of zones) (segments_from tapes m (front ++ e ∷ []) entries)
+    = ap (λ (x : MachineView). zones_from tapes zones x (record { list = done; standing = standing_with (standing_of (segment_of tapes m front)) e.path turn }) entries) is_next
+    ∙ (ap (λ (s : StandingView). zones_from tapes zones next (record { list = done; standing = s }) entries) (sym (standing_more tapes m front e))
+    ∙ folded tapes zones m (front ++ e ∷ []) done entries) in
+    either_way (is_meeting e) (λ k. zones_from tapes zones (behind_entry tapes e now) k entries) (λ ss. done ++ map (zone_of zones) ss)
+    (record { list = done ++ zone ∷ []; standing = standing_at (behind_entry tapes e now) })
+    (record { list = done; standing = standing_with (standing_of (segment_of tapes m front)) e.path turn })
+    (segment_of tapes m front ∷ segments_from tapes next [] entries) (segments_from tapes m (front ++ e ∷ []) entries)
+    meeting other
+
+pub zones_are_those_of_the_segments : (tapes : Tapes) (m : MachineView) (zones : ZonesView) (entries : List Entry)
+    → zones_from tapes zones m (record { list = []; standing = standing_at m }) entries ≡ zones_of_history tapes m zones entries
+zones_are_those_of_the_segments tapes m zones entries =
+    ap (λ (s : StandingView). zones_from tapes zones m (record { list = []; standing = s }) entries) (begun tapes m)
+    ∙ folded tapes zones m [] [] entries

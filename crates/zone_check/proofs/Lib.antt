@@ -1,0 +1,5 @@
+mod Folded
+mod Going
+mod ZoneByZone
+mod MovesLead
+mod TurnsLead

@@ -1,0 +1,186 @@
+-- What a block does leaves its path at the end of its moves.
+use Rattle.std.proofs.Common.{◌≡◌, ℕ, Bool, true, false, List, [], Option, Some, None, Result, Ok, Err, refl, if◌then◌else◌}
+use Rattle.nc_number.specs.declared.cause.Cause.{Cause}
+use Rattle.nc_number.specs.declared.point.Point.{Point}
+use Rattle.nc_number.specs.declared.value.Var.{Var}
+use Rattle.common_vars.specs.declared.variable.Variable.{Variable}
+use Rattle.common_vars.specs.declared.variable.Variable.TheVariants as variable
+use Rattle.local_levels.specs.Stack.{all_vacant}
+use Rattle.modal_state.specs.View.{ModalView}
+use Rattle.offset_store.specs.declared.fault.OffsetFault.{OffsetFault}
+use Rattle.offset_store.specs.declared.slot.Slot.{Slot}
+use Rattle.offset_store.specs.declared.slot.Slot.TheVariants.{Work}
+use Rattle.offset_store.specs.Changes.{in_range, point_at}
+use Rattle.block_order.specs.declared.control.Control.{Control}
+use Rattle.block_order.specs.declared.control.Control.TheVariants as control
+use Rattle.block_order.specs.declared.program.ControlProgram.{ControlProgram}
+use Rattle.block_forms.specs.declared.word.FlowWord.{FlowWord}
+use Rattle.block_forms.specs.declared.block.FlowBlock.{FlowBlock}
+use Rattle.block_forms.specs.declared.body.FlowBody.{FlowBody}
+use Rattle.block_forms.specs.declared.body.FlowBody.TheVariants.{Words, Statement}
+use Rattle.block_forms.specs.declared.purpose.Purpose.{Purpose}
+use Rattle.block_forms.specs.declared.purpose.Purpose.TheVariants.{MacroCall}
+use Rattle.macro_expr.specs.Tree.{Tree, Named, Aim, Sentence, Assign, Goto, IfGoto, IfThen, WhileDo, DoOnly, EndLoop, sentence_of}
+use Rattle.tape_flow.specs.declared.flow.Flow.{Flow}
+use Rattle.path_state.specs.View.{Fixed, PathView}
+use Rattle.path_state.specs.Outcomes.{Outcome, Gives, Needs, Alarms, ◌>>=◌, evaluated}
+use Rattle.path_state.specs.Values.{Values, nothing_said, sense_of, words_taken}
+use Rattle.path_state.specs.Arguments.{arguments_taken}
+use Rattle.path_state.specs.Looks.{is_shared}
+use Rattle.path_state.specs.Motion.{Motion}
+use Rattle.path_state.specs.Moves.{last_end}
+use Rattle.path_state.specs.Places.{Standing, goes_on, jumped, loop_left, loop_again}
+use Rattle.path_state.specs.Statements.{After, standing_of, length_of, along, with_offset, written_path, with_common, written, named, assigned, tested, aimed, moved, gone_to, gone_next, and_next, assigned_next, statement_effect}
+use Rattle.path_state.specs.Effect.{Effect, Moved, modal_after, after_motion, motion_with, acted, done_by, controlled, of_moved, of_values, of_arguments, of_purpose, block_of_words, of_after, effect_of_body, effect_of_block, block_at, effect_of}
+use Rattle.path_state.specs.Effect as effect
+
+-- what holds of both holds of either
+pub either : {A : Type 0} (P : A → Type 0) (b : Bool) (x y : A) → P x → P y → P (if b then x else y)
+either P true x y one other = one
+either P false x y one other = other
+
+-- a statement leaves its path where it stands
+abbrev StaysAt : PathView → Outcome After → Type 0
+StaysAt path (Gives after left) = after.path.position ≡ path.position
+StaysAt path (Needs variable) = Unit {0}
+StaysAt path (Alarms number value) = Unit {0}
+
+stays_behind : {A : Type 0} (path : PathView) (step : Outcome A) (then_on : A → List Var → Outcome After)
+    → ((value : A) (left : List Var) → StaysAt path (then_on value left)) → StaysAt path (step >>= then_on)
+stays_behind path (Gives value left) then_on further = further value left
+stays_behind path (Needs variable) then_on further = tt
+stays_behind path (Alarms number value) then_on further = tt
+
+stays_on : (path : PathView) (step : Outcome After) → StaysAt path step → StaysAt path (step >>= λ after left. Gives (and_next after) left)
+stays_on path (Gives after left) stays = stays
+stays_on path (Needs variable) stays = tt
+stays_on path (Alarms number value) stays = tt
+
+module _ (fixed : Fixed) (path : PathView) where
+  offset_stays : (slot : Slot) (to : Result Point OffsetFault) (left : List Var) → StaysAt path (written_path (with_offset path slot to) left)
+  offset_stays slot (Ok to) left = refl
+  offset_stays slot (Err fault) left = tt
+
+  common_stays : (shared : Bool) (v : ℕ) (value : Var) → (with_common shared path v value).path.position ≡ path.position
+  common_stays true v value = refl
+  common_stays false v value = refl
+
+  written_stays : (v : Variable) (value : Var) (left : List Var) → StaysAt path (written fixed path v value left)
+  written_stays (variable.Local i) value left = refl
+  written_stays (variable.Common v) value left = common_stays (is_shared fixed v) v value
+  written_stays (variable.Work n axis) value left =
+      offset_stays (Work n) (in_range (along axis (length_of value) (point_at path.offsets (Work n)))) left
+  written_stays _ value left = tt
+
+  assigned_stays : (name : Named) (tree : Tree) (reads : List Var) → StaysAt path (assigned fixed path name tree reads)
+  assigned_stays name tree reads =
+      stays_behind path (named fixed path name reads) _
+      (λ v behind_name. stays_behind path (evaluated fixed path tree behind_name) _ (λ value left. written_stays v value left))
+
+  assigned_next_stays : (name : Named) (tree : Tree) (reads : List Var) → StaysAt path (assigned_next fixed path name tree reads)
+  assigned_next_stays name tree reads = stays_on path (assigned fixed path name tree reads) (assigned_stays name tree reads)
+
+  moved_stays : (to : Result Standing Cause) (left : List Var) → StaysAt path (moved path to left)
+  moved_stays (Ok standing) left = refl
+  moved_stays (Err cause) left = tt
+
+  gone_stays : (tape : List ControlProgram) (aim : Aim) (reads : List Var) → StaysAt path (gone_to tape fixed path aim reads)
+  gone_stays tape aim reads =
+      stays_behind path (aimed fixed path aim reads) _ (λ n left. moved_stays (jumped tape (standing_of path) n) left)
+
+  statement_stays : (tape : List ControlProgram) (sentence : Sentence) (reads : List Var) → StaysAt path (statement_effect tape fixed path sentence reads)
+  statement_stays tape (Assign name tree) reads = assigned_next_stays name tree reads
+  statement_stays tape (Goto aim) reads = gone_stays tape aim reads
+  statement_stays tape (IfGoto test aim) reads =
+      stays_behind path (tested fixed path test reads) _
+      (λ holds left. either (λ (o : Outcome After). StaysAt path o) holds (gone_to tape fixed path aim left) (gone_next path left) (gone_stays tape aim left) refl)
+  statement_stays tape (IfThen test name tree) reads =
+      stays_behind path (tested fixed path test reads) _
+      (λ holds left. either (λ (o : Outcome After). StaysAt path o) holds (assigned_next fixed path name tree left) (gone_next path left) (assigned_next_stays name tree left) refl)
+  statement_stays tape (WhileDo test name) reads =
+      stays_behind path (tested fixed path test reads) _
+      (λ holds left. either (λ (o : Outcome After). StaysAt path o) holds (gone_next path left) (moved path (loop_left tape (standing_of path)) left) refl
+      (moved_stays (loop_left tape (standing_of path)) left))
+  statement_stays tape (DoOnly name) reads = refl
+  statement_stays tape (EndLoop name) reads = moved_stays (loop_again tape (standing_of path)) reads
+
+-- what a block comes to leaves its path, which stood there, at the end of its moves
+abbrev pub LeadsOn : Point → Effect → Type 0
+LeadsOn at (effect.Done path write moves) = path.position ≡ last_end at moves
+LeadsOn at (effect.AtEnd path moves) = path.position ≡ last_end at moves
+LeadsOn at (effect.Need variable) = Unit {0}
+LeadsOn at (effect.AtWait code) = Unit {0}
+LeadsOn at (effect.Alarm number value) = Unit {0}
+
+abbrev IsMovedFrom : Point → Moved → Type 0
+IsMovedFrom at moved = moved.path.position ≡ last_end at moved.moves
+
+abbrev AreMovedFrom : Point → Result Moved ℕ → Type 0
+AreMovedFrom at (Ok moved) = IsMovedFrom at moved
+AreMovedFrom at (Err number) = Unit {0}
+
+motion_leads : (path : PathView) (modal : ModalView) (words : List FlowWord) (values : Values) (motion : Result Motion ℕ)
+    → AreMovedFrom path.position (after_motion path modal words values motion)
+motion_leads path modal words values (Ok motion) = refl
+motion_leads path modal words values (Err number) = tt
+
+modal_leads : (fixed : Fixed) (path : PathView) (words : List FlowWord) (values : Values) (modal : Result ModalView ℕ)
+    → AreMovedFrom path.position (motion_with fixed path words values modal)
+modal_leads fixed path words values (Ok modal) = motion_leads path modal words values _
+modal_leads fixed path words values (Err number) = tt
+
+done_leads : (at : Point) (moved : Moved) (to : Result Standing Cause) → IsMovedFrom at moved → LeadsOn at (done_by moved to)
+done_leads at moved (Ok standing) is = is
+done_leads at moved (Err cause) is = tt
+
+module _ (tape : List ControlProgram) where
+  controlled_leads : (at : Point) (moved : Moved) (arguments : Option (List Var)) (c : Control) → IsMovedFrom at moved
+      → LeadsOn at (controlled tape moved arguments c)
+  controlled_leads at moved arguments control.End is = is
+  controlled_leads at moved arguments c is = done_leads at moved (goes_on tape (standing_of moved.path) arguments c) is
+
+  moved_leads : (at : Point) (c : Control) (moved : Result Moved ℕ) → AreMovedFrom at moved → LeadsOn at (of_moved tape c moved)
+  moved_leads at c (Ok moved) is = controlled_leads at moved None c is
+  moved_leads at c (Err number) is = tt
+
+  values_lead : (fixed : Fixed) (path : PathView) (words : List FlowWord) (c : Control) (values : Outcome Values)
+      → LeadsOn path.position (of_values tape fixed path words c values)
+  values_lead fixed path words c (Gives values left) =
+      moved_leads path.position c (acted fixed path words values) (modal_leads fixed path words values (modal_after path.modal words values))
+  values_lead fixed path words c (Needs variable) = tt
+  values_lead fixed path words c (Alarms number value) = tt
+
+  arguments_lead : (path : PathView) (c : Control) (arguments : Outcome (List Var)) → LeadsOn path.position (of_arguments tape path c arguments)
+  arguments_lead path c (Gives arguments left) = controlled_leads path.position (record { path = path; moves = [] }) (Some arguments) c refl
+  arguments_lead path c (Needs variable) = tt
+  arguments_lead path c (Alarms number value) = tt
+
+  purpose_leads : (fixed : Fixed) (path : PathView) (purpose : Purpose) (words : List FlowWord) (c : Control) (reads : List Var)
+      → LeadsOn path.position (of_purpose tape fixed path purpose words c reads)
+  purpose_leads fixed path MacroCall words c reads = arguments_lead path c (arguments_taken fixed path words all_vacant reads)
+  purpose_leads fixed path purpose words c reads =
+      values_lead fixed path words c (words_taken fixed path (sense_of path purpose words) words nothing_said reads)
+
+  words_lead : (fixed : Fixed) (path : PathView) (purpose : Purpose) (words : List FlowWord) (c : Control) (reads : List Var)
+      → LeadsOn path.position (block_of_words tape fixed path purpose words c reads)
+  words_lead fixed path purpose words (control.Wait code) reads = tt
+  words_lead fixed path purpose words c reads = purpose_leads fixed path purpose words c reads
+
+  after_leads : (path : PathView) (after : Outcome After) → StaysAt path after → LeadsOn path.position (of_after after)
+  after_leads path (Gives after left) stays = stays
+  after_leads path (Needs variable) stays = tt
+  after_leads path (Alarms number value) stays = tt
+
+  body_leads : (fixed : Fixed) (path : PathView) (body : FlowBody) (c : Control) (reads : List Var)
+      → LeadsOn path.position (effect_of_body tape fixed path body c reads)
+  body_leads fixed path (Words words) c reads = words_lead fixed path words.purpose words.words c reads
+  body_leads fixed path (Statement statement) c reads =
+      after_leads path (statement_effect tape fixed path (sentence_of statement.statement) reads)
+      (statement_stays fixed path tape (sentence_of statement.statement) reads)
+
+  found_leads : (path : PathView) (found : Option FlowBlock) (reads : List Var) → LeadsOn path.position (effect_of_block tape path found reads)
+  found_leads path None reads = tt
+  found_leads path (Some block) reads = body_leads path.fixed path block.body block.control reads
+
+pub block_leads : (flow : Flow) (path : PathView) (reads : List Var) → LeadsOn path.position (effect_of flow path reads)
+block_leads flow path reads = found_leads flow.order path (block_at flow.programs path.place) reads

@@ -1,0 +1,95 @@
+-- A path stands where its moves led it.
+use Rattle.std.proofs.Common.{◌≡◌, ℕ, ◌==◌, Bool, true, false, List, [], ◌∷◌, ◌++◌, Option, Some, None, refl, ap, sym, ◌∙◌, unwrap_or}
+use Rattle.std.proofs.lemmas.List.{map-append}
+use Rattle.nc_number.specs.declared.path.Path.{Path}
+use Rattle.nc_number.specs.declared.path.Path.TheVariants.{One, Two}
+use Rattle.nc_number.specs.declared.point.Point.{Point}
+use Rattle.nc_moves.specs.declared.motion.Move.{Move}
+use Rattle.nc_moves.specs.declared.alarm.Alarm.{Alarm}
+use Rattle.nc_moves.specs.Motion.{end_of}
+use Rattle.nc_outside.specs.declared.lined_move.LinedMove.{LinedMove}
+use Rattle.run_records.specs.declared.entry.Entry.{Entry}
+use Rattle.tape_flow.specs.declared.flow.Flow.{Flow}
+use Rattle.path_state.specs.Moves.{last_end}
+use Rattle.path_state.specs.Effect.{Effect}
+use Rattle.path_state.specs.Effect as effect
+use Rattle.two_path.specs.Machine.{MachineView, own_first}
+use Rattle.two_path.specs.Turns.{TurnResult, Tapes, blocks_of, tapes_of, tape_of, result_at_wait, result_by, unless_idle, block_turn, own_turn, result, behind_meeting, crossed_waits, alarm_result}
+use Rattle.two_path.specs.declared.turn.Turn.TheVariants as turn
+use Rattle.two_path.specs.Histories.{with_reads, behind_step, behind_entry, fold}
+use Rattle.two_path.specs.Again.{turn_of_entry}
+use Rattle.two_path.specs.Made.{moves_of_turn, made_by, moves_in, turns_from, moves_of}
+use Rattle.two_path.proofs.Replays.{turn_at}
+use Rattle.zone_check.specs.Segments.{path_moves}
+use Rattle.zone_check.specs.Kept.{moves_by}
+use Rattle.zone_check.proofs.Folded.{what_by}
+use Rattle.zone_check.proofs.MovesLead.{either, LeadsOn, block_leads}
+
+-- a turn leaves the first path at the end of its moves, and the other where it stood
+abbrev LeadsBy : MachineView → TurnResult → Type 0
+LeadsBy m r = (r.machine.first.path.position ≡ last_end m.first.path.position (moves_of_turn r.turn))
+    × (r.machine.second.path.position ≡ m.second.path.position)
+
+wait_leads : (path : Path) (line : ℕ) (m : MachineView) (code : ℕ) (there : Option ℕ) → LeadsBy m (result_at_wait path line m code there)
+wait_leads path line m code None = (refl, refl)
+wait_leads path line m code (Some other) =
+    either (λ (r : TurnResult). LeadsBy m r) (code == other) (result (turn.Met code) (behind_meeting m)) (alarm_result (crossed_waits path line) m) (refl, refl) (refl, refl)
+
+effect_leads : (path : Path) (line : ℕ) (m : MachineView) (what : Effect) → LeadsOn m.first.path.position what → LeadsBy m (result_by path line m what)
+effect_leads path line m (effect.Need variable) is = (refl, refl)
+effect_leads path line m (effect.Done after write moves) is = (is, refl)
+effect_leads path line m (effect.AtWait code) is = wait_leads path line m code m.second.waiting
+effect_leads path line m (effect.AtEnd after moves) is = (is, refl)
+effect_leads path line m (effect.Alarm number value) is = (refl, refl)
+
+idle_leads : (m : MachineView) (alarm : Option Alarm) (finished : Bool) (waiting : Option ℕ) (rest : TurnResult) → LeadsBy m rest
+    → LeadsBy m (unless_idle m alarm finished waiting rest)
+idle_leads m (Some alarm) finished waiting rest is = (refl, refl)
+idle_leads m None true waiting rest is = (refl, refl)
+idle_leads m None false (Some code) rest is = (refl, refl)
+idle_leads m None false None rest is = is
+
+own_leads : (flow : Flow) (path : Path) (m : MachineView) → LeadsBy m (own_turn (blocks_of flow) path m)
+own_leads flow path m =
+    idle_leads m m.alarm m.first.finished m.first.waiting (block_turn (blocks_of flow) path m)
+    (effect_leads path ((blocks_of flow).line m.first.path.place) m ((blocks_of flow).effect m.first.path m.first.values)
+    (block_leads flow m.first.path m.first.values))
+
+-- where a path stands
+abbrev position_of : Path → MachineView → Point
+position_of path m = (own_first path m).first.path.position
+
+-- a record of this path, with these stamps, and where a path stands behind it
+step_leads : (left right : Flow) (of path : Path) (stamps : List ℕ) (m : MachineView)
+    → position_of path (own_first of (behind_step (tape_of (tapes_of left right) of) of stamps (own_first of m)))
+    ≡ last_end (position_of path m) (moves_by path of (own_turn (tape_of (tapes_of left right) of) of (with_reads (tape_of (tapes_of left right) of) stamps (own_first of m))).turn)
+step_leads left right One One stamps m = (own_leads left One (with_reads (blocks_of left) stamps m)).0
+step_leads left right One Two stamps m = (own_leads left One (with_reads (blocks_of left) stamps m)).1
+step_leads left right Two One stamps m = (own_leads right Two (with_reads (blocks_of right) stamps (own_first Two m))).1
+step_leads left right Two Two stamps m = (own_leads right Two (with_reads (blocks_of right) stamps (own_first Two m))).0
+
+last_end_on : (at : Point) (front back : List Move) → last_end at (front ++ back) ≡ last_end (last_end at front) back
+last_end_on at [] back = refl
+last_end_on at (move ∷ front) back = last_end_on (unwrap_or (end_of move) at) front back
+
+-- the moves of a record, and of those behind it
+path_first : (tapes : Tapes) (m : MachineView) (path : Path) (e : Entry) (entries : List Entry)
+    → path_moves tapes m path (e ∷ entries) ≡ moves_by path e.path (turn_of_entry tapes e m) ++ path_moves tapes (behind_entry tapes e m) path entries
+unfolding moves_in turns_from
+path_first tapes m path e entries =
+    map-append (λ (made : LinedMove). made.what) (made_by path (turn_at tapes m e)) (moves_of tapes (behind_entry tapes e m) path entries)
+    ∙ ap (λ (ms : List Move). ms ++ path_moves tapes (behind_entry tapes e m) path entries) (what_by path e.path (turn_of_entry tapes e m))
+
+pub positions_lead : (left right : Flow) (m : MachineView) (path : Path) (entries : List Entry)
+    → position_of path (fold (tapes_of left right) m entries)
+    ≡ last_end (position_of path m) (path_moves (tapes_of left right) m path entries)
+unfolding moves_in turns_from
+positions_lead left right m path [] = refl
+positions_lead left right m path (e ∷ entries) =
+    let tapes = tapes_of left right in
+    let next = behind_entry tapes e m in
+    let moves = moves_by path e.path (turn_of_entry tapes e m) in
+    positions_lead left right next path entries
+    ∙ ap (λ (at : Point). last_end at (path_moves tapes next path entries)) (step_leads left right e.path path e.stamps m)
+    ∙ sym (last_end_on (position_of path m) moves (path_moves tapes next path entries))
+    ∙ ap (last_end (position_of path m)) (sym (path_first tapes m path e entries))

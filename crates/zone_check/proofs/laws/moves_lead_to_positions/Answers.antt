@@ -1,0 +1,5 @@
+use Rattle.zone_check.proofs.TurnsLead.{positions_lead}
+use Rattle.zone_check.proofs.laws.moves_lead_to_positions.Goals as goal
+
+pub returns : goal.returns
+returns c = positions_lead

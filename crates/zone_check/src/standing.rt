@@ -1,0 +1,144 @@
+//! What is kept of the segment that goes on, and the zones of those that have ended.
+ghost use Rattle.std.specs.Prelude.{◌≡◌, [], ◌∷◌, ◌++◌, IfOk, OnOk};
+ghost use Rattle.nc_number.specs.declared.path.Path.TheVariants as Path;
+ghost use Rattle.motion_track.specs.Within.{AreMovesWithin};
+ghost use Rattle.two_path.specs.Made.{moves_of_turn};
+ghost use Rattle.zone_area.specs.Area.{swept_at, swept_along};
+ghost use Rattle.zone_check.specs.Segments.{is_meeting};
+ghost use Rattle.zone_check.specs.Kept.{moves_by, standing_at, standing_with, standing_zone, kept_with};
+
+use motion_track::LONGEST;
+use nc_number::{NoMemory, Path};
+use run_records::{Entry, EntryKind};
+use std::alloc::Global;
+use std::marker::Model;
+use two_path::{Machine, Turn};
+use zone_area::Swept;
+use zone_cell::{Zone, Zones};
+
+/// What both paths may have passed since they last met, and where they stand.
+#[derive(Debug, Drop)]
+struct Standing {
+    left: Swept,
+    right: Swept,
+}
+
+impl Model for Standing {
+    ghost use Rattle.zone_check.specs.Kept;
+
+    ghost Value = { Kept.StandingView };
+
+    ghost view = { λ s. record { left = s.left; right = s.right } };
+}
+
+/// The zones of the segments that have ended, and what is kept of the one that goes on.
+#[derive(Debug, Drop)]
+pub(crate) struct Kept {
+    list: Vec<Zone>,
+    standing: Standing,
+}
+
+impl Model for Kept {
+    ghost use Rattle.zone_check.specs.Kept;
+
+    ghost Value = { Kept.KeptView };
+
+    ghost view = { λ k. record { list = k.list.items; standing = k.standing } };
+}
+
+/// Adds the moves of a turn.
+fn add_turn(swept: &mut Swept, turn: &Turn)
+    requires { AreMovesWithin LONGEST (moves_of_turn turn.now) }
+    ensures { swept.new ≡ swept_along swept.old (moves_of_turn turn.now) }
+{
+    match turn {
+        Turn::Did { moves } => swept.add_all(moves.list.as_slice()),
+        Turn::Ended { moves } => swept.add_all(moves.list.as_slice()),
+        _ => {}
+    }
+}
+
+impl Standing {
+    /// Where the paths of the machine stand, before their next moves.
+    fn at(machine: &Machine) -> Standing
+        ensures { result ≡ standing_at machine.now.machine }
+    {
+        Standing {
+            left: Swept::from(machine.path(Path::One).position()),
+            right: Swept::from(machine.path(Path::Two).position()),
+        }
+    }
+
+    /// Adds a turn of this path.
+    fn add(&mut self, path: Path, turn: &Turn)
+        requires { AreMovesWithin LONGEST (moves_of_turn turn.now) }
+        ensures { self.new ≡ standing_with self.old path turn.now }
+    {
+        match path {
+            Path::One => add_turn(&mut self.left, turn),
+            Path::Two => add_turn(&mut self.right, turn),
+        }
+    }
+
+    /// The zone so far.
+    fn zone(&self, zones: &Zones) -> Zone
+        ensures { result ≡ standing_zone zones.now self.now }
+    {
+        zones.zone(&self.left.area(), &self.right.area())
+    }
+}
+
+/// Whether both paths met by the record.
+fn is_meeting(entry: &Entry) -> bool
+    ensures { result ≡ is_meeting entry.now }
+{
+    match entry.kind {
+        EntryKind::Did => false,
+        EntryKind::Arrived => false,
+        EntryKind::Met => true,
+        EntryKind::Ended => false,
+        EntryKind::Alarmed => false,
+    }
+}
+
+impl Kept {
+    /// Before the first record of a history, at the machine that it begins with.
+    pub(crate) fn at(alloc: Global, machine: &Machine) -> Kept
+        ensures list { result.list ≡ [] }
+        ensures standing { result.standing ≡ standing_at machine.now.machine }
+    {
+        Kept {
+            list: Vec::new(alloc),
+            standing: Standing::at(machine),
+        }
+    }
+
+    /// Takes a record, which led to this machine by this turn.
+    pub(crate) fn take(
+        &mut self,
+        zones: &Zones,
+        entry: &Entry,
+        turn: &Turn,
+        machine: &Machine,
+    ) -> Result<(), NoMemory>
+        requires { AreMovesWithin LONGEST (moves_of_turn turn.now) }
+        ensures { OnOk result (self.new ≡ kept_with zones.now entry.now turn.now machine.now.machine self.old) }
+    {
+        if is_meeting(entry) {
+            self.list.push(self.standing.zone(zones))?;
+            self.standing = Standing::at(machine);
+            return Ok(());
+        }
+        self.standing.add(entry.path, turn);
+        Ok(())
+    }
+
+    /// All zones, at the end of the history.
+    pub(crate) fn into_list(self, zones: &Zones) -> Result<Vec<Zone>, NoMemory>
+        ensures { IfOk result (λ v. v.items ≡ self.list ++ standing_zone zones.now self.standing ∷ []) }
+    {
+        let Kept { mut list, standing } = self;
+        list.push(standing.zone(zones))?;
+        Ok(list)
+    }
+}
