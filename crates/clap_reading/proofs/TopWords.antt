@@ -40,8 +40,10 @@ top_shape = record (new_shape (codes "twin_lathe")) {
 abbrev built_program : App
 built_program = record {
   top = top_shape;
-  subs = leaf (codes "verify") (pair_rules []) ∷ leaf (codes "waits") (pair_rules outside_options) ∷ leaf (codes "trace") (pair_rules block_options) ∷ leaf (codes "run") (pair_rules run_options) ∷ leaf (codes "resume") (option_rules run_options)
-      ∷ leaf (codes "moves") (option_rules []) ∷ leaf (codes "state") (option_rules []) ∷ leaf (codes "make") (one_rules (codes "number") turret_options)
+  subs = leaf (codes "verify") (pair_rules []) ∷ leaf (codes "waits") (pair_rules outside_options) ∷ leaf (codes "races") (pair_rules [])
+      ∷ leaf (codes "trace") (pair_rules block_options) ∷ leaf (codes "run") (pair_rules run_options) ∷ leaf (codes "resume") (option_rules run_options)
+      ∷ leaf (codes "moves") (option_rules []) ∷ leaf (codes "state") (option_rules []) ∷ leaf (codes "zones") (one_rules (codes "zones") [])
+      ∷ leaf (codes "make") (one_rules (codes "number") turret_options)
       ∷ leaf (codes "expand") (one_rules (codes "tape") []) ∷ [];
 }
 
@@ -117,7 +119,7 @@ IsUnknown word (row ∷ rows) = (bytes_eq row.name word ≡ false) × IsUnknown 
 
 meets_none : (word : Text) → IsUnknown word listings → subcommand_met names_top idle word ≡ None
 unfolding listings
-meets_none word u = rw (u.0, u.1.0, u.1.1.0, u.1.1.1.0, u.1.1.1.1.0, u.1.1.1.1.1.0, u.1.1.1.1.1.1.0, u.1.1.1.1.1.1.1.0, u.1.1.1.1.1.1.1.1.0) refl
+meets_none word u = rw (u.0, u.1.0, u.1.1.0, u.1.1.1.0, u.1.1.1.1.0, u.1.1.1.1.1.0, u.1.1.1.1.1.1.0, u.1.1.1.1.1.1.1.0, u.1.1.1.1.1.1.1.1.0, u.1.1.1.1.1.1.1.1.1.0, u.1.1.1.1.1.1.1.1.1.1.0) refl
 
 unknown_turn_fails : (word : Text) → subcommand_met names_top idle word ≡ None → WordKind [] word → bytes_eq word (codes "--") ≡ false
     → is_empty (turn_fault top_shape names_top start word) ≡ false
@@ -229,20 +231,26 @@ all_known = (
   (
     pair_is (codes "waits") outside_options journal.None task.Waits (record { left = refl; right = refl; settings = refl }) (record { first = refl; none = refl; found = refl }) (λ given. refl),
     (
-      pair_is (codes "trace") block_options journal.None task.Trace (record { left = refl; right = refl; settings = refl }) (record { first = refl; none = refl; found = refl }) (λ given. refl),
+      pair_is (codes "races") [] journal.None task.Races (record { left = refl; right = refl; settings = refl }) (record { first = refl; none = refl; found = refl }) (λ given. refl),
       (
-        pair_is (codes "run") run_options journal.Write task.Run (record { left = refl; right = refl; settings = refl }) (record { first = refl; none = refl; found = refl }) (λ given. refl),
+        pair_is (codes "trace") block_options journal.None task.Trace (record { left = refl; right = refl; settings = refl }) (record { first = refl; none = refl; found = refl }) (λ given. refl),
         (
-          alone_is (codes "resume") run_options journal.Write task.Resume (record { first = refl; none = refl; found = refl }) (λ given. refl),
+          pair_is (codes "run") run_options journal.Write task.Run (record { left = refl; right = refl; settings = refl }) (record { first = refl; none = refl; found = refl }) (λ given. refl),
           (
-            alone_is (codes "moves") [] journal.Look task.Moves (record { first = refl; none = refl; found = refl }) (λ given. refl),
+            alone_is (codes "resume") run_options journal.Write task.Resume (record { first = refl; none = refl; found = refl }) (λ given. refl),
             (
-              alone_is (codes "state") [] journal.Look task.State (record { first = refl; none = refl; found = refl }) (λ given. refl),
+              alone_is (codes "moves") [] journal.Look task.Moves (record { first = refl; none = refl; found = refl }) (λ given. refl),
               (
-                one_is (codes "make") (codes "number") turret_options journal.Write task.Make (record { own = refl; free = refl }) (record { first = refl; none = refl; found = refl }) (λ given. refl),
+                alone_is (codes "state") [] journal.Look task.State (record { first = refl; none = refl; found = refl }) (λ given. refl),
                 (
-                  one_is (codes "expand") (codes "tape") [] journal.None task.Expand (record { own = refl; free = refl }) (record { first = refl; none = refl; found = refl }) (λ given. refl),
-                  tt,
+                  one_is (codes "zones") (codes "zones") [] journal.Look task.Zones (record { own = refl; free = refl }) (record { first = refl; none = refl; found = refl }) (λ given. refl),
+                  (
+                    one_is (codes "make") (codes "number") turret_options journal.Write task.Make (record { own = refl; free = refl }) (record { first = refl; none = refl; found = refl }) (λ given. refl),
+                    (
+                      one_is (codes "expand") (codes "tape") [] journal.None task.Expand (record { own = refl; free = refl }) (record { first = refl; none = refl; found = refl }) (λ given. refl),
+                      tt,
+                    ),
+                  ),
                 ),
               ),
             ),

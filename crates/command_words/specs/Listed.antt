@@ -141,11 +141,13 @@ outside_of (Some text) = option_map Some (range_of text)
 abbrev pub command_with : Task → List Text → Limits → TurretFiles → Option Command
 command_with task.Verify (left ∷ right ∷ settings ∷ []) limits files = Some (command.Verify left right settings)
 command_with task.Waits (left ∷ right ∷ settings ∷ []) limits files = Some (command.Waits left right settings limits.outside)
+command_with task.Races (left ∷ right ∷ settings ∷ []) limits files = Some (command.Races left right settings)
 command_with task.Trace (left ∷ right ∷ settings ∷ []) limits files = Some (command.Trace left right settings limits.blocks)
 command_with task.Run (left ∷ right ∷ settings ∷ []) limits files = Some (command.Run left right settings limits.blocks files)
 command_with task.Resume [] limits files = Some (command.Resume limits.blocks files)
 command_with task.Moves [] limits files = Some command.Moves
 command_with task.State [] limits files = Some command.State
+command_with task.Zones (zones ∷ []) limits files = Some (command.Zones zones)
 command_with task.Make (number ∷ []) limits files = option_map (λ n. command.Make n files) (number_of 0 999999 number)
 command_with task.Expand (tape ∷ []) limits files = Some (command.Expand tape)
 command_with _ _ _ _ = None
@@ -198,11 +200,13 @@ gives_a_command row = is_some (command_given row (record { names = map (λ _. co
 abbrev pub files_in : Command → Option TurretFiles
 files_in (command.Verify left right settings) = None
 files_in (command.Waits left right settings outside) = None
+files_in (command.Races left right settings) = None
 files_in (command.Trace left right settings blocks) = None
 files_in (command.Run left right settings blocks files) = Some files
 files_in (command.Resume blocks files) = Some files
 files_in command.Moves = None
 files_in command.State = None
+files_in (command.Zones zones) = None
 files_in (command.Make number files) = Some files
 files_in (command.Expand tape) = None
 

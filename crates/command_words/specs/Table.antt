@@ -5,7 +5,7 @@ use Rattle.command_words.specs.declared.table.Journal.{Journal}
 use Rattle.command_words.specs.declared.table.Journal.TheVariants as journal
 use Rattle.command_words.specs.declared.table.Row.{Row}
 use Rattle.command_words.specs.declared.table.Task.{Task}
-use Rattle.command_words.specs.declared.table.Task.TheVariants.{Verify, Waits, Trace, Run, Resume, Moves, State, Make, Expand}
+use Rattle.command_words.specs.declared.table.Task.TheVariants.{Verify, Waits, Races, Trace, Run, Resume, Moves, State, Zones, Make, Expand}
 
 -- The commands of the program.
 
@@ -50,11 +50,13 @@ unfoldable pub listings : List Listing
 listings =
     listing (codes "verify") pair_words [] journal.None Verify
     ∷ listing (codes "waits") pair_words outside_options journal.None Waits
+    ∷ listing (codes "races") pair_words [] journal.None Races
     ∷ listing (codes "trace") pair_words block_options journal.None Trace
     ∷ listing (codes "run") pair_words run_options journal.Write Run
     ∷ listing (codes "resume") [] run_options journal.Write Resume
     ∷ listing (codes "moves") [] [] journal.Look Moves
     ∷ listing (codes "state") [] [] journal.Look State
+    ∷ listing (codes "zones") (codes "zones" ∷ []) [] journal.Look Zones
     ∷ listing (codes "make") (codes "number" ∷ []) turret_options journal.Write Make
     ∷ listing (codes "expand") (codes "tape" ∷ []) [] journal.None Expand ∷ []
 

@@ -58,6 +58,8 @@ pub enum Command {
     Verify(Name, Name, Name),
     /// Judge the waits of a pair of tapes under settings, where the tapes may lack the programs of the range.
     Waits(Name, Name, Name, Option<ProgramRange>),
+    /// List the races of a pair of tapes under settings.
+    Races(Name, Name, Name),
     /// Trace the run of a pair of tapes under settings, of at most this many blocks.
     Trace(Name, Name, Name, u32),
     /// Run a pair of tapes under settings, for at most this many blocks.
@@ -68,6 +70,8 @@ pub enum Command {
     Moves,
     /// Print the state of the run in the journal.
     State,
+    /// Judge by these zones where both turrets of the run in the journal may come to one place.
+    Zones(Name),
     /// Make the pair of tapes of this number and run it.
     Make(u32, TurretFiles),
     /// Write out the roughing cycles of a tape as plain blocks.
@@ -87,9 +91,11 @@ impl Command {
             Command::Make(_, files) => Some(files),
             Command::Verify(_, _, _) => None,
             Command::Waits(_, _, _, _) => None,
+            Command::Races(_, _, _) => None,
             Command::Trace(_, _, _, _) => None,
             Command::Moves => None,
             Command::State => None,
+            Command::Zones(_) => None,
             Command::Expand(_) => None,
         }
     }

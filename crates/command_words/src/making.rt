@@ -171,6 +171,14 @@ fn command_with(
             )),
             _ => Err(WordsFault::Usage),
         },
+        Task::Races => match words {
+            [left, right, settings] => Ok(Command::Races(
+                Name::new(alloc, left)?,
+                Name::new(alloc, right)?,
+                Name::new(alloc, settings)?,
+            )),
+            _ => Err(WordsFault::Usage),
+        },
         Task::Run => match words {
             [left, right, settings] => Ok(Command::Run(
                 Name::new(alloc, left)?,
@@ -191,6 +199,10 @@ fn command_with(
         },
         Task::State => match words {
             [] => Ok(Command::State),
+            _ => Err(WordsFault::Usage),
+        },
+        Task::Zones => match words {
+            [zones] => Ok(Command::Zones(Name::new(alloc, zones)?)),
             _ => Err(WordsFault::Usage),
         },
         Task::Make => match words {

@@ -8,11 +8,13 @@ ghost use Rattle.command_words.specs.Table.{journal_of, listings, row_in, row_of
 pub enum Task {
     Verify,
     Waits,
+    Races,
     Trace,
     Run,
     Resume,
     Moves,
     State,
+    Zones,
     Make,
     Expand,
 }
@@ -56,14 +58,16 @@ macro_rules! command_rows {
 }
 
 /// The commands of the program.
-const ROWS: [Row; 9] = command_rows! {
+const ROWS: [Row; 11] = command_rows! {
     "verify" ["left", "right", "settings"] [] None Verify;
     "waits" ["left", "right", "settings"] ["outside"] None Waits;
+    "races" ["left", "right", "settings"] [] None Races;
     "trace" ["left", "right", "settings"] ["blocks"] None Trace;
     "run" ["left", "right", "settings"] ["blocks", "turret1", "turret2"] Write Run;
     "resume" [] ["blocks", "turret1", "turret2"] Write Resume;
     "moves" [] [] Look Moves;
     "state" [] [] Look State;
+    "zones" ["zones"] [] Look Zones;
     "make" ["number"] ["turret1", "turret2"] Write Make;
     "expand" ["tape"] [] None Expand;
 };
