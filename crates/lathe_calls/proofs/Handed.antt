@@ -1,8 +1,8 @@
 -- What a call says, from what was told and handed out.
 use Rattle.std.proofs.Common.{◌≡◌, ℕ, List, [], true, length, refl, sym, subst, ◌∙◌, ap, arith}
 use Rattle.nc_verify.specs.Verdict.{Texts}
-use Rattle.lathe_looks.specs.Answers as answers
-use Rattle.lathe_looks.specs.Answers.{Answer, tells, Ends}
+use Rattle.lathe_calls.specs.Answers as answers
+use Rattle.lathe_calls.specs.Answers.{Answer, tells, Ends}
 use Rattle.lathe_calls.specs.declared.event.Event.{Event}
 use Rattle.lathe_calls.specs.declared.said.Said.{Said}
 use Rattle.lathe_calls.specs.Order.{AreDue, AreToldOf}

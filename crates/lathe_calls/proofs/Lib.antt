@@ -1,6 +1,9 @@
+pub mod Ended
+pub mod VerdictTold
+pub mod TurnsTold
+pub mod WaitsTold
 pub mod FitTexts
 pub mod Handed
 pub mod PairTold
 pub mod TurnByTurn
 pub mod EventsDue
-pub mod OfFiles

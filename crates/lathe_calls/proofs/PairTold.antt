@@ -8,11 +8,11 @@ use Rattle.nc_verify.specs.declared.verified.Verified.{Verified}
 use Rattle.nc_verify.specs.Verdict.{Texts, IsRefusalOf}
 use Rattle.run_records.specs.declared.entry.Entry.{Entry}
 use Rattle.turn_order.specs.declared.ending.TurnsEnd.{TurnsEnd}
-use Rattle.lathe_looks.specs.Answers.{Answer, tells, IsJust}
-use Rattle.lathe_looks.specs.Judged.{IsRefusing}
-use Rattle.lathe_looks.specs.Standing.{report_of, state_of}
-use Rattle.lathe_looks.specs.Statuses as exit
-use Rattle.lathe_looks.specs.Traced.{end_of, end_reason, end_status}
+use Rattle.lathe_calls.specs.Answers.{Answer, tells, IsJust}
+use Rattle.lathe_calls.specs.Judged.{IsRefusing}
+use Rattle.lathe_calls.specs.Reported.{report_of, state_of}
+use Rattle.lathe_calls.specs.Statuses as exit
+use Rattle.lathe_calls.specs.Traced.{end_of, end_reason, end_status}
 use Rattle.lathe_calls.specs.Due.{AreRecordsInTurn, IsOfPair, IsReportOf, IsStateOf, ran, refused, stands, unjudged}
 
 -- a refusal of the texts is answered by itself

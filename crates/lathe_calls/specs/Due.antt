@@ -1,4 +1,4 @@
--- What is due to three texts and a question: what the program's command answers of files with these texts.
+-- What is due to three texts and a question, whoever asks: a caller, or a command of the program over files with these texts.
 use Rattle.std.specs.Prelude.{ℕ, min, List, Some}
 use Rattle.nc_restart.specs.Pair.{IsPairOf, tapes_in, opening_of}
 use Rattle.nc_verify.specs.declared.refusal.Refusal.{Refusal}
@@ -7,12 +7,13 @@ use Rattle.nc_verify.specs.Verdict.{Texts, IsRefusalOf}
 use Rattle.nc_verify.specs.Printed.{IsVerdictText}
 use Rattle.run_records.specs.declared.entry.Entry.{Entry}
 use Rattle.turn_order.specs.InTurn.{IsInTurn}
-use Rattle.lathe_looks.specs.Answers.{Answer, tells, nothing}
-use Rattle.lathe_looks.specs.Judged.{IsJudged}
-use Rattle.lathe_looks.specs.Standing.{report_of, state_of}
-use Rattle.lathe_looks.specs.Traced.{IsTraced, end_of, end_reason, end_status}
-use Rattle.lathe_looks.specs.Waited.{AreWaits}
-use Rattle.lathe_looks.specs.Statuses as exit
+use Rattle.lathe_calls.specs.Answers.{Answer, tells, nothing}
+use Rattle.lathe_calls.specs.Judged.{IsJudged}
+use Rattle.lathe_calls.specs.Races.{AreRacesOf}
+use Rattle.lathe_calls.specs.Reported.{report_of, state_of}
+use Rattle.lathe_calls.specs.Traced.{IsTraced, end_of, end_reason, end_status}
+use Rattle.lathe_calls.specs.Waited.{AreWaits}
+use Rattle.lathe_calls.specs.Statuses as exit
 use Rattle.lathe_calls.specs.declared.said.Said.{Said}
 use Rattle.lathe_calls.specs.declared.question.Question.{Question}
 use Rattle.lathe_calls.specs.declared.question.Question.TheVariants as ask
@@ -48,6 +49,7 @@ IsDueTo (ask.Run limit) texts = IsOfPair (IsReportOf limit) texts
 IsDueTo (ask.Trace limit) texts = IsTraced limit texts
 IsDueTo (ask.State limit) texts = IsOfPair (IsStateOf limit) texts
 IsDueTo (ask.Waits outside) texts = AreWaits outside texts
+IsDueTo ask.Races texts = IsOfPair AreRacesOf texts
 
 -- what a call says of three texts and a question, and what it leaves in the room
 abbrev pub IsAnswerTo : Question → Texts → List ℕ → List ℕ → Said → Type 0

@@ -1,5 +1,12 @@
 -- What callers read.
+pub mod Statuses
+pub mod Answers
 pub mod Texts
+pub mod Judged
+pub mod Reported
+pub mod Traced
+pub mod Waited
+pub mod Races
 pub mod Due
 pub mod Said
 pub mod Events

@@ -13,8 +13,8 @@ use Rattle.two_path.specs.Histories.{Event as TurnEvent, TurnOf, IsLegal, histor
 use Rattle.turn_order.specs.declared.ending.TurnsEnd.{TurnsEnd}
 use Rattle.turn_order.specs.declared.ending.TurnsEnd.TheVariants as ends
 use Rattle.turn_order.specs.Ending.{end_of}
-use Rattle.lathe_looks.specs.Statuses as exit
-use Rattle.lathe_looks.specs.Traced.{end_status}
+use Rattle.lathe_calls.specs.Statuses as exit
+use Rattle.lathe_calls.specs.Traced.{end_status}
 use Rattle.lathe_calls.specs.declared.event.Event.{Event}
 use Rattle.lathe_calls.specs.declared.said.Said.{Said}
 use Rattle.lathe_calls.specs.Said.{IsSaid}

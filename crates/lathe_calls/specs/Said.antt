@@ -1,7 +1,7 @@
 -- What a call says, and what it leaves in the room that it was given.
 use Rattle.std.specs.Prelude.{◌≡◌, ◌≢◌, ℕ, true, false, List, ◌++◌, length, take, drop}
 use Rattle.nc_verify.specs.Verdict.{Texts}
-use Rattle.lathe_looks.specs.Statuses as exit
+use Rattle.lathe_calls.specs.Statuses as exit
 use Rattle.lathe_calls.specs.declared.said.Said.{Said}
 use Rattle.lathe_calls.specs.Texts.{are_fit}
 

@@ -1,24 +1,27 @@
 //! What is answered to three texts and a question.
-ghost use Rattle.std.specs.Prelude.{◌≡◌, true};
-ghost use Rattle.lathe_looks.specs.Answers.{Ends};
+ghost use Rattle.std.specs.Prelude.{◌<◌, ◌^◌, length};
+ghost use Rattle.lathe_calls.specs.Answers.{Ends};
 ghost use Rattle.lathe_calls.specs.Due.{IsAnswerTo, IsDueTo};
-ghost use Rattle.lathe_calls.specs.Texts.{are_fit, texts_of};
+ghost use Rattle.lathe_calls.specs.Texts.{texts_of};
 
+use crate::ending::Status;
 use crate::handing::hand_text;
 use crate::judging::judge;
 use crate::pair_texts::PairTexts;
 use crate::question::Question;
+use crate::racing::list_races;
 use crate::running::{report, show, trace};
 use crate::said::Said;
 use crate::text_sink::TextSink;
 use crate::waiting::judge_waits;
-use lathe_looks::Status;
 use nc_outside::Sink;
 use std::alloc::Global;
 
-/// Writes what is due to the texts and a question, and gives its status.
-fn tell<K: Sink>(alloc: Global, texts: &PairTexts<'_>, question: Question, out: &mut K) -> u8
-    requires { are_fit (texts_of texts.now) ≡ true }
+/// Writes what is due to the texts and a question, and gives its status. The program's commands answer so over their files.
+///
+/// The status is that of [`answer`], or 5 where the sink failed, 12 where it had no memory.
+pub fn tell<K: Sink>(alloc: Global, texts: &PairTexts<'_>, question: Question, out: &mut K) -> u8
+    requires { length texts.now.settings.now < 2 ^ 32 }
     ensures { Ends (IsDueTo question (texts_of texts.now)) (K.state out.old) (K.state out.new) result }
 {
     match question {
@@ -27,6 +30,7 @@ fn tell<K: Sink>(alloc: Global, texts: &PairTexts<'_>, question: Question, out: 
         Question::Trace(limit) => trace(alloc, texts, limit, out),
         Question::State(limit) => show(alloc, texts, limit, out),
         Question::Waits(outside) => judge_waits(alloc, texts, outside, out),
+        Question::Races => list_races(alloc, texts, out),
     }
 }
 

@@ -2,9 +2,9 @@
 ghost use Rattle.std.specs.Prelude.{◌≡◌, length};
 ghost use Rattle.lathe_calls.specs.Said.{IsHanded, handed, said};
 
+use crate::ending::Status;
 use crate::event::Event;
 use crate::said::Said;
-use lathe_looks::Status;
 
 /// Copies the front of a text into the room that there is, and tells how long the text is.
 fn hand_out(text: &[u8], room: &mut [u8]) -> usize

@@ -1,13 +1,14 @@
 //! The verdict of texts.
-ghost use Rattle.std.specs.Prelude.{◌≡◌, true};
-ghost use Rattle.lathe_looks.specs.Answers.{Ends};
-ghost use Rattle.lathe_looks.specs.Judged.{IsAcceptance, IsJudged};
-ghost use Rattle.lathe_calls.specs.Texts.{are_fit, texts_of};
+ghost use Rattle.std.specs.Prelude.{◌<◌, ◌^◌, length};
+ghost use Rattle.lathe_calls.specs.Answers.{Ends};
+ghost use Rattle.lathe_calls.specs.Judged.{IsAcceptance, IsJudged, IsRefusing};
+ghost use Rattle.lathe_calls.specs.Texts.{texts_of};
 
+use crate::ending::{Status, status_behind};
 use crate::pair_texts::PairTexts;
-use lathe_looks::{Status, refuse, status_behind};
+use nc_number::Failing;
 use nc_outside::Sink;
-use nc_verify::{Verified, verdict, write_verdict};
+use nc_verify::{Refusal, Verified, verdict, write_verdict};
 use std::alloc::Global;
 
 /// Writes that the pair is accepted. The pair itself is let go.
@@ -19,11 +20,24 @@ fn accept<K: Sink>(_pair: Verified, out: &mut K) -> u8
 
 /// Writes the verdict of the texts, and gives its status.
 pub(crate) fn judge<K: Sink>(alloc: Global, texts: &PairTexts<'_>, out: &mut K) -> u8
-    requires { are_fit (texts_of texts.now) ≡ true }
+    requires { length texts.now.settings.now < 2 ^ 32 }
     ensures { Ends (IsJudged (texts_of texts.now)) (K.state out.old) (K.state out.new) result }
 {
     match verdict(alloc, texts.left, texts.right, texts.settings) {
         Ok(pair) => accept(pair, out),
         Err(error) => refuse(&error, out),
+    }
+}
+
+/// Writes a refusal. Where memory was lacking nothing is written.
+pub fn refuse<K: Sink>(error: &Failing<Refusal>, out: &mut K) -> u8
+    ensures { Ends (IsRefusing error.now) (K.state out.old) (K.state out.new) result }
+{
+    match error {
+        Failing::Fault(refusal) => status_behind(
+            write_verdict(Some(refusal), out),
+            Status::Refused as u8,
+        ),
+        Failing::NoMemory => Status::NoMemory as u8,
     }
 }

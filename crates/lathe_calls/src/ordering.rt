@@ -10,7 +10,6 @@ ghost use Rattle.lathe_calls.specs.Events.{stamp_of, turn_events};
 use crate::event::{Event, Stamp};
 use crate::listing::push_turn;
 use nc_number::{NoMemory, Path};
-use nc_verify::Verified;
 use tape_flow::Flow;
 use turn_order::TurnsEnd;
 use two_path::Machine;

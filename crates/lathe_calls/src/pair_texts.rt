@@ -2,10 +2,10 @@ ghost use Rattle.std.specs.Prelude.{◌≡◌};
 ghost use Rattle.lathe_calls.specs.Texts.{are_fit, texts_of, three_texts};
 
 /// The most bytes of a tape.
-const LONGEST_TAPE: usize = 4_194_304;
+pub const LONGEST_TAPE: usize = 4_194_304;
 
 /// The most bytes of the settings.
-const LONGEST_SETTINGS: usize = 65_536;
+pub const LONGEST_SETTINGS: usize = 65_536;
 
 /// The texts of a call: the tape of path 1, that of path 2, and the settings of the cell.
 #[derive(Clone, Copy, Debug)]

@@ -13,4 +13,6 @@ pub enum Question {
     State(u32),
     /// The meetings of both tapes, read for their waits alone; they may lack the programs outside.
     Waits(Option<Outside>),
+    /// The races of the pair for shared variables.
+    Races,
 }

@@ -1,17 +1,18 @@
 //! The texts of the run of a pair whose paths take turns.
-ghost use Rattle.std.specs.Prelude.{◌≡◌, ◌≤◌, length, true};
+ghost use Rattle.std.specs.Prelude.{◌≡◌, ◌≤◌, ◌<◌, ◌^◌, length};
 ghost use Rattle.nc_restart.specs.Pair.{opening_of, tapes_in};
 ghost use Rattle.two_path.specs.Histories.{IsLegal};
-ghost use Rattle.lathe_looks.specs.Answers.{Ends, IsJust, tells};
-ghost use Rattle.lathe_looks.specs.Standing.{state_of};
-ghost use Rattle.lathe_looks.specs.Statuses as exit;
-ghost use Rattle.lathe_looks.specs.Traced.{IsTraceOf, IsTraced, end_reason, end_status};
+ghost use Rattle.lathe_calls.specs.Answers.{Ends, IsJust, tells};
+ghost use Rattle.lathe_calls.specs.Reported.{state_of};
+ghost use Rattle.lathe_calls.specs.Statuses as exit;
+ghost use Rattle.lathe_calls.specs.Traced.{IsTraceOf, IsTraced, end_reason, end_status};
 ghost use Rattle.lathe_calls.specs.Due.{IsOfPair, IsReportOf, IsStateOf};
-ghost use Rattle.lathe_calls.specs.Texts.{are_fit, texts_of};
+ghost use Rattle.lathe_calls.specs.Texts.{texts_of};
 
+use crate::ending::{Status, status_behind};
+use crate::judging::refuse;
 use crate::machine::machine_behind;
 use crate::pair_texts::PairTexts;
-use lathe_looks::{Status, refuse, status_behind};
 use move_list::{Reason, write_report, write_state};
 use nc_outside::Sink;
 use nc_verify::{Verified, verdict};
@@ -95,7 +96,7 @@ fn show_pair<K: Sink>(alloc: Global, pair: &Verified, limit: u32, out: &mut K) -
 
 /// Writes the report of the run of the texts, and gives its status.
 pub(crate) fn report<K: Sink>(alloc: Global, texts: &PairTexts<'_>, limit: u32, out: &mut K) -> u8
-    requires { are_fit (texts_of texts.now) ≡ true }
+    requires { length texts.now.settings.now < 2 ^ 32 }
     ensures { Ends (IsOfPair (IsReportOf limit) (texts_of texts.now)) (K.state out.old) (K.state out.new) result }
 {
     match verdict(alloc, texts.left, texts.right, texts.settings) {
@@ -106,7 +107,7 @@ pub(crate) fn report<K: Sink>(alloc: Global, texts: &PairTexts<'_>, limit: u32, 
 
 /// Writes the trace of the run of the texts, and gives its status.
 pub(crate) fn trace<K: Sink>(alloc: Global, texts: &PairTexts<'_>, limit: u32, out: &mut K) -> u8
-    requires { are_fit (texts_of texts.now) ≡ true }
+    requires { length texts.now.settings.now < 2 ^ 32 }
     ensures { Ends (IsTraced limit (texts_of texts.now)) (K.state out.old) (K.state out.new) result }
 {
     match verdict(alloc, texts.left, texts.right, texts.settings) {
@@ -117,7 +118,7 @@ pub(crate) fn trace<K: Sink>(alloc: Global, texts: &PairTexts<'_>, limit: u32, o
 
 /// Writes the state of the machine behind the records of the run of the texts, and gives its status.
 pub(crate) fn show<K: Sink>(alloc: Global, texts: &PairTexts<'_>, limit: u32, out: &mut K) -> u8
-    requires { are_fit (texts_of texts.now) ≡ true }
+    requires { length texts.now.settings.now < 2 ^ 32 }
     ensures { Ends (IsOfPair (IsStateOf limit) (texts_of texts.now)) (K.state out.old) (K.state out.new) result }
 {
     match verdict(alloc, texts.left, texts.right, texts.settings) {

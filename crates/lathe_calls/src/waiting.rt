@@ -1,14 +1,15 @@
 //! The meetings of texts that are read for their waits alone.
-ghost use Rattle.std.specs.Prelude.{◌≡◌, true};
+ghost use Rattle.std.specs.Prelude.{◌<◌, ◌^◌, length};
 ghost use Rattle.open_order.specs.Basis.{seen};
 ghost use Rattle.wait_verify.specs.Printed.{waits_text};
-ghost use Rattle.lathe_looks.specs.Answers.{Ends, IsJust, tells};
-ghost use Rattle.lathe_looks.specs.Statuses as exit;
-ghost use Rattle.lathe_looks.specs.Waited.{AreWaits};
-ghost use Rattle.lathe_calls.specs.Texts.{are_fit, texts_of};
+ghost use Rattle.lathe_calls.specs.Answers.{Ends, IsJust, tells};
+ghost use Rattle.lathe_calls.specs.Statuses as exit;
+ghost use Rattle.lathe_calls.specs.Waited.{AreWaits};
+ghost use Rattle.lathe_calls.specs.Texts.{texts_of};
 
+use crate::ending::{Status, write_text};
+use crate::judging::refuse;
 use crate::pair_texts::PairTexts;
-use lathe_looks::{Status, refuse, write_text};
 use nc_outside::Sink;
 use open_order::Outside;
 use std::alloc::Global;
@@ -33,7 +34,7 @@ pub(crate) fn judge_waits<K: Sink>(
     outside: Option<Outside>,
     out: &mut K,
 ) -> u8
-    requires { are_fit (texts_of texts.now) ≡ true }
+    requires { length texts.now.settings.now < 2 ^ 32 }
     ensures { Ends (AreWaits outside (texts_of texts.now)) (K.state out.old) (K.state out.new) result }
 {
     match verdict(alloc, texts.left, texts.right, texts.settings, outside) {

@@ -6,9 +6,9 @@ use Rattle.nc_verify.proofs.Named.{cause_named}
 use Rattle.tape_expand.specs.declared.fault.ExpandFault.{ExpandFault}
 use Rattle.tape_expand.specs.Expansion.{expansion_of, parts_in, AreClearParts}
 use Rattle.tape_expand.specs.Faults.{expand_number}
-use Rattle.lathe_looks.specs.Answers.{Answer, tells}
+use Rattle.lathe_calls.specs.Answers.{Answer, tells}
 use Rattle.lathe_looks.specs.Expanded.{IsExpanded, expanded, refused, IsTapeRefusing, refusal_text}
-use Rattle.lathe_looks.specs.Statuses as exit
+use Rattle.lathe_calls.specs.Statuses as exit
 
 -- the bytes of the tape that is written out
 pub expansion_told : (text bytes : List ℕ) → expansion_of text ≡ Ok bytes → AreClearParts (parts_in text)

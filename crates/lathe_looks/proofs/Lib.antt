@@ -1,8 +1,7 @@
-pub mod Ended
 pub mod NotHad
-pub mod Judging
+pub mod TextsLent
+pub mod OfFiles
 pub mod TextsShown
-pub mod TurnsTold
-pub mod WaitsTold
 pub mod ExpansionTold
 pub mod BadJournal
+pub mod ZonesTold

@@ -8,7 +8,7 @@ use Rattle.nc_outside.specs.Files.{Files, ShelfState, HoldsMore, HoldsOn, IsAske
 use Rattle.block_order.specs.Answers.{IfFault}
 use Rattle.lathe_looks.specs.declared.fetching.FileFault.{FileFault}
 use Rattle.lathe_looks.specs.declared.fetching.Unfetched.{Unfetched}
-use Rattle.lathe_looks.specs.Answers.{Answer}
+use Rattle.lathe_calls.specs.Answers.{Answer}
 use Rattle.lathe_looks.specs.Named.{Named, most_bytes}
 use Rattle.lathe_looks.specs.Fetched.{AreAsked, AreHad, AreSome, AreTexts, FileCause, failed, absent, too_long, IsNotHad, IsOfFiles, not_had, unread, IsText, IsUnfetched, Reaches, file_of, unfetched}
 

@@ -6,7 +6,8 @@ use Rattle.nc_restart.specs.Pair.{tapes_in, machine_behind}
 use Rattle.nc_verify.specs.declared.verified.Verified.{Verified}
 use Rattle.run_records.specs.declared.entry.Entry.{Entry}
 use Rattle.two_path.specs.Machine.{MachineView}
-use Rattle.lathe_looks.specs.Standing.{reason_of, report_of, moves_text, state_of}
+use Rattle.lathe_calls.specs.Reported.{report_of, state_of}
+use Rattle.lathe_looks.specs.Standing.{reason_of, moves_text}
 
 pub moves_are : (pair : Verified) (entries : List Entry) (machine : MachineView) (reason : Reason) → machine ≡ machine_behind pair entries
     → reason ≡ reason_of machine → report_of pair entries reason ≡ moves_text pair entries

@@ -7,8 +7,8 @@ use Rattle.tape_expand.specs.declared.fault.ExpandFault.{ExpandFault}
 use Rattle.tape_expand.specs.declared.fault.ExpandFault.TheVariants.{Unreadable, Cycle}
 use Rattle.tape_expand.specs.Expansion.{expansion_of, parts_in, AreClearParts}
 use Rattle.tape_expand.specs.Faults.{expand_line, expand_number}
-use Rattle.lathe_looks.specs.Answers.{Answer, tells, nothing}
-use Rattle.lathe_looks.specs.Statuses as exit
+use Rattle.lathe_calls.specs.Answers.{Answer, tells, nothing}
+use Rattle.lathe_calls.specs.Statuses as exit
 
 -- the name of a refusal, of which this is the cause, with a blank before it
 abbrev pub fault_name_text : Option Cause → ExpandFault → List ℕ

@@ -7,9 +7,9 @@ use Rattle.nc_outside.specs.Files.{Files, ShelfState, Holds, HoldsMore, Lacks}
 use Rattle.lathe_looks.specs.declared.fetching.FileFault.{FileFault}
 use Rattle.lathe_looks.specs.declared.fetching.FileFault.TheVariants.{Failed, Absent, TooLong}
 use Rattle.lathe_looks.specs.declared.fetching.Unfetched.{Unfetched}
-use Rattle.lathe_looks.specs.Answers.{Answer, tells, nothing}
+use Rattle.lathe_calls.specs.Answers.{Answer, tells, nothing}
 use Rattle.lathe_looks.specs.Named.{Named, named, most_bytes}
-use Rattle.lathe_looks.specs.Statuses as exit
+use Rattle.lathe_calls.specs.Statuses as exit
 
 -- the shelf has this text under the name of the file, and it is not too long
 abbrev pub IsText : Option Files → Named → List ℕ → Type 0

@@ -1,13 +1,9 @@
 -- What callers read.
-pub mod Statuses
-pub mod Answers
 pub mod Named
 pub mod Fetched
-pub mod Judged
 pub mod Standing
 pub mod Shown
-pub mod Traced
-pub mod Waited
 pub mod Expanded
+pub mod Zoned
 -- Words of the inside.
 pub mod Texts

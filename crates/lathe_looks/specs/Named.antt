@@ -1,8 +1,9 @@
 -- The files that a command names.
 use Rattle.std.specs.Prelude.{ℕ, List, [], ◌∷◌}
 use Rattle.nc_verify.specs.Verdict.{Texts}
+use Rattle.lathe_calls.specs.Texts.{longest_settings, longest_tape}
 use Rattle.lathe_looks.specs.declared.files.CommandFile.{CommandFile}
-use Rattle.lathe_looks.specs.declared.files.CommandFile.TheVariants.{Left, Right, Settings, Tape}
+use Rattle.lathe_looks.specs.declared.files.CommandFile.TheVariants.{Left, Right, Settings, Tape, Zones}
 
 -- a file of a command: which of them it is, and its name
 pub record Named : Type 0 where
@@ -14,10 +15,11 @@ named file name = record { file = file; name = name }
 
 -- the most bytes that a file of a command may have
 abbrev pub most_bytes : CommandFile → ℕ
-most_bytes Left = 4194304
-most_bytes Right = 4194304
-most_bytes Settings = 65536
-most_bytes Tape = 4194304
+most_bytes Left = longest_tape
+most_bytes Right = longest_tape
+most_bytes Settings = longest_settings
+most_bytes Tape = longest_tape
+most_bytes Zones = longest_settings
 
 -- the files of both tapes
 abbrev pub tapes_of : List ℕ → List ℕ → List Named
@@ -31,10 +33,14 @@ files_of left right settings = named Left left ∷ named Right right ∷ named S
 abbrev pub tape_named : List ℕ → List Named
 tape_named name = named Tape name ∷ []
 
+-- a text of zones by itself
+abbrev pub zones_named : List ℕ → List Named
+zones_named name = named Zones name ∷ []
+
 -- the texts of these files, in their order
 abbrev pub listed : Texts → List (List ℕ)
 listed texts = texts.left ∷ texts.right ∷ texts.settings ∷ []
 
--- the text of a tape by itself
+-- the text of a file by itself
 abbrev pub alone : List ℕ → List (List ℕ)
 alone text = text ∷ []

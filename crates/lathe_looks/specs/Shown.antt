@@ -10,9 +10,10 @@ use Rattle.nc_verify.specs.declared.verified.Verified.{Verified}
 use Rattle.run_records.specs.declared.entry.Entry.{Entry}
 use Rattle.lathe_looks.specs.declared.showing.Showing.{Showing}
 use Rattle.lathe_looks.specs.declared.showing.Showing.TheVariants.{Moves, State}
-use Rattle.lathe_looks.specs.Answers.{Answer, tells, nothing}
-use Rattle.lathe_looks.specs.Standing.{moves_text, state_of}
-use Rattle.lathe_looks.specs.Statuses as exit
+use Rattle.lathe_calls.specs.Answers.{Answer, tells, nothing}
+use Rattle.lathe_calls.specs.Reported.{state_of}
+use Rattle.lathe_looks.specs.Standing.{moves_text}
+use Rattle.lathe_calls.specs.Statuses as exit
 
 -- an offset of the journal
 abbrev pub at_text : ℕ → List ℕ

@@ -1,13 +1,12 @@
--- Why the machine of a run stands where it does, and the report of its history.
+-- Why the machine of a run stands where it does, and the report of its history so far.
 use Rattle.std.specs.Prelude.{ℕ, Bool, true, false, ◌&&◌, ◌||◌, is_some, List, Option, Some, None}
 use Rattle.nc_moves.specs.declared.alarm.Alarm.{Alarm}
 use Rattle.move_list.specs.declared.end_line.Reason.{Reason}
-use Rattle.move_list.specs.Report.{report_text}
-use Rattle.move_list.specs.State.{state_text}
 use Rattle.nc_verify.specs.declared.verified.Verified.{Verified}
 use Rattle.run_records.specs.declared.entry.Entry.{Entry}
 use Rattle.two_path.specs.Machine.{MachineView}
-use Rattle.nc_restart.specs.Pair.{tapes_in, opening_of, machine_behind}
+use Rattle.nc_restart.specs.Pair.{machine_behind}
+use Rattle.lathe_calls.specs.Reported.{report_of}
 
 -- why a machine stands where it does, if nothing else stopped it: an alarm, or both paths have ended, or neither
 abbrev pub reason_by : Option Alarm → Bool → Reason
@@ -25,14 +24,6 @@ reason_of m = reason_by m.alarm (are_finished m)
 abbrev pub is_over : MachineView → Bool
 is_over m = is_some m.alarm || are_finished m
 
--- the report of a history of a pair
-abbrev pub report_of : Verified → List Entry → Reason → List ℕ
-report_of pair entries reason = report_text (tapes_in pair) (opening_of pair) entries reason
-
 -- the report of a history so far
 abbrev pub moves_text : Verified → List Entry → List ℕ
 moves_text pair entries = report_of pair entries (reason_of (machine_behind pair entries))
-
--- the state of the machine after a history
-abbrev pub state_of : Verified → List Entry → List ℕ
-state_of pair entries = state_text (tapes_in pair) (machine_behind pair entries)

@@ -1,15 +1,15 @@
 //! The command `expand`.
 ghost use Rattle.std.specs.Prelude.{◌≡◌, ◌++◌, OnOk, codes};
 ghost use Rattle.nc_verify.specs.Printed.{name_text, numbered};
-ghost use Rattle.lathe_looks.specs.Answers.{Ends, IsJust, tells};
+ghost use Rattle.lathe_calls.specs.Answers.{Ends, IsJust, tells};
 ghost use Rattle.lathe_looks.specs.Expanded.{IsExpanded, IsTapeRefusing, at_line_text, fault_name_text, refusal_text};
 ghost use Rattle.lathe_looks.specs.Fetched.{IsOfFiles};
 ghost use Rattle.lathe_looks.specs.Named.{alone, tape_named};
-ghost use Rattle.lathe_looks.specs.Statuses as exit;
+ghost use Rattle.lathe_calls.specs.Statuses as exit;
 
-use crate::ending::{Status, write_text};
 use crate::fetching::{fetch_tape, tell_unfetched};
 use crate::printing::{push_bytes, push_number};
+use lathe_calls::{Status, write_text};
 use nc_number::{Cause, Failing, NoMemory};
 use nc_outside::{Shelf, Sink};
 use std::alloc::Global;

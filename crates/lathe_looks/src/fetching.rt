@@ -1,15 +1,15 @@
 //! The texts of the files of a command, or the first of them that is not had.
-ghost use Rattle.std.specs.Prelude.{◌≡◌, ◌≤◌, [], ◌∷◌, ◌++◌, OnOk, IfOk, IfErr};
+ghost use Rattle.std.specs.Prelude.{◌≡◌, ◌≤◌, ◌<◌, ◌^◌, [], ◌∷◌, ◌++◌, length, OnOk, IfOk, IfErr};
 ghost use Rattle.block_order.specs.Answers.{IfFault};
 ghost use Rattle.nc_outside.specs.Files.{HoldsOn};
-ghost use Rattle.lathe_looks.specs.Answers.{Ends, IsJust, tells};
-ghost use Rattle.lathe_looks.specs.Named.{alone, listed, named, tape_named, tapes_of};
+ghost use Rattle.lathe_calls.specs.Answers.{Ends, IsJust, tells};
+ghost use Rattle.lathe_looks.specs.Named.{alone, listed, named, tape_named, tapes_of, zones_named};
 ghost use Rattle.lathe_looks.specs.Texts.{files_in, texts_of};
 ghost use Rattle.lathe_looks.specs.Fetched.{AreAsked, AreHad, FileCause, IsText, IsUnfetched, fault_status, fault_text, file_of, unfetched};
 
-use crate::ending::{Status, write_text};
 use crate::files::{CommandFile, FileNames};
 use crate::printing::push_bytes;
+use lathe_calls::{Status, write_text};
 use nc_number::{Failing, NoMemory};
 use nc_outside::{FetchFault, Shelf, Sink};
 use std::alloc::Global;
@@ -137,6 +137,22 @@ pub(crate) fn fetch_tape<'a, H: Shelf>(
     ensures not_had { IfErr result (IsUnfetched (H.state shelf.old) (H.state shelf.new) (tape_named name.now)) }
 {
     match fetch(alloc, shelf, CommandFile::Tape, name) {
+        Ok(text) => Ok(text),
+        Err(error) => Err(error),
+    }
+}
+
+/// The text of zones.
+pub(crate) fn fetch_zones<'a, H: Shelf>(
+    alloc: Global,
+    shelf: &mut H,
+    name: &'a str,
+) -> Result<Vec<u8>, Failing<Unfetched<'a>>>
+    ensures text { IfOk result (λ text. AreHad (H.state shelf.old) (H.state shelf.new) (zones_named name.now) (alone text.items)) }
+    ensures short { IfOk result (λ text. length text.items < 2 ^ 32) }
+    ensures not_had { IfErr result (IsUnfetched (H.state shelf.old) (H.state shelf.new) (zones_named name.now)) }
+{
+    match fetch(alloc, shelf, CommandFile::Zones, name) {
         Ok(text) => Ok(text),
         Err(error) => Err(error),
     }

@@ -2,11 +2,7 @@
 ghost use Rattle.std.specs.Prelude.{◌≡◌};
 ghost use Rattle.lathe_looks.specs.Named.{most_bytes};
 
-/// The most bytes of a tape.
-const LONGEST_TAPE: usize = 4_194_304;
-
-/// The most bytes of the settings.
-const LONGEST_SETTINGS: usize = 65_536;
+use lathe_calls::{LONGEST_SETTINGS, LONGEST_TAPE};
 
 /// Which of the files of a command.
 #[derive(Clone, Copy, Debug, PartialEq, Eq)]
@@ -19,6 +15,8 @@ pub enum CommandFile {
     Settings,
     /// A tape by itself.
     Tape,
+    /// How the paths lie in one cell.
+    Zones,
 }
 
 impl CommandFile {
@@ -28,7 +26,7 @@ impl CommandFile {
     {
         match self {
             CommandFile::Left | CommandFile::Right | CommandFile::Tape => LONGEST_TAPE,
-            CommandFile::Settings => LONGEST_SETTINGS,
+            CommandFile::Settings | CommandFile::Zones => LONGEST_SETTINGS,
         }
     }
 }

@@ -1,15 +1,22 @@
-//! Why there is no run to go on with or to show.
-ghost use Rattle.std.specs.Prelude.{◌≡◌, ◌++◌, OnOk};
-ghost use Rattle.lathe_looks.specs.Answers.{Ends, IsJust, tells};
+//! What is told where a command can't begin: its words are none, or there is no run to go on with or to show.
+ghost use Rattle.std.specs.Prelude.{◌≡◌, ◌++◌, OnOk, codes};
+ghost use Rattle.lathe_calls.specs.Answers.{Ends, IsJust, tells};
 ghost use Rattle.lathe_looks.specs.Shown.{at_text, bad_text, unfound};
-ghost use Rattle.lathe_looks.specs.Statuses as exit;
+ghost use Rattle.lathe_calls.specs.Statuses as exit;
 
-use crate::ending::{Status, write_text};
 use crate::printing::{push_bytes, push_number};
+use lathe_calls::{Status, write_text};
 use nc_number::NoMemory;
 use nc_outside::Sink;
 use nc_restart::RestartFault;
 use std::alloc::Global;
+
+/// Writes that the words are no command, and gives the status of that.
+pub fn tell_usage<K: Sink>(out: &mut K) -> u8
+    ensures { Ends (IsJust (tells exit.usage (codes "usage\n"))) (K.state out.old) (K.state out.new) result }
+{
+    write_text(out, b"usage\n", Status::Usage as u8)
+}
 
 /// Writes why no run was found, and gives the status of that.
 pub fn tell_unfound<K: Sink>(alloc: Global, fault: RestartFault, out: &mut K) -> u8

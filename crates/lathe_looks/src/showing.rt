@@ -1,14 +1,13 @@
 //! The commands that show what the journal on the disk holds. They write nothing to it.
-ghost use Rattle.std.specs.Prelude.{◌≡◌};
 ghost use Rattle.nc_restart.specs.Recovered.{IsRecovered};
 ghost use Rattle.nc_verify.specs.Printed.{IsPut};
-ghost use Rattle.lathe_looks.specs.Answers.{Ends};
+ghost use Rattle.lathe_calls.specs.Answers.{Ends};
 ghost use Rattle.lathe_looks.specs.Shown.{IsShown, shown_text};
 
-use crate::ending::{Status, status_behind};
 use crate::refusing::tell_unfound;
 use crate::standing::reason_of;
 use disk_model::Disk;
+use lathe_calls::{Status, status_behind};
 use move_list::{write_report, write_state};
 use nc_outside::{PutFault, Sink};
 use nc_restart::{Recovered, recover};

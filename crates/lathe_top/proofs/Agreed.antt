@@ -1,7 +1,7 @@
 -- Answers that agree: one status and one text, or nothing was told.
 use Rattle.std.proofs.Common.{◌≡◌, ℕ, List, take, sym, subst}
 use Rattle.nc_outside.specs.Written.{SinkState, Writes}
-use Rattle.lathe_looks.specs.Answers.{Answer, tells, nothing, Ends, whole, cut, unwritten, untold}
+use Rattle.lathe_calls.specs.Answers.{Answer, tells, nothing, Ends, whole, cut, unwritten, untold}
 use Rattle.lathe_top.specs.Done.{IsOr, itself, sink_failed, memory_wanting, IsTold, in_full, cut_off, left_off}
 
 abbrev pub Agree : Answer → Answer → Type 0

@@ -6,9 +6,9 @@ use Rattle.disk_model.specs.Device.{DiskState}
 use Rattle.nc_verify.specs.declared.verified.Verified.{Verified}
 use Rattle.nc_verify.specs.Verdict.{Texts}
 use Rattle.run_records.specs.declared.entry.Entry.{Entry}
-use Rattle.lathe_looks.specs.Answers.{Answer, whole, cut, unwritten, untold}
+use Rattle.lathe_calls.specs.Answers.{Answer, whole, cut, unwritten, untold}
 use Rattle.lathe_looks.specs.Fetched.{IsOfFiles, not_had, unread, answers}
-use Rattle.lathe_looks.specs.Named.{Named, listed}
+use Rattle.lathe_looks.specs.Named.{Named, alone, listed, zones_named}
 use Rattle.lathe_looks.specs.Shown.{IsShown, shown, unshown}
 use Rattle.lathe_top.specs.Done as done
 use Rattle.lathe_top.specs.Done.{Call, TopState, command_of, IsDone, IsDue, IsDueTo}
@@ -18,6 +18,7 @@ use Rattle.lathe_top.specs.Kinds.{Kind, begins, goes_on, kind_of}
 use Rattle.lathe_top.specs.Lathe.{LatheState, AreAtRest}
 use Rattle.lathe_top.specs.Ran.{TextOf, IsReported, reported, unprepared, IsRun, refused, unjudged, not_begun, ran, IsResumed, not_found, resumed}
 use Rattle.lathe_top.specs.Session.{Session, IsSession}
+use Rattle.lathe_top.specs.Zoned.{IsZoned, bad_zones, unread_zones, zoned}
 
 module _ {D : Type 0} (state : D → DiskState) where
   session_left : (opening : Opening) (limit : ℕ) (text_of : TextOf) (s : Session) (old new : LatheState) (answer : Answer) → IsSession s
@@ -61,6 +62,18 @@ module _ {D : Type 0} (state : D → DiskState) where
   look_left text_of old new answer (shown found pair accepted history recovers) rest =
       record { disk = inr (record { result = Ok found; recovers = recovers }); turrets = rest }
 
+  zoned_left : (text : List ℕ) (old new : LatheState) (answer : Answer) → IsZoned old new text answer → OnlyLooks old new
+  zoned_left text old new answer (bad_zones is rests) = record { disk = inl rests.disk; turrets = rests.turrets }
+  zoned_left text old new answer (unread_zones rests) = record { disk = inl rests.disk; turrets = rests.turrets }
+  zoned_left text old new answer (zoned is told rest) = look_left _ old new answer told rest
+
+  zones_left : (files : List Named) (old new : TopState) (answer : Answer)
+      → IsOfFiles alone files (RestsWhole old.lathe new.lathe) (IsZoned old.lathe new.lathe) old.shelf new.shelf answer
+      → OnlyLooks old.lathe new.lathe
+  zones_left files old new answer (not_had missing rests) = record { disk = inl rests.disk; turrets = rests.turrets }
+  zones_left files old new answer (unread some rests) = record { disk = inl rests.disk; turrets = rests.turrets }
+  zones_left files old new answer (answers text are is) = zoned_left text old.lathe new.lathe answer is
+
   resumed_left : (limit : ℕ) (old new : LatheState) (answer : Answer) → IsResumed state limit old new answer
       → Leaves state (goes_on limit) old new
   resumed_left limit old new answer (not_found fault recovers rest) =
@@ -71,12 +84,14 @@ module _ {D : Type 0} (state : D → DiskState) where
       → Leaves state (kind_of (Some asked)) old.lathe new.lathe
   due_left (command.Verify left right settings) old new answer due = due.1
   due_left (command.Waits left right settings outside) old new answer due = due.1
+  due_left (command.Races left right settings) old new answer due = due.1
   due_left (command.Trace left right settings limit) old new answer due = due.1
   due_left (command.Run left right settings limit turrets) old new answer due = files_left limit _ _ old new answer due
   due_left (command.Resume limit turrets) old new answer due = resumed_left limit old.lathe new.lathe answer due.0
   due_left command.Moves old new answer due = look_left _ old.lathe new.lathe answer due.0 due.1
   due_left command.State old new answer due = look_left _ old.lathe new.lathe answer due.0 due.1
   due_left (command.Make number turrets) old new answer due = run_left _ _ _ old.lathe new.lathe answer due.0
+  due_left (command.Zones name) old new answer due = zones_left (zones_named name) old new answer due
   due_left (command.Expand tape) old new answer due = due.1
 
   -- who calls nothing does what any kind may

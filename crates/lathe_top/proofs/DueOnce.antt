@@ -46,7 +46,7 @@ use Rattle.nc_restart.specs.declared.fault.RestartFault.TheVariants as restart
 use Rattle.nc_restart.specs.Pair.{texts_of, IsPairOf, IsSamePair, machine_behind, opening_of, tapes_in}
 use Rattle.nc_restart.specs.Meaning.{StandsForRun}
 use Rattle.nc_restart.specs.Recovered.{Recovers}
-use Rattle.lathe_looks.specs.Answers.{Answer, tells, nothing}
+use Rattle.lathe_calls.specs.Answers.{Answer, tells, nothing}
 use Rattle.lathe_looks.specs.declared.showing.Showing.{Showing}
 use Rattle.lathe_looks.specs.declared.showing.Showing.TheVariants.{Moves, State}
 use Rattle.tape_expand.specs.declared.fault.ExpandFault.{ExpandFault}
@@ -54,21 +54,29 @@ use Rattle.tape_expand.specs.Faults.{expand_number}
 use Rattle.lathe_looks.specs.Expanded as expand
 use Rattle.lathe_looks.specs.Expanded.{IsExpanded, refusal_text}
 use Rattle.lathe_looks.specs.Fetched.{AreTexts, FileCause, IsOfFiles, not_had, unread, answers, fault_status, fault_text}
-use Rattle.lathe_looks.specs.Judged as judged
-use Rattle.lathe_looks.specs.Judged.{IsJudged}
-use Rattle.lathe_looks.specs.Named.{Named, alone, files_of, listed, tape_named}
+use Rattle.lathe_calls.specs.Judged as judged
+use Rattle.lathe_calls.specs.Judged.{IsJudged}
+use Rattle.lathe_looks.specs.Named.{Named, alone, files_of, listed, tape_named, zones_named}
+use Rattle.lathe_looks.specs.Zoned.{bad_zone_text, zones_text}
+use Rattle.zone_cell.specs.Zones.{ZonesView}
+use Rattle.lathe_top.specs.Zoned.{IsZoned, bad_zones, unread_zones, zoned}
+use Rattle.lathe_top.proofs.ZonesDue.{zones_hang}
 use Rattle.lathe_looks.specs.Shown.{IsShown, shown, unshown, unfound, bad_text, shown_text}
-use Rattle.lathe_looks.specs.Standing.{are_finished, is_over, reason_of, report_of}
+use Rattle.lathe_calls.specs.Reported.{report_of}
+use Rattle.lathe_looks.specs.Standing.{are_finished, is_over, reason_of}
 use Rattle.open_order.specs.declared.outside.Outside.{Outside}
 use Rattle.wait_verify.specs.Asked.{Asked}
 use Rattle.wait_verify.specs.Verdict as waits
 use Rattle.wait_verify.specs.Verdict.{Judged}
-use Rattle.lathe_looks.specs.Waited as waited
-use Rattle.lathe_looks.specs.Waited.{AreWaits, asked_of}
+use Rattle.lathe_calls.specs.Due as due
+use Rattle.lathe_calls.specs.Due.{IsOfPair}
+use Rattle.lathe_calls.specs.Races.{AreRacesOf}
+use Rattle.lathe_calls.specs.Waited as waited
+use Rattle.lathe_calls.specs.Waited.{AreWaits, asked_of}
 use Rattle.lathe_top.specs.Outside.{outside_in}
-use Rattle.lathe_looks.specs.Traced as traced
-use Rattle.lathe_looks.specs.Traced.{IsTraceOf, IsTraced, end_of, end_reason, end_status}
-use Rattle.lathe_looks.specs.Statuses as exit
+use Rattle.lathe_calls.specs.Traced as traced
+use Rattle.lathe_calls.specs.Traced.{IsTraceOf, IsTraced, end_of, end_reason, end_status}
+use Rattle.lathe_calls.specs.Statuses as exit
 use Rattle.lathe_looks.proofs.NotHad.{all_had, fault_once, missing_once, texts_once}
 use Rattle.lathe_top.specs.Lathe.{LatheState}
 use Rattle.lathe_top.specs.Made.{made_limit, made_text, made_texts}
@@ -82,6 +90,7 @@ use Rattle.lathe_top.specs.Done.{Call, command_of, IsDue, IsDueTo, Serves, Serve
 use Rattle.lathe_top.proofs.Agreed.{Agree, agree_nothing}
 use Rattle.lathe_top.proofs.RunsFound.{least_is}
 use Rattle.lathe_top.proofs.OneMeeting.{one_text}
+use Rattle.lathe_top.proofs.OneRaces.{races_of_once}
 
 -- no three texts are both accepted and refused
 abbrev pub NotBoth : Type 0
@@ -189,6 +198,19 @@ traced_once law once machine run limit texts a b (traced.refused {refusal} {text
 traced_once law once machine run limit texts a b (traced.refused denied v) traced.untraced = tt
 traced_once law once machine run limit texts a b traced.untraced other = tt
 
+races_once : NotBoth → OneRefusal → OneMachine → (texts : Texts) (a b : Answer) → IsOfPair AreRacesOf texts a → IsOfPair AreRacesOf texts b → Agree a b
+races_once law once machine texts a b (due.accepted pair is one) (due.accepted other is' two) =
+    races_of_once pair other a b (machine texts pair other is is') one two
+races_once law once machine texts a b (due.accepted pair is one) (due.refused {refusal} denied w) =
+    absurd (law texts _ _ _ refusal is denied)
+races_once law once machine texts a b (due.accepted pair is one) due.unjudged = agree_nothing a
+races_once law once machine texts a b (due.refused {refusal} denied w) (due.accepted pair is two) =
+    absurd (law texts _ _ _ refusal is denied)
+races_once law once machine texts a b (due.refused {refusal} {text} denied v) (due.refused {refusal = other} {text = line} too w) =
+    (refl, line_once refusal other text line (once texts refusal other denied too) v w)
+races_once law once machine texts a b (due.refused denied v) due.unjudged = tt
+races_once law once machine texts a b due.unjudged other = tt
+
 -- what follows of files that are had, whose texts are told by their list
 files_once : {A : Type 0} (list_of : A → List (List ℕ)) → ((texts others : A) → list_of texts ≡ list_of others → texts ≡ others)
     → (told : Files) (files : List Named) (Rests : Type 0) (IsAnswer : A → Answer → Type 0) (old new : ShelfState) → old.files ≡ Some told
@@ -286,6 +308,10 @@ shown_hangs Moves pair other same entries =
     λ i. report_text (same.tapes i) (same.opening i) entries (reason_of (fold (same.tapes i) (same.opening i) entries))
 shown_hangs State pair other same entries = λ i. state_text (same.tapes i) (fold (same.tapes i) (same.opening i) entries)
 
+-- so does a text that is shown
+abbrev pub ShownHangs : (Verified → List Entry → List ℕ) → Type 0
+ShownHangs text_of = (pair other : Verified) → IsSamePair pair other → (entries : List Entry) → text_of pair entries ≡ text_of other entries
+
 -- the header and the records of a run
 abbrev pub header_in : Header → Meaning → Header
 header_in other no_run = other
@@ -356,19 +382,28 @@ module _ (one_run : OneRun) (one_machine : OneMachine) (old new : DiskState) (by
       let e = one_run bytes (bad_at offset cause) (a_run header entries) (one.refused.1 bytes holds) stands in absurd (cc)
   none_found restart.NoMemory header entries one stands = refl
 
-  shown_once : (showing : Showing) (a b : Answer) → IsShown (shown_text showing) old new a → IsShown (shown_text showing) old new b → Agree a b
-  shown_once showing a b (unshown f one) (unshown g two) = unfound_once f g one two
-  shown_once showing a b (unshown f one) (shown found pair is history two) =
+  shown_by_once : (text_of : Verified → List Entry → List ℕ) → ShownHangs text_of → (a b : Answer) → IsShown text_of old new a → IsShown text_of old new b → Agree a b
+  shown_by_once text_of hangs a b (unshown f one) (unshown g two) = unfound_once f g one two
+  shown_by_once text_of hangs a b (unshown f one) (shown found pair is history two) =
       subst (λ x. Agree x b) (sym (none_found f found.header found.entries one (two.found.means bytes holds))) tt
-  shown_once showing a b (shown found pair is history one) (unshown g two) =
+  shown_by_once text_of hangs a b (shown found pair is history one) (unshown g two) =
       subst (Agree a) (sym (none_found g found.header found.entries two (one.found.means bytes holds))) tt
-  shown_once showing a b (shown found pair is history one) (shown found' pair' is' history' two) =
+  shown_by_once text_of hangs a b (shown found pair is history one) (shown found' pair' is' history' two) =
       let same : a_run found.header found.entries ≡ a_run found'.header found'.entries =
       one_run bytes (a_run found.header found.entries) (a_run found'.header found'.entries) (one.found.means bytes holds) (two.found.means bytes holds) in
       let header : found.header ≡ found'.header = ap (header_in found.header) same in
       let entries : found.entries ≡ found'.entries = ap (entries_in found.entries) same in
       let pairs = pairs_same one_machine found.header found'.header pair pair' header is is' in
-      (refl, shown_hangs showing pair pair' pairs found.entries ∙ ap (shown_text showing pair') entries)
+      (refl, hangs pair pair' pairs found.entries ∙ ap (text_of pair') entries)
+
+  shown_once : (showing : Showing) (a b : Answer) → IsShown (shown_text showing) old new a → IsShown (shown_text showing) old new b → Agree a b
+  shown_once showing a b one two = shown_by_once (shown_text showing) (shown_hangs showing) a b one two
+
+  -- and by one text of zones
+  same_zones : (zones other : ZonesView) (a b : Answer) → zones ≡ other → IsShown (zones_text zones) old new a → IsShown (zones_text other) old new b
+      → Agree a b
+  same_zones zones other a b same one two =
+      shown_by_once (zones_text other) (zones_hang other) a b (subst (λ (z : ZonesView). IsShown (zones_text z) old new a) same one) two
 
 -- and of a run, while no turret failed
 module _ {D : Type 0} (state : D → DiskState) (both : NotBoth) (one_refusal : OneRefusal) (one_run : OneRun) (one_journal : OneJournal)
@@ -489,6 +524,20 @@ module _ {D : Type 0} (state : D → DiskState) (both : NotBoth) (one_refusal : 
   resumed_once limit a b (run.resumed x is found report) (run.resumed x' is' found' report') =
       reported_once _ limit report_of report_hangs x x' a b is is' report report'
 
+-- and of zones
+module _ (one_run : OneRun) (one_machine : OneMachine) (old new : LatheState) (bytes : List ℕ) (holds : Reads old.disk bytes)
+    (calm : DiskRose old.disk.faults new.disk.faults → ⊥) where
+  zoned_once : (text : List ℕ) (a b : Answer) → IsZoned old new text a → IsZoned old new text b → Agree a b
+  zoned_once text a b (bad_zones {line} is rests) (bad_zones {line = other} too rests') =
+      let same : line ≡ other = cc in (refl, ap bad_zone_text same)
+  zoned_once text a b (bad_zones is rests) (unread_zones rests') = tt
+  zoned_once text a b (bad_zones is rests) (zoned too told rest) = absurd cc
+  zoned_once text a b (unread_zones rests) two = tt
+  zoned_once text a b (zoned is told rest) (bad_zones too rests) = absurd cc
+  zoned_once text a b (zoned is told rest) (unread_zones rests) = agree_nothing a
+  zoned_once text a b (zoned {zones} is told rest) (zoned {zones = other} too told' rest') =
+      let same : zones ≡ other = cc in same_zones one_run one_machine old.disk new.disk bytes holds calm zones other a b same told told'
+
 -- one answer is due to a command, and to a call
 module _ {D : Type 0} (state : D → DiskState) (both : NotBoth) (one_refusal : OneRefusal) (one_run : OneRun) (one_journal : OneJournal)
     (one_machine : OneMachine) (in_turn : OneInTurn) (waits_apart : WaitsApart) (one_wait_refusal : OneWaitRefusal) (call : Call) (coherent : IsCoherent call.after.lathe.disk) where
@@ -499,6 +548,9 @@ module _ {D : Type 0} (state : D → DiskState) (both : NotBoth) (one_refusal : 
   due_to_once (command.Waits l r c o) a b files others one two =
       files_once listed same_texts files.0.0 (files_of l r c) (Unit {0}) (AreWaits (outside_in o)) call.before.shelf call.after.shelf files.0.1 files.1
       (waits_once waits_apart one_wait_refusal (outside_in o)) a b one.0 two.0
+  due_to_once (command.Races l r c) a b files others one two =
+      files_once listed same_texts files.0.0 (files_of l r c) (Unit {0}) (IsOfPair AreRacesOf) call.before.shelf call.after.shelf files.0.1 files.1
+      (races_once both one_refusal one_machine) a b one.0 two.0
   due_to_once (command.Trace l r c n) a b files others one two =
       files_once listed same_texts files.0.0 (files_of l r c) (Unit {0}) (IsTraced n) call.before.shelf call.after.shelf files.0.1 files.1
       (traced_once both one_refusal one_machine in_turn n) a b one.0 two.0
@@ -518,6 +570,10 @@ module _ {D : Type 0} (state : D → DiskState) (both : NotBoth) (one_refusal : 
   due_to_once (command.Make n turrets) a b files others one two =
       run_once state both one_refusal one_run one_journal one_machine call.before.lathe call.after.lathe coherent others.0.bytes others.0.tells others.0.calm
       others.1 made_limit (made_text n) (made_hangs n) (made_texts n) a b one.0 two.0
+  due_to_once (command.Zones name) a b files others one two =
+      files_once alone same_text files.0.0 (zones_named name) (RestsWhole call.before.lathe call.after.lathe) (IsZoned call.before.lathe call.after.lathe)
+      call.before.shelf call.after.shelf files.0.1 files.1
+      (zoned_once one_run one_machine call.before.lathe call.after.lathe others.bytes others.tells others.calm) a b one two
   due_to_once (command.Expand tape) a b files others one two =
       files_once alone same_text files.0.0 (tape_named tape) (Unit {0}) IsExpanded call.before.shelf call.after.shelf files.0.1 files.1 expanded_once
       a b one.0 two.0

@@ -17,11 +17,11 @@ use Rattle.turret_run.specs.Runs.{Turrets, turret_for}
 use Rattle.nc_restart.specs.declared.fault.RestartFault.{RestartFault}
 use Rattle.nc_restart.specs.declared.fault.RestartFault.TheVariants as restart
 use Rattle.nc_restart.specs.Recovered.{Recovers}
-use Rattle.lathe_looks.specs.Answers.{Answer}
+use Rattle.lathe_calls.specs.Answers.{Answer}
 use Rattle.lathe_looks.specs.Fetched.{IsOfFiles, not_had, unread, answers}
-use Rattle.lathe_looks.specs.Named.{Named, listed}
+use Rattle.lathe_looks.specs.Named.{Named, alone, listed, zones_named}
 use Rattle.lathe_looks.specs.Shown.{IsShown, shown, unshown, unfound}
-use Rattle.lathe_looks.specs.Statuses as exit
+use Rattle.lathe_calls.specs.Statuses as exit
 use Rattle.lathe_top.specs.Done as done
 use Rattle.lathe_top.specs.Done.{Call, TopState, IsDue, IsDueTo}
 use Rattle.lathe_top.specs.Kept.{Opening, IsRefusedBeginning, RestsWhole}
@@ -29,6 +29,7 @@ use Rattle.lathe_top.specs.Lathe.{LatheState, AreAtRest}
 use Rattle.lathe_top.specs.Ran as run
 use Rattle.lathe_top.specs.Ran.{TextOf, IsRun, IsReported, reported, unprepared, IsResumed, not_found, resumed, unbegun}
 use Rattle.lathe_top.specs.Session.{Session, NoneFailed, EndsBy, over, full, stopped, disk_failed, turret_failed, reason_status}
+use Rattle.lathe_top.specs.Zoned.{IsZoned, bad_zones, unread_zones, zoned}
 use Rattle.lathe_top.proofs.Agreed.{HasStatus}
 
 -- Something failed: if it was the disk this status is 6, and else it is 7.
@@ -91,6 +92,17 @@ module _ {D : Type 0} (state : D → DiskState) (wanted : ℕ) (old new : LatheS
   files_first limit text_of files shelf shelf' a (unread all rests) = tt
   files_first limit text_of files shelf shelf' a (answers texts are from) = run_first limit text_of texts a from
 
+  zoned_first : (text : List ℕ) (a : Answer) → IsZoned old new text a → HasStatus wanted a
+  zoned_first text a (bad_zones is rests) = absurd (not_rested rests)
+  zoned_first text a (unread_zones rests) = tt
+  zoned_first text a (zoned is told rest) = shown_first _ a told rest
+
+  zones_first : (files : List Named) (shelf shelf' : ShelfState) (a : Answer)
+      → IsOfFiles alone files (RestsWhole old new) (IsZoned old new) shelf shelf' a → HasStatus wanted a
+  zones_first files shelf shelf' a (not_had missing rests) = absurd (not_rested rests)
+  zones_first files shelf shelf' a (unread all rests) = tt
+  zones_first files shelf shelf' a (answers text are from) = zoned_first text a from
+
 -- and so of a command, and of a call
 module _ {D : Type 0} (state : D → DiskState) (wanted : ℕ) (call : Call) (some : NoneFailed call.before.lathe call.after.lathe → ⊥)
     (of_disk : DiskRose call.before.lathe.disk.faults call.after.lathe.disk.faults → exit.disk_fault ≡ wanted)
@@ -105,6 +117,7 @@ module _ {D : Type 0} (state : D → DiskState) (wanted : ℕ) (call : Call) (so
   command_first : (asked : Command) (a : Answer) → IsDueTo state asked call.before call.after a → HasStatus wanted a
   command_first (command.Verify l r c) a due = absurd (not_rested state wanted old new some of_disk of_turret due.1)
   command_first (command.Trace l r c n) a due = absurd (not_rested state wanted old new some of_disk of_turret due.1)
+  command_first (command.Races l r c) a due = absurd (not_rested state wanted old new some of_disk of_turret due.1)
   command_first (command.Waits l r c o) a due = absurd (not_rested state wanted old new some of_disk of_turret due.1)
   command_first (command.Run l r c n turrets) a due =
       files_first state wanted old new some of_disk of_turret n _ _ call.before.shelf call.after.shelf a due
@@ -112,6 +125,8 @@ module _ {D : Type 0} (state : D → DiskState) (wanted : ℕ) (call : Call) (so
   command_first command.Moves a due = shown_first state wanted old new some of_disk of_turret _ a due.0 due.1
   command_first command.State a due = shown_first state wanted old new some of_disk of_turret _ a due.0 due.1
   command_first (command.Make n turrets) a due = run_first state wanted old new some of_disk of_turret _ _ _ a due.0
+  command_first (command.Zones name) a due =
+      zones_first state wanted old new some of_disk of_turret (zones_named name) call.before.shelf call.after.shelf a due
   command_first (command.Expand tape) a due = absurd (not_rested state wanted old new some of_disk of_turret due.1)
 
   call_first : (a : Answer) → IsDue state call a → HasStatus wanted a

@@ -19,7 +19,7 @@ use Rattle.two_path.specs.Machine.{MachineView}
 use Rattle.two_path.specs.Histories.{IsKept}
 use Rattle.nc_restart.specs.Pair.{tapes_in, opening_of, machine_behind}
 use Rattle.nc_restart.specs.History.{IsHistory}
-use Rattle.lathe_looks.specs.Answers.{nothing}
+use Rattle.lathe_calls.specs.Answers.{nothing}
 use Rattle.lathe_looks.specs.Standing.{is_over}
 use Rattle.lathe_top.specs.Lathe.{LatheState}
 use Rattle.lathe_top.specs.Ran.{TextOf}

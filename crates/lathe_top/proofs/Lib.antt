@@ -5,6 +5,8 @@ pub mod RunsBegun
 pub mod RunsFound
 pub mod Agreed
 pub mod OneMeeting
+mod OneRaces
+mod ZonesDue
 pub mod DueOnce
 pub mod FaultsFirst
 pub mod RowsSay

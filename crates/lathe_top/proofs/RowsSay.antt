@@ -21,10 +21,12 @@ abbrev journal_by : Task → Journal
 journal_by task.Verify = journal.None
 journal_by task.Trace = journal.None
 journal_by task.Waits = journal.None
+journal_by task.Races = journal.None
 journal_by task.Run = journal.Write
 journal_by task.Resume = journal.Write
 journal_by task.Moves = journal.Look
 journal_by task.State = journal.Look
+journal_by task.Zones = journal.Look
 journal_by task.Make = journal.Write
 journal_by task.Expand = journal.None
 
@@ -59,6 +61,12 @@ does_as task.Waits (a ∷ b ∷ []) blocks outside files asked is = absurd cc
 does_as task.Waits (a ∷ b ∷ c ∷ []) blocks outside files asked is =
     let same : command.Waits a b c outside ≡ asked = cc in subst (λ x. Does x journal.None) same refl
 does_as task.Waits (a ∷ b ∷ c ∷ d ∷ rest) blocks outside files asked is = absurd cc
+does_as task.Races [] blocks outside files asked is = absurd cc
+does_as task.Races (a ∷ []) blocks outside files asked is = absurd cc
+does_as task.Races (a ∷ b ∷ []) blocks outside files asked is = absurd cc
+does_as task.Races (a ∷ b ∷ c ∷ []) blocks outside files asked is =
+    let same : command.Races a b c ≡ asked = cc in subst (λ x. Does x journal.None) same refl
+does_as task.Races (a ∷ b ∷ c ∷ d ∷ rest) blocks outside files asked is = absurd cc
 does_as task.Run [] blocks outside files asked is = absurd cc
 does_as task.Run (a ∷ []) blocks outside files asked is = absurd cc
 does_as task.Run (a ∷ b ∷ []) blocks outside files asked is = absurd cc
@@ -72,6 +80,9 @@ does_as task.Moves [] blocks outside files asked is = let same : command.Moves �
 does_as task.Moves (a ∷ rest) blocks outside files asked is = absurd cc
 does_as task.State [] blocks outside files asked is = let same : command.State ≡ asked = cc in subst (λ x. Does x journal.Look) same refl
 does_as task.State (a ∷ rest) blocks outside files asked is = absurd cc
+does_as task.Zones [] blocks outside files asked is = absurd cc
+does_as task.Zones (a ∷ []) blocks outside files asked is = let same : command.Zones a ≡ asked = cc in subst (λ x. Does x journal.Look) same refl
+does_as task.Zones (a ∷ b ∷ rest) blocks outside files asked is = absurd cc
 does_as task.Make [] blocks outside files asked is = absurd cc
 does_as task.Make (a ∷ []) blocks outside files asked is = made_number files (number_of 0 999999 a) asked is
 does_as task.Make (a ∷ b ∷ rest) blocks outside files asked is = absurd cc
@@ -113,7 +124,7 @@ Say (row ∷ rows) = (row.journal ≡ journal_by row.task) × Say rows
 
 listings_say : Say listings
 unfolding listings
-listings_say = (refl, (refl, (refl, (refl, (refl, (refl, (refl, (refl, (refl, tt)))))))))
+listings_say = (refl, (refl, (refl, (refl, (refl, (refl, (refl, (refl, (refl, (refl, (refl, tt)))))))))))
 
 found_says : (rows : List Listing) (name : Text) (row : Listing) → Say rows → row_in rows name ≡ Some row → row.journal ≡ journal_by row.task
 found_says [] name row say is = absurd cc

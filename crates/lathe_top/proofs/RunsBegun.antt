@@ -20,8 +20,8 @@ use Rattle.run_table.specs.Running.{MayRun, IsNoneOrAlarm}
 use Rattle.turret_run.specs.Runs.{Turrets, none_missed}
 use Rattle.two_path.specs.Machine.{MachineView}
 use Rattle.nc_restart.specs.Pair.{texts_of, IsPairOf, machine_behind}
-use Rattle.lathe_looks.specs.Answers.{Answer, nothing}
-use Rattle.lathe_looks.specs.Judged.{IsRefusing}
+use Rattle.lathe_calls.specs.Answers.{Answer, nothing}
+use Rattle.lathe_calls.specs.Judged.{IsRefusing}
 use Rattle.lathe_looks.specs.Standing.{is_over}
 use Rattle.lathe_top.specs.Going.{Standing, IsReport, report, stayed}
 use Rattle.lathe_top.specs.Kept.{IsRefusedBeginning, RestsWhole}

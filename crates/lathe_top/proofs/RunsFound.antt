@@ -18,8 +18,9 @@ use Rattle.turret_run.specs.Runs.{Turrets, none_missed}
 use Rattle.two_path.specs.Machine.{MachineView}
 use Rattle.nc_restart.specs.Pair.{texts_of, IsPairOf, machine_behind}
 use Rattle.nc_restart.specs.Recovered.{FoundRun, IsRecovered, Recovers}
-use Rattle.lathe_looks.specs.Answers.{Answer}
-use Rattle.lathe_looks.specs.Standing.{are_finished, is_over, reason_by, reason_of, report_of}
+use Rattle.lathe_calls.specs.Answers.{Answer}
+use Rattle.lathe_calls.specs.Reported.{report_of}
+use Rattle.lathe_looks.specs.Standing.{are_finished, is_over, reason_by, reason_of}
 use Rattle.lathe_top.specs.Going.{IsReport, report, stayed, KeepsGoing}
 use Rattle.lathe_top.specs.Kept.{end_of}
 use Rattle.lathe_top.specs.Lathe.{LatheState}

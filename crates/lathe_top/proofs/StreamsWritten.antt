@@ -18,22 +18,20 @@ use Rattle.nc_restart.specs.declared.fault.RestartFault.TheVariants as restart
 use Rattle.nc_verify.specs.Verdict.{Texts}
 use Rattle.run_records.specs.declared.entry.Entry.{Entry}
 use Rattle.seat_table.specs.Turning as seat
-use Rattle.two_path.specs.declared.turn.Turn.{Turn}
-use Rattle.two_path.specs.declared.turn.Turn.TheVariants as turn
 use Rattle.two_path.specs.Again.{turn_of_entry}
 use Rattle.two_path.specs.Histories.{behind_entry, fold, is_same}
 use Rattle.two_path.specs.Machine.{MachineView}
 use Rattle.two_path.specs.Turns.{Tapes}
 use Rattle.turret_lines.specs.Stream.{stream_of}
-use Rattle.run_table.specs.Made as made
 use Rattle.run_table.specs.Made.{moves_made, shown_from}
 use Rattle.move_list.specs.declared.end_line.Reason.{Reason}
-use Rattle.move_list.specs.Report.{lined_text, made_in, moves_in, moves_of, turns_from}
+use Rattle.two_path.specs.Made.{made_in, moves_in, moves_of, turns_from}
+use Rattle.move_list.specs.Report.{lined_text}
 use Rattle.move_list.proofs.Streams.{later_moves, stream_is}
 use Rattle.nc_restart.specs.Pair.{tapes_in, opening_of}
 use Rattle.turret_run.specs.Served.{told, GetsAll}
 use Rattle.turret_run.specs.Runs.{place_of, turret_for}
-use Rattle.lathe_looks.specs.Answers.{Answer, tells, nothing, whole, cut, unwritten, untold}
+use Rattle.lathe_calls.specs.Answers.{Answer, tells, nothing, whole, cut, unwritten, untold}
 use Rattle.lathe_looks.specs.declared.fetching.FileFault.{FileFault}
 use Rattle.lathe_looks.specs.declared.fetching.FileFault.TheVariants.{Failed, Absent, TooLong}
 use Rattle.lathe_looks.specs.Fetched.{IsOfFiles, not_had, unread, answers, fault_status}
@@ -50,18 +48,6 @@ use Rattle.lathe_top.specs.Session.{IsSession, Session, machine_found, reason_st
 use Rattle.lathe_top.specs.Streams.{GetsStream, HasStreams, IsStream, IsUncut, MakesRecords, report_lines}
 use Rattle.lathe_top.specs.Turrets.{due_to, IsEnding}
 
--- the moves of a turn are the same, however they are told
-same_turn : (t : Turn) → made.moves_of t ≡ made_in t
-same_turn (turn.Did moves) = refl
-same_turn (turn.Ended moves) = refl
-same_turn (turn.Read variable stamp) = refl
-same_turn (turn.Arrived code) = refl
-same_turn (turn.Met code) = refl
-same_turn (turn.Waiting code) = refl
-same_turn turn.Finished = refl
-same_turn (turn.Alarm alarm) = refl
-same_turn (turn.Halted alarm) = refl
-
 -- the moves that a run shows of a path's records are those of its report
 same_moves : (tapes : Tapes) (m : MachineView) (path : Path) (entries : List Entry)
     → seat.moves_in (shown_from tapes m path entries) ≡ moves_of tapes m path entries
@@ -73,8 +59,7 @@ same_moves tapes m path (e ∷ entries) =
     go : (b : Bool) → is_same path e.path ≡ b
         → seat.moves_in (shown_from tapes (behind_entry tapes e m) path entries) ≡ moves_of tapes (behind_entry tapes e m) path entries
         → seat.moves_in (shown_from tapes m path (e ∷ entries)) ≡ moves_of tapes m path (e ∷ entries)
-    go true is rest = rw is (ap (λ (l : List LinedMove). made.moves_of (turn_of_entry tapes e m) ++ l) rest
-        ∙ ap (λ (l : List LinedMove). l ++ moves_of tapes (behind_entry tapes e m) path entries) (same_turn (turn_of_entry tapes e m)))
+    go true is rest = rw is (ap (λ (l : List LinedMove). made_in (turn_of_entry tapes e m) ++ l) rest)
     go false is rest = rw is rest
 
 -- what is due to a turret is written as the stream of its path
@@ -247,12 +232,14 @@ module _ {D : Type 0} (state : D → DiskState) (call : Call) where
       → IsUncut (answer_status answer) → HasStreams state call (answer_status answer)
   due_streams (command.Verify left right settings) answer due makes uncut = absurd makes
   due_streams (command.Trace left right settings limit) answer due makes uncut = absurd makes
+  due_streams (command.Races left right settings) answer due makes uncut = absurd makes
   due_streams (command.Waits left right settings outside) answer due makes uncut = absurd makes
   due_streams (command.Run left right settings limit turrets) answer due makes uncut = files_streams limit _ _ answer due uncut
   due_streams (command.Resume limit turrets) answer due makes uncut = resumed_streams limit answer due.0 uncut
   due_streams command.Moves answer due makes uncut = absurd makes
   due_streams command.State answer due makes uncut = absurd makes
   due_streams (command.Make number turrets) answer due makes uncut = run_streams _ _ _ answer due.0 uncut
+  due_streams (command.Zones zones) answer due makes uncut = absurd makes
   due_streams (command.Expand tape) answer due makes uncut = absurd makes
 
   call_streams : (answer : Answer) → IsDue state call answer → MakesRecords (kind_of (command_of call)) → IsUncut (answer_status answer)

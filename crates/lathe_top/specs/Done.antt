@@ -10,16 +10,18 @@ use Rattle.nc_outside.specs.Faults.{Rose}
 use Rattle.nc_outside.specs.Files.{Files, ShelfState}
 use Rattle.nc_outside.specs.Written.{SinkState, Writes}
 use Rattle.lathe_looks.specs.declared.showing.Showing.TheVariants as showing
-use Rattle.lathe_looks.specs.Answers.{Answer, tells, nothing, Ends}
+use Rattle.lathe_calls.specs.Answers.{Answer, tells, nothing, Ends}
 use Rattle.lathe_looks.specs.Expanded.{IsExpanded}
 use Rattle.lathe_looks.specs.Fetched.{IsOfFiles}
-use Rattle.lathe_looks.specs.Judged.{IsJudged}
-use Rattle.lathe_looks.specs.Named.{Named, alone, files_of, listed, tape_named}
+use Rattle.lathe_calls.specs.Judged.{IsJudged}
+use Rattle.lathe_calls.specs.Due.{IsOfPair}
+use Rattle.lathe_looks.specs.Named.{Named, alone, files_of, listed, tape_named, zones_named}
 use Rattle.lathe_looks.specs.Shown.{IsShown, shown_text}
-use Rattle.lathe_looks.specs.Standing.{report_of}
-use Rattle.lathe_looks.specs.Statuses as exit
-use Rattle.lathe_looks.specs.Traced.{IsTraced}
-use Rattle.lathe_looks.specs.Waited.{AreWaits}
+use Rattle.lathe_calls.specs.Races.{AreRacesOf}
+use Rattle.lathe_calls.specs.Reported.{report_of}
+use Rattle.lathe_calls.specs.Statuses as exit
+use Rattle.lathe_calls.specs.Traced.{IsTraced}
+use Rattle.lathe_calls.specs.Waited.{AreWaits}
 use Rattle.turret_run.specs.Runs.{turret_for}
 use Rattle.lathe_top.specs.Kinds.{Kind, rests, looks, begins, goes_on, kind_of, named_by}
 use Rattle.lathe_top.specs.Lathe.{LatheState, AreAtRest}
@@ -27,6 +29,7 @@ use Rattle.lathe_top.specs.Made.{made_limit, made_texts, made_text}
 use Rattle.lathe_top.specs.Outside.{outside_in}
 use Rattle.lathe_top.specs.Kept.{RestsWhole}
 use Rattle.lathe_top.specs.Ran.{IsRun, IsResumed}
+use Rattle.lathe_top.specs.Zoned.{IsZoned}
 
 -- What the program works on, at one moment: the shelf of the files, the disk of the journal with the turrets of both paths, and
 -- the sink of the answer.
@@ -59,6 +62,8 @@ IsDueTo state (command.Verify left right settings) old new answer =
 IsDueTo state (command.Waits left right settings outside) old new answer =
     IsOfFiles listed (files_of left right settings) (Unit {0}) (AreWaits (outside_in outside)) old.shelf new.shelf answer
     × RestsWhole old.lathe new.lathe
+IsDueTo state (command.Races left right settings) old new answer =
+    IsOfFiles listed (files_of left right settings) (Unit {0}) (IsOfPair AreRacesOf) old.shelf new.shelf answer × RestsWhole old.lathe new.lathe
 IsDueTo state (command.Trace left right settings limit) old new answer =
     IsOfFiles listed (files_of left right settings) (Unit {0}) (IsTraced limit) old.shelf new.shelf answer × RestsWhole old.lathe new.lathe
 IsDueTo state (command.Run left right settings limit turrets) old new answer =
@@ -71,6 +76,8 @@ IsDueTo state command.Moves old new answer =
     IsShown (shown_text showing.Moves) old.lathe.disk new.lathe.disk answer × AreAtRest old.lathe new.lathe × AsksNothing old new
 IsDueTo state command.State old new answer =
     IsShown (shown_text showing.State) old.lathe.disk new.lathe.disk answer × AreAtRest old.lathe new.lathe × AsksNothing old new
+IsDueTo state (command.Zones zones) old new answer =
+    IsOfFiles alone (zones_named zones) (RestsWhole old.lathe new.lathe) (IsZoned old.lathe new.lathe) old.shelf new.shelf answer
 IsDueTo state (command.Expand tape) old new answer =
     IsOfFiles alone (tape_named tape) (Unit {0}) IsExpanded old.shelf new.shelf answer × RestsWhole old.lathe new.lathe
 

@@ -7,7 +7,7 @@ use Rattle.nc_verify.specs.declared.verified.Verified.{Verified}
 use Rattle.run_records.specs.declared.entry.Entry.{Entry}
 use Rattle.run_records.specs.declared.header.Header.{Header}
 use Rattle.run_table.specs.Recording.{StandsForPrefix}
-use Rattle.lathe_looks.specs.Answers.{Answer, tells, nothing}
+use Rattle.lathe_calls.specs.Answers.{Answer, tells, nothing}
 use Rattle.lathe_top.specs.Kept.{end_of}
 use Rattle.lathe_top.specs.Lathe.{LatheState}
 use Rattle.lathe_top.specs.Ran.{TextOf}

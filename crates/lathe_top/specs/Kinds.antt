@@ -4,7 +4,7 @@ use Rattle.command_words.specs.declared.command.Command.{Command}
 use Rattle.command_words.specs.declared.command.Command.TheVariants as command
 use Rattle.command_words.specs.declared.table.Journal.{Journal}
 use Rattle.command_words.specs.declared.table.Journal.TheVariants as journal
-use Rattle.lathe_looks.specs.Named.{Named, files_of, tape_named}
+use Rattle.lathe_looks.specs.Named.{Named, files_of, tape_named, zones_named}
 use Rattle.lathe_top.specs.Made.{made_limit}
 
 -- it calls neither the disk nor a turret; or it looks for a run on the disk; or it begins a journal and runs, for so many records at
@@ -20,11 +20,13 @@ abbrev pub kind_of : Option Command → Kind
 kind_of None = rests
 kind_of (Some (command.Verify left right settings)) = rests
 kind_of (Some (command.Waits left right settings outside)) = rests
+kind_of (Some (command.Races left right settings)) = rests
 kind_of (Some (command.Trace left right settings limit)) = rests
 kind_of (Some (command.Run left right settings limit turrets)) = begins limit
 kind_of (Some (command.Resume limit turrets)) = goes_on limit
 kind_of (Some command.Moves) = looks
 kind_of (Some command.State) = looks
+kind_of (Some (command.Zones zones)) = looks
 kind_of (Some (command.Make number turrets)) = begins made_limit
 kind_of (Some (command.Expand tape)) = rests
 
@@ -32,9 +34,11 @@ kind_of (Some (command.Expand tape)) = rests
 abbrev pub named_by : Option Command → List Named
 named_by (Some (command.Verify left right settings)) = files_of left right settings
 named_by (Some (command.Waits left right settings outside)) = files_of left right settings
+named_by (Some (command.Races left right settings)) = files_of left right settings
 named_by (Some (command.Trace left right settings limit)) = files_of left right settings
 named_by (Some (command.Run left right settings limit turrets)) = files_of left right settings
 named_by (Some (command.Expand tape)) = tape_named tape
+named_by (Some (command.Zones zones)) = zones_named zones
 named_by other = []
 
 -- what a kind of command does with the journal of a run

@@ -6,6 +6,7 @@ pub mod Session
 pub mod Turrets
 pub mod Kept
 pub mod Ran
+pub mod Zoned
 pub mod Made
 pub mod Outside
 pub mod Stops

@@ -12,10 +12,10 @@ use Rattle.run_records.specs.declared.entry.Entry.{Entry}
 use Rattle.nc_restart.specs.declared.fault.RestartFault.{RestartFault}
 use Rattle.nc_restart.specs.Pair.{texts_of}
 use Rattle.nc_restart.specs.Recovered.{Recovers}
-use Rattle.lathe_looks.specs.Answers.{Answer, tells, nothing}
+use Rattle.lathe_calls.specs.Answers.{Answer, tells, nothing}
 use Rattle.lathe_looks.specs.Shown.{unfound}
-use Rattle.lathe_looks.specs.Standing.{report_of}
-use Rattle.lathe_looks.specs.Statuses as exit
+use Rattle.lathe_calls.specs.Reported.{report_of}
+use Rattle.lathe_calls.specs.Statuses as exit
 use Rattle.lathe_top.specs.Lathe.{LatheState, AreAtRest}
 use Rattle.lathe_top.specs.Session.{Session, IsSession, reason_status}
 use Rattle.lathe_top.specs.Turrets.{IsEnding, IsUnprepared}

@@ -13,7 +13,7 @@ use Rattle.nc_restart.specs.Pair.{texts_of, IsPairOf, tapes_in, machine_behind}
 use Rattle.nc_restart.specs.History.{IsHistory}
 use Rattle.turret_run.specs.Runs.{turret_for}
 use Rattle.lathe_looks.specs.Standing.{is_over, reason_of}
-use Rattle.lathe_looks.specs.Statuses as exit
+use Rattle.lathe_calls.specs.Statuses as exit
 use Rattle.lathe_top.specs.Lathe.{LatheState}
 
 -- the header of the journal, the pair that its texts are, the records that were found at the opening, and those at

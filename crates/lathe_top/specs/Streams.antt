@@ -10,11 +10,12 @@ use Rattle.turret_lines.specs.Stream.{HasStream, stream_of, told_state}
 use Rattle.nc_verify.specs.declared.verified.Verified.{Verified}
 use Rattle.run_records.specs.declared.entry.Entry.{Entry}
 use Rattle.move_list.specs.declared.end_line.Reason.{Reason}
-use Rattle.move_list.specs.Report.{lines_text, moves_of}
+use Rattle.two_path.specs.Made.{moves_of}
+use Rattle.move_list.specs.Report.{lines_text}
 use Rattle.nc_restart.specs.Pair.{tapes_in, opening_of}
 use Rattle.turret_run.specs.Runs.{place_of, turret_for}
 use Rattle.lathe_looks.specs.Standing.{is_over}
-use Rattle.lathe_looks.specs.Statuses as exit
+use Rattle.lathe_calls.specs.Statuses as exit
 use Rattle.lathe_top.specs.Done.{Call}
 use Rattle.lathe_top.specs.Kept.{IsOpened, KeepsSession, Opening}
 use Rattle.lathe_top.specs.Kinds.{Kind, rests, looks, begins, goes_on}

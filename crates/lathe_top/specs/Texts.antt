@@ -5,7 +5,7 @@ use Rattle.run_table.specs.declared.running.RunEnd.{RunEnd}
 use Rattle.run_table.specs.declared.running.RunEnd.TheVariants as run
 use Rattle.turret_run.specs.declared.ending.TurretEnd.{TurretEnd}
 use Rattle.turret_run.specs.declared.ending.TurretEnd.TheVariants as turret
-use Rattle.lathe_looks.specs.Standing.{report_of}
+use Rattle.lathe_calls.specs.Reported.{report_of}
 use Rattle.lathe_top.specs.declared.telling.Telling.{Telling}
 use Rattle.lathe_top.specs.declared.telling.Telling.TheVariants.{Report, Summary}
 use Rattle.lathe_top.specs.Made.{made_text}

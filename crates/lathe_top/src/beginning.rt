@@ -1,9 +1,9 @@
 //! The command `run`: a pair, run anew.
 ghost use Rattle.std.specs.Prelude.{◌≡◌, ◌≤◌, length};
-ghost use Rattle.lathe_looks.specs.Answers.{Ends};
+ghost use Rattle.lathe_calls.specs.Answers.{Ends};
 ghost use Rattle.lathe_looks.specs.Fetched.{IsOfFiles};
 ghost use Rattle.lathe_looks.specs.Named.{listed};
-ghost use Rattle.lathe_looks.specs.Standing.{report_of};
+ghost use Rattle.lathe_calls.specs.Reported.{report_of};
 ghost use Rattle.lathe_looks.specs.Texts.{files_in, texts_of};
 ghost use Rattle.lathe_top.specs.Kept.{RestsWhole};
 ghost use Rattle.lathe_top.specs.Lathe.{lathe_of, lathe_left};
@@ -17,7 +17,8 @@ use crate::outcome::{Lathe, Outcome};
 use crate::refusing::tell_unbegun;
 use crate::telling::{Request, Telling};
 use disk_model::Disk;
-use lathe_looks::{FileNames, Texts, fetch_texts, refuse, tell_unfetched};
+use lathe_calls::refuse;
+use lathe_looks::{FileNames, Texts, fetch_texts, tell_unfetched};
 use nc_number::ByteList;
 use nc_outside::{Shelf, Sink, Turret};
 use nc_restart::no_history_is_stuck;

@@ -1,7 +1,7 @@
 //! The call that the program makes: words in, text and status out.
 ghost use Rattle.std.specs.Prelude.{◌≡◌, map};
 ghost use Rattle.std.specs.String.{string_bytes};
-ghost use Rattle.lathe_looks.specs.Answers.{Ends};
+ghost use Rattle.lathe_calls.specs.Answers.{Ends};
 ghost use Rattle.lathe_looks.specs.Named.{files_of};
 ghost use Rattle.lathe_looks.specs.Texts.{files_in};
 ghost use Rattle.lathe_top.specs.Done.{GetsItsStatus, IsDone, IsDueTo, at};
@@ -9,14 +9,15 @@ ghost use Rattle.lathe_top.specs.Lathe.{lathe_of, lathe_left};
 ghost use Rattle.lathe_top.specs.Outside.{outside_in};
 
 use crate::beginning::run;
-use crate::looking::{judge, judge_waits, look, trace_pair, write_out};
+use crate::looking::{answer_pair, look, show_zoned, write_out};
 use crate::making::make;
 use crate::outcome::{Lathe, Outcome};
 use crate::resuming::resume;
 use clap_reading::read_words;
 use command_words::{Command, Name, ProgramRange, WordsFault};
 use disk_model::Disk;
-use lathe_looks::{FileNames, Showing, Status, tell_usage};
+use lathe_calls::{Question, Status};
+use lathe_looks::{FileNames, Showing, tell_usage};
 use nc_outside::{Shelf, Sink, Turret};
 use nc_restart::{a_machine_hangs_on_its_texts, an_image_stands_for_one_run};
 use nc_verify::{accepted_texts_are_not_refused, texts_have_one_refusal};
@@ -139,28 +140,21 @@ where
 {
     match command {
         Command::Verify(left, right, settings) => {
-            judge(alloc, &names_of(left, right, settings), shelf, lathe, out)
+            let names = names_of(left, right, settings);
+            answer_pair(alloc, &names, Question::Verify, shelf, lathe, out)
         }
         Command::Waits(left, right, settings, outside) => {
+            let names = names_of(left, right, settings);
             let range = outside_in(*outside);
-            judge_waits(
-                alloc,
-                &names_of(left, right, settings),
-                range,
-                shelf,
-                lathe,
-                out,
-            )
+            answer_pair(alloc, &names, Question::Waits(range), shelf, lathe, out)
+        }
+        Command::Races(left, right, settings) => {
+            let names = names_of(left, right, settings);
+            answer_pair(alloc, &names, Question::Races, shelf, lathe, out)
         }
         Command::Trace(left, right, settings, blocks) => {
-            trace_pair(
-                alloc,
-                &names_of(left, right, settings),
-                *blocks,
-                shelf,
-                lathe,
-                out,
-            )
+            let names = names_of(left, right, settings);
+            answer_pair(alloc, &names, Question::Trace(*blocks), shelf, lathe, out)
         }
         Command::Run(left, right, settings, blocks, _) => {
             let names = names_of(left, right, settings);
@@ -169,6 +163,7 @@ where
         Command::Resume(blocks, _) => resume(rt, alloc, *blocks, lathe, out),
         Command::Moves => look(alloc, Showing::Moves, lathe, out),
         Command::State => look(alloc, Showing::State, lathe, out),
+        Command::Zones(zones) => show_zoned(alloc, zones.as_str(), shelf, lathe, out),
         Command::Make(number, _) => make(rt, alloc, *number, lathe, out),
         Command::Expand(tape) => write_out(alloc, tape.as_str(), shelf, lathe, out),
     }

@@ -1,82 +1,40 @@
 //! The commands that only look: the turrets rest.
-ghost use Rattle.lathe_looks.specs.Answers.{Ends};
+ghost use Rattle.lathe_calls.specs.Answers.{Ends};
+ghost use Rattle.lathe_calls.specs.Due.{IsDueTo};
 ghost use Rattle.lathe_looks.specs.Expanded.{IsExpanded};
 ghost use Rattle.lathe_looks.specs.Fetched.{IsOfFiles};
-ghost use Rattle.lathe_looks.specs.Judged.{IsJudged};
-ghost use Rattle.lathe_looks.specs.Named.{alone, listed, tape_named};
+ghost use Rattle.lathe_looks.specs.Named.{alone, listed, tape_named, zones_named};
 ghost use Rattle.lathe_looks.specs.Shown.{IsShown, shown_text};
+ghost use Rattle.lathe_looks.specs.Zoned.{zones_text};
 ghost use Rattle.lathe_looks.specs.Texts.{files_in};
-ghost use Rattle.lathe_looks.specs.Traced.{IsTraced};
-ghost use Rattle.lathe_looks.specs.Waited.{AreWaits};
 ghost use Rattle.lathe_top.specs.Kept.{RestsWhole};
 ghost use Rattle.lathe_top.specs.Lathe.{AreAtRest, lathe_of, lathe_left};
+ghost use Rattle.lathe_top.specs.Zoned.{IsZoned};
 
 use crate::outcome::{Lathe, Outcome};
 use disk_model::Disk;
-use lathe_looks::{FileNames, Showing, Shown, expand, show, trace, verify, waits};
+use lathe_calls::Question;
+use lathe_looks::{FileNames, Showing, Shown, ask, expand, show, show_zones, zones_of_file};
 use nc_outside::{Shelf, Sink, Turret};
-use open_order::Outside;
 use std::alloc::Global;
+use zone_cell::Zones;
 
-/// Writes the verdict of a pair. The disk and the turrets rest.
-pub(crate) fn judge<H: Shelf, D: Disk, T: Turret, K: Sink>(
+/// Answers a question of the files of a pair. The disk and the turrets rest.
+pub(crate) fn answer_pair<H: Shelf, D: Disk, T: Turret, K: Sink>(
     alloc: Global,
     names: &FileNames<'_>,
+    question: Question,
     shelf: &mut H,
     lathe: Lathe<D, T>,
     out: &mut K,
 ) -> Outcome<D, T>
-    ensures { Ends (λ answer. IsOfFiles listed (files_in names.now) (Unit {0}) IsJudged
+    ensures { Ends (λ answer. IsOfFiles listed (files_in names.now) (Unit {0}) (IsDueTo question)
         (H.state shelf.old) (H.state shelf.new) answer
         × RestsWhole (lathe_of D.state T.state lathe) (lathe_left D.state T.state result))
         (K.state out.old) (K.state out.new) result.status }
 {
     Outcome {
-        status: verify(alloc, names, shelf, out),
-        lathe,
-        left_missed: 0,
-        right_missed: 0,
-    }
-}
-
-/// Writes the meetings of a pair, whose tapes may lack the programs outside. The disk and the turrets rest.
-pub(crate) fn judge_waits<H: Shelf, D: Disk, T: Turret, K: Sink>(
-    alloc: Global,
-    names: &FileNames<'_>,
-    outside: Option<Outside>,
-    shelf: &mut H,
-    lathe: Lathe<D, T>,
-    out: &mut K,
-) -> Outcome<D, T>
-    ensures { Ends (λ answer. IsOfFiles listed (files_in names.now) (Unit {0}) (AreWaits outside)
-        (H.state shelf.old) (H.state shelf.new) answer
-        × RestsWhole (lathe_of D.state T.state lathe) (lathe_left D.state T.state result))
-        (K.state out.old) (K.state out.new) result.status }
-{
-    Outcome {
-        status: waits(alloc, names, outside, shelf, out),
-        lathe,
-        left_missed: 0,
-        right_missed: 0,
-    }
-}
-
-/// Writes the trace of a pair, of so many records at most. The disk and the turrets rest.
-pub(crate) fn trace_pair<H: Shelf, D: Disk, T: Turret, K: Sink>(
-    alloc: Global,
-    names: &FileNames<'_>,
-    blocks: u32,
-    shelf: &mut H,
-    lathe: Lathe<D, T>,
-    out: &mut K,
-) -> Outcome<D, T>
-    ensures { Ends (λ answer. IsOfFiles listed (files_in names.now) (Unit {0}) (IsTraced blocks)
-        (H.state shelf.old) (H.state shelf.new) answer
-        × RestsWhole (lathe_of D.state T.state lathe) (lathe_left D.state T.state result))
-        (K.state out.old) (K.state out.new) result.status }
-{
-    Outcome {
-        status: trace(alloc, names, blocks, shelf, out),
+        status: ask(alloc, names, question, shelf, out),
         lathe,
         left_missed: 0,
         right_missed: 0,
@@ -117,6 +75,52 @@ pub(crate) fn look<D: Disk, T: Turret, K: Sink>(
 {
     let Lathe { disk, left, right } = lathe;
     let Shown { status, disk } = show(alloc, showing, disk, out);
+    Outcome {
+        status,
+        lathe: Lathe { disk, left, right },
+        left_missed: 0,
+        right_missed: 0,
+    }
+}
+
+/// Writes the zones of the run on the disk, by a file of frames and a gap. The turrets rest, and so does the disk unless
+/// the file is read.
+pub(crate) fn show_zoned<H: Shelf, D: Disk, T: Turret, K: Sink>(
+    alloc: Global,
+    name: &str,
+    shelf: &mut H,
+    lathe: Lathe<D, T>,
+    out: &mut K,
+) -> Outcome<D, T>
+    ensures { Ends (IsOfFiles alone (zones_named name.now)
+        (RestsWhole (lathe_of D.state T.state lathe) (lathe_left D.state T.state result))
+        (IsZoned (lathe_of D.state T.state lathe) (lathe_left D.state T.state result))
+        (H.state shelf.old) (H.state shelf.new)) (K.state out.old) (K.state out.new) result.status }
+{
+    match zones_of_file(alloc, name, shelf, out) {
+        Ok(zones) => look_by(alloc, &zones, lathe, out),
+        Err(status) => Outcome {
+            status,
+            lathe,
+            left_missed: 0,
+            right_missed: 0,
+        },
+    }
+}
+
+/// Writes the zones of the run on the disk. The turrets rest.
+fn look_by<D: Disk, T: Turret, K: Sink>(
+    alloc: Global,
+    zones: &Zones,
+    lathe: Lathe<D, T>,
+    out: &mut K,
+) -> Outcome<D, T>
+    ensures { Ends (λ answer. IsShown (zones_text zones.now) (D.state lathe.disk) (D.state result.lathe.disk) answer
+        × AreAtRest (lathe_of D.state T.state lathe) (lathe_left D.state T.state result))
+        (K.state out.old) (K.state out.new) result.status }
+{
+    let Lathe { disk, left, right } = lathe;
+    let Shown { status, disk } = show_zones(alloc, zones, disk, out);
     Outcome {
         status,
         lathe: Lathe { disk, left, right },

@@ -1,5 +1,5 @@
 //! The command `make`: the made pair of a number, run anew.
-ghost use Rattle.lathe_looks.specs.Answers.{Ends};
+ghost use Rattle.lathe_calls.specs.Answers.{Ends};
 ghost use Rattle.lathe_top.specs.Lathe.{lathe_of, lathe_left};
 ghost use Rattle.lathe_top.specs.Made.{made_limit, made_text, made_texts};
 ghost use Rattle.lathe_top.specs.Ran.{IsRun};
@@ -8,7 +8,8 @@ use crate::beginning::run_texts;
 use crate::outcome::{Lathe, Outcome};
 use crate::telling::{Request, Telling};
 use disk_model::Disk;
-use lathe_looks::{Status, Texts};
+use lathe_calls::Status;
+use lathe_looks::Texts;
 use nc_outside::{Sink, Turret};
 use std::alloc::Global;
 use std::sync::Wait;

@@ -1,9 +1,9 @@
 //! Why no journal was begun.
-ghost use Rattle.lathe_looks.specs.Answers.{Ends, IsJust};
+ghost use Rattle.lathe_calls.specs.Answers.{Ends, IsJust};
 ghost use Rattle.lathe_top.specs.Ran.{unbegun};
 
 use gate_file::GateFault;
-use lathe_looks::{Status, write_text};
+use lathe_calls::{Status, write_text};
 use nc_outside::Sink;
 
 /// Writes why a journal was not begun, and gives the status of that.

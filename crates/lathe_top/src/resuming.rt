@@ -1,6 +1,6 @@
 //! The command `resume`: a run that was stopped goes on.
-ghost use Rattle.lathe_looks.specs.Answers.{Ends};
-ghost use Rattle.lathe_looks.specs.Standing.{report_of};
+ghost use Rattle.lathe_calls.specs.Answers.{Ends};
+ghost use Rattle.lathe_calls.specs.Reported.{report_of};
 ghost use Rattle.lathe_top.specs.Going.{IsReport};
 ghost use Rattle.lathe_top.specs.Lathe.{lathe_at, lathe_of, lathe_left};
 ghost use Rattle.lathe_top.specs.Ran.{IsResumed};

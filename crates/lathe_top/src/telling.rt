@@ -3,12 +3,12 @@ ghost use Rattle.std.specs.Prelude.{◌≡◌, ◌≤◌, length};
 ghost use Rattle.nc_verify.specs.Printed.{IsPut};
 ghost use Rattle.two_path.specs.Histories.{IsLegal};
 ghost use Rattle.nc_restart.specs.Pair.{tapes_in, opening_of};
-ghost use Rattle.lathe_looks.specs.Answers.{Ends, IsJust, tells};
+ghost use Rattle.lathe_calls.specs.Answers.{Ends, IsJust, tells};
 ghost use Rattle.lathe_top.specs.Made.{is_done, made_text};
 ghost use Rattle.lathe_top.specs.Session.{reason_status};
 ghost use Rattle.lathe_top.specs.Texts.{text_by};
 
-use lathe_looks::{Status, status_behind};
+use lathe_calls::{Status, status_behind};
 use move_list::{Reason, write_report, write_summary};
 use nc_outside::{PutFault, Sink};
 use nc_verify::Verified;

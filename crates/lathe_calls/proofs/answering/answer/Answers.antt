@@ -1,10 +1,14 @@
 use Rattle.std.proofs.Common.{List, ℕ, sym, subst, ◌∙◌}
-use Rattle.lathe_looks.specs.Answers.{Ends}
+use Rattle.lathe_calls.specs.Answers.{Ends}
 use Rattle.lathe_calls.specs.Due.{IsDueTo}
 use Rattle.lathe_calls.specs.Said.{IsHanded}
 use Rattle.lathe_calls.specs.Texts.{texts_of, written}
+use Rattle.lathe_calls.proofs.FitTexts.{settings_fit}
 use Rattle.lathe_calls.proofs.Handed.{said_of}
 use Rattle.lathe_calls.proofs.answering.answer.Goals as goal
+
+pub tell-status-requires : goal.tell-status-requires
+tell-status-requires c = settings_fit (texts_of c.args.texts.now) (sym c.are_fit.ensures ∙ c.if-not-are_fit.false)
 
 pub returns : goal.returns
 returns c =

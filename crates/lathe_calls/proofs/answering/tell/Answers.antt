@@ -14,3 +14,6 @@ returns-in-State g c = rw (c.in-State.is) c.show.ensures
 
 pub returns-in-Waits : goal.returns-in-Waits
 returns-in-Waits g c = rw (c.in-Waits.is) c.judge_waits.ensures
+
+pub returns-in-Races : goal.returns-in-Races
+returns-in-Races g c = rw (c.in-Races.is) c.list_races.ensures

@@ -1,11 +1,6 @@
-use Rattle.lathe_looks.proofs.Ended.{ends_by}
-use Rattle.lathe_looks.proofs.Judging.{judged_accepted, judged_refused}
-use Rattle.lathe_calls.specs.Texts.{texts_of}
-use Rattle.lathe_calls.proofs.FitTexts.{settings_fit}
+use Rattle.lathe_calls.proofs.Ended.{ends_by}
+use Rattle.lathe_calls.proofs.VerdictTold.{judged_accepted, judged_refused}
 use Rattle.lathe_calls.proofs.judging.judge.Goals as goal
-
-pub verdict-requires : goal.verdict-requires
-verdict-requires g c = settings_fit (texts_of c.args.texts.now) c.requires
 
 pub returns-in-Ok : goal.returns-in-Ok
 returns-in-Ok g c = ends_by _ (judged_accepted c.in-Ok.ensures.accepted) c.accept.ensures

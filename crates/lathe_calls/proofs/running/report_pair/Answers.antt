@@ -1,4 +1,4 @@
-use Rattle.lathe_looks.proofs.Ended.{ends_put, ends_untold}
+use Rattle.lathe_calls.proofs.Ended.{ends_put, ends_untold}
 use Rattle.lathe_calls.specs.Due.{unran}
 use Rattle.lathe_calls.proofs.PairTold.{reported}
 use Rattle.lathe_calls.proofs.running.report_pair.Goals as goal

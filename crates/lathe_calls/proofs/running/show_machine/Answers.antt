@@ -1,5 +1,5 @@
 use Rattle.std.proofs.Common.{refl, sym, ◌∙◌}
-use Rattle.lathe_looks.proofs.Ended.{ends_put, ends_unwritten}
+use Rattle.lathe_calls.proofs.Ended.{ends_put, ends_unwritten}
 use Rattle.lathe_calls.proofs.running.show_machine.Goals as goal
 
 pub write_state-requires : goal.write_state-requires

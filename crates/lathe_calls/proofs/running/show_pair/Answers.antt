@@ -1,4 +1,4 @@
-use Rattle.lathe_looks.proofs.Ended.{ends_by, ends_untold}
+use Rattle.lathe_calls.proofs.Ended.{ends_by, ends_untold}
 use Rattle.lathe_calls.specs.Due.{unran}
 use Rattle.lathe_calls.proofs.PairTold.{state_told}
 use Rattle.lathe_calls.proofs.running.show_pair.Goals as goal

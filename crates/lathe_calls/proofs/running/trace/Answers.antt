@@ -1,12 +1,7 @@
-use Rattle.lathe_looks.specs.Traced.{traced}
-use Rattle.lathe_looks.proofs.Ended.{ends_by}
-use Rattle.lathe_looks.proofs.TurnsTold.{traced_refused}
-use Rattle.lathe_calls.specs.Texts.{texts_of}
-use Rattle.lathe_calls.proofs.FitTexts.{settings_fit}
+use Rattle.lathe_calls.specs.Traced.{traced}
+use Rattle.lathe_calls.proofs.Ended.{ends_by}
+use Rattle.lathe_calls.proofs.TurnsTold.{traced_refused}
 use Rattle.lathe_calls.proofs.running.trace.Goals as goal
-
-pub verdict-requires : goal.verdict-requires
-verdict-requires g c = settings_fit (texts_of c.args.texts.now) c.requires
 
 pub returns-in-Ok : goal.returns-in-Ok
 returns-in-Ok g c = ends_by _ (λ answer is. traced c.in-Ok.pair c.in-Ok.ensures.accepted is) c.trace_pair.ensures

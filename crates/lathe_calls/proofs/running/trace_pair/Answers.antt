@@ -1,6 +1,6 @@
-use Rattle.lathe_looks.specs.Traced.{unran}
-use Rattle.lathe_looks.proofs.Ended.{ends_put, ends_untold}
-use Rattle.lathe_looks.proofs.TurnsTold.{ran_so}
+use Rattle.lathe_calls.specs.Traced.{unran}
+use Rattle.lathe_calls.proofs.Ended.{ends_put, ends_untold}
+use Rattle.lathe_calls.proofs.TurnsTold.{ran_so}
 use Rattle.lathe_calls.proofs.running.trace_pair.Goals as goal
 
 pub returns-in-Ok : goal.returns-in-Ok

@@ -1,5 +1,5 @@
 use Rattle.std.proofs.Common.{refl}
-use Rattle.lathe_looks.proofs.Ended.{ends_unwritten}
+use Rattle.lathe_calls.proofs.Ended.{ends_unwritten}
 use Rattle.lathe_calls.proofs.waiting.tell_waits.Goals as goal
 
 pub returns-then-is_err : goal.returns-then-is_err

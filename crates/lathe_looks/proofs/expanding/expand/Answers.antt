@@ -1,5 +1,5 @@
 use Rattle.lathe_looks.specs.Fetched.{answers}
-use Rattle.lathe_looks.proofs.Ended.{ends_by, ends_just}
+use Rattle.lathe_calls.proofs.Ended.{ends_by, ends_just}
 use Rattle.lathe_looks.proofs.NotHad.{unfetched_due}
 use Rattle.lathe_looks.proofs.expanding.expand.Goals as goal
 

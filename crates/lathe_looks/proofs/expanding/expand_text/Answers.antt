@@ -2,7 +2,7 @@ use Rattle.std.proofs.Common.{subst}
 use Rattle.nc_number.specs.declared.fault.Failing.TheVariants.{Fault}
 use Rattle.nc_number.specs.Answers.{Fails}
 use Rattle.tape_expand.specs.Expansion.{expansion_of}
-use Rattle.lathe_looks.proofs.Ended.{ends_by, ends_just, ends_untold}
+use Rattle.lathe_calls.proofs.Ended.{ends_by, ends_just, ends_untold}
 use Rattle.lathe_looks.proofs.ExpansionTold.{expansion_told, expansion_refused}
 use Rattle.lathe_looks.specs.Expanded.{unexpanded}
 use Rattle.lathe_looks.proofs.expanding.expand_text.Goals as goal

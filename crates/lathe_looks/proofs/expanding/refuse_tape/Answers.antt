@@ -1,4 +1,4 @@
-use Rattle.lathe_looks.proofs.Ended.{ends_just}
+use Rattle.lathe_calls.proofs.Ended.{ends_just}
 use Rattle.lathe_looks.proofs.ExpansionTold.{refusal_told}
 use Rattle.lathe_looks.proofs.expanding.refuse_tape.Goals as goal
 

@@ -1,6 +1,6 @@
 use Rattle.std.proofs.Common.{sym, ap}
 use Rattle.lathe_looks.specs.Fetched.{unfetched}
-use Rattle.lathe_looks.proofs.Ended.{ends_untold}
+use Rattle.lathe_calls.proofs.Ended.{ends_untold}
 use Rattle.lathe_looks.proofs.fetching.tell_unfetched.Goals as goal
 
 pub returns-in-Fault : goal.returns-in-Fault

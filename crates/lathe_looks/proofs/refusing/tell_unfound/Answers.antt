@@ -1,6 +1,6 @@
 use Rattle.std.proofs.Common.{sym, ap}
 use Rattle.lathe_looks.specs.Shown.{unfound}
-use Rattle.lathe_looks.proofs.Ended.{ends_untold}
+use Rattle.lathe_calls.proofs.Ended.{ends_untold}
 use Rattle.lathe_looks.proofs.refusing.tell_unfound.Goals as goal
 
 pub returns-in-DiskFault : goal.returns-in-DiskFault

@@ -1,7 +1,7 @@
 use Rattle.std.proofs.Common.{sym, subst}
-use Rattle.lathe_looks.specs.Answers.{tells}
+use Rattle.lathe_calls.specs.Answers.{tells}
 use Rattle.lathe_looks.specs.Shown.{IsShown, shown, unshown, shown_text}
-use Rattle.lathe_looks.proofs.Ended.{ends_put, ends_just}
+use Rattle.lathe_calls.proofs.Ended.{ends_put, ends_just}
 use Rattle.lathe_looks.proofs.showing.show.Goals as goal
 
 pub returns-in-Ok : goal.returns-in-Ok

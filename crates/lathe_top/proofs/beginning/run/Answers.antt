@@ -1,6 +1,6 @@
 use Rattle.lathe_looks.specs.Fetched.{answers}
 use Rattle.lathe_looks.specs.Texts.{texts_of}
-use Rattle.lathe_looks.proofs.Ended.{ends_by, ends_just}
+use Rattle.lathe_calls.proofs.Ended.{ends_by, ends_just}
 use Rattle.lathe_looks.proofs.NotHad.{unfetched_due}
 use Rattle.lathe_top.proofs.Opened.{none_called}
 use Rattle.lathe_top.proofs.beginning.run.Goals as goal

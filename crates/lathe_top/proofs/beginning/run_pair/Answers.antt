@@ -1,11 +1,11 @@
 use Rattle.std.proofs.Common.{refl}
 use Rattle.turret_run.specs.Runs.{Turrets, none_missed}
-use Rattle.lathe_looks.specs.Answers.{Ends}
+use Rattle.lathe_calls.specs.Answers.{Ends}
 use Rattle.lathe_top.specs.Going.{IsReport}
 use Rattle.lathe_top.specs.Lathe.{LatheState, lathe_left}
 use Rattle.lathe_top.specs.Ran.{not_begun}
 use Rattle.lathe_top.specs.Texts.{text_by}
-use Rattle.lathe_looks.proofs.Ended.{ends_by, ends_just}
+use Rattle.lathe_calls.proofs.Ended.{ends_by, ends_just}
 use Rattle.lathe_top.proofs.RunsBegun.{begun_behind, begun_unended, of_begun, begun_run, refused_beginning}
 use Rattle.lathe_top.proofs.beginning.run_pair.Goals as goal
 

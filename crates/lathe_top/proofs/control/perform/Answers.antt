@@ -1,17 +1,20 @@
 use Rattle.std.proofs.Common.{ℕ, List, refl, subst}
-use Rattle.lathe_looks.specs.Answers.{Ends}
+use Rattle.lathe_calls.specs.Answers.{Ends}
 use Rattle.lathe_looks.specs.Expanded.{IsExpanded}
 use Rattle.lathe_looks.specs.Fetched.{IsOfFiles}
-use Rattle.lathe_looks.specs.Judged.{IsJudged}
-use Rattle.lathe_looks.specs.Named.{Named, alone, listed, tape_named}
-use Rattle.lathe_looks.specs.Standing.{report_of}
-use Rattle.lathe_looks.specs.Traced.{IsTraced}
-use Rattle.lathe_looks.specs.Waited.{AreWaits}
-use Rattle.lathe_looks.proofs.Ended.{ends_by}
+use Rattle.lathe_calls.specs.Due.{IsOfPair}
+use Rattle.lathe_calls.specs.Judged.{IsJudged}
+use Rattle.lathe_looks.specs.Named.{Named, alone, listed, tape_named, zones_named}
+use Rattle.lathe_calls.specs.Races.{AreRacesOf}
+use Rattle.lathe_calls.specs.Reported.{report_of}
+use Rattle.lathe_calls.specs.Traced.{IsTraced}
+use Rattle.lathe_calls.specs.Waited.{AreWaits}
+use Rattle.lathe_calls.proofs.Ended.{ends_by}
 use Rattle.lathe_top.specs.Kept.{RestsWhole}
 use Rattle.lathe_top.specs.Lathe.{lathe_of, lathe_left}
 use Rattle.lathe_top.specs.Outside.{outside_in}
 use Rattle.lathe_top.specs.Ran.{IsRun}
+use Rattle.lathe_top.specs.Zoned.{IsZoned}
 use Rattle.lathe_top.proofs.control.perform.Goals as goal
 
 pub returns-in-Verify : goal.returns-in-Verify
@@ -19,37 +22,49 @@ returns-in-Verify g c =
     let shelf = g.H.Shelf.state in
     let sink = g.K.Sink.state in
     let old = lathe_of g.D.Disk.state g.T.Turret.state c.args.lathe in
-    let new = lathe_left g.D.Disk.state g.T.Turret.state c.judge.result in
+    let new = lathe_left g.D.Disk.state g.T.Turret.state c.answer_pair.result in
     rw c.in-Verify.is
     (subst
-    (λ (files : List Named). Ends (λ answer. IsOfFiles listed files (Unit {0}) IsJudged (shelf c.args.shelf.now) (shelf c.judge.new.shelf) answer
-    × RestsWhole old new) (sink c.args.out.now) (sink c.judge.new.out) c.judge.result.status)
-    c.names_of.ensures c.judge.ensures)
+    (λ (files : List Named). Ends (λ answer. IsOfFiles listed files (Unit {0}) IsJudged (shelf c.args.shelf.now) (shelf c.answer_pair.new.shelf) answer
+    × RestsWhole old new) (sink c.args.out.now) (sink c.answer_pair.new.out) c.answer_pair.result.status)
+    c.names_of-names.ensures c.answer_pair.ensures)
 
 pub returns-in-Waits : goal.returns-in-Waits
 returns-in-Waits g c =
     let shelf = g.H.Shelf.state in
     let sink = g.K.Sink.state in
     let old = lathe_of g.D.Disk.state g.T.Turret.state c.args.lathe in
-    let new = lathe_left g.D.Disk.state g.T.Turret.state c.judge_waits.result in
-    let ends = rw c.outside_in-range.ensures at c.judge_waits.ensures in
+    let new = lathe_left g.D.Disk.state g.T.Turret.state c.answer_pair-in-Waits.result in
+    let ends = rw c.outside_in-range.ensures at c.answer_pair-in-Waits.ensures in
     rw c.in-Waits.is
     (subst
-    (λ (files : List Named). Ends (λ answer. IsOfFiles listed files (Unit {0}) (AreWaits (outside_in c.in-Waits.outside)) (shelf c.args.shelf.now) (shelf c.judge_waits.new.shelf) answer
-    × RestsWhole old new) (sink c.args.out.now) (sink c.judge_waits.new.out) c.judge_waits.result.status)
-    c.names_of-in-Waits.ensures ends)
+    (λ (files : List Named). Ends (λ answer. IsOfFiles listed files (Unit {0}) (AreWaits (outside_in c.in-Waits.outside)) (shelf c.args.shelf.now) (shelf c.answer_pair-in-Waits.new.shelf) answer
+    × RestsWhole old new) (sink c.args.out.now) (sink c.answer_pair-in-Waits.new.out) c.answer_pair-in-Waits.result.status)
+    c.names_of-names-in-Waits.ensures ends)
+
+pub returns-in-Races : goal.returns-in-Races
+returns-in-Races g c =
+    let shelf = g.H.Shelf.state in
+    let sink = g.K.Sink.state in
+    let old = lathe_of g.D.Disk.state g.T.Turret.state c.args.lathe in
+    let new = lathe_left g.D.Disk.state g.T.Turret.state c.answer_pair-in-Races.result in
+    rw c.in-Races.is
+    (subst
+    (λ (files : List Named). Ends (λ answer. IsOfFiles listed files (Unit {0}) (IsOfPair AreRacesOf) (shelf c.args.shelf.now) (shelf c.answer_pair-in-Races.new.shelf) answer
+    × RestsWhole old new) (sink c.args.out.now) (sink c.answer_pair-in-Races.new.out) c.answer_pair-in-Races.result.status)
+    c.names_of-names-in-Races.ensures c.answer_pair-in-Races.ensures)
 
 pub returns-in-Trace : goal.returns-in-Trace
 returns-in-Trace g c =
     let shelf = g.H.Shelf.state in
     let sink = g.K.Sink.state in
     let old = lathe_of g.D.Disk.state g.T.Turret.state c.args.lathe in
-    let new = lathe_left g.D.Disk.state g.T.Turret.state c.trace_pair.result in
+    let new = lathe_left g.D.Disk.state g.T.Turret.state c.answer_pair-in-Trace.result in
     rw c.in-Trace.is
     (subst
-    (λ (files : List Named). Ends (λ answer. IsOfFiles listed files (Unit {0}) (IsTraced c.in-Trace.blocks) (shelf c.args.shelf.now) (shelf c.trace_pair.new.shelf) answer
-    × RestsWhole old new) (sink c.args.out.now) (sink c.trace_pair.new.out) c.trace_pair.result.status)
-    c.names_of-in-Trace.ensures c.trace_pair.ensures)
+    (λ (files : List Named). Ends (λ answer. IsOfFiles listed files (Unit {0}) (IsTraced c.in-Trace.blocks) (shelf c.args.shelf.now) (shelf c.answer_pair-in-Trace.new.shelf) answer
+    × RestsWhole old new) (sink c.args.out.now) (sink c.answer_pair-in-Trace.new.out) c.answer_pair-in-Trace.result.status)
+    c.names_of-names-in-Trace.ensures c.answer_pair-in-Trace.ensures)
 
 pub returns-in-Run : goal.returns-in-Run
 returns-in-Run g c =
@@ -62,7 +77,7 @@ returns-in-Run g c =
     (subst
     (λ (files : List Named). Ends (IsOfFiles listed files (RestsWhole old new) (λ texts. IsRun state c.in-Run.blocks report_of texts old new)
     (shelf c.args.shelf.now) (shelf c.run.new.shelf)) (sink c.args.out.now) (sink c.run.new.out) c.run.result.status)
-    c.names_of-names.ensures c.run.ensures)
+    c.names_of-names-in-Run.ensures c.run.ensures)
 
 pub returns-in-Resume : goal.returns-in-Resume
 returns-in-Resume g c = rw c.in-Resume.is (ends_by _ (λ answer due. (due, refl)) c.resume.ensures)
@@ -72,6 +87,18 @@ returns-in-Moves g c = rw c.in-Moves.is (ends_by _ (λ answer due. (due.0, due.1
 
 pub returns-in-State : goal.returns-in-State
 returns-in-State g c = rw c.in-State.is (ends_by _ (λ answer due. (due.0, due.1, refl)) c.look-in-State.ensures)
+
+pub returns-in-Zones : goal.returns-in-Zones
+returns-in-Zones g c =
+    let shelf = g.H.Shelf.state in
+    let sink = g.K.Sink.state in
+    let old = lathe_of g.D.Disk.state g.T.Turret.state c.args.lathe in
+    let new = lathe_left g.D.Disk.state g.T.Turret.state c.show_zoned.result in
+    rw c.in-Zones.is
+    (subst
+    (λ (name : List ℕ). Ends (IsOfFiles alone (zones_named name) (RestsWhole old new) (IsZoned old new) (shelf c.args.shelf.now) (shelf c.show_zoned.new.shelf))
+    (sink c.args.out.now) (sink c.show_zoned.new.out) c.show_zoned.result.status)
+    c.as_str.ensures c.show_zoned.ensures)
 
 pub returns-in-Make : goal.returns-in-Make
 returns-in-Make g c = rw c.in-Make.is (ends_by _ (λ answer due. (due, refl)) c.make.ensures)
@@ -86,4 +113,4 @@ returns-in-Expand g c =
     (subst
     (λ (name : List ℕ). Ends (λ answer. IsOfFiles alone (tape_named name) (Unit {0}) IsExpanded (shelf c.args.shelf.now) (shelf c.write_out.new.shelf) answer
     × RestsWhole old new) (sink c.args.out.now) (sink c.write_out.new.out) c.write_out.result.status)
-    c.as_str.ensures c.write_out.ensures)
+    c.as_str-in-Expand.ensures c.write_out.ensures)

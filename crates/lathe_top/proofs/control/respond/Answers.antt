@@ -1,6 +1,6 @@
 use Rattle.std.proofs.Common.{refl, rules}
 use Rattle.lathe_top.specs.Done.{usage, unread, commanded}
-use Rattle.lathe_looks.proofs.Ended.{ends_by, ends_just, ends_untold}
+use Rattle.lathe_calls.proofs.Ended.{ends_by, ends_just, ends_untold}
 use Rattle.lathe_top.proofs.Opened.{none_called}
 use Rattle.lathe_top.proofs.control.respond.Goals as goal
 

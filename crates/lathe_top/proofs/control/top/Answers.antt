@@ -1,5 +1,5 @@
 use Rattle.std.specs.Prelude.{codes}
-use Rattle.lathe_looks.specs.Statuses as exit
+use Rattle.lathe_calls.specs.Statuses as exit
 use Rattle.lathe_top.proofs.Agreed.{ends_or, ends_told}
 use Rattle.lathe_top.proofs.DueOnce.{due_once, usage_once}
 use Rattle.lathe_top.proofs.FaultsFirst.{disk_first, turret_first}

@@ -4,10 +4,10 @@ use Rattle.run_records.specs.declared.entry.Entry.{Entry}
 use Rattle.turret_run.specs.Runs.{Turrets, Missed, none_missed}
 use Rattle.two_path.specs.Histories.{IsLegal}
 use Rattle.nc_restart.specs.Pair.{tapes_in, opening_of}
-use Rattle.lathe_looks.specs.Answers.{Ends}
+use Rattle.lathe_calls.specs.Answers.{Ends}
 use Rattle.lathe_top.specs.Going.{IsReport}
 use Rattle.lathe_top.specs.Texts.{end_reason, text_by}
-use Rattle.lathe_looks.proofs.Ended.{ends_just}
+use Rattle.lathe_calls.proofs.Ended.{ends_just}
 use Rattle.lathe_top.proofs.GoingOn.{not_ended}
 use Rattle.lathe_top.proofs.GoingReported.{for_pair, told_same, told_report, pair_is}
 use Rattle.lathe_top.proofs.going.go_on.Goals as goal

@@ -1,7 +1,7 @@
 use Rattle.std.proofs.Common.{sym, ap, ◌∙◌}
 use Rattle.lathe_top.specs.Going.{told_of}
 use Rattle.lathe_top.specs.Texts.{text_by}
-use Rattle.lathe_looks.proofs.Ended.{ends_just, ends_untold}
+use Rattle.lathe_calls.proofs.Ended.{ends_just, ends_untold}
 use Rattle.lathe_top.proofs.going.tell_run.Goals as goal
 
 pub returns-in-Some : goal.returns-in-Some

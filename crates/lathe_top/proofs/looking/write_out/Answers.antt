@@ -1,4 +1,4 @@
-use Rattle.lathe_looks.proofs.Ended.{ends_by}
+use Rattle.lathe_calls.proofs.Ended.{ends_by}
 use Rattle.lathe_top.proofs.Opened.{none_called}
 use Rattle.lathe_top.proofs.looking.write_out.Goals as goal
 

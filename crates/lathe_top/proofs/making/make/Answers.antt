@@ -1,5 +1,5 @@
 use Rattle.lathe_top.specs.Ran.{unjudged}
-use Rattle.lathe_looks.proofs.Ended.{ends_untold}
+use Rattle.lathe_calls.proofs.Ended.{ends_untold}
 use Rattle.lathe_top.proofs.Opened.{none_called}
 use Rattle.lathe_top.proofs.making.make.Goals as goal
 

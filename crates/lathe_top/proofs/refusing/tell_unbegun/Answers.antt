@@ -1,4 +1,4 @@
-use Rattle.lathe_looks.proofs.Ended.{ends_untold}
+use Rattle.lathe_calls.proofs.Ended.{ends_untold}
 use Rattle.lathe_top.proofs.RunsBegun.{none_told}
 use Rattle.lathe_top.proofs.refusing.tell_unbegun.Goals as goal
 

@@ -3,9 +3,10 @@ use Rattle.turret_run.specs.Runs.{Turrets, none_missed}
 use Rattle.run_table.specs.Kept.{TableView}
 use Rattle.run_table.specs.Running.{MayRun}
 use Rattle.nc_restart.specs.Pair.{machine_behind}
-use Rattle.lathe_looks.specs.Answers.{Ends}
-use Rattle.lathe_looks.specs.Standing.{is_over, report_of}
-use Rattle.lathe_looks.proofs.Ended.{ends_just}
+use Rattle.lathe_calls.specs.Answers.{Ends}
+use Rattle.lathe_calls.specs.Reported.{report_of}
+use Rattle.lathe_looks.specs.Standing.{is_over}
+use Rattle.lathe_calls.proofs.Ended.{ends_just}
 use Rattle.lathe_top.specs.Going.{IsReport, report}
 use Rattle.lathe_top.specs.Lathe.{LatheState, lathe_left}
 use Rattle.lathe_top.proofs.GoingReported.{standing}

@@ -1,5 +1,5 @@
 use Rattle.std.proofs.Common.{refl}
-use Rattle.lathe_looks.proofs.Ended.{ends_put}
+use Rattle.lathe_calls.proofs.Ended.{ends_put}
 use Rattle.lathe_top.proofs.telling.tell_end.Goals as goal
 
 pub returns : goal.returns

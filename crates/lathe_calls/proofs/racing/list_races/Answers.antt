@@ -1,0 +1,10 @@
+use Rattle.lathe_calls.specs.Due.{accepted}
+use Rattle.lathe_calls.proofs.Ended.{ends_by}
+use Rattle.lathe_calls.proofs.PairTold.{refused_texts}
+use Rattle.lathe_calls.proofs.racing.list_races.Goals as goal
+
+pub returns-in-Ok : goal.returns-in-Ok
+returns-in-Ok g c = ends_by _ (λ answer is. accepted c.in-Ok.pair c.in-Ok.ensures.accepted is) c.tell_races.ensures
+
+pub returns-in-Err : goal.returns-in-Err
+returns-in-Err g c = ends_by _ (refused_texts _ c.in-Err.ensures.refused) c.refuse.ensures

@@ -1,0 +1,32 @@
+-- How a call ends: what there is to tell, and what came of it at the sink.
+use Rattle.std.specs.Prelude.{◌≡◌, ℕ, Ok, Err, Result, List, [], take}
+use Rattle.nc_outside.specs.declared.sink.PutFault.{PutFault}
+use Rattle.nc_outside.specs.declared.sink.PutFault.TheVariants.{Failed, NoMemory}
+use Rattle.nc_outside.specs.Faults.{Rose}
+use Rattle.nc_outside.specs.Written.{SinkState, Writes}
+use Rattle.lathe_calls.specs.Statuses as exit
+
+-- what there is to tell: a status and its text; or nothing, where memory ran out before that was known
+pub data Answer : Type 0 where
+  tells : (status : ℕ) (text : List ℕ) → Answer
+  nothing : Answer
+
+-- this is to be told, and nothing else
+abbrev pub IsJust : Answer → Answer → Type 0
+IsJust due answer = answer ≡ due
+
+-- How a call ends, by what is due: the text stands whole after what was there, and the status is its own; or the sink failed
+-- after a part of the text; or memory ran out there; or before there was a text, and nothing was written.
+pub data Ends (Due : Answer → Type 0) (old new : SinkState) : ℕ → Type 0 where
+  whole : {status : ℕ} {text : List ℕ} → Due (tells status text) → Writes old new text → Ends Due old new status
+  cut : {status : ℕ} {text : List ℕ} → Due (tells status text) → Rose old.faults new.faults → (n : ℕ)
+      → Writes old new (take n text) → Ends Due old new exit.sink_fault
+  unwritten : {status : ℕ} {text : List ℕ} → Due (tells status text) → (n : ℕ) → Writes old new (take n text)
+      → Ends Due old new exit.no_memory
+  untold : Due nothing → Writes old new [] → Ends Due old new exit.no_memory
+
+-- the status after a text that was put with this result
+abbrev pub status_behind : Result (Unit {0}) PutFault → ℕ → ℕ
+status_behind (Ok _) status = status
+status_behind (Err Failed) status = exit.sink_fault
+status_behind (Err NoMemory) status = exit.no_memory

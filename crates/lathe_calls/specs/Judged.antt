@@ -1,0 +1,28 @@
+-- The verdict that is due to three texts.
+use Rattle.std.specs.Prelude.{◌≡◌, ℕ, List, Some, None}
+use Rattle.nc_number.specs.declared.fault.Failing.{Failing}
+use Rattle.nc_number.specs.declared.fault.Failing.TheVariants.{Fault, NoMemory}
+use Rattle.cell_settings.specs.Cell.{Cell}
+use Rattle.tape_flow.specs.Forms.{ProgramForm}
+use Rattle.nc_verify.specs.declared.refusal.Refusal.{Refusal}
+use Rattle.nc_verify.specs.Verdict.{Texts, AreAccepted, IsRefusalOf}
+use Rattle.nc_verify.specs.Printed.{IsVerdictText}
+use Rattle.lathe_calls.specs.Answers.{Answer, tells, nothing}
+use Rattle.lathe_calls.specs.Statuses as exit
+
+-- the verdict: 0 where the texts are accepted, 1 where they are refused, each with its line; nothing for want of memory
+pub data IsJudged (texts : Texts) : Answer → Type 0 where
+  accepted : {cell : Cell} {left right : List ProgramForm} {text : List ℕ} → AreAccepted texts cell left right
+      → IsVerdictText None text → IsJudged texts (tells exit.done text)
+  refused : {refusal : Refusal} {text : List ℕ} → IsRefusalOf texts refusal → IsVerdictText (Some refusal) text
+      → IsJudged texts (tells exit.refused text)
+  unjudged : IsJudged texts nothing
+
+-- an accepted pair is answered by its line
+abbrev pub IsAcceptance : Answer → Type 0
+IsAcceptance answer = (text : List ℕ) × IsVerdictText None text × (answer ≡ tells exit.done text)
+
+-- a refusal is answered by its line; want of memory by nothing
+abbrev pub IsRefusing : Failing Refusal → Answer → Type 0
+IsRefusing (Fault refusal) answer = (text : List ℕ) × IsVerdictText (Some refusal) text × (answer ≡ tells exit.refused text)
+IsRefusing NoMemory answer = answer ≡ nothing

@@ -1,0 +1,14 @@
+-- The races that are due to the pair of three texts.
+use Rattle.std.specs.Prelude.{List}
+use Rattle.nc_verify.specs.declared.verified.Verified.{Verified}
+use Rattle.race_report.specs.declared.race.Race.{Race}
+use Rattle.race_report.specs.RaceLists.{shared_by, IsRaceList}
+use Rattle.race_report.specs.Texts.{list_text}
+use Rattle.lathe_calls.specs.Answers.{Answer, tells, nothing}
+use Rattle.lathe_calls.specs.Statuses as exit
+
+-- 0 and the list of the races of a pair; nothing for want of memory
+pub data AreRacesOf (pair : Verified) : Answer → Type 0 where
+  listed : (races : List Race) → IsRaceList (shared_by pair.settings) pair.left pair.right races
+      → AreRacesOf pair (tells exit.done (list_text races))
+  unlisted : AreRacesOf pair nothing

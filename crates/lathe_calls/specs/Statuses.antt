@@ -1,0 +1,44 @@
+-- The statuses of calls and of the program.
+use Rattle.std.specs.Prelude.{ℕ}
+
+abbrev pub done : ℕ
+done = 0
+
+abbrev pub refused : ℕ
+refused = 1
+
+abbrev pub usage : ℕ
+usage = 2
+
+abbrev pub alarm : ℕ
+alarm = 3
+
+abbrev pub shelf_fault : ℕ
+shelf_fault = 4
+
+abbrev pub sink_fault : ℕ
+sink_fault = 5
+
+abbrev pub disk_fault : ℕ
+disk_fault = 6
+
+abbrev pub turret_fault : ℕ
+turret_fault = 7
+
+abbrev pub run_or_none : ℕ
+run_or_none = 8
+
+abbrev pub bad_journal : ℕ
+bad_journal = 9
+
+abbrev pub stopped : ℕ
+stopped = 10
+
+abbrev pub no_memory : ℕ
+no_memory = 12
+
+abbrev pub no_file : ℕ
+no_file = 13
+
+abbrev pub full : ℕ
+full = 14

@@ -1,0 +1,56 @@
+//! How a call ends: a text is written, and there is a status.
+ghost use Rattle.std.specs.Prelude.{◌≡◌};
+ghost use Rattle.lathe_calls.specs.Answers.{Ends, IsJust, status_behind, tells};
+
+use nc_outside::{PutFault, Sink};
+
+/// What the program ends with.
+#[derive(Clone, Copy, Debug, PartialEq, Eq)]
+pub enum Status {
+    /// The tapes are accepted, both paths ran to their ends, or the text was written.
+    Done = 0,
+    /// The tapes or the settings are refused.
+    Refused = 1,
+    /// The words are no command.
+    Usage = 2,
+    /// A path raised an alarm.
+    Alarm = 3,
+    /// The shelf failed.
+    ShelfFault = 4,
+    /// The sink failed.
+    SinkFault = 5,
+    /// The disk failed.
+    DiskFault = 6,
+    /// The turret of a path failed.
+    TurretFault = 7,
+    /// There is a run on the disk already, or there is none.
+    RunOrNone = 8,
+    /// The journal on the disk is bad.
+    BadJournal = 9,
+    /// As many blocks were recorded as the call allows.
+    Stopped = 10,
+    /// Memory ran out.
+    NoMemory = 12,
+    /// A file is missing or too long.
+    NoFile = 13,
+    /// The journal has as many records as it may have.
+    Full = 14,
+}
+
+/// The status after a text that was put: that of the text, or of what went wrong.
+pub fn status_behind(put: Result<(), PutFault>, status: u8) -> u8
+    ensures { result ≡ status_behind put status }
+{
+    match put {
+        Ok(()) => status,
+        Err(PutFault::Failed) => Status::SinkFault as u8,
+        Err(PutFault::NoMemory) => Status::NoMemory as u8,
+    }
+}
+
+/// Writes a text and gives the status that goes with it, or that of what went wrong.
+pub fn write_text<K: Sink>(out: &mut K, text: &[u8], status: u8) -> u8
+    ensures { Ends (IsJust (tells status text.now)) (K.state out.old) (K.state out.new) result }
+{
+    status_behind(out.put(text), status)
+}

@@ -1,0 +1,23 @@
+-- What is told of a file of zones, from what its text came to.
+use Rattle.std.proofs.Common.{◌≡◌, ℕ, List, Result, Ok, Err}
+use Rattle.std.specs.Prelude.{IfOk, IfErr}
+use Rattle.nc_outside.specs.Files.{ShelfState}
+use Rattle.nc_outside.specs.Written.{SinkState}
+use Rattle.zone_cell.specs.Zones.{ZonesView, zones_of}
+use Rattle.lathe_calls.specs.Answers.{Ends}
+use Rattle.lathe_calls.proofs.Ended.{ends_by}
+use Rattle.lathe_looks.specs.Fetched.{AreHad, IsOfFiles, answers}
+use Rattle.lathe_looks.specs.Named.{alone, zones_named}
+use Rattle.lathe_looks.specs.Zoned.{AreZonesOf, IsUnzoned}
+
+pub zones_read : (old new : ShelfState) (name text : List ℕ) (result : Result ZonesView ℕ) → AreHad old new (zones_named name) (alone text)
+    → IfOk result (λ zones. zones_of text ≡ Ok zones) → IfOk result (λ zones. AreZonesOf old new name zones)
+zones_read old new name text (Ok zones) had are = record { text = text; had = had; are = are }
+zones_read old new name text (Err status) had are = tt
+
+pub zones_unread : (old new : ShelfState) (before after : SinkState) (name text : List ℕ) (result : Result ZonesView ℕ)
+    → AreHad old new (zones_named name) (alone text)
+    → IfErr result (λ status. Ends (IsUnzoned text) before after status)
+    → IfErr result (λ status. Ends (IsOfFiles alone (zones_named name) (Unit {0}) IsUnzoned old new) before after status)
+zones_unread old new before after name text (Ok zones) had ends = tt
+zones_unread old new before after name text (Err status) had ends = ends_by status (λ answer is. answers text had is) ends

@@ -1,8 +1,0 @@
-use Rattle.std.proofs.Common.{refl}
-use Rattle.lathe_looks.proofs.Ended.{ends_put}
-use Rattle.lathe_looks.proofs.verifying.accept.Goals as goal
-
-pub returns : goal.returns
-returns g c =
-    rw (c.status_behind.ensures)
-    (ends_put 0 c.write_verdict.result (c.write_verdict.ensures.0, c.write_verdict.ensures.1, refl) c.write_verdict.ensures.2)

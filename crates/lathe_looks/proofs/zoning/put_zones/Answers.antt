@@ -1,0 +1,11 @@
+use Rattle.std.proofs.Common.{ap, subst}
+use Rattle.nc_verify.specs.Printed.{IsPut}
+use Rattle.zone_cell.specs.Lines.{list_text}
+use Rattle.move_list.proofs.InPieces.{none_put}
+use Rattle.lathe_looks.proofs.zoning.put_zones.Goals as goal
+
+pub returns-in-Ok : goal.returns-in-Ok
+returns-in-Ok g c = rw (c.as_slice.ensures.value, c.in-Ok.ensures) at c.write_zones.ensures
+
+pub returns-in-Err : goal.returns-in-Err
+returns-in-Err g c = none_put _ _

@@ -1,0 +1,32 @@
+-- What is told of a text of zones that is not read, and the text of the zones of a run.
+use Rattle.std.specs.Prelude.{◌≡◌, ℕ, List, ◌++◌, codes, decimal, Ok, Err}
+use Rattle.nc_outside.specs.Files.{ShelfState}
+use Rattle.nc_restart.specs.Pair.{opening_of, tapes_in}
+use Rattle.nc_verify.specs.declared.verified.Verified.{Verified}
+use Rattle.run_records.specs.declared.entry.Entry.{Entry}
+use Rattle.zone_cell.specs.Lines.{list_text}
+use Rattle.zone_cell.specs.Zones.{ZonesView, zones_of}
+use Rattle.zone_check.specs.Segments.{zones_of_history}
+use Rattle.lathe_calls.specs.Answers.{Answer, tells, nothing}
+use Rattle.lathe_calls.specs.Statuses as exit
+use Rattle.lathe_looks.specs.Fetched.{AreHad, IsOfFiles}
+use Rattle.lathe_looks.specs.Named.{alone, zones_named}
+
+-- the line of a text of zones that is refused at a line
+unfoldable pub bad_zone_text : ℕ → List ℕ
+bad_zone_text line = codes "refused 92 " ++ (codes "BadZone line " ++ (decimal line ++ codes "\n"))
+
+-- 1 and the first line that is not allowed; nothing for want of memory
+pub data IsUnzoned (text : List ℕ) : Answer → Type 0 where
+  bad_zones : {line : ℕ} → zones_of text ≡ Err line → IsUnzoned text (tells exit.refused (bad_zone_text line))
+  unread_zones : IsUnzoned text nothing
+
+-- the shelf has a text of the file, which gives these zones
+pub record AreZonesOf (old new : ShelfState) (name : List ℕ) (zones : ZonesView) : Type 0 where
+  pub text : List ℕ
+  pub had : AreHad old new (zones_named name) (alone text)
+  pub are : zones_of text ≡ Ok zones
+
+-- the text of the zones of a history of a pair
+abbrev pub zones_text : ZonesView → Verified → List Entry → List ℕ
+zones_text zones pair entries = list_text (zones_of_history (tapes_in pair) (opening_of pair) zones entries)

@@ -1,0 +1,33 @@
+-- What is due to `zones`: of a file that gives none, and that one answer is due to a text.
+use Rattle.std.proofs.Common.{◌≡◌, ℕ, List, Ok, Err, refl, ap, subst}
+use Rattle.nc_outside.specs.Files.{ShelfState}
+use Rattle.nc_verify.specs.declared.verified.Verified.{Verified}
+use Rattle.nc_restart.specs.Pair.{IsSamePair}
+use Rattle.run_records.specs.declared.entry.Entry.{Entry}
+use Rattle.zone_cell.specs.Lines.{list_text}
+use Rattle.zone_cell.specs.Zones.{ZonesView, zones_of}
+use Rattle.zone_check.specs.Segments.{zones_of_history}
+use Rattle.lathe_calls.specs.Answers.{Answer}
+use Rattle.lathe_looks.specs.Fetched.{IsOfFiles, not_had, unread, answers}
+use Rattle.lathe_looks.specs.Named.{alone, zones_named}
+use Rattle.lathe_looks.specs.Zoned as looked
+use Rattle.lathe_looks.specs.Zoned.{IsUnzoned, zones_text}
+use Rattle.lathe_top.specs.Kept.{RestsWhole}
+use Rattle.lathe_top.specs.Lathe.{LatheState}
+use Rattle.lathe_top.specs.Zoned.{IsZoned, bad_zones, unread_zones}
+
+unzoned_text : (old new : LatheState) (text : List ℕ) (answer : Answer) → IsUnzoned text answer → RestsWhole old new → IsZoned old new text answer
+unzoned_text old new text answer (looked.bad_zones is) rests = bad_zones is rests
+unzoned_text old new text answer looked.unread_zones rests = unread_zones rests
+
+pub unzoned_due : (name : List ℕ) (shelf shelf' : ShelfState) (old new : LatheState) (answer : Answer)
+    → IsOfFiles alone (zones_named name) (Unit {0}) IsUnzoned shelf shelf' answer → RestsWhole old new
+    → IsOfFiles alone (zones_named name) (RestsWhole old new) (IsZoned old new) shelf shelf' answer
+unzoned_due name shelf shelf' old new answer (not_had missing none) rests = not_had missing rests
+unzoned_due name shelf shelf' old new answer (unread some none) rests = unread some rests
+unzoned_due name shelf shelf' old new answer (answers text had is) rests = answers text had (unzoned_text old new text answer is rests)
+
+-- the text of zones hangs on the machine of its pair
+pub zones_hang : (zones : ZonesView) (pair other : Verified) → IsSamePair pair other → (entries : List Entry)
+    → zones_text zones pair entries ≡ zones_text zones other entries
+zones_hang zones pair other same entries = λ i. list_text (zones_of_history (same.tapes i) (same.opening i) zones entries)

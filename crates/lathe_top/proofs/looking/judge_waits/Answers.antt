@@ -1,6 +1,0 @@
-use Rattle.lathe_looks.proofs.Ended.{ends_by}
-use Rattle.lathe_top.proofs.Opened.{none_called}
-use Rattle.lathe_top.proofs.looking.judge_waits.Goals as goal
-
-pub returns : goal.returns
-returns g c = ends_by _ (λ answer due. (due, none_called _ _ (g.met.D.Disk.coherent c.args.lathe.disk))) c.waits.ensures
