@@ -3,7 +3,6 @@ which has made WORK/simulator and WORK/memory."""
 import concurrent.futures
 import ctypes
 import os
-import random
 import re
 import subprocess
 import sys
@@ -14,10 +13,11 @@ ROOT, LIBRARY, PROGRAM, WORK = sys.argv[1:]
 EXAMPLES = os.path.join(ROOT, "examples")
 sys.path.insert(0, EXAMPLES)
 import simulator  # noqa: E402
+from called_program import FILES, Program  # noqa: E402
+from library_texts import changed_triples, read, triples  # noqa: E402
 
-ALL = 4000000
 CHANGED = 3000
-LATHE = simulator.Lathe(LIBRARY)
+LATHE, PROGRAM_OF = simulator.Lathe(LIBRARY), Program(PROGRAM, WORK)
 passed = failed = 0
 
 
@@ -27,105 +27,6 @@ def check(name, is_right, said=""):
     failed += not is_right
     if not is_right and failed <= 20:
         print(f"library row FAILED: {name}: {said}"[:400])
-
-
-def read(name):
-    with open(os.path.join(EXAMPLES, name), "rb") as file:
-        return file.read()
-
-
-class Program:
-    """The program, each call in a folder of its own."""
-    rooms = threading.local()
-
-    def __call__(self, texts, *words):
-        room = getattr(self.rooms, "name", None)
-        if room is None:
-            room = self.rooms.name = os.path.join(WORK, f"room{threading.get_ident()}")
-            os.mkdir(room)
-        for name, text in zip(("left", "right", "cell"), texts):
-            with open(os.path.join(room, name), "wb") as file:
-                file.write(text)
-        return self.again(*words)
-
-    def again(self, *words):
-        ran = subprocess.run([PROGRAM, *words], cwd=self.rooms.name, stdin=subprocess.DEVNULL, stdout=subprocess.PIPE,
-                             stderr=subprocess.DEVNULL, timeout=60)
-        return simulator.Answer(ran.returncode, ran.stdout)
-
-    def forget(self):
-        journal = os.path.join(self.rooms.name, "twin.journal")
-        if os.path.exists(journal):
-            os.remove(journal)
-
-
-PROGRAM_OF = Program()
-FILES = ("left", "right", "cell")
-
-
-def made_tape(picker, path, waits):
-    """A tape of moves, arcs, cycles, loops and calls, with these waits."""
-    lines = ["%", f"O{path:04}", "G21 G40 G97 G99", f"T0{path}0{path}", "G97 S900 M03", "G00 X60. Z5."]
-    for wait in waits:
-        for _ in range(picker.randrange(1, 7)):
-            x, z = picker.randrange(10, 60), -picker.randrange(0, 40)
-            lines += picker.choice([
-                [f"G01 X{x}.5 Z{z}. F0.{picker.randrange(1, 5)}"], [f"G00 X{x}. Z{z}."],
-                [f"G02 U4. W-2. R{picker.randrange(4, 9)}."], [f"G04 P{picker.randrange(1, 999)}"], [f"G90 X{x}. Z{z}. F0.2"],
-                ["M08"], [f"#1{picker.randrange(0, 33):02}=[{x}+#3]*2"], ["M98 P900 L2"], [f"G96 S{x + 100}"],
-                ["#1=0", "WHILE[#1LT3]DO1", "#1=#1+1", "G00 U-1.", "END1"], ["G98 G01 W-1. F80"], [f"G65 P901 A{x}."]])
-        lines.append(f"M{wait}")
-    return ("\n".join([*lines, "M30", "O0900", "G01 U-1. W-1. F0.1", "M99", "O0901", "G00 X#1", "M99", "%"]) + "\n").encode()
-
-
-def made_pair(number):
-    picker = random.Random(number)
-    waits = [100 + picker.randrange(0, 90) for _ in range(picker.randrange(0, 6))]
-    return made_tape(picker, 1, waits), made_tape(picker, 2, waits), read("cell.txt")
-
-
-def changed(picker, text):
-    """A text with up to three changes."""
-    text = bytearray(text)
-    for _ in range(picker.choice([0, 1, 1, 2, 3])):
-        at, kind = picker.randrange(len(text) + 1), picker.randrange(5)
-        if kind == 0 and text:
-            is_plain = picker.random() < 0.9
-            text[at % len(text)] = picker.choice(b"0123456789XZMGN#[]=.-+% \n(") if is_plain else picker.randrange(256)
-        elif kind == 1:
-            del text[at:at + picker.randrange(1, 6)]
-        elif kind == 2:
-            text[at:at] = picker.choice([b"M101\n", b"#1=#2+1\n", b"GOTO 50\n", b"WHILE[#1LT3]DO1\nEND1\n", b"IF[#100EQ1]GOTO90\n",
-                                         b"G65P1\n", b"(", b"M98P2\n", b"#500=#501/3.\n"])
-        elif kind == 3 and b"\n" in text:
-            lines = bytes(text).split(b"\n")
-            one, two = picker.randrange(len(lines)), picker.randrange(len(lines))
-            lines[one], lines[two] = lines[two], lines[one]
-            text = bytearray(b"\n".join(lines))
-        else:
-            text += text[at:at + 40]
-    return bytes(text)
-
-
-def triples():
-    names = sorted(it for it in os.listdir(EXAMPLES) if it.endswith(".nc"))
-    tapes = [read(it) for it in names]
-    pairs = [(i, j) for i in range(len(names)) for j in range(len(names))]
-    found = [(f"{names[i]} {names[j]}", (tapes[i], tapes[j], read("cell.txt"))) for i, j in pairs]
-    found += [(f"{a} {b} {c}", (read(a), read(b), read(c))) for a, b, c in (
-        ("bolt_upper.nc", "bolt_lower.nc", "bolt.txt"), ("deadlock_upper.nc", "deadlock_lower.nc", "plain.txt"),
-        ("upper.nc", "lower.nc", "plain.txt"), ("upper.nc", "lower.nc", "bolt.txt"))]
-    return found + [(f"made pair {number}", made_pair(number)) for number in range(60)]
-
-
-def changed_triples():
-    picker = random.Random(5)
-    tapes = [read(it) for it in sorted(os.listdir(EXAMPLES)) if it.endswith(".nc")]
-    tapes += [made_pair(number)[0] for number in range(9)]
-    cell = read("cell.txt")
-    for number in range(CHANGED):
-        texts = changed(picker, picker.choice(tapes)), changed(picker, picker.choice(tapes))
-        yield f"changed triple {number}", (*texts, changed(picker, cell) if picker.random() < 0.2 else cell)
 
 
 def compare_texts(given):
@@ -266,7 +167,7 @@ def check_simulators():
 def main():
     began, given = time.monotonic(), triples()
     with concurrent.futures.ThreadPoolExecutor(4) as pool:
-        for rows in pool.map(compare_texts, [*given, *changed_triples()]):
+        for rows in pool.map(compare_texts, [*given, *changed_triples(CHANGED)]):
             for name, answer, due in rows:
                 check(name, answer == due, f"{answer.status} {answer.text[:80]}, and {due.status} {due.text[:80]} is due")
         for rows in pool.map(compare_run, given):

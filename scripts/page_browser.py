@@ -1,4 +1,5 @@
-"""Drives a headless Chromium over its debugging pipe, by Python's standard library alone. Used by page_rows, bench_page, page_picture."""
+"""Drives a headless Chromium over its debugging pipe, by Python's standard library alone. Used by page_rows, judge_rows, bench_page,
+page_picture."""
 import base64
 import json
 import os
@@ -21,10 +22,11 @@ class Hung(Exception):
 
 
 class Browser:
-    """A browser with one page. `problems` gathers exceptions of the page, and requests that leave this computer's files."""
+    """A browser with one page. `problems` gathers exceptions of the page, and requests for what is neither a file of this computer nor
+    the page's own; `workers` gathers its workers, if they are watched."""
 
     def __init__(self, width=1400, height=900, ratio=1):
-        self.problems = []
+        self.problems, self.workers = [], []
         try:
             self._start([])
         except Hung:
@@ -86,36 +88,48 @@ class Browser:
         piece, self.rest = self.rest.split(b"\0", 1)
         return json.loads(piece)
 
-    def call(self, method, seconds=60, **params):
-        """Calls the browser, and gives what it answers."""
+    def _order(self, method, session, params):
+        """Sends an order, and gives its number."""
         self.count += 1
         message = {"id": self.count, "method": method, "params": params}
-        if self.session:
-            message["sessionId"] = self.session
+        if session:
+            message["sessionId"] = session
         data = json.dumps(message).encode() + b"\0"
         while data:
             data = data[os.write(self.orders, data):]
-        until = time.monotonic() + seconds
+        return self.count
+
+    def call(self, method, seconds=60, session=None, **params):
+        """Calls the browser for the page, or for a worker of it, and gives what it answers."""
+        number, until = self._order(method, session or self.session, params), time.monotonic() + seconds
         while True:
             got = self._piece(until)
             self._note(got)
-            if got.get("id") == self.count:
+            if got.get("id") == number:
                 if "error" in got:
                     raise RuntimeError(f"{method}: {got['error']}")
                 return got["result"]
 
+    def watch_workers(self):
+        """From now on also notes exceptions and requests of the page's workers, from their first line on."""
+        self.call("Target.setAutoAttach", autoAttach=True, waitForDebuggerOnStart=True, flatten=True)
+
     def _note(self, got):
+        if got.get("method") == "Target.attachedToTarget" and got["params"]["targetInfo"]["type"] == "worker":
+            self.workers.append(got["params"]["sessionId"])
+            for method in ("Runtime.enable", "Network.enable", "Runtime.runIfWaitingForDebugger"):
+                self._order(method, self.workers[-1], {})
         if got.get("method") == "Runtime.exceptionThrown":
             details = got["params"]["exceptionDetails"]
             self.problems.append(details.get("exception", {}).get("description", details.get("text", "?")))
         if got.get("method") == "Network.requestWillBeSent":
             url = got["params"]["request"]["url"]
-            if not url.startswith(("file:", "data:", "about:")):
+            if not url.startswith(("file:", "data:", "about:", "blob:")):
                 self.problems.append("request " + url)
 
-    def run(self, script):
-        """What a script of the page gives; a promise is waited for."""
-        got = self.call("Runtime.evaluate", expression=script, awaitPromise=True, returnByValue=True)
+    def run(self, script, session=None, seconds=60):
+        """What a script of the page, or of a worker, gives; a promise is waited for."""
+        got = self.call("Runtime.evaluate", seconds, session, expression=script, awaitPromise=True, returnByValue=True)
         if "exceptionDetails" in got:
             raise RuntimeError(got["exceptionDetails"].get("exception", {}).get("description", "?"))
         return got["result"].get("value")

@@ -5,9 +5,11 @@ crate=$root/crates/twin_lathe
 program=$crate/out/twin_lathe
 # Beside it, the same program compiled without any proof (`./twin_lathe try`).
 unproved=$crate/out/twin_lathe.unproved
-# Beside each program stands its mark, a file with `.built` after its name, which is as old as the moment when its building
-# began: the program's checksum and the lines of crates.txt that it stands on. The proved program has one only if it was proved
-# and built whole.
+# What the toolchain hands to its compiler for the library of include/lathe.h, kept by scripts/build_library.
+library_module=$root/crates/lathe_c/out/lathe_c.bc
+# Beside each of these stands its mark, a file with `.built` after its name, which is as old as the moment when its building
+# began: the checksum and the lines of crates.txt that it stands on. The proved program and the module have one only if they were
+# proved and built whole.
 
 # The folder of the toolchain is the one that RATTLE names, or else `rt` is on the PATH.
 find_tool() {
@@ -15,6 +17,13 @@ find_tool() {
     [[ -n $tool ]] || tool=$(command -v rt)
     [[ -n $tool && -x $tool ]] || return 1
     printf '%s' "$tool"
+}
+
+# The folder of the toolchain whose tool is $1.
+find_kit() {
+    local kit=${RATTLE:-$(dirname -- "$(dirname -- "$(readlink -f -- "$1")")")}
+    printf '%s' "$kit"
+    [[ -f $kit/bin/rtlib.py && -x $kit/bin/rattle && -x $kit/bin/rattle-link && -x $kit/toolchain/bin/clang ]]
 }
 
 # Says on the error output that there is no toolchain, and ends.
@@ -61,32 +70,33 @@ copy_sources() {
     done < <(lines_below "${2:-twin_lathe}")
 }
 
-# What the mark of the program $1 as it stands has.
+# What the mark of the file $1, which is built of the crate $2, has to say as it stands.
 mark_text() {
     sha256sum <"$1"
-    lines_below twin_lathe
+    lines_below "$2"
 }
 
-# Whether the program $1 is built, and nothing in the folders $2 .. of the crates that it stands on has changed since.
+# Whether the file $1 is built of the crate $2, and nothing in the folders $3 .. of the crates that it stands on has changed since.
 is_current() {
-    local built=$1 name kind folders=()
-    shift
-    [[ -x $built && -f $built.built && $(<"$built.built") == "$(mark_text "$built")" ]] || return 1
+    local built=$1 top=$2 name kind folders=()
+    shift 2
+    [[ -f $built && -f $built.built && $(<"$built.built") == "$(mark_text "$built" "$top")" ]] || return 1
     while IFS=: read -r name _; do
         for kind in "$@"; do folders+=("$root/crates/$name/$kind"); done
-    done < <(lines_below twin_lathe)
+    done < <(lines_below "$top")
     [[ -z $(find "${folders[@]}" -newer "$built.built" -print -quit 2>/dev/null) ]]
 }
 
-# Whether the proved program is built, and the one without proofs is compiled, from the sources as they are.
-is_built() { is_current "$program" src specs proofs; }
-is_compiled() { is_current "$unproved" src specs; }
+# Whether the proved program is built, the one without proofs is compiled, and the library's module is kept, from the sources as they are.
+is_built() { [[ -x $program ]] && is_current "$program" twin_lathe src specs proofs; }
+is_compiled() { [[ -x $unproved ]] && is_current "$unproved" twin_lathe src specs; }
+is_module_kept() { is_current "$library_module" lathe_c src specs proofs; }
 
-# Notes that a program was built (the proved one, if $2 names no other) from the sources as they were when the file $1 was last
-# touched.
+# Notes that a file was built (the proved program, if $2 names no other) of the crate $3 or twin_lathe, from the sources as they were
+# when the file $1 was last touched.
 note_built() {
     local built=${2:-$program}
-    mark_text "$built" >"$built.built"
+    mark_text "$built" "${3:-twin_lathe}" >"$built.built"
     touch -r "$1" "$built.built"
 }
 

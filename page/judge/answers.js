@@ -1,0 +1,146 @@
+"use strict";
+// What the judge said, in words: the waits, the verdict and how the run of the picture ended. The lines that an answer names are marked in
+// the texts, and a click on them goes there.
+
+const Answers = (() => {
+  const MOST_ROWS = 2000;               // meetings that are listed
+  const meanings = JSON.parse($("meanings").textContent);
+  const editors = { 1: null, 2: null, settings: null };
+  let marks = new Map();                // what is marked for the waits, the verdict and the run
+  let refusedWaits = "";                // the line that refuses the waits, if one does
+
+  // ---- places ----
+
+  /** The lines that an answer names, each with its text: path 1, path 2 or the settings. */
+  function placesOf(line) {
+    const places = [...line.matchAll(/path ([12]) line (\d+)/g)].map(found => ({ of: found[1], line: Number(found[2]) }));
+    const alone = /^refused \d+ \w+ line (\d+)/.exec(line);
+    return alone ? [{ of: "settings", line: Number(alone[1]) }] : places;
+  }
+
+  const nameOf = place => place.of === "settings" ? `settings line ${place.line}` : `path ${place.of} line ${place.line}`;
+
+  function goTo(places) {
+    for (const place of [...places].reverse()) editors[place.of].goTo(place.line);
+  }
+
+  /** Marks the lines of the first of verdict, waits and run that has some. */
+  function markAll() {
+    const places = ["verdict", "waits", "run"].map(part => marks.get(part) ?? []).find(some => some.length) ?? [];
+    for (const of of Object.keys(editors)) editors[of].mark(places.filter(place => place.of === of).map(place => place.line));
+  }
+
+  // ---- what is said ----
+
+  function tell(part, isGood, ...parts) {
+    $(`judge-${part}`).replaceChildren(...parts);
+    $(`judge-${part}`).className = `judge-said ${isGood ? "good" : "bad"}`;
+  }
+
+  const sentence = text => element("p", "", text);
+
+  /** A row that leads to the lines that it names. */
+  function row(text) {
+    const places = placesOf(text);
+    if (!places.length) return element("div", "", text);
+    const button = element("button", "place", text);
+    button.addEventListener("click", () => goTo(places));
+    return button;
+  }
+
+  /** A place and the text that stands there. */
+  function quote(place) {
+    const line = row(nameOf(place));
+    line.replaceChildren(element("b", "", nameOf(place)), " ", element("code", "", editors[place.of].line(place.line)));
+    line.className = "place";
+    line.onclick = () => goTo([place]);
+    return line;
+  }
+
+  /** What a refusal or an alarm means and what to do, from docs/ERRORS.md. What stands there between back quotes is code. */
+  function meaningOf(number) {
+    return (meanings[number] ?? []).map(([word, text]) => element("p", "", element("b", "", `${word}: `),
+      ...text.split("`").map((part, k) => k % 2 ? element("code", "", part) : part)));
+  }
+
+  /** Whether an answer has a text of the judge's. */
+  const isLine = answer => answer.kind === "said" && answer.text !== "";
+
+  /** An answer that has none: why. */
+  function tellNone(part, answer) {
+    const why = {
+      "no memory": "The browser gives no memory for this. Close other pages, and change a text to ask again.",
+      "broken off": `The judge broke off (${answer.text}), and was made anew. Nothing is said about these texts. Change one to ask again.`,
+      said: "A tape has more than 4,194,304 bytes, or the settings have more than 65,536.",
+    };
+    tell(part, false, sentence(why[answer.kind]));
+  }
+
+  /** A line that refuses, with the text of the lines that it names. */
+  function tellRefusal(part, line) {
+    const places = placesOf(line);
+    marks.set(part, places);
+    tell(part, false, element("p", "answer", line), ...places.map(quote));
+  }
+
+  const addMeaning = (part, line) => $(`judge-${part}`).append(...meaningOf(/\d+/.exec(line)[0]));
+
+  function showWaits(answer) {
+    const lines = answer.text.trimEnd().split("\n"), shown = lines.slice(0, MOST_ROWS + 1);
+    refusedWaits = isLine(answer) && answer.status !== 0 ? lines[0] : "";
+    if (!isLine(answer)) tellNone("waits", answer);
+    else if (refusedWaits) tellRefusal("waits", refusedWaits);
+    else {
+      const more = lines.length - shown.length;
+      tell("waits", true, ...shown.map((line, k) => k ? row(line) : element("p", "answer", line)),
+        ...more ? [sentence(`and ${more} more lines, which the program lists`)] : []);
+    }
+  }
+
+  function showVerdict(answer) {
+    const line = answer.text.trimEnd();
+    if (refusedWaits && refusedWaits !== line) addMeaning("waits", refusedWaits);      // else it would be said twice
+    if (!isLine(answer)) tellNone("verdict", answer);
+    else if (answer.status !== 0) {
+      tellRefusal("verdict", line);
+      addMeaning("verdict", line);
+    } else tell("verdict", true, element("p", "answer", line), sentence("The two paths can never deadlock at a wait."));
+  }
+
+  /** How the run ended whose picture is drawn. */
+  function showRun(answer) {
+    const line = answer.text.trimEnd().split("\n").pop(), alarm = /cause (\d+)/.exec(line);
+    if (!isLine(answer)) return tellNone("run", answer);
+    marks.set("run", placesOf(line));
+    if (alarm) tell("run", false, element("p", "answer", line), ...placesOf(line).map(quote), ...meaningOf(alarm[1]));
+    else if (answer.status === 0) tell("run", true, element("p", "answer", line), sentence("Both programs ran to their ends."));
+    else tell("run", true, element("p", "answer", line), sentence("The picture ends there, and the run does not."));
+  }
+
+  const SHOW = { waits: showWaits, verdict: showVerdict, trace: showRun };
+
+  /** Shows one part of the answer to a question. */
+  function show(part, answer) {
+    if (part === "waits") forget();
+    SHOW[part](answer);
+    markAll();
+  }
+
+  /** Takes the marks and the run of the question before away. */
+  function forget() {
+    marks = new Map();
+    $("judge-run").replaceChildren();
+    $("judge-run").className = "judge-said";
+  }
+
+  /** Says a sentence in place of all answers. */
+  function sayInstead(text, isGood) {
+    forget();
+    markAll();
+    tell("verdict", isGood, sentence(text));
+    $("judge-waits").replaceChildren();
+    $("judge-waits").className = "judge-said";
+  }
+
+  return { editors, show, sayInstead };
+})();

@@ -1,0 +1,181 @@
+"use strict";
+// Two tapes and the settings of the cell are dropped, chosen or typed, and judged again at each change, in a worker. The answers are
+// the library's: first the waits, then the verdict, and of an accepted pair the trace, which the page draws.
+
+const Judge = (() => {
+  const PAUSE = 150;                    // milliseconds that a typed change waits for the next one
+  const MOST_BYTES = 2 ** 26;           // a file with more is not read at all
+  const names = ["judge-left", "judge-right", "judge-cell"];
+  const texts = names.map(name => new Editor(name, askSoon));
+  const [left, right, cell] = texts;
+  const module = Uint8Array.from(atob($("module").textContent.trim()), letter => letter.charCodeAt(0));
+  const answers = {};                   // the answers to the newest question, for tests
+  let worker = null, isReady = false, isBroken = false, asked = 0, waiting = 0, workers = 0;
+
+  Object.assign(Answers.editors, { 1: left, 2: right, settings: cell });
+
+  // ---- the worker ----
+
+  function makeWorker() {
+    workers += 1;
+    isReady = false;
+    const script = URL.createObjectURL(new Blob([$("worker").textContent], { type: "text/javascript" }));
+    worker = new Worker(script);
+    worker.onmessage = ({ data }) => {
+      if (data.isReady) {
+        isReady = true;
+        URL.revokeObjectURL(script);
+      } else if (data.number === asked) show(data);
+    };
+    worker.onerror = event => stopped(event.message);
+    worker.postMessage({ module });
+  }
+
+  /** Takes a new worker, with the module made anew, in place of one that may be spoilt. */
+  function makeAnew() {
+    worker.terminate();
+    makeWorker();
+  }
+
+  /** The worker itself ended. Before it was ready this browser can't run the module, and a new worker would end too. */
+  function stopped(why) {
+    isBroken = !isReady;
+    if (isBroken) Answers.sayInstead(`This browser can't judge (${why}). It has to know WebAssembly of 64 bits: try a newer Chrome or Edge.`, false);
+    else {
+      makeAnew();
+      Answers.sayInstead(`The judge stopped (${why}), and was made anew. Nothing is said about these texts. Change one to ask again.`, false);
+    }
+    setState("stopped");
+  }
+
+  // ---- questions and answers ----
+
+  function setState(state) {
+    document.documentElement.dataset.judged = state;
+    $("judge").classList.toggle("asked", state === "asked");
+  }
+
+  function ask() {
+    clearTimeout(waiting);
+    if (isBroken) return setState("stopped");
+    asked += 1;
+    for (const part of Object.keys(answers)) delete answers[part];
+    const lacking = [left, right].findIndex(text => text.isEmpty());
+    if (lacking >= 0) return sayLacking(lacking + 1);
+    setState("asked");
+    worker.postMessage({ number: asked, texts: texts.map(text => text.bytes()), outside: outside() });
+  }
+
+  /** The least and the greatest number of the programs that are in the control and on no tape; 1 and 0 if there are none. */
+  function outside() {
+    const field = $("judge-outside"), found = /^ *(\d{1,4}) *- *(\d{1,4}) *$/.exec(field.value);
+    field.classList.toggle("wrong", !found && field.value.trim() !== "");
+    return found ? [Number(found[1]), Number(found[2])] : [1, 0];
+  }
+
+  function sayLacking(path) {
+    document.body.classList.add("stale");
+    Answers.sayInstead(`Path ${path} has no tape yet.`, false);
+    setState("done");
+  }
+
+  /** Asks when no change comes for a moment. What is shown until then is of the text before. */
+  function askSoon() {
+    setState("asked");
+    clearTimeout(waiting);
+    waiting = setTimeout(ask, PAUSE);
+  }
+
+  /** Shows a part of the answer; the last part ends the question. */
+  function show({ part, answer, isLast }) {
+    answers[part] = answer;
+    Answers.show(part, answer);
+    if (part === "verdict") document.body.classList.toggle("stale", answer.status !== 0);
+    if (part === "trace" && /^trace /.test(answer.text)) draw(answer.text);
+    if (!isLast) return;
+    if (Object.values(answers).some(some => some.kind === "broken off")) makeAnew();
+    setState("done");
+  }
+
+  /** Gives the trace and both tapes to the picture. */
+  function draw(trace) {
+    const tapes = [left, right].map(text => ({ name: text.title.textContent || "typed", text: text.field.value }));
+    Page.take([{ name: [left, right].map(text => text.fileName).filter(Boolean).join(", "), text: trace }, ...tapes]);
+  }
+
+  // ---- texts come in ----
+
+  const read = async file => ({ name: file.name, bytes: new Uint8Array(await file.arrayBuffer()) });
+
+  /** Reads files, and gives them to whoever takes them; says so if one can't be read. */
+  async function take(files, taker) {
+    const long = files.find(file => file.size > MOST_BYTES);
+    if (long) return Answers.sayInstead(`${long.name} is far too long for a tape.`, false);
+    try {
+      taker(await Promise.all(files.map(read)));
+      ask();
+    } catch (fault) {
+      if (!(fault instanceof DOMException)) throw fault;
+      Answers.sayInstead("A file can't be read. Is it a folder?", false);
+    }
+  }
+
+  const isTape = ({ bytes }) => Tapes.isTape(textOf(bytes.subarray(0, 65536)));
+
+  /** Several files: tapes to path 1 and path 2 in their order, or to the one that has no text yet; any other text is the settings. */
+  function share(files) {
+    const tapes = files.filter(isTape), others = files.filter(file => !isTape(file));
+    const isSecond = tapes.length === 1 && !left.isEmpty() && right.isEmpty();
+    tapes.slice(0, 2).forEach(({ name, bytes }, k) => (isSecond || k ? right : left).set(name, bytes));
+    if (others.length) cell.set(others[0].name, others[0].bytes);
+  }
+
+  function exchange() {
+    const [one, two] = [left, right].map(text => [text.fileName, text.bytes()]);
+    left.set(...two);
+    right.set(...one);
+    ask();
+  }
+
+  function takeDropped(event, taker) {
+    event.preventDefault();
+    event.stopImmediatePropagation();
+    document.body.classList.remove("drag");
+    const files = [...event.dataTransfer.files];
+    if (files.length) take(files, taker);
+  }
+
+  // A single file that is dropped on a text goes there; all else that is dropped or chosen is shared out.
+  texts.forEach((text, k) => {
+    text.field.addEventListener("dragover", () => text.field.classList.add("over"));
+    for (const kind of ["dragleave", "drop"]) text.field.addEventListener(kind, () => text.field.classList.remove("over"));
+    $(`${names[k]}-file`).addEventListener("change", event => {
+      take([...event.target.files], ([file]) => text.set(file.name, file.bytes));
+      event.target.value = "";
+    });
+  });
+  addEventListener("drop", event => {
+    const text = texts.find(some => some.field === event.target);
+    if (text) text.field.classList.remove("over");
+    takeDropped(event, files => text && files.length === 1 ? text.set(files[0].name, files[0].bytes) : share(files));
+  }, true);
+  $("file").addEventListener("change", event => {
+    event.stopImmediatePropagation();
+    take([...event.target.files], share);
+    event.target.value = "";
+  }, true);
+  $("judge-exchange").addEventListener("click", exchange);
+  $("judge-outside").addEventListener("input", askSoon);
+  $("judge-outside").addEventListener("keydown", event => event.stopPropagation());
+
+  /** At first nothing is judged: the panel says what comes where. */
+  function sayFirst() {
+    const first = { waits: "At which codes and lines the two paths meet.", verdict: "Accepted, or the first refusal with its line and what to do.",
+                    run: "How the run ends that is drawn below." };
+    for (const part of Object.keys(first)) $(`judge-${part}`).textContent = first[part];
+  }
+
+  sayFirst();
+  makeWorker();
+  return { ask, texts, answers, get workers() { return workers; } };
+})();

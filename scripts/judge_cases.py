@@ -1,0 +1,311 @@
+"""The rows of the page that judges, in groups: what a user does, and what must then be said, marked and drawn. Each group takes the rows,
+what they ask of the page, and the room in which pages and texts are made. Used by judge_rows.py."""
+import base64
+import os
+import re
+import socket
+
+import wasm_binary
+from library_texts import EXAMPLES, read
+
+LIMIT = 50000                   # records of a picture, as page/judge/worker.js has it
+PARTS = ("waits", "verdict", "trace")
+PATIENCE = 300                  # seconds for one question, on a machine that does much else
+MODULE = re.compile(r'(<script type="text/plain" id="module">)([^<]*)(</script>)')
+
+# What scripts of the page are: `now` is what is answered and seen, `settled` waits until all is answered.
+SETTLED = """
+  const page = document.documentElement.dataset;
+  const settled = async () => { while (page.judged === "asked") await new Promise(done => setTimeout(done, 2)); };
+  const now = () => ({ answers: { ...Judge.answers }, state: page.state, isStale: document.body.classList.contains("stale"), workers: Judge.workers,
+    marked: Judge.texts.map(text => [...text.numbers.querySelectorAll(".marked")].map(row => Number(row.textContent))),
+    said: Object.fromEntries(["waits", "verdict", "run"].map(part => [part, $("judge-" + part).textContent])) });
+"""
+GIVE = """(async () => {
+  %s
+  const times = {}, turns = { before: 0 };
+  let begun = 0;
+  const look = new MutationObserver(() => { for (const part of Object.keys(Judge.answers)) times[part] ??= performance.now() - begun; });
+  look.observe($("judge"), { subtree: true, childList: true });
+  const bytes = %s.map(text => Uint8Array.from(atob(text), letter => letter.charCodeAt(0)));
+  bytes.forEach((text, k) => Judge.texts[k].set("", text));
+  begun = performance.now();
+  Judge.ask();
+  const turn = () => { if (page.judged === "asked" && !times.verdict) { turns.before += 1; setTimeout(turn, 1); } };
+  turn();
+  await settled();
+  look.disconnect();
+  return { ...now(), times, turns: turns.before };
+})()"""
+
+
+class Page:
+    """What a user does with the page that judges, and what is to be seen of it."""
+
+    def __init__(self, browser):
+        self.browser, self.run, self.path = browser, browser.run, None
+
+    def open(self, path):
+        """Opens a page, from a file."""
+        self.path = path
+        self.browser.open(path)
+        self.run("document.documentElement.dataset.judged = ''")
+
+    def give(self, *texts):
+        """Gives it three texts at once, and waits for all answers."""
+        return self.run(GIVE % (SETTLED, [base64.b64encode(text).decode() for text in texts]), seconds=PATIENCE)
+
+    def do(self, script):
+        """Does something that asks again, and waits for all answers."""
+        return self.run("""(async () => { %s
+          page.judged = "asked";
+          %s;
+          await settled();
+          return now();
+        })()""" % (SETTLED, script), seconds=PATIENCE)
+
+    def wait(self):
+        """Waits for all answers, and for a change that is about to be asked."""
+        return self.run("(async () => { %s await settled(); return now(); })()" % SETTLED, seconds=PATIENCE)
+
+    def type(self, *texts):
+        """Types where the cursor is, and waits for all answers."""
+        for text in texts:
+            self.browser.call("Input.insertText", text=text)
+        return self.wait()
+
+    def select(self, place, line, begin, end):
+        """Puts the cursor on letters of a line."""
+        self.run(f"""(text => {{ text.goTo({line}); const at = text.field.selectionStart; text.field.setSelectionRange(at + {begin}, at + {end}); }})
+          (Judge.texts[{place}])""")
+
+    def drop(self, target, files):
+        """Drops files, (name, bytes) each, on a part of the page."""
+        given = [[name, base64.b64encode(data).decode()] for name, data in files]
+        return self.do(f"""const data = new DataTransfer();
+          for (const [name, text] of {given})
+            data.items.add(new File([Uint8Array.from(atob(text), letter => letter.charCodeAt(0))], name));
+          {target}.dispatchEvent(new DragEvent("drop", {{ dataTransfer: data, bubbles: true, cancelable: true }}))""")
+
+    def choose(self, name, files):
+        """Chooses files by the button of an element."""
+        self.run("document.documentElement.dataset.judged = 'asked'")
+        root = self.browser.call("DOM.getDocument")["root"]["nodeId"]
+        node = self.browser.call("DOM.querySelector", nodeId=root, selector="#" + name)["nodeId"]
+        self.browser.call("DOM.setFileInputFiles", nodeId=node, files=files)
+        return self.wait()
+
+
+def line_of(answer):
+    """An answer as a row shows it: its status, and its text."""
+    return (answer["status"], answer["text"]) if answer else None
+
+
+def pair(*names):
+    return tuple(read(name) for name in names)
+
+
+GOOD = "upper.nc", "lower.nc", "cell.txt"
+DEADLOCK = "deadlock_upper.nc", "deadlock_lower.nc", "plain.txt"
+MISMATCH = (1, "refused 72 WaitMismatch path 1 line 3 path 2 line 3 after 0\n")
+ACCEPTED = (0, "accepted\n")
+
+
+def long_tape(path, count):
+    """A tape of so many blocks; each hundredth is a wait."""
+    lines = [f"G01 X{40 + k % 17}.{k % 10} Z-{k % 50}.5 F0.{1 + k % 5}" if k % 100 else f"M{100 + k // 100 % 90}" for k in range(count)]
+    return ("\n".join(["%", f"O{path}", "G99", "G97 S800", *lines, "M30", "%"]) + "\n").encode()
+
+
+LONG = long_tape(1, 19997), long_tape(2, 19997), b""        # 20,000 blocks with the first two and the end, as many as a tape may have
+
+
+# ---- the groups ----
+
+def rows_of_answers(row, page, room):
+    """What is said of an accepted pair, of a refused one, of settings, and of a run that ends by an alarm."""
+    seen = page.give(*pair(*GOOD))
+    row.equal("the parts come in their order", (list(seen["times"]), sorted(seen["times"], key=seen["times"].get)), (list(PARTS), list(PARTS)))
+    row.equal("an accepted pair is accepted", line_of(seen["answers"]["verdict"]), ACCEPTED)
+    row.equal("the waits have both lines", seen["answers"]["waits"]["text"].splitlines()[0], "waits 2")
+    row("each meeting is shown with both lines", all(line in seen["said"]["waits"] for line in seen["answers"]["waits"]["text"].splitlines()),
+        seen["said"]["waits"])
+    row.equal("its picture is drawn", (seen["state"], page.run("document.documentElement.dataset.moves"), seen["isStale"]), ("drawn", "19 11", False))
+    row.has("and how its run ends is said", seen["said"]["run"], "end done")
+    row.equal("no line is marked", seen["marked"], [[], [], []])
+    page.run("document.querySelector('#judge-waits .place').click()")
+    due = [int(number) for number in re.findall(r"line (\d+)", seen["answers"]["waits"]["text"].splitlines()[1])]
+    row.equal("a click on a meeting goes to both lines", page.run("""Judge.texts.slice(0, 2).map(({ field }) =>
+        field.value.slice(0, field.selectionStart).split("\\n").length)"""), due)
+
+    page.run("$('judge-outside').value = '9000-9999'")
+    waits = page.give(*pair("shaft_upper.nc", "shaft_lower.nc", "plain.txt"))["answers"]["waits"]["text"].splitlines()
+    row.equal("programs in the control are taken for what they are said to be", (waits[0], waits[-1]), ("waits 4", "goes on G42 G70 G71 G75 G76 O9010"))
+    page.run("$('judge-outside').value = ''")
+
+    seen = page.give(*pair(*DEADLOCK))
+    row.equal("a deadlock is refused", line_of(seen["answers"]["verdict"]), MISMATCH)
+    row.equal("and has no trace", list(seen["answers"]), ["waits", "verdict"])
+    row.equal("the lines of both tapes are marked", seen["marked"], [[3], [3], []])
+    row("what a refusal means is said once", "Do: " not in seen["said"]["waits"], seen["said"]["waits"])
+    for part in ("M101", "M102", "Meaning: ", "Do: make both tapes wait at the same codes in the same order"):
+        row.has(f"a refusal says the lines and what to do: {part}", seen["said"]["verdict"], part)
+    row("the picture of the pair before is no longer in force", seen["isStale"])
+    row.equal("a mark is where its line is", page.run("""Judge.texts.slice(0, 2).map(({ field }) => [getComputedStyle(field).lineHeight,
+        getComputedStyle(field).paddingTop, /\\) 36px, .*\\) 54px, /.test(getComputedStyle(field).backgroundImage)])"""), [["18px", "0px", True]] * 2)
+
+    seen = page.give(*pair(*GOOD[:2]), b"wait 100 199\nplace 1 X300.\n")
+    row.equal("bad settings are refused", line_of(seen["answers"]["verdict"]), (1, "refused 90 BadSetting line 2\n"))
+    row.equal("and their line is marked", seen["marked"], [[], [], [2]])
+
+    seen = page.give(b"%\nO1\n#101=0\n#102=40/#101\nM30\n%\n", b"%\nO2\nM30\n%\n", b"")
+    row.equal("an alarm leaves the verdict as it is", line_of(seen["answers"]["verdict"]), ACCEPTED)
+    row.has("and is said", seen["said"]["run"], "end alarm path 1 line 4 cause 2 ZeroDivide")
+    row.has("with what to do", seen["said"]["run"], "Do: set the divisor before this line")
+    row.equal("and its line is marked", (seen["marked"], seen["answers"]["trace"]["status"]), ([[4], [], []], 3))
+
+    seen = page.give(b"%" * 4194305, *pair(*GOOD[1:]))
+    row.equal("a tape that is too long has the program's status", seen["answers"]["verdict"]["status"], 13)
+    row.has("and is told", seen["said"]["verdict"], "more than 4,194,304 bytes")
+
+
+def rows_of_hands(row, page, room):
+    """Texts come in by drop, by choice and by typing, and go in byte by byte."""
+    named = list(zip(GOOD, pair(*GOOD)))
+    seen = page.drop("document.body", [named[2], named[0], named[1]])
+    row.equal("three files that are dropped on the page find their places", line_of(seen["answers"].get("verdict")), ACCEPTED)
+    row.equal("with their names", page.run("Judge.texts.map(text => text.title.textContent)"), list(GOOD))
+    seen = page.drop("$('judge-right')", [("other.nc", read("deadlock_lower.nc"))])
+    row.equal("a file that is dropped on a text goes there", page.run("Judge.texts.map(text => text.title.textContent)"), ["upper.nc", "other.nc", "cell.txt"])
+    row.equal("and is judged", seen["answers"]["verdict"]["status"], 1)
+    seen = page.do("$('judge-exchange').click()")
+    row.equal("the tapes can be exchanged", page.run("Judge.texts.map(text => text.title.textContent)"), ["other.nc", "upper.nc", "cell.txt"])
+    examples = os.path.realpath(EXAMPLES)
+    for name, file in (("judge-left-file", DEADLOCK[0]), ("judge-right-file", DEADLOCK[1]), ("judge-cell-file", DEADLOCK[2])):
+        seen = page.choose(name, [os.path.join(examples, file)])
+    row.equal("files can be chosen", line_of(seen["answers"]["verdict"]), MISMATCH)
+    seen = page.choose("file", [os.path.join(examples, file) for file in GOOD])
+    row.equal("several at once too", line_of(seen["answers"]["verdict"]), ACCEPTED)
+    strange = bytes(byte for byte in range(256) if byte != 13)
+    page.give(b"%\nO1\n(" + strange.replace(b")", b"").replace(b"\n", b"") + b")\nM30\n%\n", b"%\nO2\nM30\n%\n", b"")
+    page.select(0, 4, 0, 0)
+    page.type(" ")
+    row.equal("a change leaves all other bytes as they are", page.run("[...Judge.texts[0].bytes()]"),
+              list(b"%\nO1\n(" + strange.replace(b")", b"").replace(b"\n", b"") + b")\n M30\n%\n"))
+    seen = page.give(read(GOOD[0]), b"", b"")
+    row.equal("a tape that is not there yet is told", seen["said"], {"waits": "", "verdict": "Path 2 has no tape yet.", "run": ""})
+    page.give(b"", b"", b"")
+    for place, text in ((0, "%\nO1\nM101\nM30\n%\n"), (1, "%\nO2\nM101\nM30\n%\n")):
+        page.run(f"Judge.texts[{place}].field.focus()")
+        seen = page.type(*text)
+    for key in (" ", "0", "+", "-"):
+        page.browser.key(key)
+    page.wait()
+    row.has("keys of the picture are letters in a text", page.run("Judge.texts[1].field.value"), "%\n 0+-")
+    row.equal("two tapes that are typed letter by letter are judged", (line_of(seen["answers"]["waits"])[1].splitlines()[0], seen["state"]), ("waits 1", "drawn"))
+
+
+def rows_of_typing(row, page, room):
+    """A change is judged again, and its line is marked; the page stays alive meanwhile."""
+    left = read("upper.nc").decode().splitlines()
+    line = next(k for k, text in enumerate(left, 1) if "M101" in text)
+    at = left[line - 1].index("M101") + 3
+    page.give(*pair(*GOOD))
+    page.select(0, line, at, at + 1)
+    seen = page.type("3")
+    row("a typed change is judged", seen["answers"]["verdict"]["text"].startswith("refused 72 "), seen["answers"])
+    row("and its line is marked in both tapes", seen["marked"][0] == [line] and len(seen["marked"][1]) == 1, seen["marked"])
+    row.has("with its new text", seen["said"]["verdict"], left[line - 1].replace("M101", "M103"))
+    page.select(0, line, at, at + 1)
+    seen = page.type("1")
+    row.equal("typed back it is accepted again", (line_of(seen["answers"]["verdict"]), seen["marked"], seen["isStale"]), (ACCEPTED, [[], [], []], False))
+    page.give(*LONG)
+    seen = page.give(*LONG)
+    row("the page stays alive while a long pair is judged", seen["turns"] >= 5, seen["turns"])
+    seen = page.do(f"Judge.ask(); Judge.texts[0].set('', new TextEncoder().encode({read(DEADLOCK[0]).decode()!r})); "
+                   f"Judge.texts[1].set('', new TextEncoder().encode({read(DEADLOCK[1]).decode()!r})); Judge.ask()")
+    row.equal("what is asked last counts", (line_of(seen["answers"]["verdict"]), list(seen["answers"])), (MISMATCH, ["waits", "verdict"]))
+
+
+def spoilt(page, room, spoil):
+    """A page with another module in place of its own."""
+    with open(page, encoding="utf-8") as file:
+        text = file.read()
+    module = spoil(base64.b64decode(MODULE.search(text)[2]))
+    made = os.path.join(room, "spoilt.html")
+    with open(made, "w", encoding="utf-8") as file:
+        file.write(MODULE.sub(lambda found: found[1] + base64.b64encode(module).decode() + found[3], text))
+    return made
+
+
+def rows_of_faults(row, page, room):
+    """The module breaks off, its stack ends, its memory is refused, or it can't be had at all."""
+    due = {part: line_of(answer) for part, answer in page.give(*pair(*GOOD))["answers"].items()}
+    own = page.path
+    page.open(spoilt(own, room, lambda module: wasm_binary.with_trap(module, "lathe_trace")))
+    seen = page.give(*pair(*GOOD))
+    row.equal("a call that breaks off gives no answer", (seen["answers"]["trace"]["kind"], seen["workers"]), ("broken off", 2))
+    row.has("the page says so", seen["said"]["run"], "broke off")
+    row.has("and that the judge was made anew", seen["said"]["run"], "was made anew")
+    row.equal("the other answers are right", {part: line_of(seen["answers"][part]) for part in PARTS[:2]}, {part: due[part] for part in PARTS[:2]})
+    seen = page.give(*pair(*DEADLOCK))
+    row.equal("the next pair is judged as ever", (line_of(seen["answers"]["verdict"]), seen["workers"]), (MISMATCH, 2))
+    for what, spoil, kind, words, sizes in (
+            ("a stack", wasm_binary.with_short_stack, "broken off", "broke off", [1 << k for k in range(8, 21)]),
+            ("a memory", wasm_binary.with_little_memory, "no memory", "no memory for this", [0, *(1 << k for k in range(13))])):
+        kinds = set()
+        for size in sizes:
+            page.open(spoilt(own, room, lambda module: spoil(module, size)))
+            seen = page.give(*pair(*GOOD))
+            for part, answer in seen["answers"].items():
+                kinds.add(answer["kind"])
+                is_told = words in seen["said"]["run" if part == "trace" else part]
+                row(f"{what} of {size}: the answer is the right one, or the page says why there is none: {part}",
+                    line_of(answer) == due[part] or answer["kind"] == kind and is_told, (answer["kind"], answer["text"][:80]))
+        row.equal(f"{what}: one that is too small, and one that is not", kinds, {"said", kind})
+    page.open(spoilt(own, room, lambda module: module[:200]))
+    page.run("new Promise(done => setTimeout(done, 300))")
+    row.has("a browser that does not know the module is told", page.run("$('judge-verdict').textContent"), "can't judge")
+    row.equal("once", page.run("Judge.workers"), 1)
+    page.open(own)
+
+
+HELD = """new Promise(done => {
+    addEventListener("securitypolicyviolation", event => done(event.effectiveDirective), { once: true });
+    fetch("%s").catch(() => 0);
+    setTimeout(() => done("asked for"), 2000); })"""
+
+
+def rows_of_requests(row, page, room):
+    """The page and its worker ask for nothing, and their policy would let nothing out."""
+    browser = page.browser
+    browser.problems.clear()
+    page.give(*pair(*GOOD))
+    row("the worker is watched", browser.workers, browser.workers)
+    row.equal("no exception, and no request", browser.problems, [])
+    with socket.create_server(("127.0.0.1", 0)) as server:
+        far = f"http://127.0.0.1:{server.getsockname()[1]}/"
+        for name, session in (("the page's", None), ("the worker's", browser.workers[-1])):
+            row.equal(f"{name} policy lets no request out", browser.run(HELD % far, session), "connect-src")
+        server.settimeout(0.3)
+        try:
+            server.accept()
+            row("no request came", False, "one did")
+        except TimeoutError:
+            row("no request came", True)
+    browser.problems.clear()
+
+
+def rows_of_length(row, page, room):
+    """20,000 blocks a tape within a second: the best of three, since the machine may be busy."""
+    best = {}
+    for _ in range(3):
+        seen = page.give(*LONG)
+        best = {part: min(seen["times"][part], best.get(part, 1e9)) for part in PARTS}
+    row.equal("20,000 blocks a tape are accepted", line_of(seen["answers"]["verdict"]), ACCEPTED)
+    row("20,000 blocks a tape are judged within a second", best["verdict"] < 1000, best)
+    print("judge rows: 20,000 blocks a tape, the best of three: " + ", ".join(f"{part} after {best[part]:.0f} ms" for part in PARTS))
+
+
+GROUPS = {group.__name__.removeprefix("rows_of_"): group for group in (
+    rows_of_answers, rows_of_hands, rows_of_typing, rows_of_faults, rows_of_requests, rows_of_length)}
