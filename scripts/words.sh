@@ -5,11 +5,13 @@
 # what is said about their lines (scripts/explain) is said for each command whose words begin with these three.
 commands='verify|LEFT RIGHT SETTINGS||judges the two tapes: can they deadlock at a wait?|verify examples/upper.nc examples/lower.nc examples/cell.txt
 waits|LEFT RIGHT SETTINGS|outside|judges the waits of any two tapes, and lists where the paths meet|waits examples/shaft_upper.nc examples/shaft_lower.nc examples/plain.txt --outside 9000-9999
+races|LEFT RIGHT SETTINGS||lists the shared variables whose value depends on which path is first|races examples/race_upper.nc examples/race_lower.nc examples/plain.txt
 trace|LEFT RIGHT SETTINGS|blocks|prints each move, wait and meeting of a run in its place, without a journal|trace examples/upper.nc examples/lower.nc examples/cell.txt
 run|LEFT RIGHT SETTINGS|blocks turret1 turret2|judges the tapes, runs both, and prints the moves of each turret|run examples/upper.nc examples/lower.nc examples/cell.txt
 resume||blocks turret1 turret2|continues the run of the journal after a stop or a crash|resume
 moves|||prints the moves that the journal has|moves
 state|||prints where both paths are, and their offsets and variables|state
+zones|FILE||says between which meetings of that run both turrets may come to one place|zones facing.txt
 make|N|turret1 turret2|runs a generated test job of some 10,000 blocks (N: 0 to 999999)|make 7
 expand|TAPE||writes a tape with its G71 and G70 over contours of lines as plain blocks|expand examples/roughing.nc'
 
@@ -167,6 +169,14 @@ is its sequence number or the next block; after a call, the called program; afte
 one. At a waiting code a path stands until the other path stands at one; then both go on. At M02 and M30 it stays. Anything else is
 an alarm that stops both paths.
 The line `goes on` names every code and program for which only this assumption speaks: see that no parameter makes such a code a call.
+END
+    fi
+    if [[ $name == races ]]; then
+        cat <<'END'
+
+It judges the pair as `verify` does. A race is a shared variable that one path may write while the other may read or write it, between the
+same two meetings. For each such variable it prints after how many meetings, which path may write it, and at which line of each tape.
+`races 0`: all runs that end make the same moves, whichever path is first. Else put a wait into both tapes, between the two lines.
 END
     fi
     if [[ $name == expand ]]; then
