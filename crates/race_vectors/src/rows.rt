@@ -72,13 +72,8 @@ fn holds(alloc: Global, row: &str) -> Result<bool, Fail> {
 
 #[test]
 fn the_races_of_a_pair(rt: HostRuntime) -> Result<(), Fail> {
-    let mut failed = 0;
     for row in ROWS.lines() {
-        if !holds(rt.alloc(), row)? {
-            println!(&rt; "WRONG {row}")?;
-            failed += 1;
-        }
+        assert!(&rt; holds(rt.alloc(), row)?, "{row}");
     }
-    assert!(&rt; failed == 0, "{failed}");
     Ok(())
 }
