@@ -4,6 +4,8 @@ use Rattle.std.specs.Str.Lines.{lines}
 use Rattle.nc_number.specs.declared.path.Path.{Path}
 use Rattle.nc_number.specs.declared.point.Point.{Point}
 use Rattle.nc_number.specs.Path.{index_of}
+use Rattle.code_tables.specs.declared.system.System.{System}
+use Rattle.code_tables.specs.declared.system.System.TheVariants.{A}
 use Rattle.cell_settings.specs.declared.preset.Preset.{Preset}
 use Rattle.cell_settings.specs.declared.entry.Entry.{Entry}
 use Rattle.cell_settings.specs.declared.entry.Entry.TheVariants as says
@@ -18,6 +20,7 @@ pub record Cell : Type 0 where
   pub shared100 : ℕ
   pub shared500 : ℕ
   pub bits : Bool
+  pub system : System
   pub skips : List ℕ
   pub place : List Point
   pub home : List Point
@@ -35,6 +38,7 @@ standard = record {
   shared100 = 0;
   shared500 = 100;
   bits = true;
+  system = A;
   skips = 0 ∷ 0 ∷ [];
   place = origin ∷ origin ∷ [];
   home = origin ∷ origin ∷ [];
@@ -53,6 +57,7 @@ taken cell (says.Wait low high) = record cell { wait_low = low; wait_high = high
 taken cell (says.Shared100 n) = record cell { shared100 = n }
 taken cell (says.Shared500 n) = record cell { shared500 = n }
 taken cell (says.Paths bits) = record cell { bits = bits }
+taken cell (says.Codes system) = record cell { system = system }
 taken cell (says.Skip path switch) = record cell { skips = with_switch path switch cell.skips }
 taken cell (says.Place path to) = record cell { place = slice_set cell.place (index_of path) to }
 taken cell (says.Home path to) = record cell { home = slice_set cell.home (index_of path) to }

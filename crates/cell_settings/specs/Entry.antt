@@ -1,17 +1,17 @@
 -- What a line of settings says. A line that is none of these is not allowed.
-use Rattle.std.specs.Prelude.{ℕ, ◌-◌, ◌≤◌, true, false, List, [], ◌∷◌, Option, Some, None, codes, if◌then◌else◌}
+use Rattle.std.specs.Prelude.{ℕ, ◌≤◌, true, false, List, [], ◌∷◌, Option, Some, None, codes, if◌then◌else◌}
 use Rattle.std.specs.Str.{bytes_eq}
-use Rattle.cell_settings.specs.declared.preset.PresetKind.{PresetKind}
-use Rattle.cell_settings.specs.declared.preset.PresetKind.TheVariants.{Work, Geometry, Wear}
+use Rattle.cell_settings.specs.declared.preset.Preset.{Preset}
+use Rattle.code_tables.specs.declared.system.System.TheVariants.{A, B}
 use Rattle.cell_settings.specs.declared.entry.Entry.{Entry}
 use Rattle.cell_settings.specs.declared.entry.Entry.TheVariants as says
 use Rattle.nc_number.specs.Options.{◌>>=◌}
-use Rattle.nc_number.specs.declared.point.TheConstants.{TOOL_OFFSETS}
 use Rattle.field_lines.specs.Field.{number_in, path_of}
 use Rattle.field_lines.specs.Length.{point_of}
 use Rattle.field_lines.specs.Line.{line_fields}
 use Rattle.nc_number.specs.Position.{IsPosition}
 use Rattle.cell_settings.specs.Preset.{IsPreset}
+use Rattle.cell_settings.specs.PresetLine.{preset_of}
 
 -- the first and the last waiting code
 unfoldable pub wait_of : List (List ℕ) → Option Entry
@@ -42,6 +42,13 @@ paths_of (form ∷ []) =
     else (if bytes_eq form (codes "numbers") then Some (says.Paths false) else None)
 paths_of _ = None
 
+-- the system of the tapes' G codes
+unfoldable pub codes_of : List (List ℕ) → Option Entry
+codes_of (system ∷ []) =
+    if bytes_eq system (codes "A") then Some (says.Codes A)
+    else (if bytes_eq system (codes "B") then Some (says.Codes B) else None)
+codes_of _ = None
+
 -- a path, and a switch from 1 to 9
 unfoldable pub skip_of : List (List ℕ) → Option Entry
 skip_of (path ∷ switch ∷ []) = do
@@ -66,30 +73,6 @@ home_of (path ∷ x ∷ z ∷ []) = do
   Some (says.Home p to)
 home_of _ = None
 
--- 0 is the external work offset, 54 to 59 are G54 to G59
-unfoldable pub work_number : List ℕ → Option ℕ
-work_number text = if bytes_eq text (codes "0") then Some 0 else (do
-  n ← number_in 54 59 text
-  Some (n - 53))
-
--- a work offset of a path
-unfoldable pub work_of : List (List ℕ) → Option Entry
-work_of (path ∷ number ∷ x ∷ z ∷ []) = do
-  p ← path_of path
-  n ← work_number number
-  to ← point_of x z
-  Some (says.Offset (record { path = p; kind = Work; number = n; to = to }))
-work_of _ = None
-
--- a geometry or wear offset of a path
-unfoldable pub tool_of : PresetKind → List (List ℕ) → Option Entry
-tool_of kind (path ∷ number ∷ x ∷ z ∷ []) = do
-  p ← path_of path
-  n ← number_in 1 TOOL_OFFSETS number
-  to ← point_of x z
-  Some (says.Offset (record { path = p; kind = kind; number = n; to = to }))
-tool_of kind _ = None
-
 -- how many records the journal may have
 unfoldable pub records_of : List (List ℕ) → Option Entry
 records_of (count ∷ []) = do
@@ -104,18 +87,21 @@ named_of name values =
     else (if bytes_eq name (codes "shared100") then shared100_of values
     else (if bytes_eq name (codes "shared500") then shared500_of values
     else (if bytes_eq name (codes "paths") then paths_of values
+    else (if bytes_eq name (codes "codes") then codes_of values
     else (if bytes_eq name (codes "skip") then skip_of values
     else (if bytes_eq name (codes "records") then records_of values
-    else None)))))
+    else None))))))
+
+-- an offset, or what else the line says
+abbrev pub offset_or : Option Preset → Option Entry → Option Entry
+offset_or (Some preset) other = Some (says.Offset preset)
+offset_or None other = other
 
 unfoldable pub named_point_of : List ℕ → List (List ℕ) → Option Entry
 named_point_of name values =
     if bytes_eq name (codes "place") then place_of values
     else (if bytes_eq name (codes "home") then home_of values
-    else (if bytes_eq name (codes "work") then work_of values
-    else (if bytes_eq name (codes "tool") then tool_of Geometry values
-    else (if bytes_eq name (codes "wear") then tool_of Wear values
-    else named_of name values))))
+    else offset_or (preset_of name values) (named_of name values))
 
 -- what fields say: a name and its values; no field says nothing
 unfoldable pub fields_say : List (List ℕ) → Option Entry
@@ -135,6 +121,7 @@ IsAllowed (says.Wait low high) = (100 ≤ low) × (low ≤ high) × (high ≤ 99
 IsAllowed (says.Shared100 n) = n ≤ 100
 IsAllowed (says.Shared500 n) = n ≤ 500
 IsAllowed (says.Paths bits) = Unit {0}
+IsAllowed (says.Codes system) = Unit {0}
 IsAllowed (says.Skip path switch) = (1 ≤ switch) × (switch ≤ 9)
 IsAllowed (says.Place path to) = IsPosition to
 IsAllowed (says.Home path to) = IsPosition to

@@ -1,4 +1,5 @@
 pub mod Preset
+pub mod PresetLine
 pub mod Entry
 pub mod Cell
 pub mod Settings

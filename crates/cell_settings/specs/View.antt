@@ -11,6 +11,7 @@ view s = record {
   shared100 = s.shared100;
   shared500 = s.shared500;
   bits = s.bits;
+  system = s.system;
   skips = s.skips;
   place = s.place;
   home = s.home;

@@ -1,4 +1,5 @@
 use crate::preset::Preset;
+use code_tables::System;
 use nc_number::{Path, Point};
 
 /// What a line of the settings says.
@@ -10,6 +11,7 @@ pub(crate) enum Entry {
     Shared100(u32),
     Shared500(u32),
     Paths { bits: bool },
+    Codes { system: System },
     Skip { path: Path, switch: u8 },
     Place { path: Path, to: Point },
     Home { path: Path, to: Point },

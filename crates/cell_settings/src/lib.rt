@@ -1,5 +1,5 @@
-//! The settings of the cell: the waiting codes, the shared variables, the skip switches, the opening and
-//! reference positions, the offsets that the paths begin with, and the size of the journal.
+//! The settings of the cell: the waiting codes, the system of G codes, the shared variables, the skip switches, the
+//! opening and reference positions, the offsets that the paths begin with, and the size of the journal.
 //!
 //! To the crates above it promises that [`Settings`] are what the text says, by the rules of the settings
 //! file, that they keep the conditions of those rules, and that a refusal names the first line that the
@@ -9,9 +9,11 @@
 mod entry;
 mod named;
 mod preset;
+mod preset_line;
 mod reading;
 mod settings;
 
 pub use preset::{Preset, PresetKind, PresetList};
+pub use preset_line::read_preset;
 pub use reading::{SettingFault, read_settings};
 pub use settings::Settings;

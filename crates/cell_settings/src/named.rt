@@ -1,11 +1,11 @@
 ghost use Rattle.std.specs.Prelude.{◌≡◌, ◌≤◌, IfOk, IfSome};
 ghost use Rattle.field_lines.specs.Field.{texts};
-ghost use Rattle.cell_settings.specs.Entry.{wait_of, shared100_of, shared500_of, paths_of, skip_of, place_of, home_of, work_number, work_of, tool_of, records_of, named_of, named_point_of, fields_say, line_says, IsAllowed};
+ghost use Rattle.cell_settings.specs.Entry.{wait_of, shared100_of, shared500_of, paths_of, codes_of, skip_of, place_of, home_of, records_of, named_of, named_point_of, fields_say, line_says, IsAllowed};
 
 use crate::entry::Entry;
-use crate::preset::{Preset, PresetKind};
+use crate::preset_line::read_preset;
+use code_tables::System;
 use field_lines::{line_fields, number_in, read_path, read_point};
-use nc_number::TOOL_OFFSETS;
 use std::alloc::{AllocError, Global};
 
 #[tactic(auto, unfolding(crate::specs::Entry::wait_of))]
@@ -67,6 +67,25 @@ fn paths(values: &[&[u8]]) -> Option<Entry>
     }
 }
 
+#[tactic(auto, unfolding(crate::specs::Entry::codes_of))]
+fn codes(values: &[&[u8]]) -> Option<Entry>
+    ensures value { result ≡ codes_of (texts values.now) }
+    ensures allowed { IfSome result IsAllowed }
+{
+    match values {
+        [system] => {
+            if *system == b"A".as_slice() {
+                Some(Entry::Codes { system: System::A })
+            } else if *system == b"B".as_slice() {
+                Some(Entry::Codes { system: System::B })
+            } else {
+                None
+            }
+        }
+        _ => None,
+    }
+}
+
 #[tactic(auto, unfolding(crate::specs::Entry::skip_of))]
 fn skip(values: &[&[u8]]) -> Option<Entry>
     ensures value { result ≡ skip_of (texts values.now) }
@@ -115,82 +134,6 @@ fn home(values: &[&[u8]]) -> Option<Entry>
     }
 }
 
-/// 0 for the external work offset, 1 to 6 for G54 to G59.
-#[tactic(auto, unfolding(crate::specs::Entry::work_number))]
-fn work_number(text: &[u8]) -> Option<u8>
-    ensures value { result ≡ work_number text.now }
-    ensures range { IfSome result (λ n. n ≤ 6) }
-{
-    if text == b"0".as_slice() {
-        return Some(0);
-    }
-    let n = number_in(54, 59, text)?;
-    Some((n - 53) as u8)
-}
-
-#[tactic(auto, unfolding(crate::specs::Entry::work_of))]
-fn work(values: &[&[u8]]) -> Option<Entry>
-    ensures value { result ≡ work_of (texts values.now) }
-    ensures allowed { IfSome result IsAllowed }
-{
-    match values {
-        [path, number, x, z] => {
-            let path = read_path(path)?;
-            let number = work_number(number)?;
-            let to = read_point(x, z)?;
-            Some(Entry::Offset(Preset {
-                path,
-                kind: PresetKind::Work,
-                number,
-                to,
-            }))
-        }
-        _ => None,
-    }
-}
-
-#[tactic(auto, unfolding(crate::specs::Entry::tool_of))]
-fn geometry(values: &[&[u8]]) -> Option<Entry>
-    ensures value { result ≡ tool_of PresetKind.Geometry (texts values.now) }
-    ensures allowed { IfSome result IsAllowed }
-{
-    match values {
-        [path, number, x, z] => {
-            let path = read_path(path)?;
-            let number = number_in(1, u32::from(TOOL_OFFSETS), number)?;
-            let to = read_point(x, z)?;
-            Some(Entry::Offset(Preset {
-                path,
-                kind: PresetKind::Geometry,
-                number: number as u8,
-                to,
-            }))
-        }
-        _ => None,
-    }
-}
-
-#[tactic(auto, unfolding(crate::specs::Entry::tool_of))]
-fn wear(values: &[&[u8]]) -> Option<Entry>
-    ensures value { result ≡ tool_of PresetKind.Wear (texts values.now) }
-    ensures allowed { IfSome result IsAllowed }
-{
-    match values {
-        [path, number, x, z] => {
-            let path = read_path(path)?;
-            let number = number_in(1, u32::from(TOOL_OFFSETS), number)?;
-            let to = read_point(x, z)?;
-            Some(Entry::Offset(Preset {
-                path,
-                kind: PresetKind::Wear,
-                number: number as u8,
-                to,
-            }))
-        }
-        _ => None,
-    }
-}
-
 #[tactic(auto, unfolding(crate::specs::Entry::records_of))]
 fn records(values: &[&[u8]]) -> Option<Entry>
     ensures value { result ≡ records_of (texts values.now) }
@@ -215,6 +158,8 @@ fn named(name: &[u8], values: &[&[u8]]) -> Option<Entry>
         shared500(values)
     } else if name == b"paths".as_slice() {
         paths(values)
+    } else if name == b"codes".as_slice() {
+        codes(values)
     } else if name == b"skip".as_slice() {
         skip(values)
     } else if name == b"records".as_slice() {
@@ -233,14 +178,11 @@ fn named_point(name: &[u8], values: &[&[u8]]) -> Option<Entry>
         place(values)
     } else if name == b"home".as_slice() {
         home(values)
-    } else if name == b"work".as_slice() {
-        work(values)
-    } else if name == b"tool".as_slice() {
-        geometry(values)
-    } else if name == b"wear".as_slice() {
-        wear(values)
     } else {
-        named(name, values)
+        match read_preset(name, values) {
+            Some(preset) => Some(Entry::Offset(preset)),
+            None => named(name, values),
+        }
     }
 }
 

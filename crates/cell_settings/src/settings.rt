@@ -5,6 +5,7 @@ ghost use Rattle.cell_settings.specs.Preset.{IsPreset};
 
 use crate::entry::Entry;
 use crate::preset::{Preset, PresetList};
+use code_tables::System;
 use nc_number::Point;
 use std::alloc::{AllocFailed, Global};
 
@@ -21,6 +22,8 @@ pub struct Settings {
     pub shared500: u32,
     /// Whether the P of a wait names the paths by bits, and not by their numbers.
     pub bits: bool,
+    /// The system of the G codes of both tapes.
+    pub system: System,
     /// For each path its skip switches: bit n is switch n, 1 to 9.
     pub skips: [u16; 2],
     /// For each path its opening position, in machine coordinates.
@@ -58,6 +61,7 @@ impl Settings {
             shared100: 0,
             shared500: 100,
             bits: true,
+            system: System::A,
             skips: [0, 0],
             place: [origin, origin],
             home: [origin, origin],
@@ -80,6 +84,7 @@ impl Settings {
             Entry::Shared100(count) => self.shared100 = count,
             Entry::Shared500(count) => self.shared500 = count,
             Entry::Paths { bits } => self.bits = bits,
+            Entry::Codes { system } => self.system = system,
             Entry::Skip { path, switch } => {
                 let at = path.index();
                 self.skips[at] = with_switch(self.skips[at], switch);

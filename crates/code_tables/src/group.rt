@@ -4,6 +4,8 @@ pub const ONE_SHOT_GROUP: u8 = 0;
 pub const MOTION_GROUP: u8 = 1;
 /// Constant surface speed, or a speed of the spindle.
 pub const SPINDLE_GROUP: u8 = 2;
+/// Absolute or incremental input. System A has no such codes: there the letters tell.
+pub const ABSOLUTE_GROUP: u8 = 3;
 /// Feed by the minute or by the revolution.
 pub const FEED_GROUP: u8 = 5;
 /// Inch or metric input.

@@ -50,6 +50,10 @@ pub enum CodeKind {
     Machine,
     /// A call of a macro.
     MacroCall,
+    /// X and Z are where the block goes.
+    Absolute,
+    /// X and Z are how far the block goes.
+    Incremental,
     /// Accepted, and without effect.
     Idle,
 }

@@ -6,6 +6,7 @@ abbrev pub view_of : Inside → ModalView
 view_of m = record {
   g01 = m.g01;
   g02 = m.g02;
+  g03 = m.g03;
   g05 = m.g05;
   g06 = m.g06;
   g07 = m.g07;
@@ -13,6 +14,7 @@ view_of m = record {
   motion = m.motion;
   surface = m.surface;
   per_rev = m.per_rev;
+  incremental = m.incremental;
   feed = m.feed;
   speed = m.speed;
   tool = m.tool;

@@ -3,9 +3,11 @@ use Rattle.std.specs.Option.{option_map, option_map_or}
 use Rattle.nc_number.specs.declared.value.Var.TheVariants.{Vacant}
 use Rattle.nc_number.specs.declared.point.Point.{Point}
 use Rattle.code_tables.specs.declared.kind.CodeKind.{CodeKind}
-use Rattle.code_tables.specs.declared.kind.CodeKind.TheVariants.{Rapid, Surface, PerRev}
+use Rattle.code_tables.specs.declared.kind.CodeKind.TheVariants.{Rapid, Surface, PerRev, Incremental}
 use Rattle.code_tables.specs.declared.row.Row.{Row}
-use Rattle.code_tables.specs.declared.group.TheConstants.{MOTION_GROUP, SPINDLE_GROUP, FEED_GROUP, UNIT_GROUP, NOSE_GROUP, WORK_GROUP, FIRST_WORK_CODE}
+use Rattle.code_tables.specs.declared.system.System.{System}
+use Rattle.code_tables.specs.declared.system.System.TheVariants as system
+use Rattle.code_tables.specs.declared.group.TheConstants.{MOTION_GROUP, SPINDLE_GROUP, ABSOLUTE_GROUP, FEED_GROUP, UNIT_GROUP, NOSE_GROUP, WORK_GROUP, FIRST_WORK_CODE}
 use Rattle.code_tables.specs.Codes.{last_of_group, is_work_code}
 pub use Rattle.modal_state.specs.View.{ModalView}
 
@@ -25,6 +27,10 @@ abbrev pub is_per_rev : CodeKind → Bool
 is_per_rev PerRev = true
 is_per_rev other = false
 
+abbrev pub is_incremental : CodeKind → Bool
+is_incremental Incremental = true
+is_incremental other = false
+
 -- whether what a group has in force does that: by the kind of its last code, else as before
 abbrev pub does_after : (CodeKind → Bool) → List Row → ℕ → Bool → Bool
 does_after does rows group before = option_map_or (λ row. does row.kind) (last_of_group rows group) before
@@ -35,18 +41,30 @@ work_after rows before =
     let code = in_force_after rows WORK_GROUP before in
     if is_work_code code then code else before
 
--- the modal state as a tape begins
-abbrev pub opening_modal : ModalView
-opening_modal = record {
+-- the code of absolute input; in system A the letters tell, and it has none
+abbrev pub absolute_code : System → ℕ
+absolute_code system.A = 0
+absolute_code system.B = 90
+
+-- the code of feed by the revolution
+abbrev pub per_rev_code : System → ℕ
+per_rev_code system.A = 99
+per_rev_code system.B = 95
+
+-- the modal state as a tape of this system begins
+abbrev pub opening_modal : System → ModalView
+opening_modal system = record {
   g01 = 0;
   g02 = 97;
-  g05 = 99;
+  g03 = absolute_code system;
+  g05 = per_rev_code system;
   g06 = 21;
   g07 = 40;
   g14 = 54;
   motion = Rapid;
   surface = false;
   per_rev = true;
+  incremental = false;
   feed = Vacant;
   speed = Vacant;
   tool = 0;
@@ -63,6 +81,7 @@ with_codes before rows =
     record before {
       g01 = motion;
       g02 = in_force_after rows SPINDLE_GROUP before.g02;
+      g03 = in_force_after rows ABSOLUTE_GROUP before.g03;
       g05 = in_force_after rows FEED_GROUP before.g05;
       g06 = in_force_after rows UNIT_GROUP before.g06;
       g07 = in_force_after rows NOSE_GROUP before.g07;
@@ -70,14 +89,16 @@ with_codes before rows =
       motion = motion_after before rows;
       surface = does_after is_surface rows SPINDLE_GROUP before.surface;
       per_rev = does_after is_per_rev rows FEED_GROUP before.per_rev;
+      incremental = does_after is_incremental rows ABSOLUTE_GROUP before.incremental;
       cycle = if motion == before.g01 then before.cycle else None;
     }
 
--- the code in force of a group: groups 01, 02, 05, 06, 07 and 14 have one
+-- the code in force of a group: groups 01, 02, 05, 06, 07 and 14 have one, and 03 in a system with such codes
 abbrev pub code_of : ModalView → ℕ → Option ℕ
 code_of modal group =
     if group == MOTION_GROUP then Some modal.g01
     else if group == SPINDLE_GROUP then Some modal.g02
+    else if group == ABSOLUTE_GROUP then (if modal.g03 == 0 then None else Some modal.g03)
     else if group == FEED_GROUP then Some modal.g05
     else if group == UNIT_GROUP then Some modal.g06
     else if group == NOSE_GROUP then Some modal.g07

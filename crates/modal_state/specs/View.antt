@@ -12,6 +12,8 @@ use Rattle.modal_state.specs.Said.{tool_offset}
 pub record ModalView : Type 0 where
   pub g01 : ℕ
   pub g02 : ℕ
+  -- 0 where the system has no such codes
+  pub g03 : ℕ
   pub g05 : ℕ
   pub g06 : ℕ
   pub g07 : ℕ
@@ -22,6 +24,8 @@ pub record ModalView : Type 0 where
   pub surface : Bool
   -- the feed is by the revolution
   pub per_rev : Bool
+  -- X and Z are how far a block goes
+  pub incremental : Bool
   pub feed : Var
   pub speed : Var
   pub tool : ℕ

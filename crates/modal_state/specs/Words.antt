@@ -11,12 +11,12 @@ use Rattle.modal_state.specs.Faults.{fault}
 use Rattle.modal_state.specs.Said.{said_or, tool_offset}
 use Rattle.modal_state.specs.View.{ModalView}
 
--- S is the speed, but beside G50
+-- S is the speed, but beside G50, or G92 of system B
 abbrev pub speed_after : SpeedWord → Var → Var
 speed_after (Speed s) before = said_or s before
 speed_after (Limit s) before = before
 
--- beside G50 S is the highest speed, and nothing else
+-- beside G50, or G92 of system B, S is the highest speed, and nothing else
 abbrev pub limit_after : SpeedWord → Var → Var
 limit_after (Speed s) before = before
 limit_after (Limit s) before = said_or s before

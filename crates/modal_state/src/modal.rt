@@ -1,17 +1,17 @@
 ghost use Rattle.std.specs.Prelude.{◌≡◌, ◌≤◌, IsTrue, IfSome, OnOk, OnErr};
 ghost use Rattle.std.specs.Result.{result_err};
 ghost use Rattle.nc_number.specs.Position.{IsPosition};
-ghost use Rattle.code_tables.specs.declared.group.TheConstants.{WORK_GROUP, SPINDLE_GROUP, FEED_GROUP};
+ghost use Rattle.code_tables.specs.declared.group.TheConstants.{WORK_GROUP, SPINDLE_GROUP, ABSOLUTE_GROUP, FEED_GROUP};
 ghost use Rattle.code_tables.specs.Codes.{is_work_code, names_work_offsets};
-ghost use Rattle.modal_state.specs.Modal.{opening_modal, in_force_after, work_after, motion_after, is_surface, is_per_rev, does_after, with_codes, code_of, work_of};
+ghost use Rattle.modal_state.specs.Modal.{opening_modal, absolute_code, per_rev_code, in_force_after, work_after, motion_after, is_surface, is_per_rev, is_incremental, does_after, with_codes, code_of, work_of};
 ghost use Rattle.nc_number.specs.declared.point.TheConstants.{TOOL_OFFSETS};
 ghost use Rattle.modal_state.specs.Words.{with_words, tool_fault};
 
 use crate::fault::ModalFault;
 use crate::words::{ModalWords, offset_of, said_or};
 use code_tables::{
-    CodeKind, FEED_GROUP, FIRST_WORK_CODE, LAST_WORK_CODE, MOTION_GROUP, NOSE_GROUP, Row,
-    SPINDLE_GROUP, UNIT_GROUP, WORK_GROUP, last_of_group,
+    ABSOLUTE_GROUP, CodeKind, FEED_GROUP, FIRST_WORK_CODE, LAST_WORK_CODE, MOTION_GROUP,
+    NOSE_GROUP, Row, SPINDLE_GROUP, System, UNIT_GROUP, WORK_GROUP, last_of_group,
 };
 use nc_number::{Point, Var};
 use std::marker::Model;
@@ -25,6 +25,8 @@ use std::marker::Model;
 pub struct Modal {
     g01: u16,
     g02: u16,
+    // 0 where the system has no such codes
+    g03: u16,
     g05: u16,
     g06: u16,
     g07: u16,
@@ -32,6 +34,7 @@ pub struct Modal {
     motion: CodeKind,
     surface: bool,
     per_rev: bool,
+    incremental: bool,
     feed: Var,
     speed: Var,
     tool: u16,
@@ -55,6 +58,7 @@ impl Model for Modal {
     ghost inverse = { λ v. record {
       g01 = v.g01;
       g02 = v.g02;
+      g03 = v.g03;
       g05 = v.g05;
       g06 = v.g06;
       g07 = v.g07;
@@ -62,6 +66,7 @@ impl Model for Modal {
       motion = v.motion;
       surface = v.surface;
       per_rev = v.per_rev;
+      incremental = v.incremental;
       feed = v.feed;
       speed = v.speed;
       tool = v.tool;
@@ -72,20 +77,23 @@ impl Model for Modal {
 }
 
 impl Modal {
-    /// What is in force as a tape begins: G00, G97, G99, G21, G40 and G54, and nothing else.
-    pub fn new() -> Self
-        ensures { result ≡ opening_modal }
+    /// What is in force as a tape of this system begins: G00, G97, feed by the revolution, G21, G40 and G54; in
+    /// system B also G90; and nothing else.
+    pub fn for_system(system: System) -> Self
+        ensures { result ≡ opening_modal system }
     {
         Modal {
             g01: 0,
             g02: 97,
-            g05: 99,
+            g03: absolute_code(system),
+            g05: per_rev_code(system),
             g06: 21,
             g07: 40,
             g14: 54,
             motion: CodeKind::Rapid,
             surface: false,
             per_rev: true,
+            incremental: false,
             feed: Var::Vacant,
             speed: Var::Vacant,
             tool: 0,
@@ -95,13 +103,15 @@ impl Modal {
         }
     }
 
-    /// The code in force of a group. Groups 01, 02, 05, 06, 07 and 14 have one, and no other.
+    /// The code in force of a group. Groups 01, 02, 05, 06, 07 and 14 have one, group 03 in a system that has such
+    /// codes, and no other.
     pub fn code(&self, group: u8) -> Option<u16>
         ensures { result ≡ code_of self.now group }
     {
         match group {
             MOTION_GROUP => Some(self.g01),
             SPINDLE_GROUP => Some(self.g02),
+            ABSOLUTE_GROUP if self.g03 != 0 => Some(self.g03),
             FEED_GROUP => Some(self.g05),
             UNIT_GROUP => Some(self.g06),
             NOSE_GROUP => Some(self.g07),
@@ -138,6 +148,13 @@ impl Modal {
         self.per_rev
     }
 
+    /// Whether X and Z are how far a block goes, and not where.
+    pub fn is_incremental(&self) -> bool
+        ensures { result ≡ self.now.incremental }
+    {
+        self.incremental
+    }
+
     /// The work offset in force, from 1 at G54 to 6 at G59.
     pub fn work(&self) -> u8
         ensures work { result ≡ work_of self.now }
@@ -153,14 +170,14 @@ impl Modal {
         self.feed
     }
 
-    /// What S set last in a block without G50.
+    /// What S set last in a block without G50, or G92 of system B.
     pub fn speed(&self) -> Var
         ensures { result ≡ self.now.speed }
     {
         self.speed
     }
 
-    /// What S set last in a block with G50: the highest speed of the spindle.
+    /// What S set last in a block with G50, or G92 of system B: the highest speed of the spindle.
     pub fn limit(&self) -> Var
         ensures { result ≡ self.now.limit }
     {
@@ -207,12 +224,14 @@ impl Modal {
         self.motion = self.motion_after(rows);
         self.g01 = motion;
         self.g02 = in_force_after(rows, SPINDLE_GROUP, self.g02);
+        self.g03 = in_force_after(rows, ABSOLUTE_GROUP, self.g03);
         self.g05 = in_force_after(rows, FEED_GROUP, self.g05);
         self.g06 = in_force_after(rows, UNIT_GROUP, self.g06);
         self.g07 = in_force_after(rows, NOSE_GROUP, self.g07);
         self.g14 = work_after(rows, self.g14);
         self.surface = surface_after(rows, self.surface);
         self.per_rev = per_rev_after(rows, self.per_rev);
+        self.incremental = incremental_after(rows, self.incremental);
     }
 
     /// Takes F, S and T of a block: alarm 40 exactly where the tool offset of T is none of 0 to 64. Then
@@ -239,6 +258,26 @@ impl Modal {
         ensures { self.new ≡ record self.old { cycle = end } }
     {
         self.cycle = end;
+    }
+}
+
+// The code of absolute input in this system, or 0 where it has none.
+fn absolute_code(system: System) -> u16
+    ensures { result ≡ absolute_code system }
+{
+    match system {
+        System::A => 0,
+        System::B => 90,
+    }
+}
+
+// The code of feed by the revolution in this system.
+fn per_rev_code(system: System) -> u16
+    ensures { result ≡ per_rev_code system }
+{
+    match system {
+        System::A => 99,
+        System::B => 95,
     }
 }
 
@@ -273,6 +312,19 @@ fn is_per_rev(kind: CodeKind) -> bool
     ensures { result ≡ is_per_rev kind }
 {
     matches!(kind, CodeKind::PerRev)
+}
+
+// Whether X and Z are incremental behind these rows, where they were so before them or not.
+fn incremental_after(rows: &[Row], before: bool) -> bool
+    ensures { result ≡ does_after is_incremental rows.now ABSOLUTE_GROUP before }
+{
+    last_of_group(rows, ABSOLUTE_GROUP).map_or(before, |row| is_incremental(row.kind))
+}
+
+fn is_incremental(kind: CodeKind) -> bool
+    ensures { result ≡ is_incremental kind }
+{
+    matches!(kind, CodeKind::Incremental)
 }
 
 // The code of the work offset behind these rows, where this one was in force before them.

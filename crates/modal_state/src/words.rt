@@ -20,9 +20,9 @@ pub struct ModalWords {
 /// The S word of a block, by what it sets.
 #[derive(Clone, Copy, Debug, PartialEq, Eq)]
 pub enum SpeedWord {
-    /// In a block without G50: the speed of the spindle, or the surface speed.
+    /// In a block without G50, or G92 of system B: the speed of the spindle, or the surface speed.
     Speed(Var),
-    /// In a block with G50: the highest speed of the spindle, and nothing else.
+    /// In a block with G50, or G92 of system B: the highest speed of the spindle, and nothing else.
     Limit(Var),
 }
 

@@ -1,6 +1,7 @@
 //! Texts of the settings of the cell, and what they say.
 use crate::words::{count, lines_of, point};
 use cell_settings::{Preset, PresetKind, Settings, read_settings};
+use code_tables::System;
 use nc_number::{Failing, Point};
 use std::alloc::Global;
 use std::test::Fail;
@@ -54,9 +55,21 @@ tool 1 0 X1 Z1|line 1
 wear 1 64 X1 Z1~wear 1 0 X1 Z1~|line 2
 records 4000000~records 4000001~|line 2
 records 99999999999999999999999999|line 1
-codes A|line 1
+codes A|codes A
+codes B|codes B
+codes A~codes B~|codes B
+codes B~codes A~|codes A
+codes B~paths numbers~codes B~|codes B, bits 0
+  codes   B  \r~|codes B
+codes C|line 1
+codes b|line 1
+codes AB|line 1
+codes|line 1
+codes A B|line 1
+Codes B|line 1
+codes B~codes 1~|line 2
 paths bits ( comment|line 1
-|low 100, high 197, shared100 0, shared500 100, bits 1, skip1 0, skip2 0, place1 X0 Z0, place2 X0 Z0, home1 X0 Z0, home2 X0 Z0, records 4000000, presets 0
+|low 100, high 197, shared100 0, shared500 100, bits 1, codes A, skip1 0, skip2 0, place1 X0 Z0, place2 X0 Z0, home1 X0 Z0, home2 X0 Z0, records 4000000, presets 0
 wait 100 110~wait 120 130~skip 1 1~skip 1 9~skip 1 1~skip 2 2~tool 1 3 X1. Z2.~wear 1 3 X.5 Z0~place 1 X1 Z1~place 1 X2 Z-2.0005~paths numbers~records 10~records 20~shared100 7~shared500 8~tool 1 3 X3. Z4.~|low 120, high 130, skip1 514, skip2 4, place1 X0.002 Z-2.001, place2 X0 Z0, bits 0, records 20, shared100 7, shared500 8, presets 2, wear X3. Z4.";
 
 /// The number that the settings have under the name.
@@ -93,8 +106,15 @@ fn place(settings: &Settings, name: &str) -> Option<Point> {
     }
 }
 
+fn system_named(letter: &str) -> System {
+    if letter == "B" { System::B } else { System::A }
+}
+
 fn says(settings: &Settings, what: &str) -> bool {
     let (name, words) = what.split_once(' ').unwrap_or((what, ""));
+    if name == "codes" {
+        return settings.system == system_named(words);
+    }
     match place(settings, name) {
         Some(at) => at == point(words),
         None => number(settings, name) == count(words),

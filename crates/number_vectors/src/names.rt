@@ -1,6 +1,9 @@
 //! What the numbers of causes, paths, variables and G codes stand for.
 
-use code_tables::{CodeKind, FEED_GROUP, MOTION_GROUP, NOSE_GROUP, WORK_GROUP, system_a};
+use code_tables::{
+    ABSOLUTE_GROUP, CodeKind, FEED_GROUP, MOTION_GROUP, NOSE_GROUP, System, WORK_GROUP,
+    row_of_code, system_a, system_b,
+};
 use common_vars::variable_of;
 use nc_number::NumberFault::NotWhole;
 use nc_number::{Cause, Path};
@@ -64,7 +67,7 @@ variable 3001 = none
 variable 4000 = none
 variable 4001 = Code(1), read
 variable 4002 = Code(2), read
-variable 4003 = none
+variable 4003 = Code(3), read
 variable 4004 = none
 variable 4005 = Code(5), read
 variable 4006 = Code(6), read
@@ -104,39 +107,87 @@ variable 5323 = none
 variable 5341 = none
 variable 9999 = none
 variable 4294967295 = none
-code 0 = Rapid of group 1
-code 1 = Feed of group 1
-code 2 = ArcCw of group 1, arc
-code 3 = ArcCcw of group 1, arc
-code 32 = Thread of group 1
-code 90 = CycleTurn of group 1, cycle
-code 92 = CycleThread of group 1, cycle
-code 94 = CycleFace of group 1, cycle
-code 96 = Surface of group 2
-code 97 = Spindle of group 2
-code 98 = PerMin of group 5
-code 99 = PerRev of group 5
-code 20 = Inch of group 6, refused
-code 21 = Metric of group 6
-code 40 = NoseOff of group 7
-code 41 = NoseOn of group 7, refused
-code 42 = NoseOn of group 7, refused
-code 54 = Work of group 14
-code 55 = Work of group 14
-code 56 = Work of group 14
-code 57 = Work of group 14
-code 58 = Work of group 14
-code 59 = Work of group 14
-code 4 = Dwell of group 0
-code 10 = Setting of group 0
-code 28 = Home of group 0
-code 50 = Limit of group 0
-code 53 = Machine of group 0
-code 65 = MacroCall of group 0
-code 18 = Idle of group 90
-code 67 = Idle of group 90
-code 80 = Idle of group 90
-code 70 = none";
+code A 0 = Rapid of group 1
+code A 1 = Feed of group 1
+code A 2 = ArcCw of group 1, arc
+code A 3 = ArcCcw of group 1, arc
+code A 32 = Thread of group 1
+code A 90 = CycleTurn of group 1, cycle
+code A 92 = CycleThread of group 1, cycle
+code A 94 = CycleFace of group 1, cycle
+code A 96 = Surface of group 2
+code A 97 = Spindle of group 2
+code A 98 = PerMin of group 5
+code A 99 = PerRev of group 5
+code A 20 = Inch of group 6, refused
+code A 21 = Metric of group 6
+code A 40 = NoseOff of group 7
+code A 41 = NoseOn of group 7, refused
+code A 42 = NoseOn of group 7, refused
+code A 54 = Work of group 14
+code A 55 = Work of group 14
+code A 56 = Work of group 14
+code A 57 = Work of group 14
+code A 58 = Work of group 14
+code A 59 = Work of group 14
+code A 4 = Dwell of group 0
+code A 10 = Setting of group 0
+code A 28 = Home of group 0
+code A 50 = Limit of group 0
+code A 53 = Machine of group 0
+code A 65 = MacroCall of group 0
+code A 18 = Idle of group 90
+code A 67 = Idle of group 90
+code A 80 = Idle of group 90
+code A 33 = none
+code A 77 = none
+code A 78 = none
+code A 79 = none
+code A 91 = none
+code A 95 = none
+code A 70 = none
+code B 0 = Rapid of group 1
+code B 1 = Feed of group 1
+code B 2 = ArcCw of group 1, arc
+code B 3 = ArcCcw of group 1, arc
+code B 33 = Thread of group 1
+code B 77 = CycleTurn of group 1, cycle
+code B 78 = CycleThread of group 1, cycle
+code B 79 = CycleFace of group 1, cycle
+code B 96 = Surface of group 2
+code B 97 = Spindle of group 2
+code B 90 = Absolute of group 3
+code B 91 = Incremental of group 3
+code B 94 = PerMin of group 5
+code B 95 = PerRev of group 5
+code B 20 = Inch of group 6, refused
+code B 21 = Metric of group 6
+code B 40 = NoseOff of group 7
+code B 41 = NoseOn of group 7, refused
+code B 42 = NoseOn of group 7, refused
+code B 54 = Work of group 14
+code B 55 = Work of group 14
+code B 56 = Work of group 14
+code B 57 = Work of group 14
+code B 58 = Work of group 14
+code B 59 = Work of group 14
+code B 4 = Dwell of group 0
+code B 10 = Setting of group 0
+code B 28 = Home of group 0
+code B 53 = Machine of group 0
+code B 65 = MacroCall of group 0
+code B 92 = Limit of group 0
+code B 18 = Idle of group 90
+code B 67 = Idle of group 90
+code B 80 = Idle of group 90
+code B 32 = none
+code B 50 = none
+code B 98 = none
+code B 99 = none
+code B 70 = none
+code B 71 = none
+code B 9 = none
+code B 65535 = none";
 
 fn cause_text(alloc: Global, number: u8) -> Result<String, AllocError> {
     match Cause::of_number(number) {
@@ -169,8 +220,15 @@ fn variable_text(alloc: Global, number: u32) -> Result<String, AllocError> {
     }
 }
 
-fn code_text(alloc: Global, code: u16) -> Result<String, AllocError> {
-    match system_a().find(code) {
+fn system_named(letter: &str) -> System {
+    if letter == "B" { System::B } else { System::A }
+}
+
+/// What a code stands for, behind the letter of its system.
+fn code_text(alloc: Global, words: &str) -> Result<String, AllocError> {
+    let (letter, number) = words.split_once(' ').unwrap_or((words, ""));
+    let code = number.parse::<u16>().unwrap_or(u16::MAX);
+    match row_of_code(system_named(letter), code) {
         Some(row) => {
             let kind = row.kind;
             format!(in alloc; "{kind:?} of group {}{}", row.group, traits(kind))
@@ -196,7 +254,7 @@ fn holds(alloc: Global, row: &str) -> Option<bool> {
         "cause" => cause_text(alloc, number.parse::<u8>().ok()?),
         "path" => path_text(alloc, number.parse::<u8>().ok()?),
         "variable" => variable_text(alloc, number.parse::<u32>().ok()?),
-        "code" => code_text(alloc, number.parse::<u16>().ok()?),
+        "code" => code_text(alloc, number),
         _ => return None,
     };
     Some(text.ok()?.as_str() == wanted)
@@ -219,4 +277,15 @@ fn the_last_code_of_a_group_counts(rt: HostRuntime) {
     let groups = [MOTION_GROUP, FEED_GROUP, NOSE_GROUP, WORK_GROUP];
     let last = groups.map(|group| table.group_last(&codes, group).unwrap_or(0));
     assert!(rt; last == [1, 99, 41, 0]);
+}
+
+#[test]
+fn the_last_code_of_a_group_of_system_b_counts(rt: HostRuntime) {
+    let table = system_b();
+    let known = (0..1_000u16).filter(|code| table.find(*code).is_some());
+    assert!(rt; known.count() == 34);
+    let codes = [90, 77, 95, 91, 99, 1, 58, 94];
+    let groups = [MOTION_GROUP, ABSOLUTE_GROUP, FEED_GROUP, WORK_GROUP];
+    let last = groups.map(|group| table.group_last(&codes, group).unwrap_or(0));
+    assert!(rt; last == [1, 91, 94, 58]);
 }

@@ -1,0 +1,102 @@
+ghost use Rattle.std.specs.Prelude.{◌≡◌, ◌≤◌, IfSome};
+ghost use Rattle.field_lines.specs.Field.{texts};
+ghost use Rattle.cell_settings.specs.Preset.{IsPreset};
+ghost use Rattle.cell_settings.specs.PresetLine.{work_number, work_of, tool_of, preset_of};
+
+use crate::preset::{Preset, PresetKind};
+use field_lines::{number_in, read_path, read_point};
+use nc_number::TOOL_OFFSETS;
+
+/// 0 for the external work offset, 1 to 6 for G54 to G59.
+#[tactic(auto, unfolding(crate::specs::PresetLine::work_number))]
+fn work_number(text: &[u8]) -> Option<u8>
+    ensures value { result ≡ work_number text.now }
+    ensures range { IfSome result (λ n. n ≤ 6) }
+{
+    if text == b"0".as_slice() {
+        return Some(0);
+    }
+    let n = number_in(54, 59, text)?;
+    Some((n - 53) as u8)
+}
+
+#[tactic(auto, unfolding(crate::specs::PresetLine::work_of))]
+fn work(values: &[&[u8]]) -> Option<Preset>
+    ensures value { result ≡ work_of (texts values.now) }
+    ensures allowed { IfSome result IsPreset }
+{
+    match values {
+        [path, number, x, z] => {
+            let path = read_path(path)?;
+            let number = work_number(number)?;
+            let to = read_point(x, z)?;
+            Some(Preset {
+                path,
+                kind: PresetKind::Work,
+                number,
+                to,
+            })
+        }
+        _ => None,
+    }
+}
+
+#[tactic(auto, unfolding(crate::specs::PresetLine::tool_of))]
+fn geometry(values: &[&[u8]]) -> Option<Preset>
+    ensures value { result ≡ tool_of PresetKind.Geometry (texts values.now) }
+    ensures allowed { IfSome result IsPreset }
+{
+    match values {
+        [path, number, x, z] => {
+            let path = read_path(path)?;
+            let number = number_in(1, u32::from(TOOL_OFFSETS), number)?;
+            let to = read_point(x, z)?;
+            Some(Preset {
+                path,
+                kind: PresetKind::Geometry,
+                number: number as u8,
+                to,
+            })
+        }
+        _ => None,
+    }
+}
+
+#[tactic(auto, unfolding(crate::specs::PresetLine::tool_of))]
+fn wear(values: &[&[u8]]) -> Option<Preset>
+    ensures value { result ≡ tool_of PresetKind.Wear (texts values.now) }
+    ensures allowed { IfSome result IsPreset }
+{
+    match values {
+        [path, number, x, z] => {
+            let path = read_path(path)?;
+            let number = number_in(1, u32::from(TOOL_OFFSETS), number)?;
+            let to = read_point(x, z)?;
+            Some(Preset {
+                path,
+                kind: PresetKind::Wear,
+                number: number as u8,
+                to,
+            })
+        }
+        _ => None,
+    }
+}
+
+/// The offset that a name and its values set: `work p n X.. Z..`, `tool p n X.. Z..` or `wear p n X.. Z..`. The number of a work
+/// offset is 0 for the external one, or 54 to 59. None where they are none of these, or are out of their condition.
+#[tactic(auto, unfolding(crate::specs::PresetLine::preset_of))]
+pub fn read_preset(name: &[u8], values: &[&[u8]]) -> Option<Preset>
+    ensures value { result ≡ preset_of name.now (texts values.now) }
+    ensures allowed { IfSome result IsPreset }
+{
+    if name == b"work".as_slice() {
+        work(values)
+    } else if name == b"tool".as_slice() {
+        geometry(values)
+    } else if name == b"wear".as_slice() {
+        wear(values)
+    } else {
+        None
+    }
+}
