@@ -7,7 +7,7 @@ use Rattle.macro_expr.specs.Tree.{Sentence, Aim, Assign, Goto, IfGoto, IfThen, W
 use Rattle.block_forms.specs.declared.purpose.Purpose.{Purpose}
 use Rattle.block_forms.specs.declared.purpose.Purpose.TheVariants.{MacroCall, Subprogram, Return, Wait, Dwell, Setting, Other}
 use Rattle.block_forms.specs.declared.range.Range.TheVariants.{Between}
-use Rattle.block_forms.specs.declared.waits.WaitCodes.{WaitCodes}
+use Rattle.block_forms.specs.declared.dialect.Dialect.{Dialect}
 use Rattle.block_forms.specs.declared.word.FlowWord.{FlowWord}
 use Rattle.block_forms.specs.Codes.{m_codes, m_code, is_waiting, has_code, first_waiting, purpose_of, is_macro}
 use Rattle.block_forms.specs.Ranges.{range_of}
@@ -28,23 +28,23 @@ last_of_eight false false false false false false false true none = absurd (cc)
 last_of_eight false false false false false false false false none = refl
 
 -- each word is in its range
-all_in_range : (waits : WaitCodes) (words : List FlowWord) → refusal_of waits words ≡ None → is_out_of_range waits words ≡ false
-all_in_range waits words none =
-    last_of_eight (is_not_fixed waits words) (is_unknown words) (is_wait_not_alone waits words) (is_wait_of_others waits words) (has_two_m words) (is_bad_call waits words) (has_axis_twice words) (is_out_of_range waits words) none
+all_in_range : (dialect : Dialect) (words : List FlowWord) → refusal_of dialect words ≡ None → is_out_of_range dialect words ≡ false
+all_in_range dialect words none =
+    last_of_eight (is_not_fixed dialect words) (is_unknown dialect.system words) (is_wait_not_alone dialect words) (is_wait_of_others dialect words) (has_two_m dialect.system words) (is_bad_call dialect words) (has_axis_twice dialect.system words) (is_out_of_range dialect words) none
 
-number_within : (waits : WaitCodes) (words : List FlowWord) (purpose : Purpose) (letter least greatest : ℕ) → refusal_of waits words ≡ None → purpose_of waits words ≡ purpose → range_of purpose letter ≡ Between least greatest → IsWithin least greatest (number_of (letter ∷ []) words)
-number_within waits words purpose letter least greatest none is range =
+number_within : (dialect : Dialect) (words : List FlowWord) (purpose : Purpose) (letter least greatest : ℕ) → refusal_of dialect words ≡ None → purpose_of dialect words ≡ purpose → range_of purpose letter ≡ Between least greatest → IsWithin least greatest (number_of (letter ∷ []) words)
+number_within dialect words purpose letter least greatest none is range =
     last_within purpose letter least greatest words range
-    (rw (← is) (all_in_range waits words none))
+    (rw (← is) (all_in_range dialect words none))
 
 weaker : (least greatest : ℕ) (number : Option ℕ) → IsWithin least greatest number → IfSome number (λ n. n ≤ greatest)
 weaker least greatest None is = tt
 weaker least greatest (Some n) is = is.1
 
 -- a number of a call, as far as a cast needs it
-pub number_at_most : (waits : WaitCodes) (words : List FlowWord) (own purpose : Purpose) (letter least greatest : ℕ) → refusal_of waits words ≡ None → own ≡ purpose_of waits words → own ≡ purpose → range_of purpose letter ≡ Between least greatest → IfSome (number_of (letter ∷ []) words) (λ n. n ≤ greatest)
-number_at_most waits words own purpose letter least greatest none is kind range =
-    weaker least greatest _ (number_within waits words purpose letter least greatest none (sym is ∙ kind) range)
+pub number_at_most : (dialect : Dialect) (words : List FlowWord) (own purpose : Purpose) (letter least greatest : ℕ) → refusal_of dialect words ≡ None → own ≡ purpose_of dialect words → own ≡ purpose → range_of purpose letter ≡ Between least greatest → IfSome (number_of (letter ∷ []) words) (λ n. n ≤ greatest)
+number_at_most dialect words own purpose letter least greatest none is kind range =
+    weaker least greatest _ (number_within dialect words purpose letter least greatest none (sym is ∙ kind) range)
 
 range_of_m : (purpose : Purpose) → is_macro purpose ≡ false → range_of purpose 77 ≡ Between 0 999
 range_of_m MacroCall other = absurd (cc)
@@ -56,10 +56,10 @@ range_of_m Setting other = refl
 range_of_m Other other = refl
 
 -- the M code of a block that calls no macro
-pub code_at_most : (waits : WaitCodes) (words : List FlowWord) (own : Purpose) → refusal_of waits words ≡ None → own ≡ purpose_of waits words → is_macro own ≡ false → IfSome (m_code words) (λ n. n ≤ 999)
-code_at_most waits words own none is other =
+pub code_at_most : (dialect : Dialect) (words : List FlowWord) (own : Purpose) → refusal_of dialect words ≡ None → own ≡ purpose_of dialect words → is_macro own ≡ false → IfSome (m_code words) (λ n. n ≤ 999)
+code_at_most dialect words own none is other =
     weaker 0 999 _
-    (first_within own 77 0 999 words (range_of_m own other) (rw is (all_in_range waits words none)))
+    (first_within own 77 0 999 words (range_of_m own other) (rw is (all_in_range dialect words none)))
 
 call_allowed : (program repeats : Option ℕ) → IsWithin 1 9999 program → IsWithin 1 9999 repeats → is_allowed (control.Call (or_number 0 program) (or_number 1 repeats)) ≡ true
 call_allowed None None p r = refl
@@ -97,65 +97,65 @@ end_allowed words = go (has_code 2 words || has_code 30 words)
     go true = refl
     go false = refl
 
-pub words_allowed : (waits : WaitCodes) (words : List FlowWord) → refusal_of waits words ≡ None → is_allowed (control_of_words waits words) ≡ true
-words_allowed waits words none = go (purpose_of waits words) refl
+pub words_allowed : (dialect : Dialect) (words : List FlowWord) → refusal_of dialect words ≡ None → is_allowed (control_of_words dialect words) ≡ true
+words_allowed dialect words none = go (purpose_of dialect words) refl
   where
-    go : (purpose : Purpose) → purpose_of waits words ≡ purpose → is_allowed (control_by purpose waits words) ≡ true
+    go : (purpose : Purpose) → purpose_of dialect words ≡ purpose → is_allowed (control_by purpose dialect words) ≡ true
     go MacroCall is =
-        call_allowed _ _ (number_within waits words MacroCall 80 1 9999 none is refl) (number_within waits words MacroCall 76 1 9999 none is refl)
+        call_allowed _ _ (number_within dialect words MacroCall 80 1 9999 none is refl) (number_within dialect words MacroCall 76 1 9999 none is refl)
     go Subprogram is =
-        call_of_p_allowed _ _ (p_within _ (number_within waits words Subprogram 80 1 99999999 none is refl)) (repeats_within _ (number_within waits words Subprogram 76 1 9999 none is refl))
-    go Return is = back_allowed _ (number_within waits words Return 80 1 99999 none is refl)
-    go Wait is = wait_allowed (first_waiting waits (m_codes words))
+        call_of_p_allowed _ _ (p_within _ (number_within dialect words Subprogram 80 1 99999999 none is refl)) (repeats_within _ (number_within dialect words Subprogram 76 1 9999 none is refl))
+    go Return is = back_allowed _ (number_within dialect words Return 80 1 99999 none is refl)
+    go Wait is = wait_allowed (first_waiting dialect (m_codes words))
     go Dwell is = end_allowed words
     go Setting is = end_allowed words
     go Other is = end_allowed words
 
-waits_of_call : (waits : WaitCodes) (p repeats : ℕ) → waits_by_a_code waits (call_of_p p repeats) ≡ true
-waits_of_call waits p repeats = go (nat_le 10000 p)
+waits_of_call : (dialect : Dialect) (p repeats : ℕ) → waits_by_a_code dialect (call_of_p p repeats) ≡ true
+waits_of_call dialect p repeats = go (nat_le 10000 p)
   where
-    go : (b : Bool) → waits_by_a_code waits (if b then control.Call (p % 10000) (p / 10000) else control.Call p repeats) ≡ true
+    go : (b : Bool) → waits_by_a_code dialect (if b then control.Call (p % 10000) (p / 10000) else control.Call p repeats) ≡ true
     go true = refl
     go false = refl
 
-waits_of_back : (waits : WaitCodes) (n : Option ℕ) → waits_by_a_code waits (back_to n) ≡ true
-waits_of_back waits None = refl
-waits_of_back waits (Some n) = refl
+waits_of_back : (dialect : Dialect) (n : Option ℕ) → waits_by_a_code dialect (back_to n) ≡ true
+waits_of_back dialect None = refl
+waits_of_back dialect (Some n) = refl
 
-waits_of_wait : (waits : WaitCodes) (own : List ℕ) → waits_by_a_code waits (wait_at (first_waiting waits own)) ≡ true
-waits_of_wait waits own = go (first_waiting waits own) refl
+waits_of_wait : (dialect : Dialect) (own : List ℕ) → waits_by_a_code dialect (wait_at (first_waiting dialect own)) ≡ true
+waits_of_wait dialect own = go (first_waiting dialect own) refl
   where
-    go : (code : Option ℕ) → first_waiting waits own ≡ code → waits_by_a_code waits (wait_at code) ≡ true
+    go : (code : Option ℕ) → first_waiting dialect own ≡ code → waits_by_a_code dialect (wait_at code) ≡ true
     go None e = refl
-    go (Some code) e = found_passes (is_waiting waits) own code e
+    go (Some code) e = found_passes (is_waiting dialect) own code e
 
-waits_of_end : (waits : WaitCodes) (words : List FlowWord) → waits_by_a_code waits (end_or_next words) ≡ true
-waits_of_end waits words = go (has_code 2 words || has_code 30 words)
+waits_of_end : (dialect : Dialect) (words : List FlowWord) → waits_by_a_code dialect (end_or_next words) ≡ true
+waits_of_end dialect words = go (has_code 2 words || has_code 30 words)
   where
-    go : (b : Bool) → waits_by_a_code waits (if b then control.End else control.Next) ≡ true
+    go : (b : Bool) → waits_by_a_code dialect (if b then control.End else control.Next) ≡ true
     go true = refl
     go false = refl
 
-pub words_wait : (waits : WaitCodes) (words : List FlowWord) → waits_by_a_code waits (control_of_words waits words) ≡ true
-words_wait waits words = go (purpose_of waits words)
+pub words_wait : (dialect : Dialect) (words : List FlowWord) → waits_by_a_code dialect (control_of_words dialect words) ≡ true
+words_wait dialect words = go (purpose_of dialect words)
   where
-    go : (purpose : Purpose) → waits_by_a_code waits (control_by purpose waits words) ≡ true
+    go : (purpose : Purpose) → waits_by_a_code dialect (control_by purpose dialect words) ≡ true
     go MacroCall = refl
-    go Subprogram = waits_of_call waits _ _
-    go Return = waits_of_back waits _
-    go Wait = waits_of_wait waits (m_codes words)
-    go Dwell = waits_of_end waits words
-    go Setting = waits_of_end waits words
-    go Other = waits_of_end waits words
+    go Subprogram = waits_of_call dialect _ _
+    go Return = waits_of_back dialect _
+    go Wait = waits_of_wait dialect (m_codes words)
+    go Dwell = waits_of_end dialect words
+    go Setting = waits_of_end dialect words
+    go Other = waits_of_end dialect words
 
-pub sentence_waits : (waits : WaitCodes) (sentence : Sentence) → waits_by_a_code waits (control_of_sentence sentence) ≡ true
-sentence_waits waits (Assign name tree) = refl
-sentence_waits waits (Goto aim) = refl
-sentence_waits waits (IfGoto test aim) = refl
-sentence_waits waits (IfThen test name tree) = refl
-sentence_waits waits (WhileDo test name) = refl
-sentence_waits waits (DoOnly name) = refl
-sentence_waits waits (EndLoop name) = refl
+pub sentence_waits : (dialect : Dialect) (sentence : Sentence) → waits_by_a_code dialect (control_of_sentence sentence) ≡ true
+sentence_waits dialect (Assign name tree) = refl
+sentence_waits dialect (Goto aim) = refl
+sentence_waits dialect (IfGoto test aim) = refl
+sentence_waits dialect (IfThen test name tree) = refl
+sentence_waits dialect (WhileDo test name) = refl
+sentence_waits dialect (DoOnly name) = refl
+sentence_waits dialect (EndLoop name) = refl
 
 loop_allowed : (n : ℕ) → IsLoop n → (nat_le 1 n && nat_le n 3) ≡ true
 loop_allowed n is = grind (arith, nat_tests)

@@ -5,7 +5,7 @@ use Rattle.nc_number.specs.Causes.{cause_number}
 use Rattle.nc_number.specs.declared.cause.Cause.{Cause}
 use Rattle.nc_number.specs.declared.cause.Cause.TheVariants.{TooManyVariables}
 use Rattle.nc_text.specs.declared.tape.Word.{Word}
-use Rattle.block_forms.specs.declared.waits.WaitCodes.{WaitCodes}
+use Rattle.block_forms.specs.declared.dialect.Dialect.{Dialect}
 use Rattle.block_forms.specs.declared.word.FlowWord.{FlowWord}
 use Rattle.block_forms.specs.Refusals.{IsLeast, refusal_of}
 use Rattle.block_forms.specs.Forms.{word_of, joined, all_words, has_many_variables, with_refusal, judged, words_or_refusal}
@@ -88,15 +88,15 @@ there (t ∷ ts) number all = go (word_of t) (all_words ts) refl refl all (λ n 
         either (nat_le n m) n m at (behind m rest) same
 
 -- where a word does not read
-unread_is_least : Stops → (waits : WaitCodes) (texts : List Word) (number : ℕ) → all_words texts ≡ Err number → IsLeastOfText waits texts number
-unread_is_least stops waits texts number all =
+unread_is_least : Stops → (dialect : Dialect) (texts : List Word) (number : ℕ) → all_words texts ≡ Err number → IsLeastOfText dialect texts number
+unread_is_least stops dialect texts number all =
     let it = there texts number all in
     record {
       holds = unread it.before it.behind it.word number it.stands it.fails;
       least = λ other refuses. go other refuses (word_number stops it.word number it.fails);
     }
   where
-    go : (other : ℕ) → RefusesText waits texts other → number ≤ 25 → number ≤ other
+    go : (other : ℕ) → RefusesText dialect texts other → number ≤ 25 → number ≤ other
     go _ (unread before behind word other stands fails) small =
         is_least before behind word number other (sym (ap all_words stands) ∙ all) fails
     go _ (many is) small = small
@@ -104,15 +104,15 @@ unread_is_least stops waits texts number all =
         let never : ◌≡◌ {A = Result (List FlowWord) ℕ} (Ok words) (Err number) = sym read ∙ all in absurd (cc)
 
 -- where all words read
-said_is_least : (waits : WaitCodes) (texts : List Word) (words : List FlowWord) (cause : Cause) → all_words texts ≡ Ok words → has_many_variables texts ≡ false → refusal_of waits words ≡ Some cause → IsLeastOfText waits texts (cause_number cause)
-said_is_least waits texts words cause all few refused =
-    let is = (least_refusal waits words cause).0 refused in
+said_is_least : (dialect : Dialect) (texts : List Word) (words : List FlowWord) (cause : Cause) → all_words texts ≡ Ok words → has_many_variables texts ≡ false → refusal_of dialect words ≡ Some cause → IsLeastOfText dialect texts (cause_number cause)
+said_is_least dialect texts words cause all few refused =
+    let is = (least_refusal dialect words cause).0 refused in
     record {
       holds = said words cause all is.holds;
       least = λ other refuses. go other refuses is;
     }
   where
-    go : (other : ℕ) → RefusesText waits texts other → IsLeast waits words cause → cause_number cause ≤ other
+    go : (other : ℕ) → RefusesText dialect texts other → IsLeast dialect words cause → cause_number cause ≤ other
     go _ (unread before behind word other stands fails) is =
         absurd (all_read before behind word words other (sym (ap all_words stands) ∙ all) fails)
     go _ (many are) is = let never : true ≡ false = sym are ∙ few in absurd (cc)
@@ -121,72 +121,72 @@ said_is_least waits texts words cause all few refused =
         let same : own ≡ words = cc in
         is.least other (rw (← same) refuses)
 
-many_is_least : (waits : WaitCodes) (texts : List Word) (words : List FlowWord) → all_words texts ≡ Ok words → has_many_variables texts ≡ true → IsLeastOfText waits texts (cause_number TooManyVariables)
-many_is_least waits texts words all are =
+many_is_least : (dialect : Dialect) (texts : List Word) (words : List FlowWord) → all_words texts ≡ Ok words → has_many_variables texts ≡ true → IsLeastOfText dialect texts (cause_number TooManyVariables)
+many_is_least dialect texts words all are =
     record { holds = many are; least = λ other refuses. go other refuses }
   where
-    go : (other : ℕ) → RefusesText waits texts other → cause_number TooManyVariables ≤ other
+    go : (other : ℕ) → RefusesText dialect texts other → cause_number TooManyVariables ≤ other
     go _ (unread before behind word other stands fails) =
         absurd (all_read before behind word words other (sym (ap all_words stands) ∙ all) fails)
     go _ (many is) = omega arith
-    go _ (said own other read refuses) = refusal_above_25 waits own other refuses
+    go _ (said own other read refuses) = refusal_above_25 dialect own other refuses
 
-along : (waits : WaitCodes) (texts : List Word) (a b : ℕ) → a ≡ b → IsLeastOfText waits texts a → IsLeastOfText waits texts b
-along waits texts a b same is = rw (← same) is
+along : (dialect : Dialect) (texts : List Word) (a b : ℕ) → a ≡ b → IsLeastOfText dialect texts a → IsLeastOfText dialect texts b
+along dialect texts a b same is = rw (← same) is
 
-answered_is_least : Stops → (waits : WaitCodes) (texts : List Word) (number : ℕ) → words_or_refusal waits texts ≡ Err number → IsLeastOfText waits texts number
-answered_is_least stops waits texts number answered =
+answered_is_least : Stops → (dialect : Dialect) (texts : List Word) (number : ℕ) → words_or_refusal dialect texts ≡ Err number → IsLeastOfText dialect texts number
+answered_is_least stops dialect texts number answered =
     go (all_words texts) refl (has_many_variables texts) refl answered
   where
-    told : (words : List FlowWord) → all_words texts ≡ Ok words → has_many_variables texts ≡ false → (refused : Option Cause) → refusal_of waits words ≡ refused → with_refusal refused words ≡ Err number → IsLeastOfText waits texts number
+    told : (words : List FlowWord) → all_words texts ≡ Ok words → has_many_variables texts ≡ false → (refused : Option Cause) → refusal_of dialect words ≡ refused → with_refusal refused words ≡ Err number → IsLeastOfText dialect texts number
     told words all few None at e = absurd (cc)
     told words all few (Some cause) at e =
         let same : cause_number cause ≡ number = cc in
-        along waits texts (cause_number cause) number same (said_is_least waits texts words cause all few at)
+        along dialect texts (cause_number cause) number same (said_is_least dialect texts words cause all few at)
 
-    go : (read : Result (List FlowWord) ℕ) → all_words texts ≡ read → (are : Bool) → has_many_variables texts ≡ are → judged waits are read ≡ Err number → IsLeastOfText waits texts number
+    go : (read : Result (List FlowWord) ℕ) → all_words texts ≡ read → (are : Bool) → has_many_variables texts ≡ are → judged dialect are read ≡ Err number → IsLeastOfText dialect texts number
     go (Ok words) all true are e =
         let same : cause_number TooManyVariables ≡ number = cc in
-        along waits texts (cause_number TooManyVariables) number same (many_is_least waits texts words all are)
-    go (Ok words) all false few e = told words all few (refusal_of waits words) refl e
+        along dialect texts (cause_number TooManyVariables) number same (many_is_least dialect texts words all are)
+    go (Ok words) all false few e = told words all few (refusal_of dialect words) refl e
     go (Err n) all are is e =
         let same : n ≡ number = cc in
-        along waits texts n number same (unread_is_least stops waits texts n all)
+        along dialect texts n number same (unread_is_least stops dialect texts n all)
 
 -- what holds of an accepted block: its words read, and no refusal holds
-pub accepted_has_none : (waits : WaitCodes) (texts : List Word) (words : List FlowWord) → words_or_refusal waits texts ≡ Ok words → (all_words texts ≡ Ok words) × ((number : ℕ) → ¬ (RefusesText waits texts number))
-accepted_has_none waits texts words accepted =
+pub accepted_has_none : (dialect : Dialect) (texts : List Word) (words : List FlowWord) → words_or_refusal dialect texts ≡ Ok words → (all_words texts ≡ Ok words) × ((number : ℕ) → ¬ (RefusesText dialect texts number))
+accepted_has_none dialect texts words accepted =
     go (all_words texts) refl (has_many_variables texts) refl accepted
   where
-    none : (own : List FlowWord) → all_words texts ≡ Ok own → has_many_variables texts ≡ false → refusal_of waits own ≡ None → (number : ℕ) → RefusesText waits texts number → ⊥
+    none : (own : List FlowWord) → all_words texts ≡ Ok own → has_many_variables texts ≡ false → refusal_of dialect own ≡ None → (number : ℕ) → RefusesText dialect texts number → ⊥
     none own all few at _ (unread before behind word other stands fails) =
         all_read before behind word own other (sym (ap all_words stands) ∙ all) fails
     none own all few at _ (many are) = let never : true ≡ false = sym are ∙ few in absurd (cc)
     none own all few at _ (said read cause reads refuses) =
         let both : ◌≡◌ {A = Result (List FlowWord) ℕ} (Ok read) (Ok own) = sym reads ∙ all in
         let same : read ≡ own = cc in
-        (no_refusal waits own).0 at cause (rw (← same) refuses)
+        (no_refusal dialect own).0 at cause (rw (← same) refuses)
 
-    told : (own : List FlowWord) → all_words texts ≡ Ok own → has_many_variables texts ≡ false → (refused : Option Cause) → refusal_of waits own ≡ refused → with_refusal refused own ≡ Ok words → (all_words texts ≡ Ok words) × ((number : ℕ) → ¬ (RefusesText waits texts number))
+    told : (own : List FlowWord) → all_words texts ≡ Ok own → has_many_variables texts ≡ false → (refused : Option Cause) → refusal_of dialect own ≡ refused → with_refusal refused own ≡ Ok words → (all_words texts ≡ Ok words) × ((number : ℕ) → ¬ (RefusesText dialect texts number))
     told own all few None at e = (all ∙ e, λ number refuses. none own all few at number refuses)
     told own all few (Some cause) at e = absurd (cc)
 
-    go : (read : Result (List FlowWord) ℕ) → all_words texts ≡ read → (are : Bool) → has_many_variables texts ≡ are → judged waits are read ≡ Ok words → (all_words texts ≡ Ok words) × ((number : ℕ) → ¬ (RefusesText waits texts number))
+    go : (read : Result (List FlowWord) ℕ) → all_words texts ≡ read → (are : Bool) → has_many_variables texts ≡ are → judged dialect are read ≡ Ok words → (all_words texts ≡ Ok words) × ((number : ℕ) → ¬ (RefusesText dialect texts number))
     go (Ok own) all true are e = absurd (cc)
-    go (Ok own) all false few e = told own all few (refusal_of waits own) refl e
+    go (Ok own) all false few e = told own all few (refusal_of dialect own) refl e
     go (Err n) all are is e = absurd (cc)
 
-least_is_answered : Stops → (waits : WaitCodes) (texts : List Word) (number : ℕ) → IsLeastOfText waits texts number → words_or_refusal waits texts ≡ Err number
-least_is_answered stops waits texts number is = go (words_or_refusal waits texts) refl
+least_is_answered : Stops → (dialect : Dialect) (texts : List Word) (number : ℕ) → IsLeastOfText dialect texts number → words_or_refusal dialect texts ≡ Err number
+least_is_answered stops dialect texts number is = go (words_or_refusal dialect texts) refl
   where
-    go : (answer : Result (List FlowWord) ℕ) → words_or_refusal waits texts ≡ answer → answer ≡ Err number
-    go (Ok words) e = absurd ((accepted_has_none waits texts words e).1 number is.holds)
+    go : (answer : Result (List FlowWord) ℕ) → words_or_refusal dialect texts ≡ answer → answer ≡ Err number
+    go (Ok words) e = absurd ((accepted_has_none dialect texts words e).1 number is.holds)
     go (Err n) e =
-        let own = answered_is_least stops waits texts n e in
+        let own = answered_is_least stops dialect texts n e in
         let below : n ≤ number = own.least number is.holds in
         let above : number ≤ n = is.least n own.holds in
         let same : n ≡ number = omega arith in
         ap Err same
 
-pub least_of_text : Stops → (waits : WaitCodes) (texts : List Word) (number : ℕ) → (words_or_refusal waits texts ≡ Err number) ↔ IsLeastOfText waits texts number
-least_of_text stops waits texts number = (answered_is_least stops waits texts number, least_is_answered stops waits texts number)
+pub least_of_text : Stops → (dialect : Dialect) (texts : List Word) (number : ℕ) → (words_or_refusal dialect texts ≡ Err number) ↔ IsLeastOfText dialect texts number
+least_of_text stops dialect texts number = (answered_is_least stops dialect texts number, least_is_answered stops dialect texts number)

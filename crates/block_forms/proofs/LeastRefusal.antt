@@ -6,21 +6,21 @@ use Rattle.nc_number.specs.Causes.{cause_number}
 use Rattle.nc_number.specs.declared.cause.Cause.{Cause}
 use Rattle.nc_number.specs.declared.cause.Cause.TheVariants.{NotFixed, UnknownCode, WaitNotAlone, WaitPaths, TwoM, BadCall, AxisTwice, WordRange}
 use Rattle.nc_number.proofs.CauseTable.{number_has_one_cause}
-use Rattle.block_forms.specs.declared.waits.WaitCodes.{WaitCodes}
+use Rattle.block_forms.specs.declared.dialect.Dialect.{Dialect}
 use Rattle.block_forms.specs.declared.word.FlowWord.{FlowWord}
 use Rattle.block_forms.specs.Refusals.{Refuses, not_fixed, unknown, not_alone, others, two_m, bad_call, axis_twice, out_of_range, IsLeast, is_not_fixed, is_unknown, is_wait_not_alone, is_wait_of_others, has_two_m, is_bad_call, has_axis_twice, is_out_of_range, refusal_of}
 
 -- whether the refusal holds of the block
-abbrev holds_of : WaitCodes → List FlowWord → Cause → Bool
-holds_of waits words NotFixed = is_not_fixed waits words
-holds_of waits words UnknownCode = is_unknown words
-holds_of waits words WaitNotAlone = is_wait_not_alone waits words
-holds_of waits words WaitPaths = is_wait_of_others waits words
-holds_of waits words TwoM = has_two_m words
-holds_of waits words BadCall = is_bad_call waits words
-holds_of waits words AxisTwice = has_axis_twice words
-holds_of waits words WordRange = is_out_of_range waits words
-holds_of waits words _ = false
+abbrev holds_of : Dialect → List FlowWord → Cause → Bool
+holds_of dialect words NotFixed = is_not_fixed dialect words
+holds_of dialect words UnknownCode = is_unknown dialect.system words
+holds_of dialect words WaitNotAlone = is_wait_not_alone dialect words
+holds_of dialect words WaitPaths = is_wait_of_others dialect words
+holds_of dialect words TwoM = has_two_m dialect.system words
+holds_of dialect words BadCall = is_bad_call dialect words
+holds_of dialect words AxisTwice = has_axis_twice dialect.system words
+holds_of dialect words WordRange = is_out_of_range dialect words
+holds_of dialect words _ = false
 
 abbrev in_order : List Cause
 in_order = NotFixed ∷ UnknownCode ∷ WaitNotAlone ∷ WaitPaths ∷ TwoM ∷ BadCall ∷ AxisTwice ∷ WordRange ∷ []
@@ -34,26 +34,26 @@ abbrev rises : List Cause → Bool
 rises [] = true
 rises (x ∷ xs) = list_all (λ cause. nat_le (cause_number x) (cause_number cause)) xs && rises xs
 
-tests_so : (waits : WaitCodes) (words : List FlowWord) (cause : Cause) → Refuses waits words cause → (holds_of waits words cause ≡ true) × IsAmong cause in_order
-tests_so waits words _ (not_fixed e) = (e, inl refl)
-tests_so waits words _ (unknown e) = (e, inr (inl refl))
-tests_so waits words _ (not_alone e) = (e, inr (inr (inl refl)))
-tests_so waits words _ (others e) = (e, inr (inr (inr (inl refl))))
-tests_so waits words _ (two_m e) = (e, inr (inr (inr (inr (inl refl)))))
-tests_so waits words _ (bad_call e) = (e, inr (inr (inr (inr (inr (inl refl))))))
-tests_so waits words _ (axis_twice e) = (e, inr (inr (inr (inr (inr (inr (inl refl)))))))
-tests_so waits words _ (out_of_range e) = (e, inr (inr (inr (inr (inr (inr (inr (inl refl))))))))
+tests_so : (dialect : Dialect) (words : List FlowWord) (cause : Cause) → Refuses dialect words cause → (holds_of dialect words cause ≡ true) × IsAmong cause in_order
+tests_so dialect words _ (not_fixed e) = (e, inl refl)
+tests_so dialect words _ (unknown e) = (e, inr (inl refl))
+tests_so dialect words _ (not_alone e) = (e, inr (inr (inl refl)))
+tests_so dialect words _ (others e) = (e, inr (inr (inr (inl refl))))
+tests_so dialect words _ (two_m e) = (e, inr (inr (inr (inr (inl refl)))))
+tests_so dialect words _ (bad_call e) = (e, inr (inr (inr (inr (inr (inl refl))))))
+tests_so dialect words _ (axis_twice e) = (e, inr (inr (inr (inr (inr (inr (inl refl)))))))
+tests_so dialect words _ (out_of_range e) = (e, inr (inr (inr (inr (inr (inr (inr (inl refl))))))))
 
-refuses_so : (waits : WaitCodes) (words : List FlowWord) (cause : Cause) → holds_of waits words cause ≡ true → Refuses waits words cause
-refuses_so waits words NotFixed e = not_fixed e
-refuses_so waits words UnknownCode e = unknown e
-refuses_so waits words WaitNotAlone e = not_alone e
-refuses_so waits words WaitPaths e = others e
-refuses_so waits words TwoM e = two_m e
-refuses_so waits words BadCall e = bad_call e
-refuses_so waits words AxisTwice e = axis_twice e
-refuses_so waits words WordRange e = out_of_range e
-refuses_so waits words _ e = absurd (cc)
+refuses_so : (dialect : Dialect) (words : List FlowWord) (cause : Cause) → holds_of dialect words cause ≡ true → Refuses dialect words cause
+refuses_so dialect words NotFixed e = not_fixed e
+refuses_so dialect words UnknownCode e = unknown e
+refuses_so dialect words WaitNotAlone e = not_alone e
+refuses_so dialect words WaitPaths e = others e
+refuses_so dialect words TwoM e = two_m e
+refuses_so dialect words BadCall e = bad_call e
+refuses_so dialect words AxisTwice e = axis_twice e
+refuses_so dialect words WordRange e = out_of_range e
+refuses_so dialect words _ e = absurd (cc)
 
 both_hold : (a b : Bool) → (a && b) ≡ true → (a ≡ true) × (b ≡ true)
 both_hold true b e = (refl, e)
@@ -112,47 +112,47 @@ none_found p (x ∷ xs) never = go (p x) refl (none_found p xs never)
     go true e rest = absurd (never x e)
     go false e rest = rest
 
-is_the_first : (waits : WaitCodes) (words : List FlowWord) → refusal_of waits words ≡ find (holds_of waits words) in_order
-is_the_first waits words = refl
+is_the_first : (dialect : Dialect) (words : List FlowWord) → refusal_of dialect words ≡ find (holds_of dialect words) in_order
+is_the_first dialect words = refl
 
-answered_is_least : (waits : WaitCodes) (words : List FlowWord) (cause : Cause) → refusal_of waits words ≡ Some cause → IsLeast waits words cause
-answered_is_least waits words cause answered =
-    let first = first_is_least (holds_of waits words) in_order cause refl (sym (is_the_first waits words) ∙ answered) in
+answered_is_least : (dialect : Dialect) (words : List FlowWord) (cause : Cause) → refusal_of dialect words ≡ Some cause → IsLeast dialect words cause
+answered_is_least dialect words cause answered =
+    let first = first_is_least (holds_of dialect words) in_order cause refl (sym (is_the_first dialect words) ∙ answered) in
     record {
-      holds = refuses_so waits words cause first.0;
-      least = λ other refuses. let so = tests_so waits words other refuses in first.1 other so.1 so.0;
+      holds = refuses_so dialect words cause first.0;
+      least = λ other refuses. let so = tests_so dialect words other refuses in first.1 other so.1 so.0;
     }
 
-least_is_answered : (waits : WaitCodes) (words : List FlowWord) (cause : Cause) → IsLeast waits words cause → refusal_of waits words ≡ Some cause
-least_is_answered waits words cause is = go (refusal_of waits words) refl
+least_is_answered : (dialect : Dialect) (words : List FlowWord) (cause : Cause) → IsLeast dialect words cause → refusal_of dialect words ≡ Some cause
+least_is_answered dialect words cause is = go (refusal_of dialect words) refl
   where
-    go : (answer : Option Cause) → refusal_of waits words ≡ answer → answer ≡ Some cause
+    go : (answer : Option Cause) → refusal_of dialect words ≡ answer → answer ≡ Some cause
     go None e =
-        let so = tests_so waits words cause is.holds in
-        absurd (none_holds (holds_of waits words) in_order (sym (is_the_first waits words) ∙ e) cause so.1 so.0)
+        let so = tests_so dialect words cause is.holds in
+        absurd (none_holds (holds_of dialect words) in_order (sym (is_the_first dialect words) ∙ e) cause so.1 so.0)
     go (Some own) e =
-        let first = answered_is_least waits words own e in
+        let first = answered_is_least dialect words own e in
         let below : cause_number own ≤ cause_number cause = first.least cause is.holds in
         let above : cause_number cause ≤ cause_number own = is.least own first.holds in
         let same : cause_number own ≡ cause_number cause = omega arith in
         ap Some (number_has_one_cause own cause same)
 
-pub least_refusal : (waits : WaitCodes) (words : List FlowWord) (cause : Cause) → (refusal_of waits words ≡ Some cause) ↔ IsLeast waits words cause
-least_refusal waits words cause = (answered_is_least waits words cause, least_is_answered waits words cause)
+pub least_refusal : (dialect : Dialect) (words : List FlowWord) (cause : Cause) → (refusal_of dialect words ≡ Some cause) ↔ IsLeast dialect words cause
+least_refusal dialect words cause = (answered_is_least dialect words cause, least_is_answered dialect words cause)
 
-pub no_refusal : (waits : WaitCodes) (words : List FlowWord) → (refusal_of waits words ≡ None) ↔ ((cause : Cause) → ¬ (Refuses waits words cause))
-no_refusal waits words = (
-  λ none cause refuses. let so = tests_so waits words cause refuses in none_holds (holds_of waits words) in_order (sym (is_the_first waits words) ∙ none) cause so.1 so.0,
-  λ never. is_the_first waits words ∙ none_found (holds_of waits words) in_order (λ other holds. never other (refuses_so waits words other holds)),
+pub no_refusal : (dialect : Dialect) (words : List FlowWord) → (refusal_of dialect words ≡ None) ↔ ((cause : Cause) → ¬ (Refuses dialect words cause))
+no_refusal dialect words = (
+  λ none cause refuses. let so = tests_so dialect words cause refuses in none_holds (holds_of dialect words) in_order (sym (is_the_first dialect words) ∙ none) cause so.1 so.0,
+  λ never. is_the_first dialect words ∙ none_found (holds_of dialect words) in_order (λ other holds. never other (refuses_so dialect words other holds)),
 )
 
 -- what the words say is refused with a number above those of words that don't read
-pub refusal_above_25 : (waits : WaitCodes) (words : List FlowWord) (cause : Cause) → Refuses waits words cause → 25 ≤ cause_number cause
-refusal_above_25 waits words _ (not_fixed e) = lit≤ tt
-refusal_above_25 waits words _ (unknown e) = lit≤ tt
-refusal_above_25 waits words _ (not_alone e) = lit≤ tt
-refusal_above_25 waits words _ (others e) = lit≤ tt
-refusal_above_25 waits words _ (two_m e) = lit≤ tt
-refusal_above_25 waits words _ (bad_call e) = lit≤ tt
-refusal_above_25 waits words _ (axis_twice e) = lit≤ tt
-refusal_above_25 waits words _ (out_of_range e) = lit≤ tt
+pub refusal_above_25 : (dialect : Dialect) (words : List FlowWord) (cause : Cause) → Refuses dialect words cause → 25 ≤ cause_number cause
+refusal_above_25 dialect words _ (not_fixed e) = lit≤ tt
+refusal_above_25 dialect words _ (unknown e) = lit≤ tt
+refusal_above_25 dialect words _ (not_alone e) = lit≤ tt
+refusal_above_25 dialect words _ (others e) = lit≤ tt
+refusal_above_25 dialect words _ (two_m e) = lit≤ tt
+refusal_above_25 dialect words _ (bad_call e) = lit≤ tt
+refusal_above_25 dialect words _ (axis_twice e) = lit≤ tt
+refusal_above_25 dialect words _ (out_of_range e) = lit≤ tt

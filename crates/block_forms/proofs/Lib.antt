@@ -1,4 +1,5 @@
 pub mod LastWord
+pub mod TableEnds
 pub mod Waiting
 pub mod InOrder
 pub mod NumbersFit

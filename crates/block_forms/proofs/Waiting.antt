@@ -2,7 +2,7 @@
 use Rattle.std.proofs.Common.{◌≡◌, ℕ, ◌≤◌, Bool, true, false, List, [], ◌∷◌, Some, refl, arith}
 use Rattle.std.specs.List.{find}
 use Rattle.std.proofs.lemmas.Bool.Decides.{nat_tests}
-use Rattle.block_forms.specs.declared.waits.WaitCodes.{WaitCodes}
+use Rattle.block_forms.specs.declared.dialect.Dialect.{Dialect}
 use Rattle.block_forms.specs.Codes.{is_waiting, first_waiting}
 
 -- what is found passes the test
@@ -14,7 +14,7 @@ found_passes {X} p (y ∷ ys) x found = go (p y) refl (found_passes p ys x)
     go true e rest = let here : Some y ≡ Some x = rw e at found in let same : y ≡ x = cc in rw (← same) e
     go false e rest = rest (rw e at found)
 
-pub first_waiting_is_below : (waits : WaitCodes) (codes : List ℕ) (code : ℕ) → first_waiting waits codes ≡ Some code → code ≤ waits.high
-first_waiting_is_below waits codes code found =
-    let passes : is_waiting waits code ≡ true = found_passes (is_waiting waits) codes code found in
+pub first_waiting_is_below : (dialect : Dialect) (codes : List ℕ) (code : ℕ) → first_waiting dialect codes ≡ Some code → code ≤ dialect.high
+first_waiting_is_below dialect codes code found =
+    let passes : is_waiting dialect code ≡ true = found_passes (is_waiting dialect) codes code found in
     grind (arith, nat_tests)

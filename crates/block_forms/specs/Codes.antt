@@ -6,9 +6,10 @@ use Rattle.code_tables.specs.declared.kind.CodeKind.{CodeKind}
 use Rattle.code_tables.specs.declared.kind.CodeKind.TheVariants.{Dwell, Setting, Limit, Machine, MacroCall}
 use Rattle.code_tables.specs.declared.group.TheConstants.{ONE_SHOT_GROUP}
 use Rattle.code_tables.specs.Codes.{row_of, last_of_group}
-use Rattle.code_tables.specs.SystemA.{system_a_rows}
+use Rattle.code_tables.specs.declared.system.System.{System}
+use Rattle.code_tables.specs.Systems.{rows_of_system}
 use Rattle.block_forms.specs.declared.word.FlowWord.{FlowWord}
-use Rattle.block_forms.specs.declared.waits.WaitCodes.{WaitCodes}
+use Rattle.block_forms.specs.declared.dialect.Dialect.{Dialect}
 use Rattle.block_forms.specs.declared.purpose.Purpose.{Purpose}
 use Rattle.block_forms.specs.declared.purpose.Purpose.TheVariants as purpose
 use Rattle.block_forms.specs.Words.{words_of, whole_value}
@@ -19,21 +20,21 @@ natural None = None
 natural (Some (pos n)) = Some n
 natural (Some (negsuc n)) = None
 
--- the row of a G code that is written out, if the control knows it
-abbrev pub row_of_number : Option ℕ → Option Row
-row_of_number None = None
-row_of_number (Some code) = row_of system_a_rows code
+-- the row of a G code that is written out, if the system has it
+abbrev pub row_of_number : System → Option ℕ → Option Row
+row_of_number system None = None
+row_of_number system (Some code) = row_of (rows_of_system system) code
 
-abbrev pub row_of_word : FlowWord → Option Row
-row_of_word word = row_of_number (natural (whole_value word.value))
+abbrev pub row_of_word : System → FlowWord → Option Row
+row_of_word system word = row_of_number system (natural (whole_value word.value))
 
 -- the rows of the block's G words, in their order
-abbrev pub rows : List FlowWord → List Row
-rows words = filter_map row_of_word (words_of (codes "G") words)
+abbrev pub rows : System → List FlowWord → List Row
+rows system words = filter_map (row_of_word system) (words_of (codes "G") words)
 
 -- a G code of that kind is given
-abbrev pub gives : (CodeKind → Bool) → List FlowWord → Bool
-gives is_kind words = list_any (λ row. is_kind row.kind) (rows words)
+abbrev pub gives : System → (CodeKind → Bool) → List FlowWord → Bool
+gives system is_kind words = list_any (λ row. is_kind row.kind) (rows system words)
 
 abbrev pub is_dwell : CodeKind → Bool
 is_dwell Dwell = true
@@ -60,8 +61,8 @@ kind_of None = None
 kind_of (Some row) = Some row.kind
 
 -- the one-shot code that is in force: the last one of the block
-abbrev pub one_shot : List FlowWord → Option CodeKind
-one_shot words = kind_of (last_of_group (rows words) ONE_SHOT_GROUP)
+abbrev pub one_shot : System → List FlowWord → Option CodeKind
+one_shot system words = kind_of (last_of_group (rows system words) ONE_SHOT_GROUP)
 
 -- the numbers of the block's M words that are written out, in their order
 abbrev pub m_codes : List FlowWord → List ℕ
@@ -76,18 +77,18 @@ first (code ∷ codes) = Some code
 abbrev pub m_code : List FlowWord → Option ℕ
 m_code words = first (m_codes words)
 
-abbrev pub is_waiting : WaitCodes → ℕ → Bool
-is_waiting waits code = nat_le waits.low code && nat_le code waits.high
+abbrev pub is_waiting : Dialect → ℕ → Bool
+is_waiting dialect code = nat_le dialect.low code && nat_le code dialect.high
 
 abbrev pub has_code : ℕ → List FlowWord → Bool
 has_code code words = list_any (λ own. own == code) (m_codes words)
 
 -- the first waiting code of the block
-abbrev pub first_waiting : WaitCodes → List ℕ → Option ℕ
-first_waiting waits codes = find (is_waiting waits) codes
+abbrev pub first_waiting : Dialect → List ℕ → Option ℕ
+first_waiting dialect codes = find (is_waiting dialect) codes
 
-abbrev pub has_wait : WaitCodes → List FlowWord → Bool
-has_wait waits words = list_any (is_waiting waits) (m_codes words)
+abbrev pub has_wait : Dialect → List FlowWord → Bool
+has_wait dialect words = list_any (is_waiting dialect) (m_codes words)
 
 -- what the one-shot code in force makes of P and L
 abbrev pub purpose_by : Option CodeKind → Purpose
@@ -96,13 +97,13 @@ purpose_by (Some Setting) = purpose.Setting
 purpose_by other = purpose.Other
 
 -- What decides the meaning of P and L: a macro call; a call, a return or a wait; else the one-shot code in force.
-abbrev pub purpose_of : WaitCodes → List FlowWord → Purpose
-purpose_of waits words =
-    if gives is_macro_call words then purpose.MacroCall
+abbrev pub purpose_of : Dialect → List FlowWord → Purpose
+purpose_of dialect words =
+    if gives dialect.system is_macro_call words then purpose.MacroCall
     else if has_code 98 words then purpose.Subprogram
     else if has_code 99 words then purpose.Return
-    else if has_wait waits words then purpose.Wait
-    else purpose_by (one_shot words)
+    else if has_wait dialect words then purpose.Wait
+    else purpose_by (one_shot dialect.system words)
 
 -- a call of a macro, in which M is an argument
 abbrev pub is_macro : Purpose → Bool

@@ -4,7 +4,7 @@ use Rattle.block_order.specs.declared.control.Control.{Control}
 use Rattle.block_order.specs.declared.control.Control.TheVariants as control
 use Rattle.macro_expr.specs.Tree.{Aim, ToNumber, ToNumberOf, Sentence, Assign, Goto, IfGoto, IfThen, WhileDo, DoOnly, EndLoop}
 use Rattle.block_forms.specs.declared.word.FlowWord.{FlowWord}
-use Rattle.block_forms.specs.declared.waits.WaitCodes.{WaitCodes}
+use Rattle.block_forms.specs.declared.dialect.Dialect.{Dialect}
 use Rattle.block_forms.specs.declared.purpose.Purpose.{Purpose}
 use Rattle.block_forms.specs.declared.purpose.Purpose.TheVariants.{MacroCall, Subprogram, Return, Wait, Dwell, Setting, Other}
 use Rattle.block_forms.specs.Words.{last_whole}
@@ -38,18 +38,18 @@ wait_at (Some code) = control.Wait code
 abbrev pub end_or_next : List FlowWord → Control
 end_or_next words = if has_code 2 words || has_code 30 words then control.End else control.Next
 
-abbrev pub control_by : Purpose → WaitCodes → List FlowWord → Control
-control_by MacroCall waits words = control.Call (or_number 0 (number_of (codes "P") words)) (repeats_of words)
-control_by Subprogram waits words = call_of_p (or_number 0 (number_of (codes "P") words)) (repeats_of words)
-control_by Return waits words = back_to (number_of (codes "P") words)
-control_by Wait waits words = wait_at (first_waiting waits (m_codes words))
-control_by Dwell waits words = end_or_next words
-control_by Setting waits words = end_or_next words
-control_by Other waits words = end_or_next words
+abbrev pub control_by : Purpose → Dialect → List FlowWord → Control
+control_by MacroCall dialect words = control.Call (or_number 0 (number_of (codes "P") words)) (repeats_of words)
+control_by Subprogram dialect words = call_of_p (or_number 0 (number_of (codes "P") words)) (repeats_of words)
+control_by Return dialect words = back_to (number_of (codes "P") words)
+control_by Wait dialect words = wait_at (first_waiting dialect (m_codes words))
+control_by Dwell dialect words = end_or_next words
+control_by Setting dialect words = end_or_next words
+control_by Other dialect words = end_or_next words
 
 -- the control of a block of words that is not refused
-abbrev pub control_of_words : WaitCodes → List FlowWord → Control
-control_of_words waits words = control_by (purpose_of waits words) waits words
+abbrev pub control_of_words : Dialect → List FlowWord → Control
+control_of_words dialect words = control_by (purpose_of dialect words) dialect words
 
 -- a fixed number, or none for a computed one
 abbrev pub number_of_aim : Aim → Option ℕ
@@ -85,6 +85,6 @@ is_allowed control.Back = true
 is_allowed (control.BackTo n) = nat_le n 99999
 
 -- where it waits, it does so by one of the waiting codes
-abbrev pub waits_by_a_code : WaitCodes → Control → Bool
-waits_by_a_code waits (control.Wait code) = is_waiting waits code
-waits_by_a_code waits _ = true
+abbrev pub waits_by_a_code : Dialect → Control → Bool
+waits_by_a_code dialect (control.Wait code) = is_waiting dialect code
+waits_by_a_code dialect _ = true

@@ -18,7 +18,7 @@ use Rattle.macro_expr.specs.Answers.{expression_of, statement_of}
 use Rattle.block_forms.specs.declared.word.FlowWord.{FlowWord}
 use Rattle.block_forms.specs.declared.word.WordValue.{WordValue}
 use Rattle.block_forms.specs.declared.word.WordValue.TheVariants.{Fixed, Computed}
-use Rattle.block_forms.specs.declared.waits.WaitCodes.{WaitCodes}
+use Rattle.block_forms.specs.declared.dialect.Dialect.{Dialect}
 use Rattle.block_forms.specs.Refusals.{refusal_of}
 use Rattle.block_forms.specs.Controls.{control_of_words, control_of_sentence}
 
@@ -79,17 +79,17 @@ with_refusal None words = Ok words
 with_refusal (Some cause) words = Err (cause_number cause)
 
 -- 25 comes before every refusal of words that read, and behind 5 to 23 of words that don't
-abbrev pub judged : WaitCodes → Bool → Result (List FlowWord) ℕ → Result (List FlowWord) ℕ
-judged waits many (Ok words) = if many then Err (cause_number TooManyVariables) else with_refusal (refusal_of waits words) words
-judged waits many (Err number) = Err number
+abbrev pub judged : Dialect → Bool → Result (List FlowWord) ℕ → Result (List FlowWord) ℕ
+judged dialect many (Ok words) = if many then Err (cause_number TooManyVariables) else with_refusal (refusal_of dialect words) words
+judged dialect many (Err number) = Err number
 
 -- the words of a block, or the least number of a refusal that holds of it
-abbrev pub words_or_refusal : WaitCodes → List Word → Result (List FlowWord) ℕ
-words_or_refusal waits words = judged waits (has_many_variables words) (all_words words)
+abbrev pub words_or_refusal : Dialect → List Word → Result (List FlowWord) ℕ
+words_or_refusal dialect words = judged dialect (has_many_variables words) (all_words words)
 
--- what stands in a block that was read: words, or a statement
+-- what stands in a block that was read: words, whose codes mean what the dialect says, or a statement
 pub data Form : Type 0 where
-  OfWords : List FlowWord → Form
+  OfWords : Dialect → List FlowWord → Form
   OfSentence : Sentence → Form
 
 -- what a block says
@@ -99,9 +99,9 @@ pub record BlockForm : Type 0 where
   pub form : Form
   pub control : Control
 
-abbrev pub form_of_words : Result (List FlowWord) ℕ → Result Form ℕ
-form_of_words (Ok words) = Ok (OfWords words)
-form_of_words (Err number) = Err number
+abbrev pub form_of_words : Dialect → Result (List FlowWord) ℕ → Result Form ℕ
+form_of_words dialect (Ok words) = Ok (OfWords dialect words)
+form_of_words dialect (Err number) = Err number
 
 -- what a statement says, or the number of its refusal
 abbrev pub sentence_or_refusal : Result Sentence ExprFault → Result Sentence ℕ
@@ -112,22 +112,22 @@ abbrev pub form_of_sentence : Result Sentence ℕ → Result Form ℕ
 form_of_sentence (Ok sentence) = Ok (OfSentence sentence)
 form_of_sentence (Err number) = Err number
 
-abbrev pub form_or_refusal : WaitCodes → Body → Result Form ℕ
-form_or_refusal waits (Words words) = form_of_words (words_or_refusal waits words)
-form_or_refusal waits (Statement text) = form_of_sentence (sentence_or_refusal (statement_of text))
+abbrev pub form_or_refusal : Dialect → Body → Result Form ℕ
+form_or_refusal dialect (Words words) = form_of_words dialect (words_or_refusal dialect words)
+form_or_refusal dialect (Statement text) = form_of_sentence (sentence_or_refusal (statement_of text))
 
-abbrev pub control_of_form : WaitCodes → Form → Control
-control_of_form waits (OfWords words) = control_of_words waits words
-control_of_form waits (OfSentence sentence) = control_of_sentence sentence
+abbrev pub control_of_form : Form → Control
+control_of_form (OfWords dialect words) = control_of_words dialect words
+control_of_form (OfSentence sentence) = control_of_sentence sentence
 
 -- a block of this line and sequence number
 abbrev pub form_at : ℕ → Option ℕ → Form → Control → BlockForm
 form_at line sequence form control = record { line = line; sequence = sequence; form = form; control = control }
 
-abbrev pub block_at : WaitCodes → Block → Result Form ℕ → Result BlockForm ℕ
-block_at waits block (Ok form) = Ok (form_at block.line block.sequence form (control_of_form waits form))
-block_at waits block (Err number) = Err number
+abbrev pub block_at : Block → Result Form ℕ → Result BlockForm ℕ
+block_at block (Ok form) = Ok (form_at block.line block.sequence form (control_of_form form))
+block_at block (Err number) = Err number
 
 -- what a block says, or the least number of a refusal that holds of it
-abbrev pub block_or_refusal : WaitCodes → Block → Result BlockForm ℕ
-block_or_refusal waits block = block_at waits block (form_or_refusal waits block.body)
+abbrev pub block_or_refusal : Dialect → Block → Result BlockForm ℕ
+block_or_refusal dialect block = block_at block (form_or_refusal dialect block.body)

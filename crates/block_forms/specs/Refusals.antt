@@ -5,9 +5,11 @@ use Rattle.nc_number.specs.Causes.{cause_number}
 use Rattle.nc_number.specs.declared.cause.Cause.{Cause}
 use Rattle.nc_number.specs.declared.cause.Cause.TheVariants.{NotFixed, UnknownCode, WaitNotAlone, WaitPaths, TwoM, BadCall, AxisTwice, WordRange}
 use Rattle.code_tables.specs.declared.row.Row.{Row}
+use Rattle.code_tables.specs.declared.system.System.{System}
+use Rattle.code_tables.specs.declared.system.System.TheVariants.{A, B}
 use Rattle.code_tables.specs.Kinds.{is_refused}
 use Rattle.block_forms.specs.declared.word.FlowWord.{FlowWord}
-use Rattle.block_forms.specs.declared.waits.WaitCodes.{WaitCodes}
+use Rattle.block_forms.specs.declared.dialect.Dialect.{Dialect}
 use Rattle.block_forms.specs.declared.purpose.Purpose.{Purpose}
 use Rattle.block_forms.specs.declared.purpose.Purpose.TheVariants.{MacroCall, Subprogram, Return, Wait, Dwell, Setting, Other}
 use Rattle.block_forms.specs.Words.{is_one_of, words_of, has, is_computed, has_computed, last_whole}
@@ -26,54 +28,60 @@ fixed_letters Dwell = codes "GNOM"
 fixed_letters Other = codes "GNOM"
 
 -- 54: a word that must be written out is computed
-abbrev pub is_not_fixed : WaitCodes → List FlowWord → Bool
-is_not_fixed waits words = has_computed (fixed_letters (purpose_of waits words)) words
+abbrev pub is_not_fixed : Dialect → List FlowWord → Bool
+is_not_fixed dialect words = has_computed (fixed_letters (purpose_of dialect words)) words
 
--- a G word that the control does not know or refuses; a computed one is no matter of this
+-- a G word that the system lacks or the control refuses; a computed one is no matter of this
 abbrev pub is_refused_row : Option Row → Bool
 is_refused_row None = true
 is_refused_row (Some row) = is_refused row.kind
 
-abbrev pub is_unknown_code : FlowWord → Bool
-is_unknown_code word = not (is_computed word.value) && is_refused_row (row_of_word word)
+abbrev pub is_unknown_code : System → FlowWord → Bool
+is_unknown_code system word = not (is_computed word.value) && is_refused_row (row_of_word system word)
+
+-- the letters that have a meaning outside macro calls: incremental U and W are of system A alone
+abbrev pub known_letters : System → List ℕ
+known_letters A = codes "XZUWIKRFSTNOMGPL"
+known_letters B = codes "XZIKRFSTNOMGPL"
 
 -- a letter that has no meaning outside macro calls; Q has one beside G10 alone
-abbrev pub is_unknown_letter : List FlowWord → ℕ → Bool
-is_unknown_letter words letter =
-    not (is_one_of (codes "XZUWIKRFSTNOMGPL") letter || (is_one_of (codes "Q") letter && gives is_setting words))
+abbrev pub is_unknown_letter : System → List FlowWord → ℕ → Bool
+is_unknown_letter system words letter =
+    not (is_one_of (known_letters system) letter || (is_one_of (codes "Q") letter && gives system is_setting words))
 
--- G50 needs S, and X, Z, U and W have no meaning beside it; G53 goes to absolute positions alone
-abbrev pub is_bad_limit : List FlowWord → Bool
-is_bad_limit words = gives is_limit words && (not (has (codes "S") words) || has (codes "XZUW") words)
+-- the highest speed of the spindle needs S, and X, Z, U and W have no meaning beside it; G53 goes to absolute positions alone
+abbrev pub is_bad_limit : System → List FlowWord → Bool
+is_bad_limit system words = gives system is_limit words && (not (has (codes "S") words) || has (codes "XZUW") words)
 
-abbrev pub is_bad_machine : List FlowWord → Bool
-is_bad_machine words = gives is_machine words && has (codes "UW") words
+abbrev pub is_bad_machine : System → List FlowWord → Bool
+is_bad_machine system words = gives system is_machine words && has (codes "UW") words
 
 -- the first word is the G65 and no other is a G word
 abbrev pub is_macro_row : Option Row → Bool
 is_macro_row None = false
 is_macro_row (Some row) = is_macro_call row.kind
 
-abbrev pub begins_macro_call : List FlowWord → Bool
-begins_macro_call [] = false
-begins_macro_call (word ∷ words) =
-    (is_one_of (codes "G") word.letter && is_macro_row (row_of_word word)) && not (has (codes "GNO") words)
+abbrev pub begins_macro_call : System → List FlowWord → Bool
+begins_macro_call system [] = false
+begins_macro_call system (word ∷ words) =
+    (is_one_of (codes "G") word.letter && is_macro_row (row_of_word system word)) && not (has (codes "GNO") words)
 
--- 56: a letter or a code that the control does not know, or refuses, or does not allow there
-abbrev pub is_unknown : List FlowWord → Bool
-is_unknown words =
-    if gives is_macro_call words then not (begins_macro_call words)
-    else (list_any is_unknown_code (words_of (codes "G") words) || list_any (λ word. is_unknown_letter words word.letter) words)
-    || (is_bad_limit words || is_bad_machine words)
+-- 56: a letter or a code that the system lacks, or that the control refuses or does not allow there
+abbrev pub is_unknown : System → List FlowWord → Bool
+is_unknown system words =
+    if gives system is_macro_call words then not (begins_macro_call system words)
+    else (list_any (is_unknown_code system) (words_of (codes "G") words)
+    || list_any (λ word. is_unknown_letter system words word.letter) words)
+    || (is_bad_limit system words || is_bad_machine system words)
 
 -- the block waits for the other path: a macro call has arguments in place of M codes
-abbrev pub waits_there : WaitCodes → List FlowWord → Bool
-waits_there waits words = not (gives is_macro_call words) && has_wait waits words
+abbrev pub waits_there : Dialect → List FlowWord → Bool
+waits_there dialect words = not (gives dialect.system is_macro_call words) && has_wait dialect words
 
 -- 57: a wait beside another word than P
-abbrev pub is_wait_not_alone : WaitCodes → List FlowWord → Bool
-is_wait_not_alone waits words =
-    waits_there waits words && nat_lt 1 (length (words_of (codes "ABCDEFGHIJKLMNOQRSTUVWXYZ") words))
+abbrev pub is_wait_not_alone : Dialect → List FlowWord → Bool
+is_wait_not_alone dialect words =
+    waits_there dialect words && nat_lt 1 (length (words_of (codes "ABCDEFGHIJKLMNOQRSTUVWXYZ") words))
 
 -- P names both paths: 3 by bits, 12 or 21 by their numbers
 abbrev pub names_both : Bool → ℕ → Bool
@@ -85,14 +93,14 @@ is_both bits None = false
 is_both bits (Some n) = names_both bits n
 
 -- 58: the P of a wait is computed, or the last one does not name both paths
-abbrev pub is_wait_of_others : WaitCodes → List FlowWord → Bool
-is_wait_of_others waits words =
-    waits_there waits words && has (codes "P") words
-    && (has_computed (codes "P") words || not (is_both waits.bits (natural (last_whole (codes "P") words))))
+abbrev pub is_wait_of_others : Dialect → List FlowWord → Bool
+is_wait_of_others dialect words =
+    waits_there dialect words && has (codes "P") words
+    && (has_computed (codes "P") words || not (is_both dialect.bits (natural (last_whole (codes "P") words))))
 
 -- 59: two M words outside a macro call
-abbrev pub has_two_m : List FlowWord → Bool
-has_two_m words = not (gives is_macro_call words) && nat_lt 1 (length (words_of (codes "M") words))
+abbrev pub has_two_m : System → List FlowWord → Bool
+has_two_m system words = not (gives system is_macro_call words) && nat_lt 1 (length (words_of (codes "M") words))
 
 -- the letter is above the one before it
 abbrev pub is_above : Option ℕ → ℕ → Bool
@@ -128,8 +136,9 @@ is_idle_l Setting = false
 is_idle_l _ = true
 
 -- a dwell or the setting of an offset beside a call or a return
-abbrev pub is_crowded_call : List FlowWord → Bool
-is_crowded_call words = (has_code 98 words || has_code 99 words) && (gives is_dwell words || gives is_setting words)
+abbrev pub is_crowded_call : System → List FlowWord → Bool
+is_crowded_call system words =
+    (has_code 98 words || has_code 99 words) && (gives system is_dwell words || gives system is_setting words)
 
 -- 61 of a block that calls a macro, and of every other one
 abbrev pub is_bad_macro_call : List FlowWord → Bool
@@ -142,51 +151,52 @@ abbrev pub is_subprogram : Purpose → Bool
 is_subprogram Subprogram = true
 is_subprogram _ = false
 
-abbrev pub is_bad_block : Purpose → List FlowWord → Bool
-is_bad_block purpose words =
-    ((is_subprogram purpose && is_bad_subprogram words) || is_crowded_call words)
+abbrev pub is_bad_block : System → Purpose → List FlowWord → Bool
+is_bad_block system purpose words =
+    ((is_subprogram purpose && is_bad_subprogram words) || is_crowded_call system words)
     || ((has (codes "P") words && is_idle_p purpose) || (has (codes "L") words && is_idle_l purpose))
 
 -- 61: a call without its program or with words that don't fit together; P or L where they have no meaning
-abbrev pub is_bad_call : WaitCodes → List FlowWord → Bool
-is_bad_call waits words =
-    if gives is_macro_call words then is_bad_macro_call words else is_bad_block (purpose_of waits words) words
+abbrev pub is_bad_call : Dialect → List FlowWord → Bool
+is_bad_call dialect words =
+    if gives dialect.system is_macro_call words then is_bad_macro_call words
+    else is_bad_block dialect.system (purpose_of dialect words) words
 
 -- 62: an absolute and an incremental word of one axis outside a macro call
-abbrev pub has_axis_twice : List FlowWord → Bool
-has_axis_twice words =
-    not (gives is_macro_call words)
+abbrev pub has_axis_twice : System → List FlowWord → Bool
+has_axis_twice system words =
+    not (gives system is_macro_call words)
     && ((has (codes "X") words && has (codes "U") words) || (has (codes "Z") words && has (codes "W") words))
 
 -- 64: a word that is written out is out of its range
-abbrev pub is_out_of_range : WaitCodes → List FlowWord → Bool
-is_out_of_range waits words = list_any (λ word. not (is_in_range (purpose_of waits words) word)) words
+abbrev pub is_out_of_range : Dialect → List FlowWord → Bool
+is_out_of_range dialect words = list_any (λ word. not (is_in_range (purpose_of dialect words) word)) words
 
 -- the refusal holds of the block
-pub data Refuses (waits : WaitCodes) (words : List FlowWord) : Cause → Type 0 where
-  not_fixed : is_not_fixed waits words ≡ true → Refuses waits words NotFixed
-  unknown : is_unknown words ≡ true → Refuses waits words UnknownCode
-  not_alone : is_wait_not_alone waits words ≡ true → Refuses waits words WaitNotAlone
-  others : is_wait_of_others waits words ≡ true → Refuses waits words WaitPaths
-  two_m : has_two_m words ≡ true → Refuses waits words TwoM
-  bad_call : is_bad_call waits words ≡ true → Refuses waits words BadCall
-  axis_twice : has_axis_twice words ≡ true → Refuses waits words AxisTwice
-  out_of_range : is_out_of_range waits words ≡ true → Refuses waits words WordRange
+pub data Refuses (dialect : Dialect) (words : List FlowWord) : Cause → Type 0 where
+  not_fixed : is_not_fixed dialect words ≡ true → Refuses dialect words NotFixed
+  unknown : is_unknown dialect.system words ≡ true → Refuses dialect words UnknownCode
+  not_alone : is_wait_not_alone dialect words ≡ true → Refuses dialect words WaitNotAlone
+  others : is_wait_of_others dialect words ≡ true → Refuses dialect words WaitPaths
+  two_m : has_two_m dialect.system words ≡ true → Refuses dialect words TwoM
+  bad_call : is_bad_call dialect words ≡ true → Refuses dialect words BadCall
+  axis_twice : has_axis_twice dialect.system words ≡ true → Refuses dialect words AxisTwice
+  out_of_range : is_out_of_range dialect words ≡ true → Refuses dialect words WordRange
 
 -- of several the one of the least number
-abbrev pub refusal_of : WaitCodes → List FlowWord → Option Cause
-refusal_of waits words =
-    if is_not_fixed waits words then Some NotFixed
-    else if is_unknown words then Some UnknownCode
-    else if is_wait_not_alone waits words then Some WaitNotAlone
-    else if is_wait_of_others waits words then Some WaitPaths
-    else if has_two_m words then Some TwoM
-    else if is_bad_call waits words then Some BadCall
-    else if has_axis_twice words then Some AxisTwice
-    else if is_out_of_range waits words then Some WordRange
+abbrev pub refusal_of : Dialect → List FlowWord → Option Cause
+refusal_of dialect words =
+    if is_not_fixed dialect words then Some NotFixed
+    else if is_unknown dialect.system words then Some UnknownCode
+    else if is_wait_not_alone dialect words then Some WaitNotAlone
+    else if is_wait_of_others dialect words then Some WaitPaths
+    else if has_two_m dialect.system words then Some TwoM
+    else if is_bad_call dialect words then Some BadCall
+    else if has_axis_twice dialect.system words then Some AxisTwice
+    else if is_out_of_range dialect words then Some WordRange
     else None
 
 -- the refusal holds of the block, and no other with a smaller number
-pub record IsLeast (waits : WaitCodes) (words : List FlowWord) (cause : Cause) : Type 0 where
-  pub holds : Refuses waits words cause
-  pub least : (other : Cause) → Refuses waits words other → cause_number cause ≤ cause_number other
+pub record IsLeast (dialect : Dialect) (words : List FlowWord) (cause : Cause) : Type 0 where
+  pub holds : Refuses dialect words cause
+  pub least : (other : Cause) → Refuses dialect words other → cause_number cause ≤ cause_number other

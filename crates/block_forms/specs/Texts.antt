@@ -4,23 +4,23 @@ use Rattle.nc_number.specs.Causes.{cause_number}
 use Rattle.nc_number.specs.declared.cause.Cause.{Cause}
 use Rattle.nc_number.specs.declared.cause.Cause.TheVariants.{TooManyVariables}
 use Rattle.nc_text.specs.declared.tape.Word.{Word}
-use Rattle.block_forms.specs.declared.waits.WaitCodes.{WaitCodes}
+use Rattle.block_forms.specs.declared.dialect.Dialect.{Dialect}
 use Rattle.block_forms.specs.declared.word.FlowWord.{FlowWord}
 use Rattle.block_forms.specs.Refusals.{Refuses}
 use Rattle.block_forms.specs.Forms.{word_of, all_words, has_many_variables}
 
 -- a refusal of this number holds
-pub data RefusesText (waits : WaitCodes) (texts : List Word) : ℕ → Type 0 where
+pub data RefusesText (dialect : Dialect) (texts : List Word) : ℕ → Type 0 where
   -- a word does not read
   unread : (before behind : List Word) (word : Word) (number : ℕ) → texts ≡ before ++ word ∷ behind
-      → word_of word ≡ Err number → RefusesText waits texts number
+      → word_of word ≡ Err number → RefusesText dialect texts number
   -- more than 32 variables
-  many : has_many_variables texts ≡ true → RefusesText waits texts (cause_number TooManyVariables)
+  many : has_many_variables texts ≡ true → RefusesText dialect texts (cause_number TooManyVariables)
   -- what the words say, where each reads
-  said : (words : List FlowWord) (cause : Cause) → all_words texts ≡ Ok words → Refuses waits words cause
-      → RefusesText waits texts (cause_number cause)
+  said : (words : List FlowWord) (cause : Cause) → all_words texts ≡ Ok words → Refuses dialect words cause
+      → RefusesText dialect texts (cause_number cause)
 
 -- it holds, and none of a smaller number
-pub record IsLeastOfText (waits : WaitCodes) (texts : List Word) (number : ℕ) : Type 0 where
-  pub holds : RefusesText waits texts number
-  pub least : (other : ℕ) → RefusesText waits texts other → number ≤ other
+pub record IsLeastOfText (dialect : Dialect) (texts : List Word) (number : ℕ) : Type 0 where
+  pub holds : RefusesText dialect texts number
+  pub least : (other : ℕ) → RefusesText dialect texts other → number ≤ other

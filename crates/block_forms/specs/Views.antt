@@ -17,17 +17,17 @@ use Rattle.block_forms.specs.Forms.{Form, OfWords, OfSentence}
 
 -- what stands in it
 abbrev pub form_of : FlowBody → Form
-form_of (Words words) = OfWords words.words
+form_of (Words words) = OfWords words.dialect words.words
 form_of (Statement statement) = OfSentence (sentence_of statement.statement)
 
 -- why it would be refused; a statement that has a tree is not
 abbrev pub refusal_of_body : FlowBody → Option Cause
-refusal_of_body (Words words) = refusal_of words.waits words.words
+refusal_of_body (Words words) = refusal_of words.dialect words.words
 refusal_of_body (Statement statement) = None
 
 -- what it does to the order of blocks
 abbrev pub control_of : FlowBody → Control
-control_of (Words words) = control_of_words words.waits words.words
+control_of (Words words) = control_of_words words.dialect words.words
 control_of (Statement statement) = control_of_sentence (sentence_of statement.statement)
 
 -- by G65 it is a macro that is called, and by M98 a subprogram

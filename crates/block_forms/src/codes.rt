@@ -1,53 +1,46 @@
 ghost use Rattle.std.specs.Prelude.{◌≡◌, ◌≤◌, IfSome, IfOk};
 ghost use Rattle.std.specs.List.{list_any};
-ghost use Rattle.code_tables.specs.Codes.{row_of, last_of_group};
-ghost use Rattle.code_tables.specs.SystemA.{system_a_rows};
+ghost use Rattle.code_tables.specs.Codes.{last_of_group};
 ghost use Rattle.block_forms.specs.Codes.{row_of_word, rows, kind_of, m_codes, m_code, is_waiting, has_code, has_wait, first_waiting, is_macro_call, purpose_by};
 
+use crate::dialect::{Dialect, row_of};
 use crate::letters::is_one_of;
 use crate::purpose::Purpose;
 use crate::row_list::RowList;
-use crate::waits::WaitCodes;
 use crate::word::FlowWord;
-use code_tables::{CodeKind, ONE_SHOT_GROUP, Row, last_of_group, system_a};
+use code_tables::{CodeKind, ONE_SHOT_GROUP, Row, System, last_of_group};
 use nc_number::NoMemory;
 use std::alloc::{AllocError, Global};
 
-/// The row of a G code, if the control knows it.
-fn row_of(code: u32) -> Option<Row>
-    ensures { result ≡ row_of system_a_rows code }
-{
-    if code > 65_535 {
-        return None;
-    }
-    system_a().find(code as u16)
-}
-
-/// The row of a G word that is written out, if the control knows its code.
-pub(crate) fn row_of_word(word: &FlowWord) -> Option<Row>
-    ensures { result ≡ row_of_word word.now }
+/// The row of a G word that is written out, if the system has its code.
+pub(crate) fn row_of_word(system: System, word: &FlowWord) -> Option<Row>
+    ensures { result ≡ row_of_word system word.now }
 {
     match word.value.natural() {
-        Some(code) => row_of(code),
+        Some(code) => row_of(system, code),
         None => None,
     }
 }
 
-fn collect_rows(alloc: Global, words: &[FlowWord]) -> Result<Vec<Row>, AllocError>
-    ensures { IfOk result (λ found. found.items ≡ rows words.now) }
+fn collect_rows(alloc: Global, system: System, words: &[FlowWord]) -> Result<Vec<Row>, AllocError>
+    ensures { IfOk result (λ found. found.items ≡ rows system words.now) }
 {
     words
         .iter()
         .filter(|word| is_one_of(b"G", word.letter))
-        .filter_map(|word| row_of_word(word))
+        .filter_map(|word| row_of_word(system, word))
         .collect(alloc)
 }
 
 /// The rows of the block's G words, in their order.
-pub(crate) fn rows_of(alloc: Global, words: &[FlowWord]) -> Result<RowList, NoMemory>
-    ensures { IfOk result (λ list. list ≡ rows words.now) }
+pub(crate) fn rows_of(
+    alloc: Global,
+    system: System,
+    words: &[FlowWord],
+) -> Result<RowList, NoMemory>
+    ensures { IfOk result (λ list. list ≡ rows system words.now) }
 {
-    let found = collect_rows(alloc, words)?;
+    let found = collect_rows(alloc, system, words)?;
     // A copy takes just the room that it needs.
     let rows = Vec::from_slice(alloc, &found)?;
     Ok(RowList::of(rows))
@@ -87,33 +80,33 @@ pub(crate) fn has_code(words: &[FlowWord], code: u32) -> bool
 }
 
 /// Whether the block has a waiting M code.
-pub(crate) fn has_wait(words: &[FlowWord], waits: WaitCodes) -> bool
-    ensures { result ≡ has_wait waits words.now }
+pub(crate) fn has_wait(words: &[FlowWord], dialect: Dialect) -> bool
+    ensures { result ≡ has_wait dialect words.now }
 {
     words
         .iter()
         .filter(|word| is_one_of(b"M", word.letter))
         .filter_map(|word| word.value.natural())
-        .any(|code| waits.is_waiting(code))
+        .any(|code| dialect.is_waiting(code))
 }
 
 /// The first waiting M code of the block, which is none above the last waiting code.
-fn find_waiting(words: &[FlowWord], waits: WaitCodes) -> Option<u32>
-    ensures { result ≡ first_waiting waits (m_codes words.now) }
+fn find_waiting(words: &[FlowWord], dialect: Dialect) -> Option<u32>
+    ensures { result ≡ first_waiting dialect (m_codes words.now) }
 {
     words
         .iter()
         .filter(|word| is_one_of(b"M", word.letter))
         .filter_map(|word| word.value.natural())
-        .find(|code| waits.is_waiting(*code))
+        .find(|code| dialect.is_waiting(*code))
 }
 
 /// The first waiting M code of the block.
 #[tactic(auto, using(crate::proofs::Waiting::first_waiting_is_below))]
-pub(crate) fn first_waiting(words: &[FlowWord], waits: WaitCodes) -> Option<u16>
-    ensures { result ≡ first_waiting waits (m_codes words.now) }
+pub(crate) fn first_waiting(words: &[FlowWord], dialect: Dialect) -> Option<u16>
+    ensures { result ≡ first_waiting dialect (m_codes words.now) }
 {
-    match find_waiting(words, waits) {
+    match find_waiting(words, dialect) {
         Some(code) => Some(code as u16),
         None => None,
     }

@@ -101,8 +101,8 @@ impl FlowWords {
 
     /// What the block does to the order of blocks, where it is not refused.
     pub(crate) fn control(&self) -> Control
-        requires { refusal_of self.now.waits self.now.words ≡ None }
-        ensures { result ≡ control_of_words self.now.waits self.now.words }
+        requires { refusal_of self.now.dialect self.now.words ≡ None }
+        ensures { result ≡ control_of_words self.now.dialect self.now.words }
     {
         let words = self.words.as_slice();
         match self.purpose {
@@ -115,7 +115,7 @@ impl FlowWords {
                 None => call_of_p(0, number_or(words, b"L", 1)),
             },
             Purpose::Return => back_to(number_of(words, b"P")),
-            Purpose::Wait => wait_at(first_waiting(words, self.waits)),
+            Purpose::Wait => wait_at(first_waiting(words, self.dialect)),
             Purpose::Dwell | Purpose::Setting | Purpose::Other => end_or_next(words),
         }
     }

@@ -1,7 +1,7 @@
 ghost use Rattle.std.specs.Prelude.{◌≡◌, ◌↔◌, ℕ, List};
 ghost use Rattle.nc_number.specs.declared.cause.Cause.{Cause};
 ghost use Rattle.nc_text.specs.declared.tape.Word.{Word};
-ghost use Rattle.block_forms.specs.declared.waits.WaitCodes.{WaitCodes};
+ghost use Rattle.block_forms.specs.declared.dialect.Dialect.{Dialect};
 ghost use Rattle.block_forms.specs.declared.word.FlowWord.{FlowWord};
 ghost use Rattle.block_forms.specs.Refusals.{Refuses, IsLeast, refusal_of};
 ghost use Rattle.block_forms.specs.Forms.{all_words, words_or_refusal};
@@ -12,20 +12,20 @@ use macro_limits::reading_stops_for_a_cause;
 /// Of the refusals that hold of a block of words the one of the least number is answered, and the
 /// block is accepted exactly where none holds.
 pub fn the_least_refusal_is_answered()
-    ensures least { (waits : WaitCodes) (words : List FlowWord) (cause : Cause)
-        → (refusal_of waits words ≡ Some cause) ↔ IsLeast waits words cause }
-    ensures none { (waits : WaitCodes) (words : List FlowWord)
-        → (refusal_of waits words ≡ None) ↔ ((cause : Cause) → ¬ (Refuses waits words cause)) }
+    ensures least { (dialect : Dialect) (words : List FlowWord) (cause : Cause)
+        → (refusal_of dialect words ≡ Some cause) ↔ IsLeast dialect words cause }
+    ensures none { (dialect : Dialect) (words : List FlowWord)
+        → (refusal_of dialect words ≡ None) ↔ ((cause : Cause) → ¬ (Refuses dialect words cause)) }
 {}
 
 /// The same of the text of a block of words: of words that don't read, of its variables, and of what
 /// its words say where each reads.
 pub fn the_least_refusal_of_a_text_is_answered()
-    ensures least { (waits : WaitCodes) (texts : List Word) (number : ℕ)
-        → (words_or_refusal waits texts ≡ Err number) ↔ IsLeastOfText waits texts number }
-    ensures none { (waits : WaitCodes) (texts : List Word) (words : List FlowWord)
-        → words_or_refusal waits texts ≡ Ok words
-        → (all_words texts ≡ Ok words) × ((number : ℕ) → ¬ (RefusesText waits texts number)) }
+    ensures least { (dialect : Dialect) (texts : List Word) (number : ℕ)
+        → (words_or_refusal dialect texts ≡ Err number) ↔ IsLeastOfText dialect texts number }
+    ensures none { (dialect : Dialect) (texts : List Word) (words : List FlowWord)
+        → words_or_refusal dialect texts ≡ Ok words
+        → (all_words texts ≡ Ok words) × ((number : ℕ) → ¬ (RefusesText dialect texts number)) }
 {
     reading_stops_for_a_cause();
 }

@@ -4,7 +4,7 @@ ghost use Rattle.nc_number.specs.Literals.{IsLiteral, behind_sign, has_minus, wo
 ghost use Rattle.macro_expr.specs.Answers.{expression_of, statement_of};
 ghost use Rattle.macro_expr.specs.Limits.{variable_signs};
 ghost use Rattle.macro_expr.specs.Tree.{sentence_of, variables_in, evaluated, IsInRange};
-ghost use Rattle.block_forms.specs.declared.waits.WaitCodes.{WaitCodes};
+ghost use Rattle.block_forms.specs.declared.dialect.Dialect.{Dialect};
 ghost use Rattle.block_forms.specs.Refusals.{refusal_of};
 ghost use Rattle.block_forms.specs.Controls.{control_of_words, control_of_sentence, waits_by_a_code};
 ghost use Rattle.block_forms.specs.Forms.{fixed_value, computed_value, value_of, word_of, all_words, signs_in, has_many_variables, sentence_or_refusal, words_or_refusal, OfWords, OfSentence, form_at, block_or_refusal};
@@ -14,10 +14,10 @@ ghost use Rattle.block_forms.specs.Blocks.{block_form};
 use crate::block::FlowBlock;
 use crate::body::FlowBody;
 use crate::controls::control_of_statement;
+use crate::dialect::Dialect;
 use crate::fault::FormFault;
 use crate::gathering::Gathered;
 use crate::statement::FlowStatement;
-use crate::waits::WaitCodes;
 use crate::word::{FlowWord, FlowWordList, WordValue};
 use crate::words::FlowWords;
 use macro_eval::{compile, compile_statement};
@@ -143,12 +143,12 @@ fn names_many_variables(words: &[Word]) -> bool
 pub fn read_words(
     alloc: Global,
     words: &[Word],
-    waits: &WaitCodes,
+    dialect: &Dialect,
 ) -> Result<FlowWords, Failing<FormFault>>
     ensures exact { GivesBy (λ read. read.words) (λ fault. fault.number) result
-        (words_or_refusal waits.now words.now) }
-    ensures waits { IfOk result (λ read. read.waits ≡ waits.now) }
-    ensures accepted { IfOk result (λ read. refusal_of read.waits read.words ≡ None) }
+        (words_or_refusal dialect.now words.now) }
+    ensures dialect { IfOk result (λ read. read.dialect ≡ dialect.now) }
+    ensures accepted { IfOk result (λ read. refusal_of read.dialect read.words ≡ None) }
     ensures few { IfOk result (λ read. variables_of_words read.words ≤ 32) }
 {
     let list = match read_all(alloc, words) {
@@ -158,7 +158,7 @@ pub fn read_words(
     if names_many_variables(words) {
         return Err(Failing::Fault(FormFault::of(Cause::TooManyVariables)));
     }
-    let read = FlowWords::of(alloc, *waits, list)?;
+    let read = FlowWords::of(alloc, *dialect, list)?;
     match read.refusal() {
         Some(cause) => Err(Failing::Fault(FormFault::of(cause))),
         None => Ok(read),
@@ -194,7 +194,7 @@ fn block_of_statement(line: u32, sequence: Option<u32>, statement: FlowStatement
     requires few { variables_in (evaluated (sentence_of statement.statement)) ≤ 32 }
     ensures form { block_form result ≡ form_at line sequence (OfSentence (sentence_of statement.statement))
         (control_of_sentence (sentence_of statement.statement)) }
-    ensures waits { (waits : WaitCodes) → waits_by_a_code waits result.control ≡ true }
+    ensures waits { (dialect : Dialect) → waits_by_a_code dialect result.control ≡ true }
 {
     let control = control_of_statement(&statement.statement);
     FlowBlock {
@@ -208,11 +208,11 @@ fn block_of_statement(line: u32, sequence: Option<u32>, statement: FlowStatement
 /// The block of words that are not refused.
 #[tactic(auto, using(crate::proofs::Accepted::words_allowed, crate::proofs::Accepted::words_wait))]
 fn block_of_words(line: u32, sequence: Option<u32>, words: FlowWords) -> FlowBlock
-    requires accepted { refusal_of words.waits words.words ≡ None }
+    requires accepted { refusal_of words.dialect words.words ≡ None }
     requires few { variables_of_words words.words ≤ 32 }
-    ensures form { block_form result ≡ form_at line sequence (OfWords words.words)
-        (control_of_words words.waits words.words) }
-    ensures waits { waits_by_a_code words.waits result.control ≡ true }
+    ensures form { block_form result ≡ form_at line sequence (OfWords words.dialect words.words)
+        (control_of_words words.dialect words.words) }
+    ensures waits { waits_by_a_code words.dialect result.control ≡ true }
 {
     let control = words.control();
     FlowBlock {
@@ -229,14 +229,14 @@ fn block_of_words(line: u32, sequence: Option<u32>, words: FlowWords) -> FlowBlo
 pub fn read_block(
     alloc: Global,
     block: &Block,
-    waits: &WaitCodes,
+    dialect: &Dialect,
 ) -> Result<FlowBlock, Failing<FormFault>>
     ensures exact { GivesBy (λ read. block_form read) (λ fault. fault.number) result
-        (block_or_refusal waits.now block.now) }
-    ensures waits { IfOk result (λ read. waits_by_a_code waits.now read.control ≡ true) }
+        (block_or_refusal dialect.now block.now) }
+    ensures waits { IfOk result (λ read. waits_by_a_code dialect.now read.control ≡ true) }
 {
     match &block.body {
-        Body::Words(words) => match read_words(alloc, words.as_slice(), waits) {
+        Body::Words(words) => match read_words(alloc, words.as_slice(), dialect) {
             Ok(words) => Ok(block_of_words(block.line, block.sequence, words)),
             Err(fault) => Err(fault),
         },

@@ -1,7 +1,7 @@
 ghost use Rattle.std.specs.Prelude.{◌≡◌, codes};
 ghost use Rattle.std.specs.List.{list_any};
 ghost use Rattle.block_forms.specs.Words.{words_of};
-ghost use Rattle.block_forms.specs.Refusals.{is_refused_row, is_unknown_code, is_macro_row, begins_macro_call, is_above, are_in_order, has_repeats};
+ghost use Rattle.block_forms.specs.Refusals.{is_refused_row, is_unknown_code, known_letters, is_macro_row, begins_macro_call, is_above, are_in_order, has_repeats};
 
 use crate::codes::{has_code, has_wait, row_of_word};
 use crate::letters::{count_of, has, has_computed, is_one_of, number_of};
@@ -9,10 +9,10 @@ use crate::purpose::Purpose;
 use crate::range::is_in_range;
 use crate::word::FlowWord;
 use crate::words::FlowWords;
-use code_tables::{CodeKind, Row};
+use code_tables::{CodeKind, Row, System};
 use nc_number::Cause;
 
-/// Whether the control does not know the code of the row, or refuses it.
+/// Whether the system lacks the code of the row, or the control refuses it.
 fn is_refused_row(row: Option<Row>) -> bool
     ensures { result ≡ is_refused_row row }
 {
@@ -32,30 +32,42 @@ fn is_macro_row(row: Option<Row>) -> bool
     }
 }
 
-/// Whether the G word is written out, and of a code that the control does not know or refuses.
-fn is_unknown_code(word: &FlowWord) -> bool
-    ensures { result ≡ is_unknown_code word.now }
+/// Whether the G word is written out, and of a code that the system lacks or the control refuses.
+fn is_unknown_code(system: System, word: &FlowWord) -> bool
+    ensures { result ≡ is_unknown_code system word.now }
 {
-    !word.value.is_computed() && is_refused_row(row_of_word(word))
+    !word.value.is_computed() && is_refused_row(row_of_word(system, word))
 }
 
-fn has_unknown_code(words: &[FlowWord]) -> bool
-    ensures { result ≡ list_any is_unknown_code (words_of (codes "G") words.now) }
+fn has_unknown_code(system: System, words: &[FlowWord]) -> bool
+    ensures { result ≡ list_any (is_unknown_code system) (words_of (codes "G") words.now) }
 {
     words
         .iter()
         .filter(|word| is_one_of(b"G", word.letter))
-        .any(|word| is_unknown_code(word))
+        .any(|word| is_unknown_code(system, word))
+}
+
+/// The letters that have a meaning outside macro calls: incremental U and W are of system A alone.
+fn known_letters(system: System) -> &'static [u8]
+    ensures { result.now ≡ known_letters system }
+{
+    match system {
+        System::A => b"XZUWIKRFSTNOMGPL",
+        System::B => b"XZIKRFSTNOMGPL",
+    }
 }
 
 /// Whether the first word is the G65, and no other is a G word, or a computed N or O.
-fn begins_macro_call(words: &[FlowWord]) -> bool
-    ensures { result ≡ begins_macro_call words.now }
+fn begins_macro_call(system: System, words: &[FlowWord]) -> bool
+    ensures { result ≡ begins_macro_call system words.now }
 {
     match words {
         [] => false,
         [first, rest @ ..] => {
-            is_one_of(b"G", first.letter) && is_macro_row(row_of_word(first)) && !has(rest, b"GNO")
+            is_one_of(b"G", first.letter)
+                && is_macro_row(row_of_word(system, first))
+                && !has(rest, b"GNO")
         }
     }
 }
@@ -108,29 +120,31 @@ impl FlowWords {
 
     /// 54: a word that must be written out is computed.
     fn is_not_fixed(&self) -> bool
-        ensures { result ≡ is_not_fixed self.now.waits self.now.words }
+        ensures { result ≡ is_not_fixed self.now.dialect self.now.words }
     {
         has_computed(self.words.as_slice(), self.purpose.fixed_letters())
     }
 
     /// Whether the letter has no meaning outside macro calls; Q has one beside G10 alone.
     fn is_unknown_letter(&self, letter: u8) -> bool
-        ensures { result ≡ is_unknown_letter self.now.words letter }
+        ensures { result ≡ is_unknown_letter self.now.dialect.system self.now.words letter }
     {
-        !(is_one_of(b"XZUWIKRFSTNOMGPL", letter)
+        !(is_one_of(known_letters(self.dialect.system), letter)
             || (is_one_of(b"Q", letter) && self.gives_setting()))
     }
 
     fn has_unknown_letter(&self) -> bool
-        ensures { result ≡ list_any (λ word. is_unknown_letter self.now.words word.letter) self.now.words }
+        ensures { result ≡ list_any
+            (λ word. is_unknown_letter self.now.dialect.system self.now.words word.letter) self.now.words }
     {
         let words = self.words.as_slice();
         words.iter().any(|word| self.is_unknown_letter(word.letter))
     }
 
-    /// G50 needs S, and X, Z, U and W have no meaning beside it.
+    /// The highest speed of the spindle, G50 of system A and G92 of system B, needs S, and X, Z, U and
+    /// W have no meaning beside it.
     fn is_bad_limit(&self) -> bool
-        ensures { result ≡ is_bad_limit self.now.words }
+        ensures { result ≡ is_bad_limit self.now.dialect.system self.now.words }
     {
         let words = self.words.as_slice();
         self.gives_limit() && (!has(words, b"S") || has(words, b"XZUW"))
@@ -138,19 +152,20 @@ impl FlowWords {
 
     /// G53 goes to absolute positions alone.
     fn is_bad_machine(&self) -> bool
-        ensures { result ≡ is_bad_machine self.now.words }
+        ensures { result ≡ is_bad_machine self.now.dialect.system self.now.words }
     {
         self.gives_machine() && has(self.words.as_slice(), b"UW")
     }
 
-    /// 56: a letter or a code that the control does not know, or refuses, or does not allow there.
+    /// 56: a letter or a code that the system lacks, or that the control refuses or does not allow there.
     fn is_unknown(&self) -> bool
-        ensures { result ≡ is_unknown self.now.words }
+        ensures { result ≡ is_unknown self.now.dialect.system self.now.words }
     {
+        let system = self.dialect.system;
         if self.gives_macro_call() {
-            !begins_macro_call(self.words.as_slice())
+            !begins_macro_call(system, self.words.as_slice())
         } else {
-            has_unknown_code(self.words.as_slice())
+            has_unknown_code(system, self.words.as_slice())
                 || self.has_unknown_letter()
                 || self.is_bad_limit()
                 || self.is_bad_machine()
@@ -159,31 +174,31 @@ impl FlowWords {
 
     /// Whether the block waits for the other path.
     fn waits_there(&self) -> bool
-        ensures { result ≡ waits_there self.now.waits self.now.words }
+        ensures { result ≡ waits_there self.now.dialect self.now.words }
     {
-        !self.gives_macro_call() && has_wait(self.words.as_slice(), self.waits)
+        !self.gives_macro_call() && has_wait(self.words.as_slice(), self.dialect)
     }
 
     /// 57: a wait beside another word than P.
     fn is_wait_not_alone(&self) -> bool
-        ensures { result ≡ is_wait_not_alone self.now.waits self.now.words }
+        ensures { result ≡ is_wait_not_alone self.now.dialect self.now.words }
     {
         self.waits_there() && 1 < count_of(self.words.as_slice(), b"ABCDEFGHIJKLMNOQRSTUVWXYZ")
     }
 
     /// Whether the number of the last P names both paths.
     fn names_both(&self) -> bool
-        ensures { result ≡ is_both self.now.waits.bits (natural (last_whole (codes "P") self.now.words)) }
+        ensures { result ≡ is_both self.now.dialect.bits (natural (last_whole (codes "P") self.now.words)) }
     {
         match number_of(self.words.as_slice(), b"P") {
-            Some(paths) => self.waits.names_both(paths),
+            Some(paths) => self.dialect.names_both(paths),
             None => false,
         }
     }
 
     /// 58: the P of a wait is computed, or the last one does not name both paths.
     fn is_wait_of_others(&self) -> bool
-        ensures { result ≡ is_wait_of_others self.now.waits self.now.words }
+        ensures { result ≡ is_wait_of_others self.now.dialect self.now.words }
     {
         let words = self.words.as_slice();
         self.waits_there() && has(words, b"P") && (has_computed(words, b"P") || !self.names_both())
@@ -191,14 +206,14 @@ impl FlowWords {
 
     /// 59: two M words outside a macro call.
     fn has_two_m(&self) -> bool
-        ensures { result ≡ has_two_m self.now.words }
+        ensures { result ≡ has_two_m self.now.dialect.system self.now.words }
     {
         !self.gives_macro_call() && 1 < count_of(self.words.as_slice(), b"M")
     }
 
     /// A dwell or the setting of an offset beside a call or a return.
     fn is_crowded_call(&self) -> bool
-        ensures { result ≡ is_crowded_call self.now.words }
+        ensures { result ≡ is_crowded_call self.now.dialect.system self.now.words }
     {
         let words = self.words.as_slice();
         (has_code(words, 98) || has_code(words, 99)) && (self.gives_dwell() || self.gives_setting())
@@ -221,7 +236,7 @@ impl FlowWords {
     }
 
     fn is_bad_block(&self) -> bool
-        ensures { result ≡ is_bad_block self.now.purpose self.now.words }
+        ensures { result ≡ is_bad_block self.now.dialect.system self.now.purpose self.now.words }
     {
         let words = self.words.as_slice();
         (self.purpose == Purpose::Subprogram && self.is_bad_subprogram())
@@ -233,7 +248,7 @@ impl FlowWords {
     /// 61: a call without its program or with words that don't fit together; P or L where they have
     /// no meaning.
     fn is_bad_call(&self) -> bool
-        ensures { result ≡ is_bad_call self.now.waits self.now.words }
+        ensures { result ≡ is_bad_call self.now.dialect self.now.words }
     {
         if self.gives_macro_call() {
             self.is_bad_macro_call()
@@ -244,7 +259,7 @@ impl FlowWords {
 
     /// 62: an absolute and an incremental word of one axis outside a macro call.
     fn has_axis_twice(&self) -> bool
-        ensures { result ≡ has_axis_twice self.now.words }
+        ensures { result ≡ has_axis_twice self.now.dialect.system self.now.words }
     {
         let words = self.words.as_slice();
         !self.gives_macro_call()
@@ -253,7 +268,7 @@ impl FlowWords {
 
     /// 64: a word that is written out is out of its range.
     fn is_out_of_range(&self) -> bool
-        ensures { result ≡ is_out_of_range self.now.waits self.now.words }
+        ensures { result ≡ is_out_of_range self.now.dialect self.now.words }
     {
         let words = self.words.as_slice();
         words.iter().any(|word| !is_in_range(self.purpose, word))
@@ -261,7 +276,7 @@ impl FlowWords {
 
     /// Why the block is refused: of the refusals that hold of it the one of the least number.
     pub(crate) fn refusal(&self) -> Option<Cause>
-        ensures { result ≡ refusal_of self.now.waits self.now.words }
+        ensures { result ≡ refusal_of self.now.dialect self.now.words }
     {
         if self.is_not_fixed() {
             Some(Cause::NotFixed)

@@ -4,10 +4,10 @@ ghost use Rattle.block_forms.specs.Codes.{rows as rows_in, one_shot as one_shot_
 use crate::codes::{
     first_code, has_code, has_wait, have_macro_call, one_shot_of, purpose_by, rows_of,
 };
+use crate::dialect::Dialect;
 use crate::letters::has;
 use crate::purpose::Purpose;
 use crate::row_list::RowList;
-use crate::waits::WaitCodes;
 use crate::word::{FlowWord, FlowWordList};
 use code_tables::{CodeKind, Row};
 use nc_number::NoMemory;
@@ -16,8 +16,8 @@ use std::alloc::Global;
 /// The words of a block, and what its codes make of them.
 #[derive(Drop)]
 pub struct FlowWords {
-    /// The waiting codes of the cell in which it was read.
-    pub waits: WaitCodes,
+    /// How its tape is read.
+    pub dialect: Dialect,
     /// Its words, in the order of the text.
     pub words: FlowWordList,
     /// The rows of its G words, in their order.
@@ -26,9 +26,9 @@ pub struct FlowWords {
     pub one_shot: Option<CodeKind>,
     /// What decides the meaning of P and L.
     pub purpose: Purpose,
-    ghost rows_are: { rows ≡ rows_in words },
-    ghost one_shot_is: { one_shot ≡ one_shot_in words },
-    ghost purpose_is: { purpose ≡ purpose_of waits words },
+    ghost rows_are: { rows ≡ rows_in dialect.system words },
+    ghost one_shot_is: { one_shot ≡ one_shot_in dialect.system words },
+    ghost purpose_is: { purpose ≡ purpose_of dialect words },
 }
 
 impl FlowWords {
@@ -42,17 +42,17 @@ impl FlowWords {
     /// The words with their rows and their purpose.
     pub(crate) fn of(
         alloc: Global,
-        waits: WaitCodes,
+        dialect: Dialect,
         words: FlowWordList,
     ) -> Result<FlowWords, NoMemory>
-        ensures waits { IfOk result (λ it. it.waits ≡ waits) }
+        ensures dialect { IfOk result (λ it. it.dialect ≡ dialect) }
         ensures words { IfOk result (λ it. it.words ≡ words) }
     {
-        let rows = rows_of(alloc, words.as_slice())?;
+        let rows = rows_of(alloc, dialect.system, words.as_slice())?;
         let one_shot = one_shot_of(rows.as_slice());
-        let purpose = purpose_of(waits, words.as_slice(), rows.as_slice(), one_shot);
+        let purpose = purpose_of(dialect, words.as_slice(), rows.as_slice(), one_shot);
         Ok(FlowWords {
-            waits,
+            dialect,
             words,
             rows,
             one_shot,
@@ -66,7 +66,7 @@ impl FlowWords {
     pub fn code(&self) -> Option<u32>
         ensures value { result ≡ m_code self.now.words }
         ensures range { IfSome result (λ code. code ≤ 99999999) }
-        ensures small { refusal_of self.now.waits self.now.words ≡ None → is_macro self.now.purpose ≡ false
+        ensures small { refusal_of self.now.dialect self.now.words ≡ None → is_macro self.now.purpose ≡ false
             → IfSome result (λ code. code ≤ 999) }
     {
         first_code(self.words.as_slice())
@@ -81,7 +81,7 @@ impl FlowWords {
 
     /// Whether an arc is given.
     pub fn gives_arc(&self) -> bool
-        ensures { result ≡ gives is_arc self.now.words }
+        ensures { result ≡ gives self.now.dialect.system is_arc self.now.words }
     {
         let rows = self.rows.as_slice();
         rows.iter().any(|row| row.kind.is_arc())
@@ -89,7 +89,7 @@ impl FlowWords {
 
     /// Whether a dwell is given.
     pub(crate) fn gives_dwell(&self) -> bool
-        ensures { result ≡ gives is_dwell self.now.words }
+        ensures { result ≡ gives self.now.dialect.system is_dwell self.now.words }
     {
         let rows = self.rows.as_slice();
         rows.iter().any(|row| matches!(row.kind, CodeKind::Dwell))
@@ -97,7 +97,7 @@ impl FlowWords {
 
     /// Whether the setting of an offset is given.
     pub fn gives_setting(&self) -> bool
-        ensures { result ≡ gives is_setting self.now.words }
+        ensures { result ≡ gives self.now.dialect.system is_setting self.now.words }
     {
         let rows = self.rows.as_slice();
         rows.iter().any(|row| matches!(row.kind, CodeKind::Setting))
@@ -105,7 +105,7 @@ impl FlowWords {
 
     /// Whether the highest speed of the spindle is given.
     pub fn gives_limit(&self) -> bool
-        ensures { result ≡ gives is_limit self.now.words }
+        ensures { result ≡ gives self.now.dialect.system is_limit self.now.words }
     {
         let rows = self.rows.as_slice();
         rows.iter().any(|row| matches!(row.kind, CodeKind::Limit))
@@ -113,7 +113,7 @@ impl FlowWords {
 
     /// Whether a rapid in machine coordinates is given.
     pub(crate) fn gives_machine(&self) -> bool
-        ensures { result ≡ gives is_machine self.now.words }
+        ensures { result ≡ gives self.now.dialect.system is_machine self.now.words }
     {
         let rows = self.rows.as_slice();
         rows.iter().any(|row| matches!(row.kind, CodeKind::Machine))
@@ -121,7 +121,7 @@ impl FlowWords {
 
     /// Whether a call of a macro is given.
     pub(crate) fn gives_macro_call(&self) -> bool
-        ensures { result ≡ gives is_macro_call self.now.words }
+        ensures { result ≡ gives self.now.dialect.system is_macro_call self.now.words }
     {
         have_macro_call(self.rows.as_slice())
     }
@@ -130,14 +130,14 @@ impl FlowWords {
 /// What decides the meaning of P and L: a macro call; a call, a return or a wait; else the one-shot
 /// code in force.
 fn purpose_of(
-    waits: WaitCodes,
+    dialect: Dialect,
     words: &[FlowWord],
     rows: &[Row],
     one_shot: Option<CodeKind>,
 ) -> Purpose
-    requires rows { rows.now ≡ rows_in words.now }
-    requires one_shot { one_shot ≡ one_shot_in words.now }
-    ensures { result ≡ purpose_of waits words.now }
+    requires rows { rows.now ≡ rows_in dialect.system words.now }
+    requires one_shot { one_shot ≡ one_shot_in dialect.system words.now }
+    ensures { result ≡ purpose_of dialect words.now }
 {
     if have_macro_call(rows) {
         Purpose::MacroCall
@@ -145,7 +145,7 @@ fn purpose_of(
         Purpose::Subprogram
     } else if has_code(words, 99) {
         Purpose::Return
-    } else if has_wait(words, waits) {
+    } else if has_wait(words, dialect) {
         Purpose::Wait
     } else {
         purpose_by(one_shot)

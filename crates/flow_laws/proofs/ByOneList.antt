@@ -1,7 +1,7 @@
 -- A tape is accepted exactly with one list of labels.
 use Rattle.std.proofs.Common.{◌↔◌, List}
 use Rattle.nc_text.specs.declared.tape.Program.{Program}
-use Rattle.block_forms.specs.declared.waits.WaitCodes.{WaitCodes}
+use Rattle.block_forms.specs.declared.dialect.Dialect.{Dialect}
 use Rattle.block_order.specs.declared.program.ControlProgram.{ControlProgram}
 use Rattle.tape_flow.specs.Controls.{controls}
 use Rattle.tape_flow.specs.Exact.{IsAccepted}
@@ -9,9 +9,9 @@ use Rattle.tape_flow.specs.Forms.{ProgramForm}
 use Rattle.flow_laws.specs.OneList.{ReadsWithOneList}
 use Rattle.flow_laws.specs.Waits.{AreWaitFaultsExact}
 
-pub by_one_list : ((order : List ControlProgram) → AreWaitFaultsExact order) → (waits : WaitCodes) (tape : List Program)
-    (programs : List ProgramForm) → IsAccepted waits tape programs ↔ ReadsWithOneList waits tape programs
-by_one_list law waits tape programs = (
+pub by_one_list : ((order : List ControlProgram) → AreWaitFaultsExact order) → (dialect : Dialect) (tape : List Program)
+    (programs : List ProgramForm) → IsAccepted dialect tape programs ↔ ReadsWithOneList dialect tape programs
+by_one_list law dialect tape programs = (
   λ own. record {
     reads = own.reads;
     fits = own.sound.fits;

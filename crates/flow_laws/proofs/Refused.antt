@@ -5,7 +5,7 @@ use Rattle.nc_number.specs.Causes.{cause_number}
 use Rattle.nc_text.specs.declared.tape.Block.{Block}
 use Rattle.nc_text.specs.declared.tape.Program.{Program}
 use Rattle.nc_text.specs.Shape.{RiseFrom, blocks_in}
-use Rattle.block_forms.specs.declared.waits.WaitCodes.{WaitCodes}
+use Rattle.block_forms.specs.declared.dialect.Dialect.{Dialect}
 use Rattle.block_forms.specs.Forms.{BlockForm, block_or_refusal}
 use Rattle.block_order.specs.declared.program.ControlProgram.{ControlProgram}
 use Rattle.block_order.specs.Faults.{IsFirst, IsSound}
@@ -64,53 +64,53 @@ none_first : {A : Type 0} (read : Result A FlowFault) (x : A) (first : Option Fl
     → first ≡ None
 none_first read x first told is = rw is at told
 
-none_refused_at : (waits : WaitCodes) (x : Block) (xs : List Block) (read : Result BlockForm ℕ) → block_or_refusal waits x ≡ read
-    → refusal_or (at_line x.line read) (first_refusal waits xs) ≡ None
-    → (first_refusal waits xs ≡ None → (y : Block) (number : ℕ) → Contains xs y → block_or_refusal waits y ≡ Err number → ⊥)
-    → (y : Block) (number : ℕ) → Contains (x ∷ xs) y → block_or_refusal waits y ≡ Err number → ⊥
-none_refused_at waits x xs (Err own) is clear rest y number has refused = absurd cc
-none_refused_at waits x xs (Ok form) is clear rest y number has refused = elim (here_or_later x xs y has) [
+none_refused_at : (dialect : Dialect) (x : Block) (xs : List Block) (read : Result BlockForm ℕ) → block_or_refusal dialect x ≡ read
+    → refusal_or (at_line x.line read) (first_refusal dialect xs) ≡ None
+    → (first_refusal dialect xs ≡ None → (y : Block) (number : ℕ) → Contains xs y → block_or_refusal dialect y ≡ Err number → ⊥)
+    → (y : Block) (number : ℕ) → Contains (x ∷ xs) y → block_or_refusal dialect y ≡ Err number → ⊥
+none_refused_at dialect x xs (Err own) is clear rest y number has refused = absurd cc
+none_refused_at dialect x xs (Ok form) is clear rest y number has refused = elim (here_or_later x xs y has) [
   | inl same ↦
-      let read : block_or_refusal waits y ≡ Ok form = subst (λ b. block_or_refusal waits b ≡ Ok form) same is in
+      let read : block_or_refusal dialect y ≡ Ok form = subst (λ b. block_or_refusal dialect b ≡ Ok form) same is in
       absurd (let clash : ◌≡◌ {A = Result BlockForm ℕ} (Ok form) (Err number) = sym read ∙ refused in cc)
   | inr later ↦ rest clear y number later refused
 ]
 
-none_refused : (waits : WaitCodes) (xs : List Block) → first_refusal waits xs ≡ None → (y : Block) (number : ℕ) → Contains xs y
-    → block_or_refusal waits y ≡ Err number → ⊥
-none_refused waits [] clear y number has refused = none_there y has
-none_refused waits (x ∷ xs) clear y number has refused =
-    none_refused_at waits x xs (block_or_refusal waits x) refl clear (λ rest. none_refused waits xs rest) y number has refused
+none_refused : (dialect : Dialect) (xs : List Block) → first_refusal dialect xs ≡ None → (y : Block) (number : ℕ) → Contains xs y
+    → block_or_refusal dialect y ≡ Err number → ⊥
+none_refused dialect [] clear y number has refused = none_there y has
+none_refused dialect (x ∷ xs) clear y number has refused =
+    none_refused_at dialect x xs (block_or_refusal dialect x) refl clear (λ rest. none_refused dialect xs rest) y number has refused
 
-no_block_fault : (waits : WaitCodes) (tape : List Program) (programs : List ProgramForm) (line number : ℕ)
-    → programs_read waits tape ≡ Ok programs → HasBlockFault waits tape line number → ⊥
-no_block_fault waits tape programs line number read has =
-    none_refused waits (blocks_in tape)
-    (none_first (programs_read waits tape) programs (first_refusal waits (blocks_in tape)) (programs_tell waits tape []) read) has.0
+no_block_fault : (dialect : Dialect) (tape : List Program) (programs : List ProgramForm) (line number : ℕ)
+    → programs_read dialect tape ≡ Ok programs → HasBlockFault dialect tape line number → ⊥
+no_block_fault dialect tape programs line number read has =
+    none_refused dialect (blocks_in tape)
+    (none_first (programs_read dialect tape) programs (first_refusal dialect (blocks_in tape)) (programs_tell dialect tape []) read) has.0
     number has.1 has.3
 
 -- One refusal.
 
-one_block_fault : (waits : WaitCodes) (tape : List Program) (line other_line number other : ℕ) → HasRisingBlocks tape
-    → line ≡ other_line → HasBlockFault waits tape line number → HasBlockFault waits tape other_line other → number ≡ other
-one_block_fault waits tape line other_line number other rising same a b =
+one_block_fault : (dialect : Dialect) (tape : List Program) (line other_line number other : ℕ) → HasRisingBlocks tape
+    → line ≡ other_line → HasBlockFault dialect tape line number → HasBlockFault dialect tape other_line other → number ≡ other
+one_block_fault dialect tape line other_line number other rising same a b =
     let lines : a.0.line ≡ b.0.line = a.2 ∙ same ∙ sym b.2 in
     let blocks : a.0 ≡ b.0 = one_block (blocks_in tape) 0 a.0 b.0 rising a.1 b.1 lines in
-    let refused : block_or_refusal waits b.0 ≡ Err number = subst (λ x. block_or_refusal waits x ≡ Err number) blocks a.3 in
+    let refused : block_or_refusal dialect b.0 ≡ Err number = subst (λ x. block_or_refusal dialect x ≡ Err number) blocks a.3 in
     let both : ◌≡◌ {A = Result BlockForm ℕ} (Err number) (Err other) = sym refused ∙ b.3 in cc
 
-pub one_refusal : HasOneFirst → (waits : WaitCodes) (tape : List Program) (line other_line number other : ℕ) → HasRisingBlocks tape
-    → IsRefused waits tape line number → IsRefused waits tape other_line other → (line ≡ other_line) × (number ≡ other)
-one_refusal law waits tape line other_line number other rising (block a first) (block b other_first) =
+pub one_refusal : HasOneFirst → (dialect : Dialect) (tape : List Program) (line other_line number other : ℕ) → HasRisingBlocks tape
+    → IsRefused dialect tape line number → IsRefused dialect tape other_line other → (line ≡ other_line) × (number ≡ other)
+one_refusal law dialect tape line other_line number other rising (block a first) (block b other_first) =
     let le : line ≤ other_line = first other_line other b in
     let ge : other_line ≤ line = other_first line number a in
     let same : line ≡ other_line = omega arith in
-    (same, one_block_fault waits tape line other_line number other rising same a b)
-one_refusal law waits tape line other_line number other rising (block a first) (order programs read fault) =
-    absurd (no_block_fault waits tape programs line number read a)
-one_refusal law waits tape line other_line number other rising (order programs read fault) (block b first) =
-    absurd (no_block_fault waits tape programs other_line other read b)
-one_refusal law waits tape line other_line number other rising (order programs read a) (order others other_read b) =
+    (same, one_block_fault dialect tape line other_line number other rising same a b)
+one_refusal law dialect tape line other_line number other rising (block a first) (order programs read fault) =
+    absurd (no_block_fault dialect tape programs line number read a)
+one_refusal law dialect tape line other_line number other rising (order programs read fault) (block b first) =
+    absurd (no_block_fault dialect tape programs other_line other read b)
+one_refusal law dialect tape line other_line number other rising (order programs read a) (order others other_read b) =
     let both : ◌≡◌ {A = Result (List ProgramForm) FlowFault} (Ok programs) (Ok others) = sym read ∙ other_read in
     let same : programs ≡ others = cc in
     let own : IsFirst (controls others) line a.0 = subst (λ p. IsFirst (controls p) line a.0) same a.1 in
@@ -124,34 +124,34 @@ first_of : {A : Type 0} (read : Result A FlowFault) (fault : FlowFault) (first :
 first_of read fault first told is = rw is at told
 
 -- a block of the list is refused
-abbrev HasRefused : WaitCodes → List Block → Type 0
-HasRefused waits xs = (y : Block) × (number : ℕ) × Contains xs y × (block_or_refusal waits y ≡ Err number)
+abbrev HasRefused : Dialect → List Block → Type 0
+HasRefused dialect xs = (y : Block) × (number : ℕ) × Contains xs y × (block_or_refusal dialect y ≡ Err number)
 
-refused_at : (waits : WaitCodes) (x : Block) (xs : List Block) (fault : FlowFault) (read : Result BlockForm ℕ)
-    → block_or_refusal waits x ≡ read → refusal_or (at_line x.line read) (first_refusal waits xs) ≡ Some fault
-    → (first_refusal waits xs ≡ Some fault → HasRefused waits xs) → HasRefused waits (x ∷ xs)
-refused_at waits x xs fault (Ok form) is found rest =
+refused_at : (dialect : Dialect) (x : Block) (xs : List Block) (fault : FlowFault) (read : Result BlockForm ℕ)
+    → block_or_refusal dialect x ≡ read → refusal_or (at_line x.line read) (first_refusal dialect xs) ≡ Some fault
+    → (first_refusal dialect xs ≡ Some fault → HasRefused dialect xs) → HasRefused dialect (x ∷ xs)
+refused_at dialect x xs fault (Ok form) is found rest =
     let later = rest found in
     (later.0, later.1, (suc later.2.0, omega (arith, later.2.1), later.2.2), later.3)
-refused_at waits x xs fault (Err number) is found rest = (x, number, (zero, omega arith, refl), is)
+refused_at dialect x xs fault (Err number) is found rest = (x, number, (zero, omega arith, refl), is)
 
-some_refused : (waits : WaitCodes) (xs : List Block) (fault : FlowFault) → first_refusal waits xs ≡ Some fault → HasRefused waits xs
-some_refused waits [] fault found = absurd cc
-some_refused waits (x ∷ xs) fault found =
-    refused_at waits x xs fault (block_or_refusal waits x) refl found (λ rest. some_refused waits xs fault rest)
+some_refused : (dialect : Dialect) (xs : List Block) (fault : FlowFault) → first_refusal dialect xs ≡ Some fault → HasRefused dialect xs
+some_refused dialect [] fault found = absurd cc
+some_refused dialect (x ∷ xs) fault found =
+    refused_at dialect x xs fault (block_or_refusal dialect x) refl found (λ rest. some_refused dialect xs fault rest)
 
-pub some_answer : HasSomeFirst → (waits : WaitCodes) (tape : List Program)
-    → CantBothFail ((programs : List ProgramForm) × IsAccepted waits tape programs)
-    ((line : ℕ) × (number : ℕ) × IsRefused waits tape line number)
-some_answer law waits tape unaccepted unrefused = go (programs_read waits tape) refl
+pub some_answer : HasSomeFirst → (dialect : Dialect) (tape : List Program)
+    → CantBothFail ((programs : List ProgramForm) × IsAccepted dialect tape programs)
+    ((line : ℕ) × (number : ℕ) × IsRefused dialect tape line number)
+some_answer law dialect tape unaccepted unrefused = go (programs_read dialect tape) refl
   where
-    go : (read : Result (List ProgramForm) FlowFault) → programs_read waits tape ≡ read → ⊥
+    go : (read : Result (List ProgramForm) FlowFault) → programs_read dialect tape ≡ read → ⊥
     go (Ok programs) read =
         law (controls programs) (λ sound. unaccepted (programs, record { reads = read; sound = sound }))
         (λ first. unrefused (first.0, cause_number first.1, order programs read (first.1, first.2, refl)))
     go (Err fault) read =
-        let has = some_refused waits (blocks_in tape) fault
-        (first_of (programs_read waits tape) fault (first_refusal waits (blocks_in tape)) (programs_tell waits tape []) read) in
-        none_at_all (λ line. (number : ℕ) × HasBlockFault waits tape line number)
+        let has = some_refused dialect (blocks_in tape) fault
+        (first_of (programs_read dialect tape) fault (first_refusal dialect (blocks_in tape)) (programs_tell dialect tape []) read) in
+        none_at_all (λ line. (number : ℕ) × HasBlockFault dialect tape line number)
         (λ line own least. unrefused (line, own.0, block own.1 (λ other_line other other_has. least other_line (other, other_has))))
         has.0.line (has.1, (has.0, has.2, refl, has.3))

@@ -1,15 +1,15 @@
 -- Which tapes are accepted, said by their lists of labels and without the faults of waits.
 use Rattle.std.specs.Prelude.{◌≡◌, List, Ok}
 use Rattle.nc_text.specs.declared.tape.Program.{Program}
-use Rattle.block_forms.specs.declared.waits.WaitCodes.{WaitCodes}
+use Rattle.block_forms.specs.declared.dialect.Dialect.{Dialect}
 use Rattle.block_order.specs.Faults.{Finding, Fitting, IsClear}
 use Rattle.block_order.specs.Labels.{IsUnforked}
 use Rattle.tape_flow.specs.Controls.{controls}
 use Rattle.tape_flow.specs.Forms.{ProgramForm, programs_read}
 
 -- All blocks read so, programs and loops fit together, jumps and calls find what they name, and the tape has one list of labels.
-pub record ReadsWithOneList (waits : WaitCodes) (tape : List Program) (programs : List ProgramForm) : Type 0 where
-  pub reads : programs_read waits tape ≡ Ok programs
+pub record ReadsWithOneList (dialect : Dialect) (tape : List Program) (programs : List ProgramForm) : Type 0 where
+  pub reads : programs_read dialect tape ≡ Ok programs
   pub fits : IsClear (controls programs) Fitting
   pub finds : IsClear (controls programs) Finding
   pub unforked : IsUnforked (controls programs)

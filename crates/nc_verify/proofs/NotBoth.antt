@@ -6,7 +6,7 @@ use Rattle.nc_text.specs.declared.fault.TextFault.{TextFault}
 use Rattle.nc_text.specs.declared.tape.Program.{Program}
 use Rattle.nc_text.specs.Tape.{tape_of}
 use Rattle.cell_settings.specs.Cell.{Cell, settings_of}
-use Rattle.block_forms.specs.declared.waits.WaitCodes.{WaitCodes}
+use Rattle.block_forms.specs.declared.dialect.Dialect.{Dialect}
 use Rattle.block_order.specs.declared.program.ControlProgram.{ControlProgram}
 use Rattle.block_order.specs.Labels.{IsUnforked}
 use Rattle.tape_flow.specs.declared.fault.FlowFault.{FlowFault}
@@ -17,15 +17,15 @@ use Rattle.label_list.specs.declared.labelled.Labelled.{Labelled}
 use Rattle.label_list.specs.Accepted.{AgreeOnLabels, IsAcceptedPair}
 use Rattle.label_list.specs.Lists.{bare, path_labels}
 use Rattle.nc_verify.specs.declared.refusal.Refusal.{Refusal}
-use Rattle.nc_verify.specs.Verdict.{Texts, skips_of, waits_in, IsFlowOf, IsTapeRefusal, AreAccepted, IsPairRefusal, IsRefusalOf}
+use Rattle.nc_verify.specs.Verdict.{Texts, skips_of, dialect_in, IsFlowOf, IsTapeRefusal, AreAccepted, IsPairRefusal, IsRefusalOf}
 use Rattle.nc_verify.specs.Verdict.IsTapeRefusal.{reading, flow}
 use Rattle.nc_verify.specs.Verdict.IsPairRefusal.{one, two, differ}
 use Rattle.nc_verify.specs.Verdict.IsRefusalOf.{settings, left, right, pair}
 
 -- the law of the flows
 abbrev pub NotBoth : Type 0
-NotBoth = (waits : WaitCodes) (tape : List Program) (programs : List ProgramForm) (line number : ℕ)
-    → IsAccepted waits tape programs → IsRefused waits tape line number → ⊥
+NotBoth = (dialect : Dialect) (tape : List Program) (programs : List ProgramForm) (line number : ℕ)
+    → IsAccepted dialect tape programs → IsRefused dialect tape line number → ⊥
 
 pub one_cell : (a b : Cell) (r : Result Cell ℕ) → r ≡ Ok a → r ≡ Ok b → a ≡ b
 one_cell a b r p q = let e : ◌≡◌ {A = Result Cell ℕ} (Ok a) (Ok b) = sym p ∙ q in cc
@@ -40,8 +40,8 @@ one_programs a b r p q = let e : ◌≡◌ {A = Result (List ProgramForm) FlowFa
 pub one_flow : (cell : Cell) (path : Path) (text : List ℕ) (a b : List ProgramForm) → IsFlowOf cell path text a → IsFlowOf cell path text b → a ≡ b
 one_flow cell path text a b x y =
     let same : x.tape ≡ y.tape = one_tape x.tape y.tape (tape_of (skips_of path cell) text) x.reads y.reads in
-    one_programs a b (programs_read (waits_in cell) y.tape)
-    (subst (λ t. programs_read (waits_in cell) t ≡ Ok a) same x.accepted.reads) y.accepted.reads
+    one_programs a b (programs_read (dialect_in cell) y.tape)
+    (subst (λ t. programs_read (dialect_in cell) t ≡ Ok a) same x.accepted.reads) y.accepted.reads
 
 pub not_both_tape : NotBoth → (cell : Cell) (path : Path) (text : List ℕ) (programs : List ProgramForm) (refusal : Refusal)
     → IsFlowOf cell path text programs → IsTapeRefusal cell path text refusal → ⊥
@@ -49,7 +49,7 @@ not_both_tape law cell path text programs refusal x (reading fault refused is) =
     absurd (let e : ◌≡◌ {A = Result (List Program) TextFault} (Ok x.tape) (Err fault) = sym x.reads ∙ refused in cc)
 not_both_tape law cell path text programs refusal x (flow tape line number reads refused is) =
     let same : x.tape ≡ tape = one_tape x.tape tape (tape_of (skips_of path cell) text) x.reads reads in
-    law (waits_in cell) tape programs line number (subst (λ t. IsAccepted (waits_in cell) t programs) same x.accepted) refused
+    law (dialect_in cell) tape programs line number (subst (λ t. IsAccepted (dialect_in cell) t programs) same x.accepted) refused
 
 -- lists that agree, lines aside, have the same label everywhere
 pub same_label : (xs ys : List Labelled) (n : ℕ) (a b : Labelled) → bare xs ≡ bare ys → slice_get xs n ≡ Some a → slice_get ys n ≡ Some b

@@ -6,7 +6,7 @@ use Rattle.nc_text.specs.declared.fault.TextFault.{TextFault}
 use Rattle.nc_text.specs.declared.tape.Program.{Program}
 use Rattle.nc_text.specs.Tape.{tape_of}
 use Rattle.cell_settings.specs.Cell.{Cell, settings_of}
-use Rattle.block_forms.specs.declared.waits.WaitCodes.{WaitCodes}
+use Rattle.block_forms.specs.declared.dialect.Dialect.{Dialect}
 use Rattle.block_order.specs.declared.program.ControlProgram.{ControlProgram}
 use Rattle.tape_flow.specs.Controls.{controls}
 use Rattle.tape_flow.specs.Exact.{IsRefused}
@@ -19,7 +19,7 @@ use Rattle.label_list.specs.Faults.{IsMismatch}
 use Rattle.label_list.specs.Lists.{path_labels}
 use Rattle.nc_verify.specs.declared.refusal.Refusal.{Refusal}
 use Rattle.nc_verify.specs.Refusals.{at_setting, at_line, mismatch}
-use Rattle.nc_verify.specs.Verdict.{Texts, skips_of, waits_in, IsFlowOf, IsTapeRefusal, AreRefusedSettings, IsPairRefusal, AreFlows, IsRefusalOf}
+use Rattle.nc_verify.specs.Verdict.{Texts, skips_of, dialect_in, IsFlowOf, IsTapeRefusal, AreRefusedSettings, IsPairRefusal, AreFlows, IsRefusalOf}
 use Rattle.nc_verify.specs.Verdict.IsTapeRefusal.{reading, flow}
 use Rattle.nc_verify.specs.Verdict.IsPairRefusal.{one, two, differ}
 use Rattle.nc_verify.specs.Verdict.IsRefusalOf.{settings, left, right, pair}
@@ -27,8 +27,8 @@ use Rattle.nc_verify.proofs.NotBoth.{NotBoth, one_cell, one_tape, one_flow, not_
 
 -- the law of a tape's refusal
 abbrev pub OneOfTape : Type 0
-OneOfTape = (waits : WaitCodes) (tape : List Program) (line other_line number other : ℕ) → HasRisingBlocks tape
-    → IsRefused waits tape line number → IsRefused waits tape other_line other → (line ≡ other_line) × (number ≡ other)
+OneOfTape = (dialect : Dialect) (tape : List Program) (line other_line number other : ℕ) → HasRisingBlocks tape
+    → IsRefused dialect tape line number → IsRefused dialect tape other_line other → (line ≡ other_line) × (number ≡ other)
 
 -- the law of a tape's lines
 abbrev pub Rising : Type 0
@@ -59,8 +59,8 @@ one_of_tape rising law cell path text a b (flow tape line number read refused is
     absurd (not_both_read text (skips_of path cell) tape fault read e)
 one_of_tape rising law cell path text a b (flow tape line number read refused is) (flow other other_line n other_read other_refused own) =
     let same : tape ≡ other = one_tape tape other (tape_of (skips_of path cell) text) read other_read in
-    let here : IsRefused (waits_in cell) other line number = subst (λ t. IsRefused (waits_in cell) t line number) same refused in
-    let at = law (waits_in cell) other line other_line number n (rising (skips_of path cell) text other other_read) here other_refused in
+    let here : IsRefused (dialect_in cell) other line number = subst (λ t. IsRefused (dialect_in cell) t line number) same refused in
+    let at = law (dialect_in cell) other line other_line number n (rising (skips_of path cell) text other other_read) here other_refused in
     is ∙ ap (λ k. at_line path k number) at.0 ∙ ap (λ k. at_line path other_line k) at.1 ∙ sym own
 
 -- Two lists of labels.

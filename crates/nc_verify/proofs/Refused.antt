@@ -18,7 +18,7 @@ use Rattle.label_list.specs.Faults.{IsMismatch}
 use Rattle.label_list.specs.Lists.{path_labels, most_labels}
 use Rattle.nc_verify.specs.declared.refusal.Refusal.{Refusal}
 use Rattle.nc_verify.specs.Refusals.{at_line, mismatch}
-use Rattle.nc_verify.specs.Verdict.{skips_of, waits_in, IsTapeRefusal, IsPairRefusal}
+use Rattle.nc_verify.specs.Verdict.{skips_of, dialect_in, IsTapeRefusal, IsPairRefusal}
 use Rattle.nc_verify.specs.Verdict.IsTapeRefusal.{reading, flow}
 use Rattle.nc_verify.specs.Verdict.IsPairRefusal.{differ}
 
@@ -38,11 +38,11 @@ tape_refused cell path text skips error fault refusal is same fails told =
 -- the flow of the tape is refused
 pub flow_refused : (cell : Cell) (path : Path) (text : List ℕ) (skips : ℕ) (tape : List Program) (error : Failing FlowFault)
     (fault : FlowFault) (refusal : Refusal) → error ≡ Fault fault → skips ≡ skips_of path cell → tape_of skips text ≡ Ok tape
-    → IfFault error (λ f. IsRefused (waits_in cell) tape f.line f.number) → refusal ≡ at_line path fault.line fault.number
+    → IfFault error (λ f. IsRefused (dialect_in cell) tape f.line f.number) → refusal ≡ at_line path fault.line fault.number
     → IsTapeRefusal cell path text refusal
 flow_refused cell path text skips tape error fault refusal is same reads refused told =
     flow tape fault.line fault.number (subst (λ n. tape_of n text ≡ Ok tape) same reads)
-    (subst (λ e. IfFault e (λ f. IsRefused (waits_in cell) tape f.line f.number)) is refused) told
+    (subst (λ e. IfFault e (λ f. IsRefused (dialect_in cell) tape f.line f.number)) is refused) told
 
 -- the labels of two flows differ
 pub labels_differ : (left right : List ControlProgram) (xs ys : List Labelled) (fault : PairFault) (refusal : Refusal)

@@ -6,7 +6,7 @@ use Rattle.nc_text.specs.declared.fault.TextFault.{TextFault}
 use Rattle.nc_text.specs.declared.tape.Program.{Program}
 use Rattle.nc_text.specs.Tape.{tape_of}
 use Rattle.cell_settings.specs.Cell.{Cell, settings_of}
-use Rattle.block_forms.specs.declared.waits.WaitCodes.{WaitCodes}
+use Rattle.block_forms.specs.declared.dialect.Dialect.{Dialect}
 use Rattle.block_order.specs.declared.label.Label.{Label}
 use Rattle.block_order.specs.declared.label.Label.TheVariants as label
 use Rattle.block_order.specs.declared.program.ControlProgram.{ControlProgram}
@@ -24,15 +24,15 @@ use Rattle.label_list.specs.Lists.{path_labels, most_labels, bare, ended_by, IsE
 use Rattle.label_list.proofs.Ended.{path_ended}
 use Rattle.nc_verify.specs.declared.refusal.Refusal.{Refusal}
 use Rattle.nc_verify.specs.Refusals.{at_setting, at_line, too_long, mismatch}
-use Rattle.nc_verify.specs.Verdict.{Texts, skips_of, waits_in, IsFlowOf, IsTapeRefusal, IsPairRefusal, AreAccepted, IsRefusalOf}
+use Rattle.nc_verify.specs.Verdict.{Texts, skips_of, dialect_in, IsFlowOf, IsTapeRefusal, IsPairRefusal, AreAccepted, IsRefusalOf}
 use Rattle.nc_verify.specs.Verdict.IsTapeRefusal.{reading, flow}
 use Rattle.nc_verify.specs.Verdict.IsPairRefusal.{one, two, differ}
 use Rattle.nc_verify.specs.Verdict.IsRefusalOf.{settings, left, right, pair}
 
 -- the laws of a tape's answers, of its waits, and of two lists of labels
 abbrev pub SomeOfTape : Type 0
-SomeOfTape = (waits : WaitCodes) (tape : List Program) → CantBothFail ((programs : List ProgramForm) × IsAccepted waits tape programs)
-    ((line : ℕ) × (number : ℕ) × IsRefused waits tape line number)
+SomeOfTape = (dialect : Dialect) (tape : List Program) → CantBothFail ((programs : List ProgramForm) × IsAccepted dialect tape programs)
+    ((line : ℕ) × (number : ℕ) × IsRefused dialect tape line number)
 
 abbrev pub OneList : Type 0
 OneList = (tape : List ControlProgram) → IsClear tape Waiting → IsUnforked tape
@@ -135,7 +135,7 @@ tape_answer law cell path text unaccepted unrefused = go (tape_of (skips_of path
     go : (read : Result (List Program) TextFault) → tape_of (skips_of path cell) text ≡ read → ⊥
     go (Err fault) is = unrefused (at_line path fault.line fault.number, reading fault is refl)
     go (Ok tape) is =
-        law (waits_in cell) tape (λ own. unaccepted (own.0, record { tape = tape; reads = is; accepted = own.1 }))
+        law (dialect_in cell) tape (λ own. unaccepted (own.0, record { tape = tape; reads = is; accepted = own.1 }))
         (λ own. unrefused (at_line path own.0 own.1, flow tape own.0 own.1 is own.2 refl))
 
 flows_answer : OneList → ByLists → (texts : Texts) (cell : Cell) (l r : List ProgramForm) → settings_of texts.settings ≡ Ok cell

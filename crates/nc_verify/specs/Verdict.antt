@@ -7,7 +7,7 @@ use Rattle.nc_text.specs.declared.fault.TextFault.{TextFault}
 use Rattle.nc_text.specs.declared.tape.Program.{Program}
 use Rattle.nc_text.specs.Tape.{tape_of}
 use Rattle.cell_settings.specs.Cell.{Cell, settings_of}
-use Rattle.block_forms.specs.declared.waits.WaitCodes.{WaitCodes}
+use Rattle.block_forms.specs.declared.dialect.Dialect.{Dialect}
 use Rattle.block_order.specs.declared.program.ControlProgram.{ControlProgram}
 use Rattle.tape_flow.specs.Controls.{controls}
 use Rattle.tape_flow.specs.Exact.{IsAccepted, IsRefused}
@@ -29,22 +29,22 @@ pub record Texts : Type 0 where
 abbrev pub skips_of : Path → Cell → ℕ
 skips_of path cell = slice_index cell.skips (index_of path)
 
--- the waiting codes of the cell
-abbrev pub waits_in : Cell → WaitCodes
-waits_in cell = record { low = cell.wait_low; high = cell.wait_high; bits = cell.bits }
+-- how the tapes of the cell are read
+abbrev pub dialect_in : Cell → Dialect
+dialect_in cell = record { low = cell.wait_low; high = cell.wait_high; bits = cell.bits; system = cell.system }
 
 -- the text of a path's tape reads, and these are its programs, in which nothing is wrong
 pub record IsFlowOf (cell : Cell) (path : Path) (text : List ℕ) (programs : List ProgramForm) : Type 0 where
   pub tape : List Program
   pub reads : tape_of (skips_of path cell) text ≡ Ok tape
-  pub accepted : IsAccepted (waits_in cell) tape programs
+  pub accepted : IsAccepted (dialect_in cell) tape programs
 
 -- the refusal of a path's tape: of its reading, or else of its flow
 pub data IsTapeRefusal (cell : Cell) (path : Path) (text : List ℕ) (refusal : Refusal) : Type 0 where
   reading : (fault : TextFault) → tape_of (skips_of path cell) text ≡ Err fault → refusal ≡ at_line path fault.line fault.number
       → IsTapeRefusal cell path text refusal
   flow : (tape : List Program) (line number : ℕ) → tape_of (skips_of path cell) text ≡ Ok tape
-      → IsRefused (waits_in cell) tape line number → refusal ≡ at_line path line number → IsTapeRefusal cell path text refusal
+      → IsRefused (dialect_in cell) tape line number → refusal ≡ at_line path line number → IsTapeRefusal cell path text refusal
 
 -- the settings are refused at their first line that is not allowed
 pub record AreRefusedSettings (text : List ℕ) (refusal : Refusal) : Type 0 where

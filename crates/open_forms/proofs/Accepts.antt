@@ -5,10 +5,12 @@ use Rattle.std.specs.List.{list_any, list_all, filter_map}
 use Rattle.nc_number.specs.declared.cause.Cause.TheVariants.{TooManyDigits, NotFixed, UnknownCode, WaitNotAlone, WaitPaths, TwoM, BadCall, AxisTwice, WordRange}
 use Rattle.nc_text.specs.declared.tape.Word.{Word}
 use Rattle.code_tables.specs.declared.row.Row.{Row}
-use Rattle.code_tables.specs.SystemA.{system_a_rows}
+use Rattle.code_tables.specs.declared.system.System.{System}
+use Rattle.code_tables.specs.declared.system.System.TheVariants.{A, B}
+use Rattle.code_tables.specs.Systems.{rows_of_system}
 use Rattle.code_tables.specs.declared.kind.CodeKind.{CodeKind}
 use Rattle.code_tables.specs.declared.kind.CodeKind.TheVariants as kind
-use Rattle.block_forms.specs.declared.waits.WaitCodes.{WaitCodes}
+use Rattle.block_forms.specs.declared.dialect.Dialect.{Dialect}
 use Rattle.block_forms.specs.declared.word.FlowWord.{FlowWord}
 use Rattle.block_forms.specs.declared.purpose.Purpose.{Purpose}
 use Rattle.block_forms.specs.declared.purpose.Purpose.TheVariants as purpose
@@ -27,7 +29,7 @@ use Rattle.open_forms.specs.Codes.{is_g, g_values, has_g, m_codes, has_m, has_wa
 use Rattle.open_forms.specs.Refusals.{fixed_letters, is_long, is_not_fixed, is_parameter, writes_parameters, is_beside_a_call, begins_macro_call, is_unknown_by, is_contour, is_crowded, is_unknown, waits_there, is_wait_not_alone, is_wait_of_others, has_two_m, uses_p, is_bad_call_by, is_bad_call, are_in, is_in_range_by, is_out_of_range, refusal_of}
 use Rattle.open_forms.specs.Widening.{names_interrupt}
 use Rattle.open_forms.proofs.ReadWords.{AreSaid, none, one_more, same_words_of, same_has, same_count, same_computed, none_long, same_numbers, same_last, same_row}
-use Rattle.open_forms.proofs.TableRows.{same_kind, macro_is, setting_is, same_takes, no_such_g, each_has_row}
+use Rattle.open_forms.proofs.TableRows.{in_each, same_kind, macro_is, setting_is, same_takes, no_such_g, each_has_row}
 use Rattle.open_forms.proofs.AmongLetters.{neither, not_false, HaveRange, AreAmong, one_among, front_among, fewer_computed, none_of, none_computed, range_of_one, range_of_two, all_fit, all_within, within_more, no_parameters}
 
 and_false : (b : Bool) → (b && false) ≡ false
@@ -39,24 +41,24 @@ or_true true = refl
 or_true false = refl
 
 -- no refusal of the full reading holds
-pub record IsAccepted (waits : WaitCodes) (words : List FlowWord) : Type 0 where
-  pub fixed : closed.is_not_fixed waits words ≡ false
-  pub known : closed.is_unknown words ≡ false
-  pub alone : closed.is_wait_not_alone waits words ≡ false
-  pub both : closed.is_wait_of_others waits words ≡ false
-  pub one_m : closed.has_two_m words ≡ false
-  pub good_call : closed.is_bad_call waits words ≡ false
-  pub ranges : closed.is_out_of_range waits words ≡ false
+pub record IsAccepted (dialect : Dialect) (words : List FlowWord) : Type 0 where
+  pub fixed : closed.is_not_fixed dialect words ≡ false
+  pub known : closed.is_unknown dialect.system words ≡ false
+  pub alone : closed.is_wait_not_alone dialect words ≡ false
+  pub both : closed.is_wait_of_others dialect words ≡ false
+  pub one_m : closed.has_two_m dialect.system words ≡ false
+  pub good_call : closed.is_bad_call dialect words ≡ false
+  pub ranges : closed.is_out_of_range dialect words ≡ false
 
-pub accepted : (waits : WaitCodes) (words : List FlowWord) → closed.refusal_of waits words ≡ None → IsAccepted waits words
-accepted waits words e =
-    go (closed.is_not_fixed waits words) (closed.is_unknown words) (closed.is_wait_not_alone waits words) (closed.is_wait_of_others waits words) (closed.has_two_m words) (closed.is_bad_call waits words) (closed.has_axis_twice words) (closed.is_out_of_range waits words) refl refl refl refl refl refl refl e
+pub accepted : (dialect : Dialect) (words : List FlowWord) → closed.refusal_of dialect words ≡ None → IsAccepted dialect words
+accepted dialect words e =
+    go (closed.is_not_fixed dialect words) (closed.is_unknown dialect.system words) (closed.is_wait_not_alone dialect words) (closed.is_wait_of_others dialect words) (closed.has_two_m dialect.system words) (closed.is_bad_call dialect words) (closed.has_axis_twice dialect.system words) (closed.is_out_of_range dialect words) refl refl refl refl refl refl refl e
   where
-    go : (a b c d e f g h : Bool) → closed.is_not_fixed waits words ≡ a → closed.is_unknown words ≡ b → closed.is_wait_not_alone waits words ≡ c
-        → closed.is_wait_of_others waits words ≡ d → closed.has_two_m words ≡ e → closed.is_bad_call waits words ≡ f → closed.is_out_of_range waits words ≡ h
+    go : (a b c d e f g h : Bool) → closed.is_not_fixed dialect words ≡ a → closed.is_unknown dialect.system words ≡ b → closed.is_wait_not_alone dialect words ≡ c
+        → closed.is_wait_of_others dialect words ≡ d → closed.has_two_m dialect.system words ≡ e → closed.is_bad_call dialect words ≡ f → closed.is_out_of_range dialect words ≡ h
         → (if a then Some NotFixed else if b then Some UnknownCode else if c then Some WaitNotAlone else if d then Some WaitPaths
         else if e then Some TwoM else if f then Some BadCall else if g then Some AxisTwice else if h then Some WordRange else None) ≡ None
-        → IsAccepted waits words
+        → IsAccepted dialect words
     go false false false false false false false false fixed known alone both one_m good ranges open_all =
         record { fixed = fixed; known = known; alone = alone; both = both; one_m = one_m; good_call = good; ranges = ranges }
     go true b c d e f g h _ _ _ _ _ _ _ open_all = absurd (cc)
@@ -100,25 +102,27 @@ left (Some kind.Home) = refl
 left (Some kind.Limit) = refl
 left (Some kind.Machine) = refl
 left (Some kind.MacroCall) = refl
+left (Some kind.Absolute) = refl
+left (Some kind.Incremental) = refl
 left (Some kind.Idle) = refl
 
 -- the role of the open reading beside the purpose of the full one
-pub data IsSame (words : List FlowWord) : Role → Purpose → Type 0 where
-  macro : gives is_macro_call words ≡ true → IsSame words role.MacroCall purpose.MacroCall
-  subprogram : gives is_macro_call words ≡ false → has_code 98 words ≡ true → IsSame words role.Subprogram purpose.Subprogram
-  returns : gives is_macro_call words ≡ false → has_code 99 words ≡ true → IsSame words role.Return purpose.Return
-  wait : gives is_macro_call words ≡ false → IsSame words role.Wait purpose.Wait
-  ends : (p : Purpose) → gives is_macro_call words ≡ false → (has_code 2 words || has_code 30 words) ≡ true → is_left p ≡ true
-      → IsSame words role.End p
-  onward : (p : Purpose) → gives is_macro_call words ≡ false → (has_code 2 words || has_code 30 words) ≡ false → is_left p ≡ true
-      → IsSame words role.Other p
+pub data IsSame (system : System) (words : List FlowWord) : Role → Purpose → Type 0 where
+  macro : gives system is_macro_call words ≡ true → IsSame system words role.MacroCall purpose.MacroCall
+  subprogram : gives system is_macro_call words ≡ false → has_code 98 words ≡ true → IsSame system words role.Subprogram purpose.Subprogram
+  returns : gives system is_macro_call words ≡ false → has_code 99 words ≡ true → IsSame system words role.Return purpose.Return
+  wait : gives system is_macro_call words ≡ false → IsSame system words role.Wait purpose.Wait
+  ends : (p : Purpose) → gives system is_macro_call words ≡ false → (has_code 2 words || has_code 30 words) ≡ true → is_left p ≡ true
+      → IsSame system words role.End p
+  onward : (p : Purpose) → gives system is_macro_call words ≡ false → (has_code 2 words || has_code 30 words) ≡ false → is_left p ≡ true
+      → IsSame system words role.Other p
 
-pub record HaveRole (waits : WaitCodes) (texts : List Word) (words : List FlowWord) : Type 0 where
+pub record HaveRole (dialect : Dialect) (texts : List Word) (words : List FlowWord) : Type 0 where
   pub role : Role
   pub purpose : Purpose
-  pub role_is : role_of waits texts ≡ role
-  pub purpose_is : purpose_of waits words ≡ purpose
-  pub same : IsSame words role purpose
+  pub role_is : role_of dialect texts ≡ role
+  pub purpose_is : purpose_of dialect words ≡ purpose
+  pub same : IsSame dialect.system words role purpose
 
 left_plain : (p : Purpose) → is_left p ≡ true → read_codes.is_macro p ≡ false
 left_plain purpose.MacroCall e = absurd (cc)
@@ -141,8 +145,21 @@ pl_among letter is = go (80 == letter) (76 == letter) is
         last false false true = refl
         last false false false = refl
 
-module _ (waits : WaitCodes) (words : List FlowWord) where
-  left_leads : (p : Purpose) → is_left p ≡ true → full_control_by p waits words ≡ end_or_next words
+-- the letters of each system are among those of system A
+known_among : (system : System) → AreAmong (closed.known_letters system) (codes "XZUWIKRFSTNOMGPL")
+known_among A letter is = is
+known_among B letter is =
+    go (88 == letter) (90 == letter) (85 == letter) (87 == letter) (read.is_one_of (codes "IKRFSTNOMGPL") letter) is
+  where
+    go : (x z u w rest : Bool) → (x || (z || rest)) ≡ true → (x || (z || (u || (w || rest)))) ≡ true
+    go true z u w rest e = refl
+    go false true u w rest e = refl
+    go false false true w rest e = refl
+    go false false false true rest e = refl
+    go false false false false rest e = e
+
+module _ (dialect : Dialect) (words : List FlowWord) where
+  left_leads : (p : Purpose) → is_left p ≡ true → full_control_by p dialect words ≡ end_or_next words
   left_leads purpose.MacroCall e = absurd (cc)
   left_leads purpose.Subprogram e = absurd (cc)
   left_leads purpose.Return e = absurd (cc)
@@ -151,19 +168,19 @@ module _ (waits : WaitCodes) (words : List FlowWord) where
   left_leads purpose.Setting e = refl
   left_leads purpose.Other e = refl
 
-module _ (waits : WaitCodes) (texts : List Word) (words : List FlowWord) (are : AreSaid texts words) (given : IsAccepted waits words) where
-  macro_same : is_macro texts ≡ gives is_macro_call words
-  macro_same = same_kind is_macro_call 65 macro_is _ _ (same_words_of (codes "G") texts words are)
+module _ (dialect : Dialect) (texts : List Word) (words : List FlowWord) (are : AreSaid texts words) (given : IsAccepted dialect words) where
+  macro_same : is_macro texts ≡ gives dialect.system is_macro_call words
+  macro_same = same_kind dialect.system is_macro_call 65 (macro_is dialect.system) _ _ (same_words_of (codes "G") texts words are)
 
-  setting_same : has_g 10000000 texts ≡ gives is_setting words
-  setting_same = same_kind is_setting 10 setting_is _ _ (same_words_of (codes "G") texts words are)
+  setting_same : has_g 10000000 texts ≡ gives dialect.system is_setting words
+  setting_same = same_kind dialect.system is_setting 10 (setting_is dialect.system) _ _ (same_words_of (codes "G") texts words are)
 
   pub codes_same : m_codes texts ≡ read_codes.m_codes words
   codes_same = same_numbers (codes "M") texts words are
 
   -- outside macro calls the G codes are those of the table
   g_plain : read.has_computed (codes "G") words ≡ false
-  g_plain = go (purpose_of waits words) given.fixed
+  g_plain = go (purpose_of dialect words) given.fixed
     where
       go : (p : Purpose) → read.has_computed (closed.fixed_letters p) words ≡ false → read.has_computed (codes "G") words ≡ false
       go purpose.MacroCall e = fewer_computed (codes "G") (codes "GNOPL") (one_among 71 (codes "GNOPL") refl) words e
@@ -175,43 +192,47 @@ module _ (waits : WaitCodes) (texts : List Word) (words : List FlowWord) (are : 
       go purpose.Other e = fewer_computed (codes "G") (codes "GNOM") (one_among 71 (codes "GNOM") refl) words e
 
   record IsKnown : Type 0 where
-    codes_are : list_any closed.is_unknown_code (read.words_of (codes "G") words) ≡ false
-    letters_are : list_any (λ (w : FlowWord). closed.is_unknown_letter words w.letter) words ≡ false
+    codes_are : list_any (closed.is_unknown_code dialect.system) (read.words_of (codes "G") words) ≡ false
+    letters_are : list_any (λ (w : FlowWord). closed.is_unknown_letter dialect.system words w.letter) words ≡ false
 
-  known_there : gives is_macro_call words ≡ false → IsKnown
-  known_there no_macro = go (gives is_macro_call words) refl given.known
+  known_there : gives dialect.system is_macro_call words ≡ false → IsKnown
+  known_there no_macro = go (gives dialect.system is_macro_call words) refl given.known
     where
-      go : (b : Bool) → gives is_macro_call words ≡ b
-          → cond b (not (closed.begins_macro_call words))
-          ((list_any closed.is_unknown_code (read.words_of (codes "G") words) || list_any (λ (w : FlowWord). closed.is_unknown_letter words w.letter) words)
-          || (closed.is_bad_limit words || closed.is_bad_machine words)) ≡ false → IsKnown
+      go : (b : Bool) → gives dialect.system is_macro_call words ≡ b
+          → cond b (not (closed.begins_macro_call dialect.system words))
+          ((list_any (closed.is_unknown_code dialect.system) (read.words_of (codes "G") words) || list_any (λ (w : FlowWord). closed.is_unknown_letter dialect.system words w.letter) words)
+          || (closed.is_bad_limit dialect.system words || closed.is_bad_machine dialect.system words)) ≡ false → IsKnown
       go true e all = absurd (cc)
       go false e all = let both = neither _ _ (neither _ _ all).0 in record { codes_are = both.0; letters_are = both.1 }
 
-  no_g : gives is_macro_call words ≡ false → (p : ℤ → Bool) → list_all (λ (row : Row). not (p (pos (row.code * 1000000)))) system_a_rows ≡ true
+  no_g : gives dialect.system is_macro_call words ≡ false → (p : ℤ → Bool)
+      → list_all (λ (row : Row). not (p (pos (row.code * 1000000)))) (rows_of_system A) ≡ true
+      → list_all (λ (row : Row). not (p (pos (row.code * 1000000)))) (rows_of_system B) ≡ true
       → list_any p (g_values texts) ≡ false
-  no_g no_macro p all = no_such_g p all _ _ (same_words_of (codes "G") texts words are) (known_there no_macro).codes_are g_plain
+  no_g no_macro p in_a in_b =
+      no_such_g dialect.system p (in_each (λ (row : Row). not (p (pos (row.code * 1000000)))) in_a in_b dialect.system) _ _
+      (same_words_of (codes "G") texts words are) (known_there no_macro).codes_are g_plain
 
-  no_cycle : gives is_macro_call words ≡ false → cycle_of texts ≡ role.Other
+  no_cycle : gives dialect.system is_macro_call words ≡ false → cycle_of texts ≡ role.Other
   no_cycle no_macro =
-      rw (no_g no_macro (is_g 70000000) refl, no_g no_macro (is_g 71000000) refl, no_g no_macro (is_g 72000000) refl, no_g no_macro (is_g 73000000) refl) refl
+      rw (no_g no_macro (is_g 70000000) refl refl, no_g no_macro (is_g 71000000) refl refl, no_g no_macro (is_g 72000000) refl refl, no_g no_macro (is_g 73000000) refl refl) refl
 
-  pub roles : HaveRole waits texts words
+  pub roles : HaveRole dialect texts words
   roles =
-      go (gives is_macro_call words) (has_code 98 words) (has_code 99 words) (read_codes.has_wait waits words) (has_code 2 words || has_code 30 words)
+      go (gives dialect.system is_macro_call words) (has_code 98 words) (has_code 99 words) (read_codes.has_wait dialect words) (has_code 2 words || has_code 30 words)
       refl refl refl refl refl
     where
       has_code_same : (code : ℕ) → has_m code texts ≡ has_code code words
       has_code_same code = ap (list_any (λ own. own == code)) codes_same
 
-      wait_same : has_wait waits texts ≡ read_codes.has_wait waits words
-      wait_same = ap (list_any (read_codes.is_waiting waits)) codes_same
+      wait_same : has_wait dialect texts ≡ read_codes.has_wait dialect words
+      wait_same = ap (list_any (read_codes.is_waiting dialect)) codes_same
 
       end_same : (has_m 2 texts || has_m 30 texts) ≡ (has_code 2 words || has_code 30 words)
       end_same = rw (has_code_same 2, has_code_same 30) refl
 
-      go : (a b c d e : Bool) → gives is_macro_call words ≡ a → has_code 98 words ≡ b → has_code 99 words ≡ c → read_codes.has_wait waits words ≡ d
-          → (has_code 2 words || has_code 30 words) ≡ e → HaveRole waits texts words
+      go : (a b c d e : Bool) → gives dialect.system is_macro_call words ≡ a → has_code 98 words ≡ b → has_code 99 words ≡ c → read_codes.has_wait dialect words ≡ d
+          → (has_code 2 words || has_code 30 words) ≡ e → HaveRole dialect texts words
       go true b c d e is1 is2 is3 is4 is5 = record {
         role = role.MacroCall;
         purpose = purpose.MacroCall;
@@ -242,43 +263,43 @@ module _ (waits : WaitCodes) (texts : List Word) (words : List FlowWord) (are : 
       }
       go false false false false true is1 is2 is3 is4 is5 = record {
         role = role.End;
-        purpose = purpose_by (one_shot words);
+        purpose = purpose_by (one_shot dialect.system words);
         role_is = rw (macro_same, is1, has_code_same 98, is2, has_code_same 99, is3, wait_same, is4, end_same, is5) refl;
         purpose_is = rw (is1, is2, is3, is4) refl;
-        same = ends (purpose_by (one_shot words)) is1 is5 (left (one_shot words));
+        same = ends (purpose_by (one_shot dialect.system words)) is1 is5 (left (one_shot dialect.system words));
       }
       go false false false false false is1 is2 is3 is4 is5 = record {
         role = role.Other;
-        purpose = purpose_by (one_shot words);
+        purpose = purpose_by (one_shot dialect.system words);
         role_is = rw (macro_same, is1, has_code_same 98, is2, has_code_same 99, is3, wait_same, is4, end_same, is5) (no_cycle is1);
         purpose_is = rw (is1, is2, is3, is4) refl;
-        same = onward (purpose_by (one_shot words)) is1 is5 (left (one_shot words));
+        same = onward (purpose_by (one_shot dialect.system words)) is1 is5 (left (one_shot dialect.system words));
       }
 
   -- what the refusals of calls leave
-  not_macro : (p : Purpose) → purpose_of waits words ≡ p → read_codes.is_macro p ≡ false → gives is_macro_call words ≡ false
-  not_macro p is other = go (gives is_macro_call words) refl
+  not_macro : (p : Purpose) → purpose_of dialect words ≡ p → read_codes.is_macro p ≡ false → gives dialect.system is_macro_call words ≡ false
+  not_macro p is other = go (gives dialect.system is_macro_call words) refl
     where
-      go : (b : Bool) → gives is_macro_call words ≡ b → b ≡ false
+      go : (b : Bool) → gives dialect.system is_macro_call words ≡ b → b ≡ false
       go false e = refl
       go true e =
-          let own : purpose_of waits words ≡ purpose.MacroCall = rw e refl in
+          let own : purpose_of dialect words ≡ purpose.MacroCall = rw e refl in
           let same : p ≡ purpose.MacroCall = sym is ∙ own in
           let apart : read_codes.is_macro purpose.MacroCall ≡ false = subst (λ q. read_codes.is_macro q ≡ false) same other in
           absurd (cc)
 
-  good_block : (p : Purpose) → purpose_of waits words ≡ p → gives is_macro_call words ≡ false → closed.is_bad_block p words ≡ false
-  good_block p is no_macro = go (gives is_macro_call words) no_macro given.good_call
+  good_block : (p : Purpose) → purpose_of dialect words ≡ p → gives dialect.system is_macro_call words ≡ false → closed.is_bad_block dialect.system p words ≡ false
+  good_block p is no_macro = go (gives dialect.system is_macro_call words) no_macro given.good_call
     where
-      go : (b : Bool) → b ≡ false → cond b (closed.is_bad_macro_call words) (closed.is_bad_block (purpose_of waits words) words) ≡ false
-          → closed.is_bad_block p words ≡ false
+      go : (b : Bool) → b ≡ false → cond b (closed.is_bad_macro_call words) (closed.is_bad_block dialect.system (purpose_of dialect words) words) ≡ false
+          → closed.is_bad_block dialect.system p words ≡ false
       go true e all = absurd (cc)
-      go false e all = subst (λ q. closed.is_bad_block q words ≡ false) is all
+      go false e all = subst (λ q. closed.is_bad_block dialect.system q words ≡ false) is all
 
-  not_crowded : (p : Purpose) → purpose_of waits words ≡ p → gives is_macro_call words ≡ false → closed.is_crowded_call words ≡ false
+  not_crowded : (p : Purpose) → purpose_of dialect words ≡ p → gives dialect.system is_macro_call words ≡ false → closed.is_crowded_call dialect.system words ≡ false
   not_crowded p is no_macro = (neither _ _ (neither _ _ (good_block p is no_macro)).0).1
 
-  l_free : (p : Purpose) → purpose_of waits words ≡ p → gives is_macro_call words ≡ false → closed.is_idle_l p ≡ true → read.has (codes "L") words ≡ false
+  l_free : (p : Purpose) → purpose_of dialect words ≡ p → gives dialect.system is_macro_call words ≡ false → closed.is_idle_l p ≡ true → read.has (codes "L") words ≡ false
   l_free p is no_macro idle = go (read.has (codes "L") words) (closed.is_idle_l p) idle (neither _ _ (neither _ _ (good_block p is no_macro)).1).1
     where
       go : (a b : Bool) → b ≡ true → (a && b) ≡ false → a ≡ false
@@ -286,10 +307,10 @@ module _ (waits : WaitCodes) (texts : List Word) (words : List FlowWord) (are : 
       go true true e all = absurd (cc)
       go true false e all = absurd (cc)
 
-  fixed_by : (p : Purpose) → purpose_of waits words ≡ p → read.has_computed (closed.fixed_letters p) words ≡ false
+  fixed_by : (p : Purpose) → purpose_of dialect words ≡ p → read.has_computed (closed.fixed_letters p) words ≡ false
   fixed_by p is = subst (λ q. read.has_computed (closed.fixed_letters q) words ≡ false) is given.fixed
 
-  l_plain : (p : Purpose) → purpose_of waits words ≡ p → read.has_computed (codes "L") words ≡ false
+  l_plain : (p : Purpose) → purpose_of dialect words ≡ p → read.has_computed (codes "L") words ≡ false
   l_plain purpose.MacroCall is = fewer_computed (codes "L") (codes "GNOPL") (one_among 76 (codes "GNOPL") refl) words (fixed_by purpose.MacroCall is)
   l_plain purpose.Subprogram is = fewer_computed (codes "L") (codes "GNOMPL") (one_among 76 (codes "GNOMPL") refl) words (fixed_by purpose.Subprogram is)
   l_plain purpose.Return is = fewer_computed (codes "L") (codes "GNOMPL") (one_among 76 (codes "GNOMPL") refl) words (fixed_by purpose.Return is)
@@ -298,7 +319,7 @@ module _ (waits : WaitCodes) (texts : List Word) (words : List FlowWord) (are : 
   l_plain purpose.Dwell is = none_computed (codes "L") words (l_free purpose.Dwell is (not_macro purpose.Dwell is refl) refl)
   l_plain purpose.Other is = none_computed (codes "L") words (l_free purpose.Other is (not_macro purpose.Other is refl) refl)
 
-  p_plain : (p : Purpose) → purpose_of waits words ≡ p → read.is_one_of (closed.fixed_letters p) 80 ≡ true → read.has_computed (codes "P") words ≡ false
+  p_plain : (p : Purpose) → purpose_of dialect words ≡ p → read.is_one_of (closed.fixed_letters p) 80 ≡ true → read.has_computed (codes "P") words ≡ false
   p_plain p is there = fewer_computed (codes "P") (closed.fixed_letters p) (one_among 80 (closed.fixed_letters p) there) words (fixed_by p is)
 
   -- 54
@@ -311,7 +332,7 @@ module _ (waits : WaitCodes) (texts : List Word) (words : List FlowWord) (are : 
   plain_by purpose.Return kind e = absurd (cc)
   plain_by purpose.Wait kind e = absurd (cc)
 
-  letters_plain : (r : Role) (p : Purpose) → IsSame words r p → read.has_computed (closed.fixed_letters p) words ≡ false → has_computed (fixed_letters r) texts ≡ false
+  letters_plain : (r : Role) (p : Purpose) → IsSame dialect.system words r p → read.has_computed (closed.fixed_letters p) words ≡ false → has_computed (fixed_letters r) texts ≡ false
   letters_plain _ _ (macro is) e = same_computed (codes "GNOPL") texts words are ∙ e
   letters_plain _ _ (subprogram apart is) e = same_computed (codes "GNOMPL") texts words are ∙ e
   letters_plain _ _ (returns apart is) e = same_computed (codes "GNOMPL") texts words are ∙ e
@@ -319,28 +340,28 @@ module _ (waits : WaitCodes) (texts : List Word) (words : List FlowWord) (are : 
   letters_plain _ _ (ends p apart is kind) e = same_computed (codes "GNOM") texts words are ∙ plain_by p kind e
   letters_plain _ _ (onward p apart is kind) e = same_computed (codes "GNOM") texts words are ∙ plain_by p kind e
 
-  fixed_there : HaveRole waits texts words → is_not_fixed waits texts ≡ false
+  fixed_there : HaveRole dialect texts words → is_not_fixed dialect texts ≡ false
   fixed_there r =
-      let letters : has_computed (fixed_letters (role_of waits texts)) texts ≡ false =
+      let letters : has_computed (fixed_letters (role_of dialect texts)) texts ≡ false =
       subst (λ q. has_computed (fixed_letters q) texts ≡ false) (sym r.role_is) (letters_plain r.role r.purpose r.same (fixed_by r.purpose r.purpose_is)) in
       let l_alone : has_computed (codes "L") texts ≡ false = same_computed (codes "L") texts words are ∙ l_plain r.purpose r.purpose_is in
       rw (letters, l_alone) (and_false (has_g 10000000 texts))
 
   -- 56
-  begins_same : (texts : List Word) (words : List FlowWord) → AreSaid texts words → begins_macro_call texts ≡ closed.begins_macro_call words
+  begins_same : (texts : List Word) (words : List FlowWord) → AreSaid texts words → begins_macro_call dialect.system texts ≡ closed.begins_macro_call dialect.system words
   begins_same _ _ none = refl
   begins_same _ _ (one_more text word texts words is further) =
-      rw (is.letter, same_row text word is, same_has (codes "GNO") texts words further) refl
+      rw (is.letter, same_row dialect.system text word is, same_has (codes "GNO") texts words further) refl
 
-  sets_nothing : (p : Purpose) → purpose_of waits words ≡ p → gives is_macro_call words ≡ false → (has_code 98 words || has_code 99 words) ≡ true
-      → (gives is_dwell words ≡ false) × (gives is_setting words ≡ false)
+  sets_nothing : (p : Purpose) → purpose_of dialect words ≡ p → gives dialect.system is_macro_call words ≡ false → (has_code 98 words || has_code 99 words) ≡ true
+      → (gives dialect.system is_dwell words ≡ false) × (gives dialect.system is_setting words ≡ false)
   sets_nothing p is no_macro call = neither _ _ (go (has_code 98 words || has_code 99 words) call (not_crowded p is no_macro))
     where
-      go : (b : Bool) → b ≡ true → (b && (gives is_dwell words || gives is_setting words)) ≡ false → (gives is_dwell words || gives is_setting words) ≡ false
+      go : (b : Bool) → b ≡ true → (b && (gives dialect.system is_dwell words || gives dialect.system is_setting words)) ≡ false → (gives dialect.system is_dwell words || gives dialect.system is_setting words) ≡ false
       go true e all = all
       go false e all = absurd (cc)
 
-  l_numbers : (p : Purpose) → purpose_of waits words ≡ p → closed.is_idle_l p ≡ true → gives is_macro_call words ≡ false → list_any is_parameter (numbers_of (codes "L") texts) ≡ false
+  l_numbers : (p : Purpose) → purpose_of dialect words ≡ p → closed.is_idle_l p ≡ true → gives dialect.system is_macro_call words ≡ false → list_any is_parameter (numbers_of (codes "L") texts) ≡ false
   l_numbers p is idle no_macro =
       let none_there : read.words_of (codes "L") words ≡ [] = none_of (codes "L") words (l_free p is no_macro idle) in
       same_any (same_numbers (codes "L") texts words are) none_there
@@ -349,14 +370,14 @@ module _ (waits : WaitCodes) (texts : List Word) (words : List FlowWord) (are : 
           → read.words_of (codes "L") words ≡ [] → list_any is_parameter (numbers_of (codes "L") texts) ≡ false
       same_any e empty = rw (e, empty) refl
 
-  setting_numbers : purpose_of waits words ≡ purpose.Setting → list_any is_parameter (numbers_of (codes "L") texts) ≡ false
+  setting_numbers : purpose_of dialect words ≡ purpose.Setting → list_any is_parameter (numbers_of (codes "L") texts) ≡ false
   setting_numbers is =
       let ranges : list_any (λ (w : FlowWord). not (is_in_range purpose.Setting w)) words ≡ false =
       subst (λ q. list_any (λ (w : FlowWord). not (is_in_range q w)) words ≡ false) is given.ranges in
       no_parameters _ _ (same_words_of (codes "L") texts words are)
       (all_fit purpose.Setting 2 2 (codes "L") (range_of_one purpose.Setting 2 2 76 refl) words ranges)
 
-  by_left : (p : Purpose) → purpose_of waits words ≡ p → is_left p ≡ true → gives is_macro_call words ≡ false → list_any is_parameter (numbers_of (codes "L") texts) ≡ false
+  by_left : (p : Purpose) → purpose_of dialect words ≡ p → is_left p ≡ true → gives dialect.system is_macro_call words ≡ false → list_any is_parameter (numbers_of (codes "L") texts) ≡ false
   by_left purpose.Setting is kind apart = setting_numbers is
   by_left purpose.Dwell is kind apart = l_numbers purpose.Dwell is refl apart
   by_left purpose.Other is kind apart = l_numbers purpose.Other is refl apart
@@ -365,7 +386,7 @@ module _ (waits : WaitCodes) (texts : List Word) (words : List FlowWord) (are : 
   by_left purpose.Return is kind apart = absurd (cc)
   by_left purpose.Wait is kind apart = absurd (cc)
 
-  no_writing : (r : Role) (p : Purpose) → IsSame words r p → purpose_of waits words ≡ p → gives is_macro_call words ≡ false → writes_parameters texts ≡ false
+  no_writing : (r : Role) (p : Purpose) → IsSame dialect.system words r p → purpose_of dialect words ≡ p → gives dialect.system is_macro_call words ≡ false → writes_parameters texts ≡ false
   no_writing _ _ (macro held) is apart = absurd (cc)
   no_writing _ _ (subprogram apart held) is _ = rw (setting_same, (sets_nothing purpose.Subprogram is apart (rw held refl)).1) refl
   no_writing _ _ (returns apart held) is _ = rw (setting_same, (sets_nothing purpose.Return is apart (rw held (or_true (has_code 98 words)))).1) refl
@@ -373,21 +394,21 @@ module _ (waits : WaitCodes) (texts : List Word) (words : List FlowWord) (are : 
   no_writing _ _ (ends p apart held kind) is _ = rw (by_left p is kind apart) (and_false (has_g 10000000 texts))
   no_writing _ _ (onward p apart held kind) is _ = rw (by_left p is kind apart) (and_false (has_g 10000000 texts))
 
-  elsewhere : gives is_macro_call words ≡ false → names_interrupt waits texts ≡ false → writes_parameters texts ≡ false
-      → ((list_any is_refused_g (g_values texts) || list_any (is_refused_m waits) (m_codes texts)) || writes_parameters texts) ≡ false
+  elsewhere : gives dialect.system is_macro_call words ≡ false → names_interrupt dialect texts ≡ false → writes_parameters texts ≡ false
+      → ((list_any is_refused_g (g_values texts) || list_any (is_refused_m dialect) (m_codes texts)) || writes_parameters texts) ≡ false
   elsewhere apart plain writes =
-      rw (no_g apart is_refused_g refl, go (is_macro texts) (list_any (is_refused_m waits) (m_codes texts)) (macro_same ∙ apart) plain, writes) refl
+      rw (no_g apart is_refused_g refl refl, go (is_macro texts) (list_any (is_refused_m dialect) (m_codes texts)) (macro_same ∙ apart) plain, writes) refl
     where
       go : (a b : Bool) → a ≡ false → (not a && b) ≡ false → b ≡ false
       go true b e all = absurd (cc)
       go false b e all = all
 
-  unknown_by : (r : Role) (p : Purpose) → IsSame words r p → purpose_of waits words ≡ p → names_interrupt waits texts ≡ false → is_unknown_by r waits texts ≡ false
-  unknown_by r p (macro held) is plain = rw (begins_same texts words are) (go (gives is_macro_call words) held given.known)
+  unknown_by : (r : Role) (p : Purpose) → IsSame dialect.system words r p → purpose_of dialect words ≡ p → names_interrupt dialect texts ≡ false → is_unknown_by r dialect texts ≡ false
+  unknown_by r p (macro held) is plain = rw (begins_same texts words are) (go (gives dialect.system is_macro_call words) held given.known)
     where
-      go : (b : Bool) → b ≡ true → cond b (not (closed.begins_macro_call words))
-          ((list_any closed.is_unknown_code (read.words_of (codes "G") words) || list_any (λ (w : FlowWord). closed.is_unknown_letter words w.letter) words)
-          || (closed.is_bad_limit words || closed.is_bad_machine words)) ≡ false → not (closed.begins_macro_call words) ≡ false
+      go : (b : Bool) → b ≡ true → cond b (not (closed.begins_macro_call dialect.system words))
+          ((list_any (closed.is_unknown_code dialect.system) (read.words_of (codes "G") words) || list_any (λ (w : FlowWord). closed.is_unknown_letter dialect.system words w.letter) words)
+          || (closed.is_bad_limit dialect.system words || closed.is_bad_machine dialect.system words)) ≡ false → not (closed.begins_macro_call dialect.system words) ≡ false
       go true e all = all
       go false e all = absurd (cc)
   unknown_by r p (subprogram apart held) is plain = elsewhere apart plain (no_writing r p (subprogram apart held) is apart)
@@ -396,16 +417,17 @@ module _ (waits : WaitCodes) (texts : List Word) (words : List FlowWord) (are : 
   unknown_by r p (ends q apart held kind) is plain = elsewhere apart plain (no_writing r p (ends q apart held kind) is apart)
   unknown_by r p (onward q apart held kind) is plain = elsewhere apart plain (no_writing r p (onward q apart held kind) is apart)
 
-  letters_beside : (texts : List Word) (own : List FlowWord) → AreSaid texts own → gives is_setting words ≡ false
-      → list_any (λ (w : FlowWord). closed.is_unknown_letter words w.letter) own ≡ false
+  letters_beside : (texts : List Word) (own : List FlowWord) → AreSaid texts own → gives dialect.system is_setting words ≡ false
+      → list_any (λ (w : FlowWord). closed.is_unknown_letter dialect.system words w.letter) own ≡ false
       → list_all (λ (t : Word). read.is_one_of (codes "XZUWIKRFSTNOMGPLABCEVY") t.letter) texts ≡ true
   letters_beside _ _ none apart all = refl
   letters_beside _ _ (one_more text word texts own is further) apart all =
       let both = neither _ _ all in
-      let here : (read.is_one_of (codes "XZUWIKRFSTNOMGPL") word.letter || (read.is_one_of (codes "Q") word.letter && gives is_setting words)) ≡ true = not_false _ both.0 in
+      let here : (read.is_one_of (closed.known_letters dialect.system) word.letter || (read.is_one_of (codes "Q") word.letter && gives dialect.system is_setting words)) ≡ true = not_false _ both.0 in
       let letter : read.is_one_of (codes "XZUWIKRFSTNOMGPLABCEVY") text.letter ≡ true =
       front_among (codes "XZUWIKRFSTNOMGPL") (codes "ABCEVY") text.letter
-      (subst (λ l. read.is_one_of (codes "XZUWIKRFSTNOMGPL") l ≡ true) is.letter (first (read.is_one_of (codes "XZUWIKRFSTNOMGPL") word.letter) (read.is_one_of (codes "Q") word.letter) (gives is_setting words) apart here)) in
+      (known_among dialect.system text.letter
+      (subst (λ l. read.is_one_of (closed.known_letters dialect.system) l ≡ true) is.letter (first (read.is_one_of (closed.known_letters dialect.system) word.letter) (read.is_one_of (codes "Q") word.letter) (gives dialect.system is_setting words) apart here))) in
       rw letter (letters_beside texts own further apart both.1)
     where
       first : (a b c : Bool) → c ≡ false → (a || (b && c)) ≡ true → a ≡ true
@@ -414,15 +436,15 @@ module _ (waits : WaitCodes) (texts : List Word) (words : List FlowWord) (are : 
       first false true false e all = absurd (cc)
       first false false c e all = absurd (cc)
 
-  beside_call : (p : Purpose) → purpose_of waits words ≡ p → gives is_macro_call words ≡ false → (has_code 98 words || has_code 99 words) ≡ true
-      → not (is_beside_a_call texts) ≡ false
+  beside_call : (p : Purpose) → purpose_of dialect words ≡ p → gives dialect.system is_macro_call words ≡ false → (has_code 98 words || has_code 99 words) ≡ true
+      → not (is_beside_a_call dialect.system texts) ≡ false
   beside_call p is apart call =
       let known = known_there apart in
       let letters = letters_beside texts words are (sets_nothing p is apart call).1 known.letters_are in
-      let have_rows = each_has_row _ _ (same_words_of (codes "G") texts words are) known.codes_are g_plain in
+      let have_rows = each_has_row dialect.system _ _ (same_words_of (codes "G") texts words are) known.codes_are g_plain in
       rw (letters, have_rows) refl
 
-  crowded_by : (r : Role) (p : Purpose) → IsSame words r p → purpose_of waits words ≡ p → is_crowded r texts ≡ false
+  crowded_by : (r : Role) (p : Purpose) → IsSame dialect.system words r p → purpose_of dialect words ≡ p → is_crowded r dialect.system texts ≡ false
   crowded_by _ _ (macro held) is = refl
   crowded_by _ _ (subprogram apart held) is = beside_call purpose.Subprogram is apart (rw held refl)
   crowded_by _ _ (returns apart held) is = beside_call purpose.Return is apart (rw held (or_true (has_code 98 words)))
@@ -430,19 +452,19 @@ module _ (waits : WaitCodes) (texts : List Word) (words : List FlowWord) (are : 
   crowded_by _ _ (ends p apart held kind) is = ap is_contour (no_cycle apart)
   crowded_by _ _ (onward p apart held kind) is = refl
 
-  known_codes : HaveRole waits texts words → names_interrupt waits texts ≡ false → is_unknown waits texts ≡ false
+  known_codes : HaveRole dialect texts words → names_interrupt dialect texts ≡ false → is_unknown dialect texts ≡ false
   known_codes r plain =
-      subst (λ q. (is_unknown_by q waits texts || is_crowded q texts) ≡ false) (sym r.role_is)
+      subst (λ q. (is_unknown_by q dialect texts || is_crowded q dialect.system texts) ≡ false) (sym r.role_is)
       (rw (unknown_by r.role r.purpose r.same r.purpose_is plain, crowded_by r.role r.purpose r.same r.purpose_is) refl)
 
   -- 57, 58, 59
-  there_same : waits_there waits texts ≡ closed.waits_there waits words
+  there_same : waits_there dialect texts ≡ closed.waits_there dialect words
   there_same = rw (macro_same, codes_same) refl
 
-  alone_there : is_wait_not_alone waits texts ≡ false
+  alone_there : is_wait_not_alone dialect texts ≡ false
   alone_there = rw (there_same, same_count (codes "ABCDEFGHIJKLMNOQRSTUVWXYZ") texts words are) (given.alone)
 
-  both_there : is_wait_of_others waits texts ≡ false
+  both_there : is_wait_of_others dialect texts ≡ false
   both_there =
       rw (there_same, same_has (codes "P") texts words are, same_computed (codes "P") texts words are, same_last (codes "P") texts words are) (given.both)
 
@@ -450,15 +472,15 @@ module _ (waits : WaitCodes) (texts : List Word) (words : List FlowWord) (are : 
   one_m_there = rw (macro_same, same_count (codes "M") texts words are, given.one_m) refl
 
   -- 61
-  takes_nothing : (p : Purpose) → purpose_of waits words ≡ p → gives is_macro_call words ≡ false → (has_code 98 words || has_code 99 words) ≡ true → uses_p texts ≡ false
+  takes_nothing : (p : Purpose) → purpose_of dialect words ≡ p → gives dialect.system is_macro_call words ≡ false → (has_code 98 words || has_code 99 words) ≡ true → uses_p dialect.system texts ≡ false
   takes_nothing p is apart call =
       let nothing = sets_nothing p is apart call in
-      same_takes _ _ (same_words_of (codes "G") texts words are) ∙ (rw (nothing.0, nothing.1) refl)
+      same_takes dialect.system _ _ (same_words_of (codes "G") texts words are) ∙ (rw (nothing.0, nothing.1) refl)
 
-  bad_call_by : (r : Role) (p : Purpose) → IsSame words r p → purpose_of waits words ≡ p → is_bad_call_by r texts ≡ false
-  bad_call_by _ _ (macro held) is = rw (same_has (codes "P") texts words are) (go (gives is_macro_call words) held given.good_call)
+  bad_call_by : (r : Role) (p : Purpose) → IsSame dialect.system words r p → purpose_of dialect words ≡ p → is_bad_call_by r dialect.system texts ≡ false
+  bad_call_by _ _ (macro held) is = rw (same_has (codes "P") texts words are) (go (gives dialect.system is_macro_call words) held given.good_call)
     where
-      go : (b : Bool) → b ≡ true → cond b (closed.is_bad_macro_call words) (closed.is_bad_block (purpose_of waits words) words) ≡ false
+      go : (b : Bool) → b ≡ true → cond b (closed.is_bad_macro_call words) (closed.is_bad_block dialect.system (purpose_of dialect words) words) ≡ false
           → not (read.has (codes "P") words) ≡ false
       go true e all = (neither _ _ all).0
       go false e all = absurd (cc)
@@ -472,19 +494,19 @@ module _ (waits : WaitCodes) (texts : List Word) (words : List FlowWord) (are : 
   bad_call_by _ _ (ends p apart held kind) is = refl
   bad_call_by _ _ (onward p apart held kind) is = refl
 
-  good_there : HaveRole waits texts words → is_bad_call waits texts ≡ false
-  good_there r = subst (λ q. is_bad_call_by q texts ≡ false) (sym r.role_is) (bad_call_by r.role r.purpose r.same r.purpose_is)
+  good_there : HaveRole dialect texts words → is_bad_call dialect texts ≡ false
+  good_there r = subst (λ q. is_bad_call_by q dialect.system texts ≡ false) (sym r.role_is) (bad_call_by r.role r.purpose r.same r.purpose_is)
 
   -- 64
-  ranges_by : (p : Purpose) → purpose_of waits words ≡ p → list_any (λ (w : FlowWord). not (is_in_range p w)) words ≡ false
+  ranges_by : (p : Purpose) → purpose_of dialect words ≡ p → list_any (λ (w : FlowWord). not (is_in_range p w)) words ≡ false
   ranges_by p is = subst (λ q. list_any (λ (w : FlowWord). not (is_in_range q w)) words ≡ false) is given.ranges
 
-  within : (p : Purpose) (least greatest : ℕ) (letters : List ℕ) → purpose_of waits words ≡ p → HaveRange p least greatest letters
+  within : (p : Purpose) (least greatest : ℕ) (letters : List ℕ) → purpose_of dialect words ≡ p → HaveRange p least greatest letters
       → read.has_computed letters words ≡ false → are_in least greatest letters texts ≡ true
   within p least greatest letters is range plain =
       all_within least greatest _ _ (same_words_of letters texts words are) (all_fit p least greatest letters range words (ranges_by p is)) plain
 
-  range_by : (r : Role) (p : Purpose) → IsSame words r p → purpose_of waits words ≡ p → is_in_range_by r texts ≡ true
+  range_by : (r : Role) (p : Purpose) → IsSame dialect.system words r p → purpose_of dialect words ≡ p → is_in_range_by r texts ≡ true
   range_by _ _ (macro held) is =
       within purpose.MacroCall 1 9999 (codes "PL") is (range_of_two purpose.MacroCall 1 9999 80 76 refl refl)
       (fewer_computed (codes "PL") (codes "GNOPL") pl_among words (fixed_by purpose.MacroCall is))
@@ -497,7 +519,7 @@ module _ (waits : WaitCodes) (texts : List Word) (words : List FlowWord) (are : 
   range_by _ _ (ends p apart held kind) is = refl
   range_by _ _ (onward p apart held kind) is = refl
 
-  m_plain : (p : Purpose) → purpose_of waits words ≡ p → read_codes.is_macro p ≡ false → read.has_computed (codes "M") words ≡ false
+  m_plain : (p : Purpose) → purpose_of dialect words ≡ p → read_codes.is_macro p ≡ false → read.has_computed (codes "M") words ≡ false
   m_plain p is other = fewer_computed (codes "M") (closed.fixed_letters p) (one_among 77 (closed.fixed_letters p) (there p other)) words (fixed_by p is)
     where
       there : (p : Purpose) → read_codes.is_macro p ≡ false → read.is_one_of (closed.fixed_letters p) 77 ≡ true
@@ -509,7 +531,7 @@ module _ (waits : WaitCodes) (texts : List Word) (words : List FlowWord) (are : 
       there purpose.Setting e = refl
       there purpose.Other e = refl
 
-  m_within : (p : Purpose) → purpose_of waits words ≡ p → read_codes.is_macro p ≡ false → are_in 0 99999999 (codes "M") texts ≡ true
+  m_within : (p : Purpose) → purpose_of dialect words ≡ p → read_codes.is_macro p ≡ false → are_in 0 99999999 (codes "M") texts ≡ true
   m_within p is other =
       within_more 0 999 99999999 refl (words_of (codes "M") texts)
       (within p 0 999 (codes "M") is (range_of_one p 0 999 77 (range_m p other)) (m_plain p is other))
@@ -523,7 +545,7 @@ module _ (waits : WaitCodes) (texts : List Word) (words : List FlowWord) (are : 
       range_m purpose.Setting e = refl
       range_m purpose.Other e = refl
 
-  m_by : (r : Role) (p : Purpose) → IsSame words r p → purpose_of waits words ≡ p → (not (is_macro texts) && not (are_in 0 99999999 (codes "M") texts)) ≡ false
+  m_by : (r : Role) (p : Purpose) → IsSame dialect.system words r p → purpose_of dialect words ≡ p → (not (is_macro texts) && not (are_in 0 99999999 (codes "M") texts)) ≡ false
   m_by _ _ (macro held) is = rw (macro_same, held) refl
   m_by _ p (subprogram apart held) is = rw (m_within p is refl) (and_false (not (is_macro texts)))
   m_by _ p (returns apart held) is = rw (m_within p is refl) (and_false (not (is_macro texts)))
@@ -531,18 +553,18 @@ module _ (waits : WaitCodes) (texts : List Word) (words : List FlowWord) (are : 
   m_by _ p (ends q apart held kind) is = rw (m_within p is (left_plain q kind)) (and_false (not (is_macro texts)))
   m_by _ p (onward q apart held kind) is = rw (m_within p is (left_plain q kind)) (and_false (not (is_macro texts)))
 
-  ranges_there : HaveRole waits texts words → is_out_of_range waits texts ≡ false
+  ranges_there : HaveRole dialect texts words → is_out_of_range dialect texts ≡ false
   ranges_there r =
-      let own : is_in_range_by (role_of waits texts) texts ≡ true =
+      let own : is_in_range_by (role_of dialect texts) texts ≡ true =
       subst (λ q. is_in_range_by q texts ≡ true) (sym r.role_is) (range_by r.role r.purpose r.same r.purpose_is) in
       rw (own, m_by r.role r.purpose r.same r.purpose_is) refl
 
-  pub no_refusal : names_interrupt waits texts ≡ false → refusal_of waits texts ≡ None
+  pub no_refusal : names_interrupt dialect texts ≡ false → refusal_of dialect texts ≡ None
   no_refusal plain =
       let r = roles in
-      let long : is_long waits texts ≡ false =
-      rw (none_long (fixed_letters (role_of waits texts)) texts words are, none_long (codes "L") texts words are) (and_false (has_g 10000000 texts)) in
-      all_false (is_long waits texts) (is_not_fixed waits texts) (is_unknown waits texts) (is_wait_not_alone waits texts) (is_wait_of_others waits texts) (has_two_m texts) (is_bad_call waits texts) (is_out_of_range waits texts)
+      let long : is_long dialect texts ≡ false =
+      rw (none_long (fixed_letters (role_of dialect texts)) texts words are, none_long (codes "L") texts words are) (and_false (has_g 10000000 texts)) in
+      all_false (is_long dialect texts) (is_not_fixed dialect texts) (is_unknown dialect texts) (is_wait_not_alone dialect texts) (is_wait_of_others dialect texts) (has_two_m texts) (is_bad_call dialect texts) (is_out_of_range dialect texts)
       long (fixed_there r) (known_codes r plain) alone_there both_there one_m_there (good_there r) (ranges_there r)
     where
       all_false : (a b c d e f g h : Bool) → a ≡ false → b ≡ false → c ≡ false → d ≡ false → e ≡ false → f ≡ false → g ≡ false → h ≡ false
@@ -551,16 +573,16 @@ module _ (waits : WaitCodes) (texts : List Word) (words : List FlowWord) (are : 
       all_false a b c d e f g h is1 is2 is3 is4 is5 is6 is7 is8 = rw (is1, is2, is3, is4, is5, is6, is7, is8) refl
 
   -- where it leads
-  leads_by : (r : Role) (p : Purpose) → IsSame words r p → control_by r waits texts ≡ full_control_by p waits words
+  leads_by : (r : Role) (p : Purpose) → IsSame dialect.system words r p → control_by r dialect texts ≡ full_control_by p dialect words
   leads_by _ _ (macro held) = rw (same_last (codes "P") texts words are, same_last (codes "L") texts words are) refl
   leads_by _ _ (subprogram apart held) = rw (same_last (codes "P") texts words are, same_last (codes "L") texts words are) refl
   leads_by _ _ (returns apart held) = rw (same_last (codes "P") texts words are) refl
   leads_by _ _ (wait apart) = rw codes_same refl
-  leads_by _ _ (ends p apart held kind) = sym (left_leads waits words p kind ∙ (rw held refl))
-  leads_by _ _ (onward p apart held kind) = sym (left_leads waits words p kind ∙ (rw held refl))
+  leads_by _ _ (ends p apart held kind) = sym (left_leads dialect words p kind ∙ (rw held refl))
+  leads_by _ _ (onward p apart held kind) = sym (left_leads dialect words p kind ∙ (rw held refl))
 
-  pub leads_there : control_by (role_of waits texts) waits texts ≡ control_of_words waits words
+  pub leads_there : control_by (role_of dialect texts) dialect texts ≡ control_of_words dialect words
   leads_there =
       let r = roles in
-      ap (λ q. control_by q waits texts) r.role_is ∙ leads_by r.role r.purpose r.same
-      ∙ ap (λ q. full_control_by q waits words) (sym r.purpose_is)
+      ap (λ q. control_by q dialect texts) r.role_is ∙ leads_by r.role r.purpose r.same
+      ∙ ap (λ q. full_control_by q dialect words) (sym r.purpose_is)

@@ -7,7 +7,7 @@ use Rattle.std.proofs.lemmas.Bool.Decides.{nat_tests}
 use Rattle.nc_number.specs.declared.cause.Cause.TheVariants.{TooManyDigits, NotFixed, UnknownCode, WaitNotAlone, WaitPaths, TwoM, BadCall, WordRange}
 use Rattle.nc_text.specs.declared.tape.Word.{Word}
 use Rattle.code_tables.specs.Codes.{last_of}
-use Rattle.block_forms.specs.declared.waits.WaitCodes.{WaitCodes}
+use Rattle.block_forms.specs.declared.dialect.Dialect.{Dialect}
 use Rattle.block_forms.specs.Words.{is_one_of}
 use Rattle.open_forms.specs.declared.role.Role.{Role}
 use Rattle.open_forms.specs.declared.role.Role.TheVariants.{MacroCall, Subprogram}
@@ -47,9 +47,9 @@ last_in least greatest few letters among (w ∷ words) all =
     go false false first second further all = further all
 
 -- a block that is not refused has no word out of its range
-in_range : (waits : WaitCodes) (words : List Word) → refusal_of waits words ≡ None → is_out_of_range waits words ≡ false
-in_range waits words accepted =
-    go (is_long waits words) (is_not_fixed waits words) (is_unknown waits words) (is_wait_not_alone waits words) (is_wait_of_others waits words) (has_two_m words) (is_bad_call waits words) (is_out_of_range waits words) accepted
+in_range : (dialect : Dialect) (words : List Word) → refusal_of dialect words ≡ None → is_out_of_range dialect words ≡ false
+in_range dialect words accepted =
+    go (is_long dialect words) (is_not_fixed dialect words) (is_unknown dialect words) (is_wait_not_alone dialect words) (is_wait_of_others dialect words) (has_two_m words) (is_bad_call dialect words) (is_out_of_range dialect words) accepted
   where
     go : (a b c d e f g h : Bool) → (if a then Some TooManyDigits else if b then Some NotFixed else if c then Some UnknownCode else if d then Some WaitNotAlone
         else if e then Some WaitPaths else if f then Some TwoM else if g then Some BadCall else if h then Some WordRange else None) ≡ None → h ≡ false
@@ -63,21 +63,21 @@ in_range waits words accepted =
     go false false false false false false false true is = absurd (cc)
     go false false false false false false false false is = refl
 
-ranges_of : (waits : WaitCodes) (words : List Word) (role kind : Role) → refusal_of waits words ≡ None → role ≡ role_of waits words → role ≡ kind
+ranges_of : (dialect : Dialect) (words : List Word) (role kind : Role) → refusal_of dialect words ≡ None → role ≡ role_of dialect words → role ≡ kind
     → is_in_range_by kind words ≡ true
-ranges_of waits words role kind accepted is same =
-    let own : is_in_range_by (role_of waits words) words ≡ true = not_false _ (neither _ _ (in_range waits words accepted)).0 in
+ranges_of dialect words role kind accepted is same =
+    let own : is_in_range_by (role_of dialect words) words ≡ true = not_false _ (neither _ _ (in_range dialect words accepted)).0 in
     subst (λ r. is_in_range_by r words ≡ true) (sym is ∙ same) own
 
 -- the numbers of a call of a macro
-pub macro_at_most : (waits : WaitCodes) (words : List Word) (role : Role) (letter : ℕ) → refusal_of waits words ≡ None → role ≡ role_of waits words
+pub macro_at_most : (dialect : Dialect) (words : List Word) (role : Role) (letter : ℕ) → refusal_of dialect words ≡ None → role ≡ role_of dialect words
     → role ≡ MacroCall → is_one_of (codes "PL") letter ≡ true → IfSome (last_number (letter ∷ []) words) (λ n. n ≤ 9999)
-macro_at_most waits words role letter accepted is same there =
-    last_in 1 9999 (letter ∷ []) (codes "PL") (one_among letter (codes "PL") there) words (ranges_of waits words role MacroCall accepted is same)
+macro_at_most dialect words role letter accepted is same there =
+    last_in 1 9999 (letter ∷ []) (codes "PL") (one_among letter (codes "PL") there) words (ranges_of dialect words role MacroCall accepted is same)
 
 -- the repeats of a call of a subprogram
-pub repeats_at_most : (waits : WaitCodes) (words : List Word) (role : Role) → refusal_of waits words ≡ None → role ≡ role_of waits words
+pub repeats_at_most : (dialect : Dialect) (words : List Word) (role : Role) → refusal_of dialect words ≡ None → role ≡ role_of dialect words
     → role ≡ Subprogram → IfSome (last_number (codes "L") words) (λ n. n ≤ 9999)
-repeats_at_most waits words role accepted is same =
+repeats_at_most dialect words role accepted is same =
     last_in 1 9999 (codes "L") (codes "L") (same_among (codes "L")) words
-    (and_parts (are_in 1 99999999 (codes "P") words) (are_in 1 9999 (codes "L") words) (ranges_of waits words role Subprogram accepted is same)).1
+    (and_parts (are_in 1 99999999 (codes "P") words) (are_in 1 9999 (codes "L") words) (ranges_of dialect words role Subprogram accepted is same)).1

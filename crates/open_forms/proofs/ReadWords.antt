@@ -7,6 +7,7 @@ use Rattle.nc_text.specs.declared.tape.Word.{Word}
 use Rattle.macro_expr.specs.declared.tree.ExprFault.{ExprFault}
 use Rattle.macro_expr.specs.Tree.{Tree}
 use Rattle.macro_expr.specs.Answers.{expression_of}
+use Rattle.code_tables.specs.declared.system.System.{System}
 use Rattle.code_tables.specs.Codes.{last_of}
 use Rattle.block_forms.specs.declared.word.FlowWord.{FlowWord}
 use Rattle.block_forms.specs.declared.word.WordValue.{WordValue}
@@ -75,8 +76,8 @@ same_number text word is = ap whole_of_written is.written ∙ go word.value
     go (Fixed literal) = refl
     go (Computed minus tree) = refl
 
-pub same_row : (text : Word) (word : FlowWord) → IsSaid text word → row_of_word text ≡ row_of_read word
-same_row text word is = ap row_of_number (same_number text word is)
+pub same_row : (system : System) (text : Word) (word : FlowWord) → IsSaid text word → row_of_word system text ≡ row_of_read system word
+same_row system text word is = ap (row_of_number system) (same_number text word is)
 
 pub same_words_of : (letters : List ℕ) (texts : List Word) (words : List FlowWord) → AreSaid texts words
     → AreSaid (words_of letters texts) (read.words_of letters words)

@@ -1,4 +1,4 @@
--- The G codes of a block that reads in full are those of the table.
+-- The G codes of a block that reads in full are those of its system's table.
 use Rattle.std.proofs.Common.{◌≡◌, ℕ, zero, suc, ◌*◌, ◌/◌, ◌%◌, ◌==◌, Bool, true, false, cond, not, ◌&&◌, ◌||◌, List, [], ◌∷◌, Option, Some, None, ℤ, pos, negsuc, neg_ℤ, unsigned_abs, refl, sym, ◌∙◌, ap, subst, arith, eqb-true, eq-eqb}
 use Rattle.std.specs.List.{list_any, list_all, filter_map, cons_option, find}
 use Rattle.std.proofs.lemmas.Bool.{and_parts}
@@ -8,7 +8,9 @@ use Rattle.nc_text.specs.declared.tape.Word.{Word}
 use Rattle.code_tables.specs.declared.row.Row.{Row}
 use Rattle.code_tables.specs.declared.kind.CodeKind.{CodeKind}
 use Rattle.code_tables.specs.Codes.{row_of}
-use Rattle.code_tables.specs.SystemA.{system_a_rows}
+use Rattle.code_tables.specs.declared.system.System.{System}
+use Rattle.code_tables.specs.declared.system.System.TheVariants.{A, B}
+use Rattle.code_tables.specs.Systems.{rows_of_system}
 use Rattle.block_forms.specs.declared.word.FlowWord.{FlowWord}
 use Rattle.block_forms.specs.Words.{is_computed}
 use Rattle.block_forms.specs.Codes.{natural, row_of_number, row_of_word as row_of_read, is_dwell, is_setting, is_macro_call}
@@ -32,11 +34,17 @@ found_passes {X} p q (y ∷ ys) x found all = go (p y) refl (λ rest. found_pass
     go false e further rest = further rest
 
 -- a row of the table is of its code, and passes what all rows pass
-row_passes : (q : Row → Bool) (code : ℕ) (row : Row) → row_of system_a_rows code ≡ Some row → list_all q system_a_rows ≡ true
-    → (row.code ≡ code) × (q row ≡ true)
-row_passes q code row found all =
-    let both = found_passes (λ (r : Row). r.code == code) q system_a_rows row found all in
+row_passes : (system : System) (q : Row → Bool) (code : ℕ) (row : Row) → row_of (rows_of_system system) code ≡ Some row
+    → list_all q (rows_of_system system) ≡ true → (row.code ≡ code) × (q row ≡ true)
+row_passes system q code row found all =
+    let both = found_passes (λ (r : Row). r.code == code) q (rows_of_system system) row found all in
     (eqb-true row.code code both.0, both.1)
+
+-- what all rows pass in each system
+pub in_each : (q : Row → Bool) → list_all q (rows_of_system A) ≡ true → list_all q (rows_of_system B) ≡ true → (system : System)
+    → list_all q (rows_of_system system) ≡ true
+in_each q in_a in_b A = in_a
+in_each q in_a in_b B = in_b
 
 -- a whole number is so many millionths
 whole_pos : (a k : ℕ) → natural (whole_of (pos a)) ≡ Some k → a ≡ k * 1000000
@@ -81,73 +89,76 @@ abbrev of_number : (ℤ → Bool) → Option ℤ → Bool
 of_number p None = false
 of_number p (Some z) = p z
 
-pub record IsKindOf (is_kind : CodeKind → Bool) (code : ℕ) : Type 0 where
-  pub alone : list_all (λ (row : Row). agree (is_kind row.kind) (row.code == code)) system_a_rows ≡ true
-  pub there : of_kind is_kind (row_of system_a_rows code) ≡ true
+pub record IsKindOf (system : System) (is_kind : CodeKind → Bool) (code : ℕ) : Type 0 where
+  pub alone : list_all (λ (row : Row). agree (is_kind row.kind) (row.code == code)) (rows_of_system system) ≡ true
+  pub there : of_kind is_kind (row_of (rows_of_system system) code) ≡ true
 
-kind_of_word : (is_kind : CodeKind → Bool) (code : ℕ) → IsKindOf is_kind code → (w : Option ℤ)
-    → of_number (is_g (code * 1000000)) w ≡ of_kind is_kind (row_of_number (whole_of_written w))
-kind_of_word is_kind code of None = refl
-kind_of_word is_kind code of (Some z) = go (is_g (code * 1000000) z) refl (whole_of_written (Some z)) refl
+kind_of_word : (system : System) (is_kind : CodeKind → Bool) (code : ℕ) → IsKindOf system is_kind code → (w : Option ℤ)
+    → of_number (is_g (code * 1000000)) w ≡ of_kind is_kind (row_of_number system (whole_of_written w))
+kind_of_word system is_kind code of None = refl
+kind_of_word system is_kind code of (Some z) = go (is_g (code * 1000000) z) refl (whole_of_written (Some z)) refl
   where
     is_that : (y : ℤ) → is_g (code * 1000000) y ≡ true → y ≡ pos (code * 1000000)
     is_that (pos n) e = ap pos (eqb-true n (code * 1000000) e)
     is_that (negsuc n) e = absurd (cc)
 
-    is_none : (k : ℕ) → is_g (code * 1000000) z ≡ false → whole_of_written (Some z) ≡ Some k → (row : Option Row) → row_of system_a_rows k ≡ row
-        → false ≡ of_kind is_kind row
+    is_none : (k : ℕ) → is_g (code * 1000000) z ≡ false → whole_of_written (Some z) ≡ Some k → (row : Option Row)
+        → row_of (rows_of_system system) k ≡ row → false ≡ of_kind is_kind row
     is_none k other whole None found = refl
     is_none k other whole (Some row) found = kind (is_kind row.kind) refl
       where
         kind : (b : Bool) → is_kind row.kind ≡ b → false ≡ b
         kind false e = refl
         kind true e =
-            let both = row_passes (λ (r : Row). agree (is_kind r.kind) (r.code == code)) k row found of.alone in
+            let both = row_passes system (λ (r : Row). agree (is_kind r.kind) (r.code == code)) k row found of.alone in
             let same : (row.code == code) ≡ true = subst (λ b. agree b (row.code == code) ≡ true) e both.1 in
             let k_is : k ≡ code = sym both.0 ∙ eqb-true row.code code same in
             let z_is : Some z ≡ Some (pos (code * 1000000)) = written_whole (Some z) k whole ∙ ap (λ n. Some (pos (n * 1000000))) k_is in
             let own : is_g (code * 1000000) z ≡ true = let e : z ≡ pos (code * 1000000) = cc in rw e (eq-eqb _ _ refl) in
             cc
 
-    go : (b : Bool) → is_g (code * 1000000) z ≡ b → (k : Option ℕ) → whole_of_written (Some z) ≡ k → b ≡ of_kind is_kind (row_of_number k)
+    go : (b : Bool) → is_g (code * 1000000) z ≡ b → (k : Option ℕ) → whole_of_written (Some z) ≡ k → b ≡ of_kind is_kind (row_of_number system k)
     go true e k whole =
         let code_is : k ≡ Some code = sym whole ∙ ap (λ y. whole_of_written (Some y)) (is_that z e) ∙ whole_written code in
         rw code_is (sym of.there)
     go false e None whole = refl
-    go false e (Some k) whole = is_none k e whole (row_of system_a_rows k) refl
+    go false e (Some k) whole = is_none k e whole (row_of (rows_of_system system) k) refl
 
 -- of the words of a block: G codes of so many millionths, and rows of the kind
-pub same_kind : (is_kind : CodeKind → Bool) (code : ℕ) → IsKindOf is_kind code → (texts : List Word) (words : List FlowWord) → AreSaid texts words
-    → list_any (is_g (code * 1000000)) (filter_map written texts) ≡ list_any (λ (row : Row). is_kind row.kind) (filter_map row_of_read words)
-same_kind is_kind code of _ _ none = refl
-same_kind is_kind code of _ _ (one_more text word texts words is others) =
-    go (written text) (row_of_read word)
-    (kind_of_word is_kind code of (written text) ∙ ap (of_kind is_kind) (same_row text word is))
-    (same_kind is_kind code of texts words others)
+pub same_kind : (system : System) (is_kind : CodeKind → Bool) (code : ℕ) → IsKindOf system is_kind code → (texts : List Word) (words : List FlowWord)
+    → AreSaid texts words
+    → list_any (is_g (code * 1000000)) (filter_map written texts) ≡ list_any (λ (row : Row). is_kind row.kind) (filter_map (row_of_read system) words)
+same_kind system is_kind code of _ _ none = refl
+same_kind system is_kind code of _ _ (one_more text word texts words is others) =
+    go (written text) (row_of_read system word)
+    (kind_of_word system is_kind code of (written text) ∙ ap (of_kind is_kind) (same_row system text word is))
+    (same_kind system is_kind code of texts words others)
   where
     go : (w : Option ℤ) (r : Option Row) → of_number (is_g (code * 1000000)) w ≡ of_kind is_kind r
-        → list_any (is_g (code * 1000000)) (filter_map written texts) ≡ list_any (λ (row : Row). is_kind row.kind) (filter_map row_of_read words)
+        → list_any (is_g (code * 1000000)) (filter_map written texts) ≡ list_any (λ (row : Row). is_kind row.kind) (filter_map (row_of_read system) words)
         → list_any (is_g (code * 1000000)) (cons_option w (filter_map written texts))
-        ≡ list_any (λ (row : Row). is_kind row.kind) (cons_option r (filter_map row_of_read words))
+        ≡ list_any (λ (row : Row). is_kind row.kind) (cons_option r (filter_map (row_of_read system) words))
     go None None e rest = rest
     go None (Some row) e rest = rw (sym e) rest
     go (Some z) None e rest = rw e rest
     go (Some z) (Some row) e rest = rw (e, rest) refl
 
-pub macro_is : IsKindOf is_macro_call 65
-macro_is = record { alone = refl; there = refl }
+pub macro_is : (system : System) → IsKindOf system is_macro_call 65
+macro_is A = record { alone = refl; there = refl }
+macro_is B = record { alone = refl; there = refl }
 
-pub setting_is : IsKindOf is_setting 10
-setting_is = record { alone = refl; there = refl }
+pub setting_is : (system : System) → IsKindOf system is_setting 10
+setting_is A = record { alone = refl; there = refl }
+setting_is B = record { alone = refl; there = refl }
 
 -- a dwell or a setting
-pub same_takes : (texts : List Word) (words : List FlowWord) → AreSaid texts words
-    → list_any (λ (t : Word). takes_p (row_of_word t)) texts
-    ≡ (list_any (λ (row : Row). is_dwell row.kind) (filter_map row_of_read words)
-    || list_any (λ (row : Row). is_setting row.kind) (filter_map row_of_read words))
-same_takes _ _ none = refl
-same_takes _ _ (one_more text word texts words is others) =
-    rw (same_row text word is, same_takes texts words others) (go (row_of_read word))
+pub same_takes : (system : System) (texts : List Word) (words : List FlowWord) → AreSaid texts words
+    → list_any (λ (t : Word). takes_p (row_of_word system t)) texts
+    ≡ (list_any (λ (row : Row). is_dwell row.kind) (filter_map (row_of_read system) words)
+    || list_any (λ (row : Row). is_setting row.kind) (filter_map (row_of_read system) words))
+same_takes system _ _ none = refl
+same_takes system _ _ (one_more text word texts words is others) =
+    rw (same_row system text word is, same_takes system texts words others) (go (row_of_read system word))
   where
     either : (a b c d : Bool) → ((a || b) || (c || d)) ≡ ((a || c) || (b || d))
     either true b c d = refl
@@ -156,44 +167,48 @@ same_takes _ _ (one_more text word texts words is others) =
     either false false c d = refl
 
     dwells : Bool
-    dwells = list_any (λ (row : Row). is_dwell row.kind) (filter_map row_of_read words)
+    dwells = list_any (λ (row : Row). is_dwell row.kind) (filter_map (row_of_read system) words)
 
     sets : Bool
-    sets = list_any (λ (row : Row). is_setting row.kind) (filter_map row_of_read words)
+    sets = list_any (λ (row : Row). is_setting row.kind) (filter_map (row_of_read system) words)
 
     go : (r : Option Row) → (takes_p r || (dwells || sets))
-        ≡ (list_any (λ (row : Row). is_dwell row.kind) (cons_option r (filter_map row_of_read words))
-        || list_any (λ (row : Row). is_setting row.kind) (cons_option r (filter_map row_of_read words)))
+        ≡ (list_any (λ (row : Row). is_dwell row.kind) (cons_option r (filter_map (row_of_read system) words))
+        || list_any (λ (row : Row). is_setting row.kind) (cons_option r (filter_map (row_of_read system) words)))
     go None = refl
     go (Some row) = either (is_dwell row.kind) (is_setting row.kind) dwells sets
 
 -- the G words of a block that reads in full have rows
-record HasRow (text : Word) : Type 0 where
+record HasRow (system : System) (text : Word) : Type 0 where
   row : Row
-  found : row_of_word text ≡ Some row
+  found : row_of_word system text ≡ Some row
   written : written text ≡ Some (pos (row.code * 1000000))
-  passes : (q : Row → Bool) → list_all q system_a_rows ≡ true → q row ≡ true
+  passes : (q : Row → Bool) → list_all q (rows_of_system system) ≡ true → q row ≡ true
 
-number_row : (n : Option ℕ) (row : Row) → row_of_number n ≡ Some row → n ≡ Some row.code
-number_row None row e = absurd (cc)
-number_row (Some k) row e = ap Some (sym (row_passes (λ _. true) k row e refl).0)
+number_row : (system : System) (n : Option ℕ) (row : Row) → row_of_number system n ≡ Some row → n ≡ Some row.code
+number_row system None row e = absurd (cc)
+number_row system (Some k) row e =
+    ap Some (sym (row_passes system (λ _. true) k row e (in_each (λ _. true) refl refl system)).0)
 
-row_passes_all : (n : Option ℕ) (row : Row) → row_of_number n ≡ Some row → (q : Row → Bool) → list_all q system_a_rows ≡ true → q row ≡ true
-row_passes_all None row e q all = absurd (cc)
-row_passes_all (Some k) row e q all = (row_passes q k row e all).1
+row_passes_all : (system : System) (n : Option ℕ) (row : Row) → row_of_number system n ≡ Some row → (q : Row → Bool)
+    → list_all q (rows_of_system system) ≡ true → q row ≡ true
+row_passes_all system None row e q all = absurd (cc)
+row_passes_all system (Some k) row e q all = (row_passes system q k row e all).1
 
-has_row : (text : Word) (word : FlowWord) → IsSaid text word → is_computed word.value ≡ false → is_unknown_code word ≡ false → HasRow text
-has_row text word is plain known = go (row_of_read word) refl
+has_row : (system : System) (text : Word) (word : FlowWord) → IsSaid text word → is_computed word.value ≡ false
+    → is_unknown_code system word ≡ false → HasRow system text
+has_row system text word is plain known = go (row_of_read system word) refl
   where
-    go : (r : Option Row) → row_of_read word ≡ r → HasRow text
-    go None e = let no : (not (is_computed word.value) && is_refused_row (row_of_read word)) ≡ true = rw (plain, e) refl in absurd (cc)
+    go : (r : Option Row) → row_of_read system word ≡ r → HasRow system text
+    go None e =
+        let no : (not (is_computed word.value) && is_refused_row (row_of_read system word)) ≡ true = rw (plain, e) refl in absurd (cc)
     go (Some row) e =
-        let here : row_of_number (number text) ≡ Some row = same_row text word is ∙ e in
+        let here : row_of_number system (number text) ≡ Some row = same_row system text word is ∙ e in
         record {
           row = row;
           found = here;
-          written = written_whole (written text) row.code (number_row (number text) row here);
-          passes = row_passes_all (number text) row here;
+          written = written_whole (written text) row.code (number_row system (number text) row here);
+          passes = row_passes_all system (number text) row here;
         }
 
 neither : (a b : Bool) → (a || b) ≡ false → (a ≡ false) × (b ≡ false)
@@ -205,22 +220,22 @@ not_false true e = absurd (cc)
 not_false false e = refl
 
 -- what no code of the table is, none of the block is
-pub no_such_g : (p : ℤ → Bool) → list_all (λ (row : Row). not (p (pos (row.code * 1000000)))) system_a_rows ≡ true
-    → (texts : List Word) (words : List FlowWord) → AreSaid texts words → list_any is_unknown_code words ≡ false
+pub no_such_g : (system : System) (p : ℤ → Bool) → list_all (λ (row : Row). not (p (pos (row.code * 1000000)))) (rows_of_system system) ≡ true
+    → (texts : List Word) (words : List FlowWord) → AreSaid texts words → list_any (is_unknown_code system) words ≡ false
     → list_any (λ (w : FlowWord). is_computed w.value) words ≡ false → list_any p (filter_map written texts) ≡ false
-no_such_g p all _ _ none known plain = refl
-no_such_g p all _ _ (one_more text word texts words is others) known plain =
+no_such_g system p all _ _ none known plain = refl
+no_such_g system p all _ _ (one_more text word texts words is others) known plain =
     let knows = neither _ _ known in
     let plains = neither _ _ plain in
-    let own = has_row text word is plains.0 knows.0 in
+    let own = has_row system text word is plains.0 knows.0 in
     let not_this : p (pos (own.row.code * 1000000)) ≡ false = not_false _ (own.passes (λ (row : Row). not (p (pos (row.code * 1000000)))) all) in
-    rw (own.written, not_this) (no_such_g p all texts words others knows.1 plains.1)
+    rw (own.written, not_this) (no_such_g system p all texts words others knows.1 plains.1)
 
-pub each_has_row : (texts : List Word) (words : List FlowWord) → AreSaid texts words → list_any is_unknown_code words ≡ false
-    → list_any (λ (w : FlowWord). is_computed w.value) words ≡ false → list_any (λ (t : Word). is_no_row (row_of_word t)) texts ≡ false
-each_has_row _ _ none known plain = refl
-each_has_row _ _ (one_more text word texts words is others) known plain =
+pub each_has_row : (system : System) (texts : List Word) (words : List FlowWord) → AreSaid texts words → list_any (is_unknown_code system) words ≡ false
+    → list_any (λ (w : FlowWord). is_computed w.value) words ≡ false → list_any (λ (t : Word). is_no_row (row_of_word system t)) texts ≡ false
+each_has_row system _ _ none known plain = refl
+each_has_row system _ _ (one_more text word texts words is others) known plain =
     let knows = neither _ _ known in
     let plains = neither _ _ plain in
-    let own = has_row text word is plains.0 knows.0 in
-    rw own.found (each_has_row texts words others knows.1 plains.1)
+    let own = has_row system text word is plains.0 knows.0 in
+    rw own.found (each_has_row system texts words others knows.1 plains.1)

@@ -14,7 +14,7 @@ use Rattle.macro_expr.specs.Statements.{statement_at, whole}
 use Rattle.macro_expr.specs.Grammar.{IsStatement}
 use Rattle.macro_expr.specs.Answers.{statement_of}
 use Rattle.macro_expr.proofs.StatementsSound.{whole-statement-sound}
-use Rattle.block_forms.specs.declared.waits.WaitCodes.{WaitCodes}
+use Rattle.block_forms.specs.declared.dialect.Dialect.{Dialect}
 use Rattle.block_forms.specs.declared.word.FlowWord.{FlowWord}
 use Rattle.block_forms.specs.Controls.{control_of_words, control_of_sentence}
 use Rattle.block_forms.specs.Forms.{Form, OfWords, OfSentence, BlockForm, block_at, form_at, form_or_refusal, form_of_words, form_of_sentence, sentence_or_refusal, words_or_refusal, control_of_form, judged, all_words, has_many_variables as closed_many, with_refusal as form_refusal}
@@ -43,57 +43,57 @@ sentence_widened text sentence clean reads =
     statement_leads text sentence (subst (λ t. IsStatement t sentence) clean (whole-statement-sound (cleaned false text) sentence whole_reads))
 
 -- words that are not refused
-judged_words : (waits : WaitCodes) (texts : List Word) (words : List FlowWord) → words_or_refusal waits texts ≡ Ok words
-    → (all_words texts ≡ Ok words) × (closed.refusal_of waits words ≡ None)
-judged_words waits texts words reads = go (all_words texts) (closed_many texts) reads
+judged_words : (dialect : Dialect) (texts : List Word) (words : List FlowWord) → words_or_refusal dialect texts ≡ Ok words
+    → (all_words texts ≡ Ok words) × (closed.refusal_of dialect words ≡ None)
+judged_words dialect texts words reads = go (all_words texts) (closed_many texts) reads
   where
     refused : (own : List FlowWord) (r : Option Cause) → form_refusal r own ≡ Ok words → (own ≡ words) × (r ≡ None)
     refused own (Some cause) e = absurd (cc)
     refused own None e = (cc, refl)
 
-    go : (read : Result (List FlowWord) ℕ) (many : Bool) → judged waits many read ≡ Ok words → (read ≡ Ok words) × (closed.refusal_of waits words ≡ None)
+    go : (read : Result (List FlowWord) ℕ) (many : Bool) → judged dialect many read ≡ Ok words → (read ≡ Ok words) × (closed.refusal_of dialect words ≡ None)
     go (Err number) many e = absurd (cc)
     go (Ok own) true e = absurd (cc)
     go (Ok own) false e =
-        let both = refused own (closed.refusal_of waits own) e in
-        (ap Ok both.0, subst (λ ws. closed.refusal_of waits ws ≡ None) both.0 both.1)
+        let both = refused own (closed.refusal_of dialect own) e in
+        (ap Ok both.0, subst (λ ws. closed.refusal_of dialect ws ≡ None) both.0 both.1)
 
-words_widened : (waits : WaitCodes) (texts : List Word) (words : List FlowWord) → words_or_refusal waits texts ≡ Ok words
-    → names_interrupt waits texts ≡ false → open_control_of_words waits texts ≡ Ok (control_of_words waits words)
-words_widened waits texts words reads plain =
-    let told = judged_words waits texts words reads in
+words_widened : (dialect : Dialect) (texts : List Word) (words : List FlowWord) → words_or_refusal dialect texts ≡ Ok words
+    → names_interrupt dialect texts ≡ false → open_control_of_words dialect texts ≡ Ok (control_of_words dialect words)
+words_widened dialect texts words reads plain =
+    let told = judged_words dialect texts words reads in
     let are = are_said texts words told.0 in
-    let given = accepted waits words told.1 in
-    ap (λ r. with_refusal r (control_by (role_of waits texts) waits texts)) (no_refusal waits texts words are given plain)
-    ∙ ap Ok (leads_there waits texts words are given)
+    let given = accepted dialect words told.1 in
+    ap (λ r. with_refusal r (control_by (role_of dialect texts) dialect texts)) (no_refusal dialect texts words are given plain)
+    ∙ ap Ok (leads_there dialect texts words are given)
 
-form_control : (waits : WaitCodes) (block : Block) (read : Result Form ℕ) (form : BlockForm) → block_at waits block read ≡ Ok form
-    → (own : Form) × ((read ≡ Ok own) × (control_of_form waits own ≡ form.control))
-form_control waits block (Err number) form e = absurd (cc)
-form_control waits block (Ok own) form e =
-    let same : form_at block.line block.sequence own (control_of_form waits own) ≡ form = cc in
+form_control : (block : Block) (read : Result Form ℕ) (form : BlockForm) → block_at block read ≡ Ok form
+    → (own : Form) × ((read ≡ Ok own) × (control_of_form own ≡ form.control))
+form_control block (Err number) form e = absurd (cc)
+form_control block (Ok own) form e =
+    let same : form_at block.line block.sequence own (control_of_form own) ≡ form = cc in
     (own, (refl, ap (λ f. f.control) same))
 
-body_widened : (waits : WaitCodes) (body : Body) (own : Form) → form_or_refusal waits body ≡ Ok own → has_interrupt waits body ≡ false
-    → IsClean body → open_control waits body ≡ Ok (control_of_form waits own)
-body_widened waits (Words texts) own reads plain clean = go (words_or_refusal waits texts) refl reads
+body_widened : (dialect : Dialect) (body : Body) (own : Form) → form_or_refusal dialect body ≡ Ok own → has_interrupt dialect body ≡ false
+    → IsClean body → open_control dialect body ≡ Ok (control_of_form own)
+body_widened dialect (Words texts) own reads plain clean = go (words_or_refusal dialect texts) refl reads
   where
-    go : (read : Result (List FlowWord) ℕ) → words_or_refusal waits texts ≡ read → form_of_words read ≡ Ok own
-        → open_control_of_words waits texts ≡ Ok (control_of_form waits own)
+    go : (read : Result (List FlowWord) ℕ) → words_or_refusal dialect texts ≡ read → form_of_words dialect read ≡ Ok own
+        → open_control_of_words dialect texts ≡ Ok (control_of_form own)
     go (Err number) at e = absurd (cc)
     go (Ok words) at e =
-        let same : OfWords words ≡ own = cc in
-        words_widened waits texts words at plain ∙ ap (λ f. Ok (control_of_form waits f)) same
-body_widened waits (Statement text) own reads plain clean = go (statement_of text) refl reads
+        let same : OfWords dialect words ≡ own = cc in
+        words_widened dialect texts words at plain ∙ ap (λ f. Ok (control_of_form f)) same
+body_widened dialect (Statement text) own reads plain clean = go (statement_of text) refl reads
   where
     go : (read : Result Sentence ExprFault) → statement_of text ≡ read → form_of_sentence (sentence_or_refusal read) ≡ Ok own
-        → control_of_statement text ≡ Ok (control_of_form waits own)
+        → control_of_statement text ≡ Ok (control_of_form own)
     go (Err fault) at e = absurd (cc)
     go (Ok sentence) at e =
         let same : OfSentence sentence ≡ own = cc in
-        sentence_widened text sentence clean at ∙ ap (λ f. Ok (control_of_form waits f)) same
+        sentence_widened text sentence clean at ∙ ap (λ f. Ok (control_of_form f)) same
 
-pub widened : (waits : WaitCodes) (block : Block) (form : BlockForm) → IsWidened waits block form
-widened waits block form reads plain clean =
-    let own = form_control waits block (form_or_refusal waits block.body) form reads in
-    body_widened waits block.body own.0 own.1.0 plain clean ∙ ap Ok own.1.1
+pub widened : (dialect : Dialect) (block : Block) (form : BlockForm) → IsWidened dialect block form
+widened dialect block form reads plain clean =
+    let own = form_control block (form_or_refusal dialect block.body) form reads in
+    body_widened dialect block.body own.0 own.1.0 plain clean ∙ ap Ok own.1.1

@@ -2,7 +2,7 @@
 use Rattle.std.specs.Prelude.{ℕ, Bool, true, false, not, ◌==◌, ◌&&◌, ◌||◌, nat_lt, nat_le, List, ℤ, pos, negsuc, codes, if◌then◌else◌}
 use Rattle.std.specs.List.{list_any, filter_map}
 use Rattle.nc_text.specs.declared.tape.Word.{Word}
-use Rattle.block_forms.specs.declared.waits.WaitCodes.{WaitCodes}
+use Rattle.block_forms.specs.declared.dialect.Dialect.{Dialect}
 use Rattle.block_forms.specs.Codes.{is_waiting}
 use Rattle.open_forms.specs.declared.role.Role.{Role}
 use Rattle.open_forms.specs.declared.role.Role.TheVariants.{MacroCall, Subprogram, Return, Wait, End, Roughing, Finishing, Other}
@@ -36,12 +36,12 @@ m_codes words = numbers_of (codes "M") words
 abbrev pub has_m : ℕ → List Word → Bool
 has_m code words = list_any (λ own. own == code) (m_codes words)
 
-abbrev pub has_wait : WaitCodes → List Word → Bool
-has_wait waits words = list_any (is_waiting waits) (m_codes words)
+abbrev pub has_wait : Dialect → List Word → Bool
+has_wait dialect words = list_any (is_waiting dialect) (m_codes words)
 
 -- M96, M97: interrupts; M198: a program of another memory
-abbrev pub is_refused_m : WaitCodes → ℕ → Bool
-is_refused_m waits code = not (is_waiting waits code) && ((code == 96 || code == 97) || code == 198)
+abbrev pub is_refused_m : Dialect → ℕ → Bool
+is_refused_m dialect code = not (is_waiting dialect code) && ((code == 96 || code == 97) || code == 198)
 
 -- codes beside which no other M code may stand
 abbrev pub is_lone_m : ℕ → Bool
@@ -66,11 +66,11 @@ cycle_of words =
     else if is_roughing words && has_contour words then Roughing
     else Other
 
-abbrev pub role_of : WaitCodes → List Word → Role
-role_of waits words =
+abbrev pub role_of : Dialect → List Word → Role
+role_of dialect words =
     if is_macro words then MacroCall
     else if has_m 98 words then Subprogram
     else if has_m 99 words then Return
-    else if has_wait waits words then Wait
+    else if has_wait dialect words then Wait
     else if has_m 2 words || has_m 30 words then End
     else cycle_of words

@@ -7,7 +7,7 @@ use Rattle.nc_text.specs.declared.tape.Body.{Body}
 use Rattle.nc_text.specs.declared.tape.Body.TheVariants.{Words, Statement}
 use Rattle.block_order.specs.declared.control.Control.{Control}
 use Rattle.block_order.specs.declared.control.Control.TheVariants as control
-use Rattle.block_forms.specs.declared.waits.WaitCodes.{WaitCodes}
+use Rattle.block_forms.specs.declared.dialect.Dialect.{Dialect}
 use Rattle.block_forms.specs.declared.fault.FormFault.{FormFault}
 use Rattle.block_forms.specs.Codes.{first_waiting}
 use Rattle.block_forms.specs.Controls.{or_number, call_of_p, back_to, wait_at}
@@ -23,27 +23,27 @@ repeats_of words = or_number 1 (last_number (codes "L") words)
 
 -- A block that is none of these goes on to the next one. Behind a roughing cycle the path goes on behind its contour, which it
 -- passes: to the next block, or to the contour's last one.
-abbrev pub control_by : Role → WaitCodes → List Word → Control
-control_by MacroCall waits words = control.Call (or_number 0 (last_number (codes "P") words)) (repeats_of words)
-control_by Subprogram waits words = call_of_p (or_number 0 (last_number (codes "P") words)) (repeats_of words)
-control_by Return waits words = back_to (last_number (codes "P") words)
-control_by Wait waits words = wait_at (first_waiting waits (m_codes words))
-control_by End waits words = control.End
-control_by Roughing waits words = control.Goto (last_number (codes "Q") words)
-control_by Finishing waits words = control.Next
-control_by Other waits words = control.Next
+abbrev pub control_by : Role → Dialect → List Word → Control
+control_by MacroCall dialect words = control.Call (or_number 0 (last_number (codes "P") words)) (repeats_of words)
+control_by Subprogram dialect words = call_of_p (or_number 0 (last_number (codes "P") words)) (repeats_of words)
+control_by Return dialect words = back_to (last_number (codes "P") words)
+control_by Wait dialect words = wait_at (first_waiting dialect (m_codes words))
+control_by End dialect words = control.End
+control_by Roughing dialect words = control.Goto (last_number (codes "Q") words)
+control_by Finishing dialect words = control.Next
+control_by Other dialect words = control.Next
 
 abbrev pub with_refusal : Option Cause → Control → Result Control Cause
 with_refusal None c = Ok c
 with_refusal (Some cause) c = Err cause
 
-abbrev pub control_of_words : WaitCodes → List Word → Result Control Cause
-control_of_words waits words = with_refusal (refusal_of waits words) (control_by (role_of waits words) waits words)
+abbrev pub control_of_words : Dialect → List Word → Result Control Cause
+control_of_words dialect words = with_refusal (refusal_of dialect words) (control_by (role_of dialect words) dialect words)
 
 -- what a block does to the order of blocks, or the least refusal that holds of it
-abbrev pub open_control : WaitCodes → Body → Result Control Cause
-open_control waits (Words words) = control_of_words waits words
-open_control waits (Statement text) = control_of_statement text
+abbrev pub open_control : Dialect → Body → Result Control Cause
+open_control dialect (Words words) = control_of_words dialect words
+open_control dialect (Statement text) = control_of_statement text
 
 -- what is answered: a refusal by its number
 abbrev pub numbered : Result Control Cause → Result Control FormFault

@@ -5,7 +5,8 @@ use Rattle.nc_number.specs.declared.cause.Cause.{Cause}
 use Rattle.nc_number.specs.declared.cause.Cause.TheVariants.{TooManyDigits, NotFixed, UnknownCode, WaitNotAlone, WaitPaths, TwoM, BadCall, WordRange}
 use Rattle.nc_text.specs.declared.tape.Word.{Word}
 use Rattle.code_tables.specs.declared.row.Row.{Row}
-use Rattle.block_forms.specs.declared.waits.WaitCodes.{WaitCodes}
+use Rattle.code_tables.specs.declared.system.System.{System}
+use Rattle.block_forms.specs.declared.dialect.Dialect.{Dialect}
 use Rattle.block_forms.specs.Words.{is_one_of}
 use Rattle.block_forms.specs.Codes.{row_of_number, is_dwell, is_setting}
 use Rattle.block_forms.specs.Refusals.{is_macro_row, is_both, is_many}
@@ -26,14 +27,14 @@ fixed_letters End = codes "GNOM"
 fixed_letters Other = codes "GNOM"
 
 -- 5: one of them has too many digits, or the L of G10, which may write parameters
-abbrev pub is_long : WaitCodes → List Word → Bool
-is_long waits words =
-    has_long (fixed_letters (role_of waits words)) words || (has_g 10000000 words && has_long (codes "L") words)
+abbrev pub is_long : Dialect → List Word → Bool
+is_long dialect words =
+    has_long (fixed_letters (role_of dialect words)) words || (has_g 10000000 words && has_long (codes "L") words)
 
 -- 54: one of them is computed, or the L of G10, which may write parameters
-abbrev pub is_not_fixed : WaitCodes → List Word → Bool
-is_not_fixed waits words =
-    has_computed (fixed_letters (role_of waits words)) words || (has_g 10000000 words && has_computed (codes "L") words)
+abbrev pub is_not_fixed : Dialect → List Word → Bool
+is_not_fixed dialect words =
+    has_computed (fixed_letters (role_of dialect words)) words || (has_g 10000000 words && has_computed (codes "L") words)
 
 -- G10 L50 to L52 write parameters
 abbrev pub is_parameter : ℕ → Bool
@@ -42,31 +43,31 @@ is_parameter n = nat_le 50 n && nat_le n 52
 abbrev pub writes_parameters : List Word → Bool
 writes_parameters words = has_g 10000000 words && list_any is_parameter (numbers_of (codes "L") words)
 
--- the row of the profile's table for a G word that is written out
-abbrev pub row_of_word : Word → Option Row
-row_of_word word = row_of_number (number word)
+-- the row of the system's table for a G word that is written out
+abbrev pub row_of_word : System → Word → Option Row
+row_of_word system word = row_of_number system (number word)
 
 abbrev pub is_no_row : Option Row → Bool
 is_no_row None = true
 is_no_row (Some row) = false
 
--- beside M98 and M99 stand G codes of the profile, and letters that can't say more of the call
-abbrev pub is_beside_a_call : List Word → Bool
-is_beside_a_call words =
+-- beside M98 and M99 stand G codes of the system, and letters that can't say more of the call
+abbrev pub is_beside_a_call : System → List Word → Bool
+is_beside_a_call system words =
     list_all (λ word. is_one_of (codes "XZUWIKRFSTNOMGPLABCEVY") word.letter) words
-    && not (list_any (λ word. is_no_row (row_of_word word)) (words_of (codes "G") words))
+    && not (list_any (λ word. is_no_row (row_of_word system word)) (words_of (codes "G") words))
 
 -- the first word is the G65 and no other is a G, N or O
-abbrev pub begins_macro_call : List Word → Bool
-begins_macro_call [] = false
-begins_macro_call (word ∷ words) =
-    (is_one_of (codes "G") word.letter && is_macro_row (row_of_word word)) && not (has (codes "GNO") words)
+abbrev pub begins_macro_call : System → List Word → Bool
+begins_macro_call system [] = false
+begins_macro_call system (word ∷ words) =
+    (is_one_of (codes "G") word.letter && is_macro_row (row_of_word system word)) && not (has (codes "GNO") words)
 
 -- 56: a code that leads elsewhere, or words that may
-abbrev pub is_unknown_by : Role → WaitCodes → List Word → Bool
-is_unknown_by MacroCall waits words = not (begins_macro_call words)
-is_unknown_by role waits words =
-    (list_any is_refused_g (g_values words) || list_any (is_refused_m waits) (m_codes words)) || writes_parameters words
+abbrev pub is_unknown_by : Role → Dialect → List Word → Bool
+is_unknown_by MacroCall dialect words = not (begins_macro_call dialect.system words)
+is_unknown_by role dialect words =
+    (list_any is_refused_g (g_values words) || list_any (is_refused_m dialect) (m_codes words)) || writes_parameters words
 
 abbrev pub is_contour : Role → Bool
 is_contour Roughing = true
@@ -74,29 +75,30 @@ is_contour Finishing = true
 is_contour role = false
 
 -- words beside a call or a return that may say more of it, or a contour beside an end
-abbrev pub is_crowded : Role → List Word → Bool
-is_crowded Subprogram words = not (is_beside_a_call words)
-is_crowded Return words = not (is_beside_a_call words)
-is_crowded End words = is_contour (cycle_of words)
-is_crowded role words = false
+abbrev pub is_crowded : Role → System → List Word → Bool
+is_crowded Subprogram system words = not (is_beside_a_call system words)
+is_crowded Return system words = not (is_beside_a_call system words)
+is_crowded End system words = is_contour (cycle_of words)
+is_crowded role system words = false
 
-abbrev pub is_unknown : WaitCodes → List Word → Bool
-is_unknown waits words = is_unknown_by (role_of waits words) waits words || is_crowded (role_of waits words) words
+abbrev pub is_unknown : Dialect → List Word → Bool
+is_unknown dialect words =
+    is_unknown_by (role_of dialect words) dialect words || is_crowded (role_of dialect words) dialect.system words
 
 -- the block waits for the other path: a macro call has arguments in place of M codes
-abbrev pub waits_there : WaitCodes → List Word → Bool
-waits_there waits words = not (is_macro words) && has_wait waits words
+abbrev pub waits_there : Dialect → List Word → Bool
+waits_there dialect words = not (is_macro words) && has_wait dialect words
 
 -- 57: a wait beside another word than P
-abbrev pub is_wait_not_alone : WaitCodes → List Word → Bool
-is_wait_not_alone waits words =
-    waits_there waits words && nat_lt 1 (length (words_of (codes "ABCDEFGHIJKLMNOQRSTUVWXYZ") words))
+abbrev pub is_wait_not_alone : Dialect → List Word → Bool
+is_wait_not_alone dialect words =
+    waits_there dialect words && nat_lt 1 (length (words_of (codes "ABCDEFGHIJKLMNOQRSTUVWXYZ") words))
 
 -- 58: its P is computed, or the last one does not name both paths
-abbrev pub is_wait_of_others : WaitCodes → List Word → Bool
-is_wait_of_others waits words =
-    waits_there waits words && has (codes "P") words
-    && (has_computed (codes "P") words || not (is_both waits.bits (last_number (codes "P") words)))
+abbrev pub is_wait_of_others : Dialect → List Word → Bool
+is_wait_of_others dialect words =
+    waits_there dialect words && has (codes "P") words
+    && (has_computed (codes "P") words || not (is_both dialect.bits (last_number (codes "P") words)))
 
 -- 59: an end, a call or a return beside another M code
 abbrev pub has_two_m : List Word → Bool
@@ -109,25 +111,26 @@ abbrev pub takes_p : Option Row → Bool
 takes_p None = false
 takes_p (Some row) = is_dwell row.kind || is_setting row.kind
 
-abbrev pub uses_p : List Word → Bool
-uses_p words = list_any (λ word. takes_p (row_of_word word)) (words_of (codes "G") words)
+abbrev pub uses_p : System → List Word → Bool
+uses_p system words = list_any (λ word. takes_p (row_of_word system word)) (words_of (codes "G") words)
 
 abbrev pub is_one_contour : List Word → Bool
 is_one_contour words =
     (length (words_of (codes "P") words) == 1 && length (words_of (codes "Q") words) == 1)
     && length (words_of (codes "G") words) == 1
 
-abbrev pub is_bad_call_by : Role → List Word → Bool
-is_bad_call_by MacroCall words = not (has (codes "P") words)
-is_bad_call_by Subprogram words =
-    (not (has (codes "P") words) || uses_p words) || (is_many (last_number (codes "P") words) && has (codes "L") words)
-is_bad_call_by Return words = has (codes "L") words || uses_p words
-is_bad_call_by Roughing words = not (is_one_contour words)
-is_bad_call_by Finishing words = not (is_one_contour words)
-is_bad_call_by role words = false
+abbrev pub is_bad_call_by : Role → System → List Word → Bool
+is_bad_call_by MacroCall system words = not (has (codes "P") words)
+is_bad_call_by Subprogram system words =
+    (not (has (codes "P") words) || uses_p system words)
+    || (is_many (last_number (codes "P") words) && has (codes "L") words)
+is_bad_call_by Return system words = has (codes "L") words || uses_p system words
+is_bad_call_by Roughing system words = not (is_one_contour words)
+is_bad_call_by Finishing system words = not (is_one_contour words)
+is_bad_call_by role system words = false
 
-abbrev pub is_bad_call : WaitCodes → List Word → Bool
-is_bad_call waits words = is_bad_call_by (role_of waits words) words
+abbrev pub is_bad_call : Dialect → List Word → Bool
+is_bad_call dialect words = is_bad_call_by (role_of dialect words) dialect.system words
 
 -- 64: an M code that is none; the P, L or Q of a call, a return or a contour out of its range
 abbrev pub is_within : ℕ → ℕ → Option ℕ → Bool
@@ -148,20 +151,20 @@ is_in_range_by Roughing words = are_in 1 99999 (codes "PQ") words
 is_in_range_by Finishing words = are_in 1 99999 (codes "PQ") words
 is_in_range_by role words = true
 
-abbrev pub is_out_of_range : WaitCodes → List Word → Bool
-is_out_of_range waits words =
-    not (is_in_range_by (role_of waits words) words)
+abbrev pub is_out_of_range : Dialect → List Word → Bool
+is_out_of_range dialect words =
+    not (is_in_range_by (role_of dialect words) words)
     || (not (is_macro words) && not (are_in 0 99999999 (codes "M") words))
 
 -- of several the one of the least number
-abbrev pub refusal_of : WaitCodes → List Word → Option Cause
-refusal_of waits words =
-    if is_long waits words then Some TooManyDigits
-    else if is_not_fixed waits words then Some NotFixed
-    else if is_unknown waits words then Some UnknownCode
-    else if is_wait_not_alone waits words then Some WaitNotAlone
-    else if is_wait_of_others waits words then Some WaitPaths
+abbrev pub refusal_of : Dialect → List Word → Option Cause
+refusal_of dialect words =
+    if is_long dialect words then Some TooManyDigits
+    else if is_not_fixed dialect words then Some NotFixed
+    else if is_unknown dialect words then Some UnknownCode
+    else if is_wait_not_alone dialect words then Some WaitNotAlone
+    else if is_wait_of_others dialect words then Some WaitPaths
     else if has_two_m words then Some TwoM
-    else if is_bad_call waits words then Some BadCall
-    else if is_out_of_range waits words then Some WordRange
+    else if is_bad_call dialect words then Some BadCall
+    else if is_out_of_range dialect words then Some WordRange
     else None

@@ -7,18 +7,18 @@ use Rattle.nc_text.specs.declared.tape.Program.{Program}
 use Rattle.nc_text.specs.declared.tape.Body.{Body}
 use Rattle.nc_text.specs.declared.tape.Body.TheVariants.{Words, Statement}
 use Rattle.macro_expr.specs.Limits.{cleaned}
-use Rattle.block_forms.specs.declared.waits.WaitCodes.{WaitCodes}
+use Rattle.block_forms.specs.declared.dialect.Dialect.{Dialect}
 use Rattle.block_forms.specs.Forms.{BlockForm, block_or_refusal}
 use Rattle.open_forms.specs.Codes.{m_codes, is_refused_m, is_macro}
 use Rattle.open_forms.specs.Controls.{open_control}
 
 -- M96, M97 or M198, where it is no argument of a macro call and no wait of the settings
-abbrev pub names_interrupt : WaitCodes → List Word → Bool
-names_interrupt waits words = not (is_macro words) && list_any (is_refused_m waits) (m_codes words)
+abbrev pub names_interrupt : Dialect → List Word → Bool
+names_interrupt dialect words = not (is_macro words) && list_any (is_refused_m dialect) (m_codes words)
 
-abbrev pub has_interrupt : WaitCodes → Body → Bool
-has_interrupt waits (Words words) = names_interrupt waits words
-has_interrupt waits (Statement text) = false
+abbrev pub has_interrupt : Dialect → Body → Bool
+has_interrupt dialect (Words words) = names_interrupt dialect words
+has_interrupt dialect (Statement text) = false
 
 -- a statement without blanks and comments and in upper case, as it stands in a block that was read
 abbrev pub IsClean : Body → Type 0
@@ -35,7 +35,7 @@ IsCleanTape [] = Unit {0}
 IsCleanTape (program ∷ programs) = AreClean program.blocks × IsCleanTape programs
 
 -- Where the full reading accepts the block, the open one leads to the same place.
-abbrev pub IsWidened : WaitCodes → Block → BlockForm → Type 0
-IsWidened waits block form =
-    block_or_refusal waits block ≡ Ok form → has_interrupt waits block.body ≡ false → IsClean block.body
-    → open_control waits block.body ≡ Ok form.control
+abbrev pub IsWidened : Dialect → Block → BlockForm → Type 0
+IsWidened dialect block form =
+    block_or_refusal dialect block ≡ Ok form → has_interrupt dialect block.body ≡ false → IsClean block.body
+    → open_control dialect block.body ≡ Ok form.control

@@ -4,7 +4,7 @@ ghost use Rattle.open_forms.specs.Codes.{is_g, has_g, leads_elsewhere, is_refuse
 
 use crate::letters::{has, number, written};
 use crate::role::Role;
-use block_forms::{WaitCodes, is_one_of};
+use block_forms::{Dialect, is_one_of};
 use nc_text::Word;
 
 /// Whether so many millionths are those.
@@ -54,33 +54,33 @@ pub(crate) fn has_m(words: &[Word], code: u32) -> bool
 }
 
 /// Whether the block has a waiting M code.
-pub(crate) fn has_wait(words: &[Word], waits: WaitCodes) -> bool
-    ensures { result ≡ has_wait waits words.now }
+pub(crate) fn has_wait(words: &[Word], dialect: Dialect) -> bool
+    ensures { result ≡ has_wait dialect words.now }
 {
     words
         .iter()
         .filter(|word| is_one_of(b"M", word.letter))
         .filter_map(|word| number(word))
-        .any(|code| waits.is_waiting(code))
+        .any(|code| dialect.is_waiting(code))
 }
 
 /// The first waiting M code of the block.
-fn find_waiting(words: &[Word], waits: WaitCodes) -> Option<u32>
-    ensures { result ≡ first_waiting waits (m_codes words.now) }
+fn find_waiting(words: &[Word], dialect: Dialect) -> Option<u32>
+    ensures { result ≡ first_waiting dialect (m_codes words.now) }
 {
     words
         .iter()
         .filter(|word| is_one_of(b"M", word.letter))
         .filter_map(|word| number(word))
-        .find(|code| waits.is_waiting(*code))
+        .find(|code| dialect.is_waiting(*code))
 }
 
 /// The first waiting M code of the block, which is none above the last waiting code.
 #[tactic(auto, using(block_forms::proofs::Waiting::first_waiting_is_below))]
-pub(crate) fn first_waiting(words: &[Word], waits: WaitCodes) -> Option<u16>
-    ensures { result ≡ first_waiting waits (m_codes words.now) }
+pub(crate) fn first_waiting(words: &[Word], dialect: Dialect) -> Option<u16>
+    ensures { result ≡ first_waiting dialect (m_codes words.now) }
 {
-    match find_waiting(words, waits) {
+    match find_waiting(words, dialect) {
         Some(code) => Some(code as u16),
         None => None,
     }
@@ -88,10 +88,10 @@ pub(crate) fn first_waiting(words: &[Word], waits: WaitCodes) -> Option<u16>
 
 /// Whether the M code is an interrupt, M96 or M97, or calls a program of another memory, M198, and no
 /// wait of the settings.
-pub(crate) fn is_refused_m(waits: WaitCodes, code: u32) -> bool
-    ensures { result ≡ is_refused_m waits code }
+pub(crate) fn is_refused_m(dialect: Dialect, code: u32) -> bool
+    ensures { result ≡ is_refused_m dialect code }
 {
-    !waits.is_waiting(code) && (code == 96 || code == 97 || code == 198)
+    !dialect.is_waiting(code) && (code == 96 || code == 97 || code == 198)
 }
 
 /// Whether no other M code may stand beside this one: an end, a call or a return.
@@ -129,8 +129,8 @@ pub(crate) fn cycle_of(words: &[Word]) -> Role
 }
 
 /// What decides where the block leads.
-pub(crate) fn role_of(waits: WaitCodes, words: &[Word]) -> Role
-    ensures { result ≡ role_of waits words.now }
+pub(crate) fn role_of(dialect: Dialect, words: &[Word]) -> Role
+    ensures { result ≡ role_of dialect words.now }
 {
     if has_g(words, 65_000_000) {
         Role::MacroCall
@@ -138,7 +138,7 @@ pub(crate) fn role_of(waits: WaitCodes, words: &[Word]) -> Role
         Role::Subprogram
     } else if has_m(words, 99) {
         Role::Return
-    } else if has_wait(words, waits) {
+    } else if has_wait(words, dialect) {
         Role::Wait
     } else if has_m(words, 2) || has_m(words, 30) {
         Role::End

@@ -9,7 +9,7 @@ use crate::codes::{first_waiting, role_of};
 use crate::letters::last_number;
 use crate::refusals::refusal_of;
 use crate::role::Role;
-use block_forms::WaitCodes;
+use block_forms::Dialect;
 use block_order::Control;
 use nc_number::Cause;
 use nc_text::Word;
@@ -63,10 +63,10 @@ fn wait_at(code: Option<u16>) -> Control
 }
 
 /// Where a block of this role leads, where it is not refused.
-fn control_by(role: Role, waits: WaitCodes, words: &[Word]) -> Control
-    requires role { role ≡ role_of waits words.now }
-    requires accepted { refusal_of waits words.now ≡ None }
-    ensures { result ≡ control_by role waits words.now }
+fn control_by(role: Role, dialect: Dialect, words: &[Word]) -> Control
+    requires role { role ≡ role_of dialect words.now }
+    requires accepted { refusal_of dialect words.now ≡ None }
+    ensures { result ≡ control_by role dialect words.now }
 {
     match role {
         Role::MacroCall => Control::Call {
@@ -78,7 +78,7 @@ fn control_by(role: Role, waits: WaitCodes, words: &[Word]) -> Control
             None => call_of_p(0, number_or(words, b"L", 1)),
         },
         Role::Return => back_to(last_number(words, b"P")),
-        Role::Wait => wait_at(first_waiting(words, waits)),
+        Role::Wait => wait_at(first_waiting(words, dialect)),
         Role::End => Control::End,
         Role::Roughing => Control::Goto(last_number(words, b"Q")),
         Role::Finishing | Role::Other => Control::Next,
@@ -86,12 +86,12 @@ fn control_by(role: Role, waits: WaitCodes, words: &[Word]) -> Control
 }
 
 /// What a block of words does to the order of blocks, or the least refusal that holds of it.
-pub(crate) fn control_of_words(waits: WaitCodes, words: &[Word]) -> Result<Control, Cause>
-    ensures { result ≡ control_of_words waits words.now }
+pub(crate) fn control_of_words(dialect: Dialect, words: &[Word]) -> Result<Control, Cause>
+    ensures { result ≡ control_of_words dialect words.now }
 {
-    let role = role_of(waits, words);
-    match refusal_of(role, waits, words) {
+    let role = role_of(dialect, words);
+    match refusal_of(role, dialect, words) {
         Some(cause) => Err(cause),
-        None => Ok(control_by(role, waits, words)),
+        None => Ok(control_by(role, dialect, words)),
     }
 }

@@ -2,14 +2,14 @@ ghost use Rattle.std.specs.Prelude.{◌≡◌, ℕ, List, Ok};
 ghost use Rattle.nc_text.specs.declared.tape.Block.{Block};
 ghost use Rattle.nc_text.specs.declared.tape.Program.{Program};
 ghost use Rattle.nc_text.specs.Tape.{tape_of};
-ghost use Rattle.block_forms.specs.declared.waits.WaitCodes.{WaitCodes};
+ghost use Rattle.block_forms.specs.declared.dialect.Dialect.{Dialect};
 ghost use Rattle.block_forms.specs.Forms.{BlockForm};
 ghost use Rattle.open_forms.specs.Widening.{IsWidened, IsCleanTape};
 
 /// A block that the full reading accepts leads where its open reading says, unless it has M96, M97 or
 /// M198, which the full reading takes for plain codes.
 pub fn what_reads_in_full_leads_where_it_said()
-    ensures { (waits : WaitCodes) (block : Block) (form : BlockForm) → IsWidened waits block form }
+    ensures { (dialect : Dialect) (block : Block) (form : BlockForm) → IsWidened dialect block form }
 {}
 
 /// In each tape that was read the statements stand without blanks and comments and in upper case, as the

@@ -3,7 +3,7 @@ ghost use Rattle.open_forms.specs.Controls.{open_control, numbered};
 
 use crate::controls::control_of_words;
 use crate::statement::control_of_statement;
-use block_forms::{FormFault, WaitCodes};
+use block_forms::{Dialect, FormFault};
 use block_order::Control;
 use nc_number::Cause;
 use nc_text::{Block, Body};
@@ -25,11 +25,11 @@ fn numbered(read: Result<Control, Cause>) -> Result<Control, FormFault>
 /// Nothing else that it says is looked into. It is refused where its control can't be told, and where
 /// a code of it may call or wait in a way that is not known here: of several refusals with the one of
 /// the least number, 5, 20, 22, 24, 54, 56 to 59, 61 or 64.
-pub fn open_control(block: &Block, waits: &WaitCodes) -> Result<Control, FormFault>
-    ensures { result ≡ numbered (open_control waits.now block.now.body) }
+pub fn open_control(block: &Block, dialect: &Dialect) -> Result<Control, FormFault>
+    ensures { result ≡ numbered (open_control dialect.now block.now.body) }
 {
     match &block.body {
-        Body::Words(words) => numbered(control_of_words(*waits, words.as_slice())),
+        Body::Words(words) => numbered(control_of_words(*dialect, words.as_slice())),
         Body::Statement(text) => numbered(control_of_statement(text.as_slice())),
     }
 }

@@ -1,7 +1,5 @@
 ghost use Rattle.std.specs.Prelude.{◌≡◌, codes};
 ghost use Rattle.std.specs.List.{list_any, list_all};
-ghost use Rattle.code_tables.specs.Codes.{row_of};
-ghost use Rattle.code_tables.specs.SystemA.{system_a_rows};
 ghost use Rattle.block_forms.specs.Words.{is_one_of};
 ghost use Rattle.block_forms.specs.Refusals.{is_macro_row, is_both, is_many, names_both};
 ghost use Rattle.open_forms.specs.Words.{words_of, numbers_of, last_number};
@@ -11,8 +9,8 @@ ghost use Rattle.open_forms.specs.Refusals.{fixed_letters, is_long, is_not_fixed
 use crate::codes::{cycle_of, has_g, has_wait, is_lone_m, is_refused_g, is_refused_m};
 use crate::letters::{count_of, has, has_computed, has_long, last_number, number, written};
 use crate::role::Role;
-use block_forms::{WaitCodes, is_one_of};
-use code_tables::{CodeKind, Row, system_a};
+use block_forms::{Dialect, is_one_of, row_of};
+use code_tables::{CodeKind, Row, System};
 use nc_number::Cause;
 use nc_text::Word;
 
@@ -34,9 +32,9 @@ fn fixed_letters(role: Role) -> &'static [u8]
 }
 
 /// 54: a word that must be written out is computed, or the L of G10, which may write parameters.
-fn is_not_fixed(role: Role, waits: WaitCodes, words: &[Word]) -> bool
-    requires { role ≡ role_of waits words.now }
-    ensures { result ≡ is_not_fixed waits words.now }
+fn is_not_fixed(role: Role, dialect: Dialect, words: &[Word]) -> bool
+    requires { role ≡ role_of dialect words.now }
+    ensures { result ≡ is_not_fixed dialect words.now }
 {
     has_computed(words, fixed_letters(role)) || (has_computed(words, b"L") && has_g(words, SETTING))
 }
@@ -64,39 +62,29 @@ fn names_parameters(words: &[Word]) -> bool
         .any(|kind| is_parameter(kind))
 }
 
-/// The row of a G code, if the profile has one.
-fn row_of(code: u32) -> Option<Row>
-    ensures { result ≡ row_of system_a_rows code }
-{
-    if code > 65_535 {
-        return None;
-    }
-    system_a().find(code as u16)
-}
-
-/// The row of a G word that is written out, if the profile has one.
-fn row_of_word(word: &Word) -> Option<Row>
-    ensures { result ≡ row_of_word word.now }
+/// The row of a G word that is written out, if the system has one.
+fn row_of_word(system: System, word: &Word) -> Option<Row>
+    ensures { result ≡ row_of_word system word.now }
 {
     match number(word) {
-        Some(code) => row_of(code),
+        Some(code) => row_of(system, code),
         None => None,
     }
 }
 
-fn has_no_row(word: &Word) -> bool
-    ensures { result ≡ is_no_row (row_of_word word.now) }
+fn has_no_row(system: System, word: &Word) -> bool
+    ensures { result ≡ is_no_row (row_of_word system word.now) }
 {
-    row_of_word(word).is_none()
+    row_of_word(system, word).is_none()
 }
 
-fn has_code_without_row(words: &[Word]) -> bool
-    ensures { result ≡ list_any (λ word. is_no_row (row_of_word word)) (words_of (codes "G") words.now) }
+fn has_code_without_row(system: System, words: &[Word]) -> bool
+    ensures { result ≡ list_any (λ word. is_no_row (row_of_word system word)) (words_of (codes "G") words.now) }
 {
     words
         .iter()
         .filter(|word| is_one_of(b"G", word.letter))
-        .any(|word| has_no_row(word))
+        .any(|word| has_no_row(system, word))
 }
 
 /// Whether all words are of these letters.
@@ -106,11 +94,11 @@ fn are_of(words: &[Word], letters: &[u8]) -> bool
     words.iter().all(|word| is_one_of(letters, word.letter))
 }
 
-/// Whether only G codes of the profile, and letters that can't say more of a call, stand there.
-fn is_beside_a_call(words: &[Word]) -> bool
-    ensures { result ≡ is_beside_a_call words.now }
+/// Whether only G codes of the system, and letters that can't say more of a call, stand there.
+fn is_beside_a_call(system: System, words: &[Word]) -> bool
+    ensures { result ≡ is_beside_a_call system words.now }
 {
-    are_of(words, b"XZUWIKRFSTNOMGPLABCEVY") && !has_code_without_row(words)
+    are_of(words, b"XZUWIKRFSTNOMGPLABCEVY") && !has_code_without_row(system, words)
 }
 
 /// Whether it is the row of a macro call.
@@ -124,13 +112,15 @@ fn is_macro_row(row: Option<Row>) -> bool
 }
 
 /// Whether the first word is the G65, and no other is a G word, or a computed N or O.
-fn begins_macro_call(words: &[Word]) -> bool
-    ensures { result ≡ begins_macro_call words.now }
+fn begins_macro_call(system: System, words: &[Word]) -> bool
+    ensures { result ≡ begins_macro_call system words.now }
 {
     match words {
         [] => false,
         [first, rest @ ..] => {
-            is_one_of(b"G", first.letter) && is_macro_row(row_of_word(first)) && !has(rest, b"GNO")
+            is_one_of(b"G", first.letter)
+                && is_macro_row(row_of_word(system, first))
+                && !has(rest, b"GNO")
         }
     }
 }
@@ -145,23 +135,23 @@ fn has_refused_g(words: &[Word]) -> bool
         .any(|micro| is_refused_g(micro))
 }
 
-fn has_refused_m(waits: WaitCodes, words: &[Word]) -> bool
-    ensures { result ≡ list_any (is_refused_m waits) (m_codes words.now) }
+fn has_refused_m(dialect: Dialect, words: &[Word]) -> bool
+    ensures { result ≡ list_any (is_refused_m dialect) (m_codes words.now) }
 {
     words
         .iter()
         .filter(|word| is_one_of(b"M", word.letter))
         .filter_map(|word| number(word))
-        .any(|code| is_refused_m(waits, code))
+        .any(|code| is_refused_m(dialect, code))
 }
 
 /// Whether a code may call or wait in a way that is not known here.
-fn is_unknown_by(role: Role, waits: WaitCodes, words: &[Word]) -> bool
-    ensures { result ≡ is_unknown_by role waits words.now }
+fn is_unknown_by(role: Role, dialect: Dialect, words: &[Word]) -> bool
+    ensures { result ≡ is_unknown_by role dialect words.now }
 {
     match role {
-        Role::MacroCall => !begins_macro_call(words),
-        _ => has_refused_g(words) || has_refused_m(waits, words) || writes_parameters(words),
+        Role::MacroCall => !begins_macro_call(dialect.system, words),
+        _ => has_refused_g(words) || has_refused_m(dialect, words) || writes_parameters(words),
     }
 }
 
@@ -172,36 +162,36 @@ fn is_contour(role: Role) -> bool
 }
 
 /// Whether words beside a call or a return may say more of it, or a contour stands beside an end.
-fn is_crowded(role: Role, words: &[Word]) -> bool
-    ensures { result ≡ is_crowded role words.now }
+fn is_crowded(role: Role, system: System, words: &[Word]) -> bool
+    ensures { result ≡ is_crowded role system words.now }
 {
     match role {
-        Role::Subprogram | Role::Return => !is_beside_a_call(words),
+        Role::Subprogram | Role::Return => !is_beside_a_call(system, words),
         Role::End => is_contour(cycle_of(words)),
         _ => false,
     }
 }
 
 /// 56: a code that may lead elsewhere, or words that may.
-fn is_unknown(role: Role, waits: WaitCodes, words: &[Word]) -> bool
-    requires { role ≡ role_of waits words.now }
-    ensures { result ≡ is_unknown waits words.now }
+fn is_unknown(role: Role, dialect: Dialect, words: &[Word]) -> bool
+    requires { role ≡ role_of dialect words.now }
+    ensures { result ≡ is_unknown dialect words.now }
 {
-    is_unknown_by(role, waits, words) || is_crowded(role, words)
+    is_unknown_by(role, dialect, words) || is_crowded(role, dialect.system, words)
 }
 
 /// Whether the block waits for the other path.
-fn waits_there(waits: WaitCodes, words: &[Word]) -> bool
-    ensures { result ≡ waits_there waits words.now }
+fn waits_there(dialect: Dialect, words: &[Word]) -> bool
+    ensures { result ≡ waits_there dialect words.now }
 {
-    has_wait(words, waits) && !has_g(words, MACRO_CALL)
+    has_wait(words, dialect) && !has_g(words, MACRO_CALL)
 }
 
 /// 57: a wait beside another word than P.
-fn is_wait_not_alone(waits: WaitCodes, words: &[Word]) -> bool
-    ensures { result ≡ is_wait_not_alone waits words.now }
+fn is_wait_not_alone(dialect: Dialect, words: &[Word]) -> bool
+    ensures { result ≡ is_wait_not_alone dialect words.now }
 {
-    waits_there(waits, words) && 1 < count_of(words, b"ABCDEFGHIJKLMNOQRSTUVWXYZ")
+    waits_there(dialect, words) && 1 < count_of(words, b"ABCDEFGHIJKLMNOQRSTUVWXYZ")
 }
 
 /// Whether the P of a wait names both paths: 3 by bits, 12 or 21 by their numbers.
@@ -226,12 +216,12 @@ fn is_both(bits: bool, words: &[Word]) -> bool
 }
 
 /// 58: the P of a wait is computed, or the last one does not name both paths.
-fn is_wait_of_others(waits: WaitCodes, words: &[Word]) -> bool
-    ensures { result ≡ is_wait_of_others waits words.now }
+fn is_wait_of_others(dialect: Dialect, words: &[Word]) -> bool
+    ensures { result ≡ is_wait_of_others dialect words.now }
 {
-    waits_there(waits, words)
+    waits_there(dialect, words)
         && has(words, b"P")
-        && (has_computed(words, b"P") || !is_both(waits.bits, words))
+        && (has_computed(words, b"P") || !is_both(dialect.bits, words))
 }
 
 fn has_lone_m(words: &[Word]) -> bool
@@ -252,22 +242,22 @@ fn has_two_m(words: &[Word]) -> bool
 }
 
 /// Whether the G word is a dwell or the setting of an offset, whose P is its own.
-fn takes_p(word: &Word) -> bool
-    ensures { result ≡ takes_p (row_of_word word.now) }
+fn takes_p(system: System, word: &Word) -> bool
+    ensures { result ≡ takes_p (row_of_word system word.now) }
 {
-    match row_of_word(word) {
+    match row_of_word(system, word) {
         Some(row) => matches!(row.kind, CodeKind::Dwell | CodeKind::Setting),
         None => false,
     }
 }
 
-fn uses_p(words: &[Word]) -> bool
-    ensures { result ≡ uses_p words.now }
+fn uses_p(system: System, words: &[Word]) -> bool
+    ensures { result ≡ uses_p system words.now }
 {
     words
         .iter()
         .filter(|word| is_one_of(b"G", word.letter))
-        .any(|word| takes_p(word))
+        .any(|word| takes_p(system, word))
 }
 
 /// Whether one P, one Q and one G word stand there.
@@ -289,15 +279,15 @@ fn has_repeats(words: &[Word]) -> bool
 
 /// 61: a call without its program, repeats twice over, L of a return, P of a dwell or an offset beside a
 /// call, half a contour.
-fn is_bad_call(role: Role, words: &[Word]) -> bool
-    ensures { result ≡ is_bad_call_by role words.now }
+fn is_bad_call(role: Role, system: System, words: &[Word]) -> bool
+    ensures { result ≡ is_bad_call_by role system words.now }
 {
     match role {
         Role::MacroCall => !has(words, b"P"),
         Role::Subprogram => {
-            !has(words, b"P") || uses_p(words) || (has_repeats(words) && has(words, b"L"))
+            !has(words, b"P") || uses_p(system, words) || (has_repeats(words) && has(words, b"L"))
         }
-        Role::Return => has(words, b"L") || uses_p(words),
+        Role::Return => has(words, b"L") || uses_p(system, words),
         Role::Roughing | Role::Finishing => !is_one_contour(words),
         Role::Wait | Role::End | Role::Other => false,
     }
@@ -335,41 +325,41 @@ fn is_in_range(role: Role, words: &[Word]) -> bool
 }
 
 /// 64: an M code that is none; the P, L or Q of a call, a return or a contour out of its range.
-fn is_out_of_range(role: Role, waits: WaitCodes, words: &[Word]) -> bool
-    requires { role ≡ role_of waits words.now }
-    ensures { result ≡ is_out_of_range waits words.now }
+fn is_out_of_range(role: Role, dialect: Dialect, words: &[Word]) -> bool
+    requires { role ≡ role_of dialect words.now }
+    ensures { result ≡ is_out_of_range dialect words.now }
 {
     !is_in_range(role, words) || (!are_in(words, b"M", 0, 99_999_999) && !has_g(words, MACRO_CALL))
 }
 
 /// 5: a word that must be written out has too many digits, or the L of G10, which may write parameters.
-fn is_long(role: Role, waits: WaitCodes, words: &[Word]) -> bool
-    requires { role ≡ role_of waits words.now }
-    ensures { result ≡ is_long waits words.now }
+fn is_long(role: Role, dialect: Dialect, words: &[Word]) -> bool
+    requires { role ≡ role_of dialect words.now }
+    ensures { result ≡ is_long dialect words.now }
 {
     has_long(words, fixed_letters(role)) || (has_long(words, b"L") && has_g(words, SETTING))
 }
 
 /// Why the block is refused: of the refusals that hold of it the one of the least number.
-pub(crate) fn refusal_of(role: Role, waits: WaitCodes, words: &[Word]) -> Option<Cause>
-    requires { role ≡ role_of waits words.now }
-    ensures { result ≡ refusal_of waits words.now }
+pub(crate) fn refusal_of(role: Role, dialect: Dialect, words: &[Word]) -> Option<Cause>
+    requires { role ≡ role_of dialect words.now }
+    ensures { result ≡ refusal_of dialect words.now }
 {
-    if is_long(role, waits, words) {
+    if is_long(role, dialect, words) {
         Some(Cause::TooManyDigits)
-    } else if is_not_fixed(role, waits, words) {
+    } else if is_not_fixed(role, dialect, words) {
         Some(Cause::NotFixed)
-    } else if is_unknown(role, waits, words) {
+    } else if is_unknown(role, dialect, words) {
         Some(Cause::UnknownCode)
-    } else if is_wait_not_alone(waits, words) {
+    } else if is_wait_not_alone(dialect, words) {
         Some(Cause::WaitNotAlone)
-    } else if is_wait_of_others(waits, words) {
+    } else if is_wait_of_others(dialect, words) {
         Some(Cause::WaitPaths)
     } else if has_two_m(words) {
         Some(Cause::TwoM)
-    } else if is_bad_call(role, words) {
+    } else if is_bad_call(role, dialect.system, words) {
         Some(Cause::BadCall)
-    } else if is_out_of_range(role, waits, words) {
+    } else if is_out_of_range(role, dialect, words) {
         Some(Cause::WordRange)
     } else {
         None

@@ -100,7 +100,7 @@ line_at gone block (Err own) fault is =
 line_of_refusal : (basis : Basis) (block : Block) (fault : FlowFault) → block_read basis block ≡ Err fault
     → block.line ≡ fault.line
 line_of_refusal basis block fault is =
-    line_at (gone_from basis) block (numbered (open_control basis.premises.waits block.body)) fault is
+    line_at (gone_from basis) block (numbered (open_control basis.premises.dialect block.body)) fault is
 
 -- if a block is refused, its line is no less
 abbrev pub IsNoEarlier : Basis → FlowFault → Block → Type 0

@@ -30,7 +30,7 @@ line_kept_at gone block (Err fault) = tt
 
 line_kept : (basis : Basis) (block : Block) → IfOk (block_read basis block) (λ c. c.line ≡ block.line)
 line_kept basis block =
-    line_kept_at (gone_from basis) block (numbered (open_control basis.premises.waits block.body))
+    line_kept_at (gone_from basis) block (numbered (open_control basis.premises.dialect block.body))
 
 abbrev control_lines : List ControlBlock → List ℕ
 control_lines blocks = map (λ block. block.line) blocks

@@ -34,7 +34,7 @@ gone_from basis number = is_gone basis.premises.outside basis.tape number
 -- a block as far as the order of blocks goes, or its refusal
 abbrev pub block_read : Basis → Block → Result ControlBlock FlowFault
 block_read basis block =
-    at_line (gone_from basis) block (numbered (open_control basis.premises.waits block.body))
+    at_line (gone_from basis) block (numbered (open_control basis.premises.dialect block.body))
 
 -- the blocks after those that are read, or the first refusal
 abbrev pub blocks_from : Basis → List ControlBlock → List Block → Result (List ControlBlock) FlowFault

@@ -1,5 +1,5 @@
--- What is taken on trust: codes that this control does not know and that are taken to go on, and calls of programs that the tape
--- lacks.
+-- What is taken on trust: codes that this control does not know in the system of the tape and that are taken to go on, and calls of
+-- programs that the tape lacks.
 use Rattle.std.specs.Prelude.{ℕ, Bool, true, false, not, ◌==◌, ◌&&◌, ◌||◌, nat_le, List, [], ◌∷◌, Option, Some, None, ℤ, pos, negsuc, Result, Ok, Err, if◌then◌else◌}
 use Rattle.std.specs.Ordering.{nat_cmp}
 use Rattle.std.specs.BTreeSet.{insert_key}
@@ -13,7 +13,7 @@ use Rattle.code_tables.specs.Kinds.{is_refused}
 use Rattle.block_order.specs.declared.control.Control.{Control}
 use Rattle.block_order.specs.declared.control.Control.TheVariants.{Call}
 use Rattle.block_forms.specs.declared.fault.FormFault.{FormFault}
-use Rattle.block_forms.specs.declared.waits.WaitCodes.{WaitCodes}
+use Rattle.block_forms.specs.declared.dialect.Dialect.{Dialect}
 use Rattle.block_forms.specs.Codes.{row_of_number, is_waiting}
 use Rattle.open_forms.specs.Words.{written, number}
 use Rattle.open_forms.specs.Controls.{open_control, numbered}
@@ -64,25 +64,25 @@ geometry_code (Some (pos micro)) = Some (Geometry micro)
 geometry_code (Some (negsuc n)) = None
 
 -- an M code that is no wait and none of the standard ones
-abbrev pub auxiliary_code : WaitCodes → Option ℕ → Option Code
-auxiliary_code waits None = None
-auxiliary_code waits (Some code) =
-    if is_waiting waits code || is_standard_m code then None else Some (Auxiliary code)
+abbrev pub auxiliary_code : Dialect → Option ℕ → Option Code
+auxiliary_code dialect None = None
+auxiliary_code dialect (Some code) =
+    if is_waiting dialect code || is_standard_m code then None else Some (Auxiliary code)
 
--- what a word takes on trust: a G (71) that this control does not know, or an M (77) of those
-abbrev pub word_code : WaitCodes → Word → Option Code
-word_code waits word =
-    if word.letter == 71 then (if is_own_row (row_of_number (number word)) then None else geometry_code (written word))
-    else if word.letter == 77 then auxiliary_code waits (number word)
+-- what a word takes on trust: a G (71) that this control does not know in that system, or an M (77) of those
+abbrev pub word_code : Dialect → Word → Option Code
+word_code dialect word =
+    if word.letter == 71 then (if is_own_row (row_of_number dialect.system (number word)) then None else geometry_code (written word))
+    else if word.letter == 77 then auxiliary_code dialect (number word)
     else None
 
-abbrev pub with_words : WaitCodes → TrustView → List Word → TrustView
-with_words waits trust [] = trust
-with_words waits trust (word ∷ words) = with_words waits (with_code trust (word_code waits word)) words
+abbrev pub with_words : Dialect → TrustView → List Word → TrustView
+with_words dialect trust [] = trust
+with_words dialect trust (word ∷ words) = with_words dialect (with_code trust (word_code dialect word)) words
 
-abbrev pub with_body : WaitCodes → TrustView → Body → TrustView
-with_body waits trust (Words words) = if has_code is_macro_code words then trust else with_words waits trust words
-with_body waits trust (Statement text) = trust
+abbrev pub with_body : Dialect → TrustView → Body → TrustView
+with_body dialect trust (Words words) = if has_code is_macro_code words then trust else with_words dialect trust words
+with_body dialect trust (Statement text) = trust
 
 -- the program of a call that the tape lacks
 abbrev pub gone_call : (ℕ → Bool) → Control → Option Code
@@ -95,8 +95,8 @@ called_outside gone (Err fault) = None
 
 abbrev pub with_block : Basis → TrustView → Block → TrustView
 with_block basis trust block =
-    with_code (with_body basis.premises.waits trust block.body)
-    (called_outside (gone_from basis) (numbered (open_control basis.premises.waits block.body)))
+    with_code (with_body basis.premises.dialect trust block.body)
+    (called_outside (gone_from basis) (numbered (open_control basis.premises.dialect block.body)))
 
 abbrev pub with_blocks : Basis → TrustView → List Block → TrustView
 with_blocks basis trust [] = trust

@@ -1,7 +1,5 @@
 //! The codes of a block that are taken on trust.
 ghost use Rattle.std.specs.Prelude.{◌≡◌};
-ghost use Rattle.code_tables.specs.Codes.{row_of};
-ghost use Rattle.code_tables.specs.SystemA.{system_a_rows};
 ghost use Rattle.block_forms.specs.Codes.{row_of_number};
 ghost use Rattle.open_forms.specs.Words.{number};
 ghost use Rattle.open_forms.specs.Controls.{numbered, open_control};
@@ -11,9 +9,9 @@ ghost use Rattle.open_order.specs.Trusted.{is_own_row, is_standard_m, geometry_c
 
 use crate::outside::is_gone;
 use crate::reading::Reading;
-use block_forms::WaitCodes;
+use block_forms::{Dialect, row_of};
 use block_order::Control;
-use code_tables::{Row, system_a};
+use code_tables::{Row, System};
 use nc_text::{Block, Word};
 use open_forms::{number, open_control, written};
 
@@ -28,16 +26,6 @@ pub(crate) enum Code {
     Subprogram(u16),
 }
 
-/// The row of a G code, if the control knows it.
-fn row_of(code: u32) -> Option<Row>
-    ensures { result ≡ row_of system_a_rows code }
-{
-    if code > 65_535 {
-        return None;
-    }
-    system_a().find(code as u16)
-}
-
 fn is_own_row(row: Option<Row>) -> bool
     ensures { result ≡ is_own_row row }
 {
@@ -47,12 +35,12 @@ fn is_own_row(row: Option<Row>) -> bool
     }
 }
 
-/// Whether this control knows a G word, and does not refuse it.
-fn is_own(word: &Word) -> bool
-    ensures { result ≡ is_own_row (row_of_number (number word.now)) }
+/// Whether this control knows a G word in that system, and does not refuse it.
+fn is_own(system: System, word: &Word) -> bool
+    ensures { result ≡ is_own_row (row_of_number system (number word.now)) }
 {
     match number(word) {
-        Some(code) => is_own_row(row_of(code)),
+        Some(code) => is_own_row(row_of(system, code)),
         None => false,
     }
 }
@@ -74,12 +62,12 @@ fn is_standard_m(code: u32) -> bool
     (code <= 5 || (code == 8 || code == 9)) || (code == 30 || (code == 98 || code == 99))
 }
 
-fn auxiliary_code(waits: &WaitCodes, code: Option<u32>) -> Option<Code>
-    ensures { result ≡ auxiliary_code waits.now code }
+fn auxiliary_code(dialect: &Dialect, code: Option<u32>) -> Option<Code>
+    ensures { result ≡ auxiliary_code dialect.now code }
 {
     match code {
         Some(code) => {
-            if waits.is_waiting(code) || is_standard_m(code) {
+            if dialect.is_waiting(code) || is_standard_m(code) {
                 None
             } else {
                 Some(Code::Auxiliary(code))
@@ -89,19 +77,19 @@ fn auxiliary_code(waits: &WaitCodes, code: Option<u32>) -> Option<Code>
     }
 }
 
-/// What a word takes on trust: a G code that the control does not know, or an M code that is no wait and
-/// none of the standard ones.
-pub(crate) fn word_code(waits: &WaitCodes, word: &Word) -> Option<Code>
-    ensures { result ≡ word_code waits.now word.now }
+/// What a word takes on trust: a G code that the control does not know in the system of the tape, or an
+/// M code that is no wait and none of the standard ones.
+pub(crate) fn word_code(dialect: &Dialect, word: &Word) -> Option<Code>
+    ensures { result ≡ word_code dialect.now word.now }
 {
     if word.letter == b'G' {
-        if is_own(word) {
+        if is_own(dialect.system, word) {
             None
         } else {
             geometry_code(written(word))
         }
     } else if word.letter == b'M' {
-        auxiliary_code(waits, number(word))
+        auxiliary_code(dialect, number(word))
     } else {
         None
     }
@@ -129,9 +117,9 @@ fn gone_call(reading: &Reading<'_>, control: Control) -> Option<Code>
 /// The program that a block calls, if the tape lacks it.
 pub(crate) fn called_outside(reading: &Reading<'_>, block: &Block) -> Option<Code>
     ensures { result ≡ called_outside (gone_from (basis reading.now))
-        (numbered (open_control reading.now.premises.waits block.now.body)) }
+        (numbered (open_control reading.now.premises.dialect block.now.body)) }
 {
-    match open_control(block, &reading.premises.waits) {
+    match open_control(block, &reading.premises.dialect) {
         Ok(control) => gone_call(reading, control),
         Err(_) => None,
     }

@@ -1,11 +1,11 @@
 use crate::outside::Outside;
-use block_forms::WaitCodes;
+use block_forms::Dialect;
 
 /// What a tape is read by.
 #[derive(Clone, Copy, Debug)]
 pub struct Premises {
-    /// The waiting codes of the cell.
-    pub waits: WaitCodes,
+    /// How the tapes of the cell are read.
+    pub dialect: Dialect,
     /// The programs that a tape may lack.
     pub outside: Option<Outside>,
 }

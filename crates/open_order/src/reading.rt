@@ -42,7 +42,7 @@ fn settled(reading: &Reading<'_>, control: Control) -> Control
 fn read_block(reading: &Reading<'_>, block: &Block) -> Result<ControlBlock, FlowFault>
     ensures { result ≡ block_read (basis reading.now) block.now }
 {
-    match open_control(block, &reading.premises.waits) {
+    match open_control(block, &reading.premises.dialect) {
         Ok(control) => Ok(ControlBlock {
             line: block.line,
             sequence: block.sequence,

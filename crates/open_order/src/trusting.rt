@@ -8,7 +8,7 @@ use crate::code::{Code, called_outside, word_code};
 use crate::contour::is_macro_call;
 use crate::premises::Premises;
 use crate::reading::Reading;
-use block_forms::WaitCodes;
+use block_forms::Dialect;
 use nc_number::NoMemory;
 use nc_text::{Block, Body, Program, Word};
 use std::alloc::Global;
@@ -81,17 +81,17 @@ fn add_code(trust: &mut Trust, code: Option<Code>) -> Result<(), NoMemory>
     }
 }
 
-fn add_words(trust: &mut Trust, waits: &WaitCodes, words: &[Word]) -> Result<(), NoMemory>
-    ensures { OnOk result (seen trust.new ≡ with_words waits.now (seen trust.old) words.now) }
+fn add_words(trust: &mut Trust, dialect: &Dialect, words: &[Word]) -> Result<(), NoMemory>
+    ensures { OnOk result (seen trust.new ≡ with_words dialect.now (seen trust.old) words.now) }
 {
     for word in words {
-        add_code(trust, word_code(waits, word))?;
+        add_code(trust, word_code(dialect, word))?;
     }
     Ok(())
 }
 
-fn add_body(trust: &mut Trust, waits: &WaitCodes, body: &Body) -> Result<(), NoMemory>
-    ensures { OnOk result (seen trust.new ≡ with_body waits.now (seen trust.old) body.now) }
+fn add_body(trust: &mut Trust, dialect: &Dialect, body: &Body) -> Result<(), NoMemory>
+    ensures { OnOk result (seen trust.new ≡ with_body dialect.now (seen trust.old) body.now) }
 {
     match body {
         Body::Words(words) => {
@@ -99,7 +99,7 @@ fn add_body(trust: &mut Trust, waits: &WaitCodes, body: &Body) -> Result<(), NoM
             if is_macro_call(words) {
                 Ok(())
             } else {
-                add_words(trust, waits, words)
+                add_words(trust, dialect, words)
             }
         }
         Body::Statement(_) => Ok(()),
@@ -109,7 +109,7 @@ fn add_body(trust: &mut Trust, waits: &WaitCodes, body: &Body) -> Result<(), NoM
 fn add_block(trust: &mut Trust, reading: &Reading<'_>, block: &Block) -> Result<(), NoMemory>
     ensures { OnOk result (seen trust.new ≡ with_block (basis reading.now) (seen trust.old) block.now) }
 {
-    add_body(trust, &reading.premises.waits, &block.body)?;
+    add_body(trust, &reading.premises.dialect, &block.body)?;
     add_code(trust, called_outside(reading, block))
 }
 

@@ -5,7 +5,7 @@ use Rattle.nc_number.specs.declared.cause.Cause.{Cause}
 use Rattle.nc_text.specs.declared.tape.Block.{Block}
 use Rattle.nc_text.specs.declared.tape.Program.{Program}
 use Rattle.nc_text.specs.Shape.{blocks_in}
-use Rattle.block_forms.specs.declared.waits.WaitCodes.{WaitCodes}
+use Rattle.block_forms.specs.declared.dialect.Dialect.{Dialect}
 use Rattle.block_forms.specs.Forms.{BlockForm, block_or_refusal}
 use Rattle.block_order.specs.declared.program.ControlProgram.{ControlProgram}
 use Rattle.block_order.specs.Faults.{Stage, Fitting, Finding, Waiting, HasFault, IsSound}
@@ -16,20 +16,20 @@ use Rattle.tape_flow.specs.Exact.{IsAccepted, IsRefused, block as by_block, orde
 use Rattle.tape_flow.proofs.FirstRefused.{refusal_or, first_refusal, Tells, programs_tell}
 
 -- the block reads
-abbrev IsRead : WaitCodes → Block → Type 0
-IsRead waits block = (number : ℕ) → block_or_refusal waits block ≡ Err number → ⊥
+abbrev IsRead : Dialect → Block → Type 0
+IsRead dialect block = (number : ℕ) → block_or_refusal dialect block ≡ Err number → ⊥
 
-read_at : (waits : WaitCodes) (block : Block) (blocks : List Block) (read : Result BlockForm ℕ)
-    → block_or_refusal waits block ≡ read → refusal_or (at_line block.line read) (first_refusal waits blocks) ≡ None
-    → (first_refusal waits blocks ≡ None → All (IsRead waits) blocks) → All (IsRead waits) (block ∷ blocks)
-read_at waits block blocks (Ok form) is clear rest =
-    All-cons (IsRead waits) block blocks (λ number refusal. cc) (rest clear)
-read_at waits block blocks (Err own) is clear rest = cc
+read_at : (dialect : Dialect) (block : Block) (blocks : List Block) (read : Result BlockForm ℕ)
+    → block_or_refusal dialect block ≡ read → refusal_or (at_line block.line read) (first_refusal dialect blocks) ≡ None
+    → (first_refusal dialect blocks ≡ None → All (IsRead dialect) blocks) → All (IsRead dialect) (block ∷ blocks)
+read_at dialect block blocks (Ok form) is clear rest =
+    All-cons (IsRead dialect) block blocks (λ number refusal. cc) (rest clear)
+read_at dialect block blocks (Err own) is clear rest = cc
 
-all_read : (waits : WaitCodes) (blocks : List Block) → first_refusal waits blocks ≡ None → All (IsRead waits) blocks
-all_read waits [] clear = All-nil (IsRead waits)
-all_read waits (block ∷ blocks) clear =
-    read_at waits block blocks (block_or_refusal waits block) refl clear (λ rest. all_read waits blocks rest)
+all_read : (dialect : Dialect) (blocks : List Block) → first_refusal dialect blocks ≡ None → All (IsRead dialect) blocks
+all_read dialect [] clear = All-nil (IsRead dialect)
+all_read dialect (block ∷ blocks) clear =
+    read_at dialect block blocks (block_or_refusal dialect block) refl clear (λ rest. all_read dialect blocks rest)
 
 nothing_found : {A : Type 0} (read : Result A FlowFault) (forms : A) (first : Option FlowFault)
     → Tells read first None → read ≡ Ok forms → first ≡ None
@@ -41,13 +41,13 @@ no_fault order Fitting line cause sound fault = sound.fits line cause fault
 no_fault order Finding line cause sound fault = sound.finds line cause fault
 no_fault order Waiting line cause sound fault = sound.waits line cause fault
 
-pub not_both : (waits : WaitCodes) (tape : List Program) (programs : List ProgramForm) (line number : ℕ)
-    → IsAccepted waits tape programs → IsRefused waits tape line number → ⊥
-not_both waits tape programs line number accepted (by_block has least) =
-    let clear = nothing_found (programs_read waits tape) programs (first_refusal waits (blocks_in tape))
-    (programs_tell waits tape []) accepted.reads in
-    All-contains (IsRead waits) (blocks_in tape) has.0 (all_read waits (blocks_in tape) clear) has.1 number has.3
-not_both waits tape programs line number accepted (by_order others read fault) =
+pub not_both : (dialect : Dialect) (tape : List Program) (programs : List ProgramForm) (line number : ℕ)
+    → IsAccepted dialect tape programs → IsRefused dialect tape line number → ⊥
+not_both dialect tape programs line number accepted (by_block has least) =
+    let clear = nothing_found (programs_read dialect tape) programs (first_refusal dialect (blocks_in tape))
+    (programs_tell dialect tape []) accepted.reads in
+    All-contains (IsRead dialect) (blocks_in tape) has.0 (all_read dialect (blocks_in tape) clear) has.1 number has.3
+not_both dialect tape programs line number accepted (by_order others read fault) =
     let same : programs ≡ others = cc (accepted.reads, read) in
     no_fault (controls others) fault.1.stage line fault.0 (subst (λ forms. IsSound (controls forms)) same accepted.sound)
     fault.1.holds

@@ -8,7 +8,7 @@ use Rattle.nc_text.specs.declared.tape.Block.{Block}
 use Rattle.nc_text.specs.declared.tape.Program.{Program}
 use Rattle.nc_text.specs.Shape as tape
 use Rattle.nc_text.specs.Shape.{IsTapeShape}
-use Rattle.block_forms.specs.declared.waits.WaitCodes.{WaitCodes}
+use Rattle.block_forms.specs.declared.dialect.Dialect.{Dialect}
 use Rattle.block_forms.specs.Forms.{BlockForm, Form, form_or_refusal, block_at}
 use Rattle.block_order.specs.Shape as order
 use Rattle.block_order.specs.Shape.{IsListed}
@@ -21,13 +21,12 @@ bound : {A B E : Type 0} (read : Result A E) (go : A → Result B E) (P : A → 
 bound (Ok x) go P Q holds step = step x holds
 bound (Err e) go P Q holds step = tt
 
-line_kept_at : (waits : WaitCodes) (block : Block) (read : Result Form ℕ)
-    → IfOk (at_line block.line (block_at waits block read)) (λ form. form.line ≡ block.line)
-line_kept_at waits block (Ok form) = refl
-line_kept_at waits block (Err number) = tt
+line_kept_at : (block : Block) (read : Result Form ℕ) → IfOk (at_line block.line (block_at block read)) (λ form. form.line ≡ block.line)
+line_kept_at block (Ok form) = refl
+line_kept_at block (Err number) = tt
 
-line_kept : (waits : WaitCodes) (block : Block) → IfOk (block_read waits block) (λ form. form.line ≡ block.line)
-line_kept waits block = line_kept_at waits block (form_or_refusal waits block.body)
+line_kept : (dialect : Dialect) (block : Block) → IfOk (block_read dialect block) (λ form. form.line ≡ block.line)
+line_kept dialect block = line_kept_at block (form_or_refusal dialect block.body)
 
 abbrev form_lines : List BlockForm → List ℕ
 form_lines forms = map (λ form. form.line) forms
@@ -45,26 +44,26 @@ one_line_more done form block blocks whole same is =
       same,
     ) is
 
-blocks_kept : (waits : WaitCodes) (blocks : List Block) (done : List BlockForm) (whole : List ℕ)
+blocks_kept : (dialect : Dialect) (blocks : List Block) (done : List BlockForm) (whole : List ℕ)
     → form_lines done ++ text_lines blocks ≡ whole
-    → IfOk (blocks_from waits done blocks) (λ forms. form_lines forms ≡ whole)
-blocks_kept waits [] done whole is = sym (append-nil (form_lines done)) ∙ is
-blocks_kept waits (block ∷ blocks) done whole is =
-    bound (block_read waits block) (λ form. blocks_from waits (done ++ form ∷ []) blocks) (λ form. form.line ≡ block.line)
-    (λ forms. form_lines forms ≡ whole) (line_kept waits block)
-    (λ form same. blocks_kept waits blocks (done ++ form ∷ []) whole (one_line_more done form block blocks whole same is))
+    → IfOk (blocks_from dialect done blocks) (λ forms. form_lines forms ≡ whole)
+blocks_kept dialect [] done whole is = sym (append-nil (form_lines done)) ∙ is
+blocks_kept dialect (block ∷ blocks) done whole is =
+    bound (block_read dialect block) (λ form. blocks_from dialect (done ++ form ∷ []) blocks) (λ form. form.line ≡ block.line)
+    (λ forms. form_lines forms ≡ whole) (line_kept dialect block)
+    (λ form same. blocks_kept dialect blocks (done ++ form ∷ []) whole (one_line_more done form block blocks whole same is))
 
 -- a program's form stands in the text as the program does
 record IsLike (program : Program) (form : ProgramForm) : Type 0 where
   line : form.line ≡ program.line
   lines : form_lines form.blocks ≡ text_lines program.blocks
 
-program_kept : (waits : WaitCodes) (program : Program) → IfOk (program_read waits program) (IsLike program)
-program_kept waits program =
-    bound (blocks_from waits [] program.blocks)
+program_kept : (dialect : Dialect) (program : Program) → IfOk (program_read dialect program) (IsLike program)
+program_kept dialect program =
+    bound (blocks_from dialect [] program.blocks)
     (λ blocks. Ok (record { number = program.number; line = program.line; blocks = blocks }))
     (λ forms. form_lines forms ≡ text_lines program.blocks) (IsLike program)
-    (blocks_kept waits program.blocks [] (text_lines program.blocks) refl)
+    (blocks_kept dialect program.blocks [] (text_lines program.blocks) refl)
     (λ forms same. record { line = refl; lines = same })
 
 lines_like : (program : Program) (form : ProgramForm) → IsLike program form
@@ -118,14 +117,14 @@ split_more done form program rest lines blocks programs like split =
       programs_are = rw (length-append done (form ∷ [])) (omega (arith, split.programs_are));
     }
 
-programs_kept : (waits : WaitCodes) (rest : List Program) (done : List ProgramForm) (lines : List ℕ) (blocks programs : ℕ)
+programs_kept : (dialect : Dialect) (rest : List Program) (done : List ProgramForm) (lines : List ℕ) (blocks programs : ℕ)
     → IsSplit done rest lines blocks programs
-    → IfOk (programs_from waits done rest) (λ forms. IsSplit forms [] lines blocks programs)
-programs_kept waits [] done lines blocks programs split = split
-programs_kept waits (program ∷ rest) done lines blocks programs split =
-    bound (program_read waits program) (λ form. programs_from waits (done ++ form ∷ []) rest) (IsLike program)
-    (λ forms. IsSplit forms [] lines blocks programs) (program_kept waits program)
-    (λ form like. programs_kept waits rest (done ++ form ∷ []) lines blocks programs
+    → IfOk (programs_from dialect done rest) (λ forms. IsSplit forms [] lines blocks programs)
+programs_kept dialect [] done lines blocks programs split = split
+programs_kept dialect (program ∷ rest) done lines blocks programs split =
+    bound (program_read dialect program) (λ form. programs_from dialect (done ++ form ∷ []) rest) (IsLike program)
+    (λ forms. IsSplit forms [] lines blocks programs) (program_kept dialect program)
+    (λ form like. programs_kept dialect rest (done ++ form ∷ []) lines blocks programs
     (split_more done form program rest lines blocks programs like split))
 
 same_rise : (ns : List ℕ) (low : ℕ) → tape.RiseFrom low ns → order.RiseFrom low ns
@@ -133,11 +132,11 @@ same_rise [] low rise = tt
 same_rise (n ∷ ns) low rise = (rise.0, same_rise ns n rise.1)
 
 -- the controls of a tape that was read are as the check of their order wants them
-pub read_listed : (waits : WaitCodes) (programs : List Program) (forms : List ProgramForm) → IsTapeShape programs
-    → programs_read waits programs ≡ Ok forms → IsListed (controls forms)
-read_listed waits programs forms shape read =
+pub read_listed : (dialect : Dialect) (programs : List Program) (forms : List ProgramForm) → IsTapeShape programs
+    → programs_read dialect programs ≡ Ok forms → IsListed (controls forms)
+read_listed dialect programs forms shape read =
     let blocks = length (tape.blocks_in programs) in
-    let kept = programs_kept waits programs [] (tape.lines_in programs) blocks (length programs)
+    let kept = programs_kept dialect programs [] (tape.lines_in programs) blocks (length programs)
     (record { lines_are = refl; blocks_are = omega arith; programs_are = omega arith }) in
     let split : IsSplit forms [] (tape.lines_in programs) blocks (length programs) = rw read at kept in
     let lines : tape.lines_in programs ≡ order.lines_in (controls forms) =

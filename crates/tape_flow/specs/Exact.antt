@@ -6,36 +6,37 @@ use Rattle.cell_settings.specs.declared.settings.Settings.{Settings}
 use Rattle.nc_text.specs.declared.tape.Block.{Block}
 use Rattle.nc_text.specs.declared.tape.Program.{Program}
 use Rattle.nc_text.specs.Shape.{blocks_in}
-use Rattle.block_forms.specs.declared.waits.WaitCodes.{WaitCodes}
+use Rattle.block_forms.specs.declared.dialect.Dialect.{Dialect}
 use Rattle.block_forms.specs.Forms.{block_or_refusal}
 use Rattle.block_order.specs.declared.program.ControlProgram.{ControlProgram}
 use Rattle.block_order.specs.Faults.{IsSound, IsFirst}
 use Rattle.tape_flow.specs.Forms.{ProgramForm, programs_read}
 use Rattle.tape_flow.specs.Controls.{controls}
 
--- the waiting codes of the cell
-abbrev pub waits_of : Settings → WaitCodes
-waits_of settings = record { low = settings.wait_low; high = settings.wait_high; bits = settings.bits }
+-- how the tapes of the cell are read
+abbrev pub dialect_of : Settings → Dialect
+dialect_of settings =
+    record { low = settings.wait_low; high = settings.wait_high; bits = settings.bits; system = settings.system }
 
 -- a block of the tape at this line is refused by this number
-abbrev pub HasBlockFault : WaitCodes → List Program → ℕ → ℕ → Type 0
-HasBlockFault waits tape line number =
-    (block : Block) × Contains (blocks_in tape) block × (block.line ≡ line) × (block_or_refusal waits block ≡ Err number)
+abbrev pub HasBlockFault : Dialect → List Program → ℕ → ℕ → Type 0
+HasBlockFault dialect tape line number =
+    (block : Block) × Contains (blocks_in tape) block × (block.line ≡ line) × (block_or_refusal dialect block ≡ Err number)
 
 -- the first fault of the order of blocks, by its number
 abbrev pub IsOrderFault : List ControlProgram → ℕ → ℕ → Type 0
 IsOrderFault order line number = (cause : Cause) × IsFirst order line cause × (number ≡ cause_number cause)
 
 -- all blocks read so, and nothing is wrong with their order
-pub record IsAccepted (waits : WaitCodes) (tape : List Program) (programs : List ProgramForm) : Type 0 where
-  pub reads : programs_read waits tape ≡ Ok programs
+pub record IsAccepted (dialect : Dialect) (tape : List Program) (programs : List ProgramForm) : Type 0 where
+  pub reads : programs_read dialect tape ≡ Ok programs
   pub sound : IsSound (controls programs)
 
 -- The refusal of a tape: the first block that is refused, or, where all blocks read, the first fault of their order.
-pub data IsRefused (waits : WaitCodes) (tape : List Program) (line number : ℕ) : Type 0 where
-  block : HasBlockFault waits tape line number
-      → ((other_line other : ℕ) → HasBlockFault waits tape other_line other → line ≤ other_line)
-      → IsRefused waits tape line number
-  order : (programs : List ProgramForm) → programs_read waits tape ≡ Ok programs
+pub data IsRefused (dialect : Dialect) (tape : List Program) (line number : ℕ) : Type 0 where
+  block : HasBlockFault dialect tape line number
+      → ((other_line other : ℕ) → HasBlockFault dialect tape other_line other → line ≤ other_line)
+      → IsRefused dialect tape line number
+  order : (programs : List ProgramForm) → programs_read dialect tape ≡ Ok programs
       → IsOrderFault (controls programs) line number
-      → IsRefused waits tape line number
+      → IsRefused dialect tape line number

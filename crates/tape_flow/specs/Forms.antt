@@ -3,7 +3,7 @@ use Rattle.std.specs.Prelude.{ℕ, List, [], ◌∷◌, ◌++◌, map, Result, O
 use Rattle.nc_number.specs.Results.{◌>>=◌}
 use Rattle.nc_text.specs.declared.tape.Block.{Block}
 use Rattle.nc_text.specs.declared.tape.Program.{Program}
-use Rattle.block_forms.specs.declared.waits.WaitCodes.{WaitCodes}
+use Rattle.block_forms.specs.declared.dialect.Dialect.{Dialect}
 use Rattle.block_forms.specs.Forms.{BlockForm, block_or_refusal}
 use Rattle.block_forms.specs.Blocks.{block_form}
 use Rattle.tape_flow.specs.declared.fault.FlowFault.{FlowFault}
@@ -22,27 +22,27 @@ abbrev pub at_line : ℕ → Result BlockForm ℕ → Result BlockForm FlowFault
 at_line line (Ok form) = Ok form
 at_line line (Err number) = Err (record { number = number; line = line })
 
-abbrev pub block_read : WaitCodes → Block → Result BlockForm FlowFault
-block_read waits block = at_line block.line (block_or_refusal waits block)
+abbrev pub block_read : Dialect → Block → Result BlockForm FlowFault
+block_read dialect block = at_line block.line (block_or_refusal dialect block)
 
 -- the blocks behind those that are read, or the first refusal
-abbrev pub blocks_from : WaitCodes → List BlockForm → List Block → Result (List BlockForm) FlowFault
-blocks_from waits done [] = Ok done
-blocks_from waits done (block ∷ blocks) = do
-  form ← block_read waits block
-  blocks_from waits (done ++ form ∷ []) blocks
+abbrev pub blocks_from : Dialect → List BlockForm → List Block → Result (List BlockForm) FlowFault
+blocks_from dialect done [] = Ok done
+blocks_from dialect done (block ∷ blocks) = do
+  form ← block_read dialect block
+  blocks_from dialect (done ++ form ∷ []) blocks
 
-abbrev pub program_read : WaitCodes → Program → Result ProgramForm FlowFault
-program_read waits program = do
-  blocks ← blocks_from waits [] program.blocks
+abbrev pub program_read : Dialect → Program → Result ProgramForm FlowFault
+program_read dialect program = do
+  blocks ← blocks_from dialect [] program.blocks
   Ok (record { number = program.number; line = program.line; blocks = blocks })
 
-abbrev pub programs_from : WaitCodes → List ProgramForm → List Program → Result (List ProgramForm) FlowFault
-programs_from waits done [] = Ok done
-programs_from waits done (program ∷ programs) = do
-  form ← program_read waits program
-  programs_from waits (done ++ form ∷ []) programs
+abbrev pub programs_from : Dialect → List ProgramForm → List Program → Result (List ProgramForm) FlowFault
+programs_from dialect done [] = Ok done
+programs_from dialect done (program ∷ programs) = do
+  form ← program_read dialect program
+  programs_from dialect (done ++ form ∷ []) programs
 
 -- all programs of a tape, or the first refusal of a block
-abbrev pub programs_read : WaitCodes → List Program → Result (List ProgramForm) FlowFault
-programs_read waits tape = programs_from waits [] tape
+abbrev pub programs_read : Dialect → List Program → Result (List ProgramForm) FlowFault
+programs_read dialect tape = programs_from dialect [] tape

@@ -2,7 +2,7 @@ ghost use Rattle.std.specs.Prelude.{◌≡◌, map, IfOk, IfErr};
 ghost use Rattle.block_order.specs.Answers.{IfFault};
 ghost use Rattle.tape_flow.specs.Forms.{program_form};
 ghost use Rattle.tape_flow.specs.Controls.{controls};
-ghost use Rattle.tape_flow.specs.Exact.{waits_of, IsAccepted, IsRefused};
+ghost use Rattle.tape_flow.specs.Exact.{dialect_of, IsAccepted, IsRefused};
 
 use crate::fault::FlowFault;
 use crate::ordering::order_of;
@@ -32,9 +32,9 @@ pub struct Flow {
 /// number.
 pub fn compile(alloc: Global, tape: &Tape, settings: &Settings) -> Result<Flow, Failing<FlowFault>>
     ensures accepted { IfOk result
-        (λ flow. IsAccepted (waits_of settings.now) tape.now (map program_form flow.programs)) }
+        (λ flow. IsAccepted (dialect_of settings.now) tape.now (map program_form flow.programs)) }
     ensures refused { IfErr result (λ error. IfFault error
-        (λ fault. IsRefused (waits_of settings.now) tape.now fault.line fault.number)) }
+        (λ fault. IsRefused (dialect_of settings.now) tape.now fault.line fault.number)) }
 {
     let tape = tape.as_slice();
     let programs = match read_tape(alloc, tape, settings) {

@@ -1,12 +1,12 @@
 //! What holds of every tape, for the crates above: who calls the function has the law.
 ghost use Rattle.std.specs.Prelude.{ℕ, List};
 ghost use Rattle.nc_text.specs.declared.tape.Program.{Program};
-ghost use Rattle.block_forms.specs.declared.waits.WaitCodes.{WaitCodes};
+ghost use Rattle.block_forms.specs.declared.dialect.Dialect.{Dialect};
 ghost use Rattle.tape_flow.specs.Forms.{ProgramForm};
 ghost use Rattle.tape_flow.specs.Exact.{IsAccepted, IsRefused};
 
 /// No tape is both accepted and refused.
 pub fn an_accepted_tape_is_not_refused()
-    ensures { (waits : WaitCodes) (tape : List Program) (programs : List ProgramForm) (line number : ℕ)
-        → IsAccepted waits tape programs → IsRefused waits tape line number → ⊥ }
+    ensures { (dialect : Dialect) (tape : List Program) (programs : List ProgramForm) (line number : ℕ)
+        → IsAccepted dialect tape programs → IsRefused dialect tape line number → ⊥ }
 {}

@@ -4,11 +4,11 @@ ghost use Rattle.nc_number.specs.Answers.{Gives};
 ghost use Rattle.nc_text.specs.Shape.{IsTapeShape};
 ghost use Rattle.block_forms.specs.Blocks.{block_form};
 ghost use Rattle.tape_flow.specs.Forms.{block_read, blocks_from, program_form, program_read, programs_from, programs_read};
-ghost use Rattle.tape_flow.specs.Exact.{waits_of};
+ghost use Rattle.tape_flow.specs.Exact.{dialect_of};
 
 use crate::fault::FlowFault;
 use crate::program::{FlowBlockList, FlowProgram, FlowProgramList};
-use block_forms::{FlowBlock, WaitCodes, read_block};
+use block_forms::{Dialect, FlowBlock, read_block};
 use cell_settings::Settings;
 use nc_number::Failing;
 use nc_text::{Block, Program};
@@ -17,11 +17,11 @@ use std::alloc::Global;
 fn read_at_line(
     alloc: Global,
     block: &Block,
-    waits: &WaitCodes,
+    dialect: &Dialect,
 ) -> Result<FlowBlock, Failing<FlowFault>>
-    ensures { Gives block_form result (block_read waits.now block.now) }
+    ensures { Gives block_form result (block_read dialect.now block.now) }
 {
-    match read_block(alloc, block, waits) {
+    match read_block(alloc, block, dialect) {
         Ok(read) => Ok(read),
         Err(Failing::Fault(fault)) => Err(Failing::Fault(FlowFault {
             number: fault.number,
@@ -34,13 +34,13 @@ fn read_at_line(
 fn read_blocks(
     alloc: Global,
     blocks: &[Block],
-    waits: &WaitCodes,
+    dialect: &Dialect,
 ) -> Result<Vec<FlowBlock>, Failing<FlowFault>>
-    ensures { Gives (λ read. map block_form read.items) result (blocks_from waits.now [] blocks.now) }
+    ensures { Gives (λ read. map block_form read.items) result (blocks_from dialect.now [] blocks.now) }
 {
     let mut read = Vec::with_capacity(alloc, blocks.len())?;
     for block in blocks {
-        match read_at_line(alloc, block, waits) {
+        match read_at_line(alloc, block, dialect) {
             Ok(form) => read.push(form)?,
             Err(fault) => return Err(fault),
         }
@@ -51,12 +51,12 @@ fn read_blocks(
 fn read_program(
     alloc: Global,
     program: &Program,
-    waits: &WaitCodes,
+    dialect: &Dialect,
 ) -> Result<FlowProgram, Failing<FlowFault>>
     requires { program.now.number ≤ 9999 }
-    ensures { Gives program_form result (program_read waits.now program.now) }
+    ensures { Gives program_form result (program_read dialect.now program.now) }
 {
-    match read_blocks(alloc, program.blocks.as_slice(), waits) {
+    match read_blocks(alloc, program.blocks.as_slice(), dialect) {
         Ok(blocks) => Ok(FlowProgram {
             number: program.number as u16,
             line: program.line,
@@ -69,14 +69,14 @@ fn read_program(
 fn read_programs(
     alloc: Global,
     programs: &[Program],
-    waits: &WaitCodes,
+    dialect: &Dialect,
 ) -> Result<FlowProgramList, Failing<FlowFault>>
     requires { IsTapeShape programs.now }
-    ensures { Gives (λ read. map program_form read) result (programs_from waits.now [] programs.now) }
+    ensures { Gives (λ read. map program_form read) result (programs_from dialect.now [] programs.now) }
 {
     let mut read = Vec::with_capacity(alloc, programs.len())?;
     for program in programs {
-        match read_program(alloc, program, waits) {
+        match read_program(alloc, program, dialect) {
             Ok(form) => read.push(form)?,
             Err(fault) => return Err(fault),
         }
@@ -91,8 +91,8 @@ pub(crate) fn read_tape(
     settings: &Settings,
 ) -> Result<FlowProgramList, Failing<FlowFault>>
     requires { IsTapeShape tape.now }
-    ensures { Gives (λ read. map program_form read) result (programs_read (waits_of settings.now) tape.now) }
+    ensures { Gives (λ read. map program_form read) result (programs_read (dialect_of settings.now) tape.now) }
 {
-    let waits = WaitCodes::of(settings);
-    read_programs(alloc, tape, &waits)
+    let dialect = Dialect::of(settings);
+    read_programs(alloc, tape, &dialect)
 }

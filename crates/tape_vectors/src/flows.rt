@@ -29,13 +29,35 @@ const ROWS: &str = "\
 %~O1~M98 P10203~M30~O203~M101~M99~%~ -> none
 %~O1~M98 P30203~M30~O203~M101~M99~%~ -> none
 %~O1~M#1~G00~X1. U1.~M30~%~ -> refused 54 line 3
-%~O1~DO1~G00~X1.~M#1~M30~%~ -> refused 54 line 6";
+%~O1~DO1~G00~X1.~M#1~M30~%~ -> refused 54 line 6
+%~O1~G77 X40. Z-20. F0.2~M30~%~ -> refused 56 line 3
+%~O1~G32 Z1. F1.~G90 U-1. W-1.~G98~G50 S1000~M30~%~ -> none
+%~O1~G91~M30~%~ -> refused 56 line 3";
 
 /// The same where P names the paths of a wait by their numbers.
 const NUMBERED: &str = "\
 %~O1~M101 P12~M30~%~ -> none
 %~O1~M101 P21~M30~%~ -> none
 %~O1~M101 P3~M30~%~ -> refused 58 line 3";
+
+/// The same in system B.
+const SYSTEM_B: &str = "\
+%~O1~G90 G00 X50. Z2.~G77 X40. Z-20. F0.2~G91 G01 X-5. Z-1.~M30~%~ -> none
+%~O1~G92 S2500~G95 G97 S800 M03~G33 Z-5. F1.~G78 X9. F1.~G79 Z-1.~G94~M30~%~ -> none
+%~O1~G91 G53 X0~M30~%~ -> none
+%~O1~G65 P2 U1. W1.~M30~O2~G90~M99~%~ -> none
+%~O1~M101 P3~M30~%~ -> none
+%~O1~G32 Z1.~M30~%~ -> refused 56 line 3
+%~O1~U1.~M30~%~ -> refused 56 line 3
+%~O1~G00 X1.~W1.~M30~%~ -> refused 56 line 4
+%~O1~G98~M30~%~ -> refused 56 line 3
+%~O1~G95~G99~M30~%~ -> refused 56 line 4
+%~O1~G50 S1000~M30~%~ -> refused 56 line 3
+%~O1~G92 X0 Z0~M30~%~ -> refused 56 line 3
+%~O1~G53 U0~M30~%~ -> refused 56 line 3
+%~O1~X1. U1.~M30~%~ -> refused 56 line 3
+%~O1~M101 G90~M30~%~ -> refused 57 line 3
+%~O1~G98~M#1~M30~%~ -> refused 56 line 3";
 
 /// The refusal of a tape.
 fn shown(alloc: Global, answer: Result<Flow, Failing<FlowFault>>) -> Result<String, AllocError> {
@@ -62,5 +84,7 @@ fn each_tape_has_one_refusal(rt: HostRuntime) -> Result<(), Fail> {
     let standard = read_settings(rt.alloc(), b"").expect(&rt, "settings");
     refusals(&rt, rt.alloc(), &standard, ROWS)?;
     let numbers = read_settings(rt.alloc(), b"paths numbers\n").expect(&rt, "settings");
-    refusals(&rt, rt.alloc(), &numbers, NUMBERED)
+    refusals(&rt, rt.alloc(), &numbers, NUMBERED)?;
+    let system_b = read_settings(rt.alloc(), b"codes B\n").expect(&rt, "settings");
+    refusals(&rt, rt.alloc(), &system_b, SYSTEM_B)
 }

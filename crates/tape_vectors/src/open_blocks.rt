@@ -1,22 +1,32 @@
 //! What a block does to the order of blocks, where nothing else that it says is looked into; or its refusal.
 use crate::tape::read;
-use block_forms::WaitCodes;
+use block_forms::Dialect;
+use code_tables::System;
 use nc_text::{Block, Tape};
 use open_forms::open_control;
 use std::alloc::{AllocError, Global};
 use std::process::Abort;
 use std::test::Fail;
 
-const BITS: WaitCodes = WaitCodes {
+const BITS: Dialect = Dialect {
     low: 100,
     high: 197,
     bits: true,
+    system: System::A,
 };
 
-const NUMBERS: WaitCodes = WaitCodes {
+const NUMBERS: Dialect = Dialect {
     low: 100,
     high: 199,
     bits: false,
+    system: System::A,
+};
+
+const SYSTEM_B: Dialect = Dialect {
+    low: 100,
+    high: 197,
+    bits: true,
+    system: System::B,
 };
 
 /// A block, and its control or the number of its refusal.
@@ -50,6 +60,11 @@ M98 M03 P1|59
 M98 M99 P1|59
 G00 X1. M98 P5|Call { program: 5, repeats: 1 }
 G98 M98 P5|Call { program: 5, repeats: 1 }
+G90 M98 P5|Call { program: 5, repeats: 1 }
+G91 M98 P5|56
+G95 M98 P5|56
+G77 X1. M98 P5|56
+G33 M99|56
 G65 P1000 A1.|Call { program: 1000, repeats: 1 }
 G65 P1 L3|Call { program: 1, repeats: 3 }
 G65 P1 P2|Call { program: 2, repeats: 1 }
@@ -258,6 +273,41 @@ M96|56
 M97|56
 M198 X1.|57";
 
+/// The same in system B: beside a call its own codes alone are known.
+const BLOCKS_OF_B: &str = "\
+G90 M98 P5|Call { program: 5, repeats: 1 }
+G91 M98 P5|Call { program: 5, repeats: 1 }
+G95 M98 P5|Call { program: 5, repeats: 1 }
+G77 X1. M98 P5|Call { program: 5, repeats: 1 }
+G92 S100 M98 P5|Call { program: 5, repeats: 1 }
+G32 M98 P5|56
+G50 M98 P5|56
+G98 M98 P5|56
+G99 M98 P5|56
+G33 M99|Back
+G32 M99|56
+M98 P1 U1. W1.|Call { program: 1, repeats: 1 }
+M98 P1 Q5|56
+M98 P1 G04|61
+M99 G10 P1|61
+G65 P1 U1. W1.|Call { program: 1, repeats: 1 }
+G65 P1 G90|56
+X1. G65 P1|56
+G71 P10 Q20 U0.4 W0.1 F0.3|Goto(Some(20))
+G70 P10 Q20|Next
+G66 P1|56
+G68|56
+G32 Z1.|Next
+G50 S1000|Next
+G98|Next
+G92|Next
+G53 U1.|Next
+U1. W1.|Next
+G91 G53 X0|Next
+M101 G90|57
+M101 U1.|57
+M30|End";
+
 /// The first block of a tape.
 fn first_block(tape: &Tape) -> Option<&Block> {
     match tape.as_slice() {
@@ -267,18 +317,18 @@ fn first_block(tape: &Tape) -> Option<&Block> {
 }
 
 /// The control of a block, or the number of its refusal.
-fn answer(alloc: Global, block: &Block, waits: &WaitCodes) -> Result<String, AllocError> {
-    match open_control(block, waits) {
+fn answer(alloc: Global, block: &Block, dialect: &Dialect) -> Result<String, AllocError> {
+    match open_control(block, dialect) {
         Ok(control) => format!(in alloc; "{control:?}"),
         Err(fault) => format!(in alloc; "{}", fault.number),
     }
 }
 
 /// The answer for the first block of a tape.
-fn answer_in(alloc: Global, text: &str, waits: &WaitCodes) -> Result<String, AllocError> {
+fn answer_in(alloc: Global, text: &str, dialect: &Dialect) -> Result<String, AllocError> {
     match read(alloc, text) {
         Ok(tape) => match first_block(&tape) {
-            Some(block) => answer(alloc, block, waits),
+            Some(block) => answer(alloc, block, dialect),
             None => String::from_str(alloc, "no block"),
         },
         Err(_) => String::from_str(alloc, "no tape"),
@@ -286,17 +336,17 @@ fn answer_in(alloc: Global, text: &str, waits: &WaitCodes) -> Result<String, All
 }
 
 /// Whether the block of a row does what the row wants.
-fn holds(alloc: Global, waits: &WaitCodes, row: &str) -> Result<bool, AllocError> {
+fn holds(alloc: Global, dialect: &Dialect, row: &str) -> Result<bool, AllocError> {
     let (block, wanted) = row.split_once('|').unwrap_or((row, ""));
     let text = format!(in alloc; "%~O1~{block}~M30~%~")?;
-    let got = answer_in(alloc, text.as_str(), waits)?;
+    let got = answer_in(alloc, text.as_str(), dialect)?;
     Ok(got.as_str() == wanted)
 }
 
 /// Whether all rows of a table hold.
-fn all_hold(rt: &impl Abort, alloc: Global, waits: &WaitCodes, rows: &str) -> Result<(), Fail> {
+fn all_hold(rt: &impl Abort, alloc: Global, dialect: &Dialect, rows: &str) -> Result<(), Fail> {
     for row in rows.lines() {
-        assert!(rt; holds(alloc, waits, row)?, "{row}");
+        assert!(rt; holds(alloc, dialect, row)?, "{row}");
     }
     Ok(())
 }
@@ -304,5 +354,6 @@ fn all_hold(rt: &impl Abort, alloc: Global, waits: &WaitCodes, rows: &str) -> Re
 #[test]
 fn what_a_block_does_to_the_order_of_blocks(rt: HostRuntime) -> Result<(), Fail> {
     all_hold(&rt, rt.alloc(), &BITS, BLOCKS)?;
-    all_hold(&rt, rt.alloc(), &NUMBERS, BLOCKS_BY_NUMBERS)
+    all_hold(&rt, rt.alloc(), &NUMBERS, BLOCKS_BY_NUMBERS)?;
+    all_hold(&rt, rt.alloc(), &SYSTEM_B, BLOCKS_OF_B)
 }

@@ -70,6 +70,15 @@ a program of another memory|%~O1~M198 P2~M30~%~|%~O1~M30~%~|||refused 56 Unknown
 M198 as a wait of the settings|%~O1~M198~M30~%~|%~O1~M198~M30~%~|wait 190 199~||waits 1~M198 path 1 line 3 path 2 line 3~end path 1 line 4 path 2 line 4~
 a computed G code|%~O1~G#1~M30~%~|%~O1~M30~%~|||refused 54 NotFixed path 1 line 3~
 an end beside another M code|%~O1~M8 M30~%~|%~O1~M30~%~|||refused 59 TwoM path 1 line 3~
+codes of system A are on trust in system B|%~O1~G98~G32 Z1.~G77 X1.~G50 S1~M101~M30~%~|%~O1~M101~M30~%~|codes B~||waits 1~M101 path 1 line 7 path 2 line 3~end path 1 line 8 path 2 line 4~goes on G32 G50 G98~
+codes of system B are known in it|%~O1~G90 G95~G91~G33 Z1.~G92 S1~G77 X1.~M30~%~|%~O1~G78~G79~G94~M30~%~|codes B~||waits 0~end path 1 line 8 path 2 line 6~
+codes of system B are on trust in system A|%~O1~G95~G77 X1.~G90 X1.~M30~%~|%~O1~G33 Z1.~G91~M30~%~|codes A~||waits 0~end path 1 line 6 path 2 line 5~goes on G33 G77 G91 G95~
+a code of system A beside a call in system B|%~O1~G98 M98 P2~M30~O2~M99~%~|%~O1~M30~%~|codes B~||refused 56 UnknownCode path 1 line 3~
+a code of system B beside a call|%~O1~G95 M98 P2~M30~O2~M101~M99~%~|%~O1~M101~M30~%~|codes B~||waits 1~M101 path 1 line 6 path 2 line 3~end path 1 line 4 path 2 line 4~
+a code of system B beside a call in system A|%~O1~G95 M98 P2~M30~O2~M99~%~|%~O1~M30~%~|||refused 56 UnknownCode path 1 line 3~
+incremental words in system B|%~O1~U1. W1.~G53 U0~G28 U0 W0~M30~%~|%~O1~M30~%~|codes B~||waits 0~end path 1 line 6 path 2 line 3~
+a roughing cycle in system B|%~O1~G71 P10 Q20~N10 G00 X10.~N20 M101~M30~%~|%~O1~M101~M30~%~|codes B~||refused 65 BranchAtWait path 1 line 3~
+a wait beside a code of system B|%~O1~M101 G91~M30~%~|%~O1~M30~%~|codes B~||refused 57 WaitNotAlone path 1 line 3~
 settings that are refused|%~O1~M30~%~|%~O1~M30~%~|wait 100 197~shared100 101~||refused 90 BadSetting line 2~
 settings before the tapes|G00~|%~O1~M30~|shared100 101~||refused 90 BadSetting line 1~
 an open comment|%~O1~M30 (END|%~O1~M30~%~|||refused 12 OpenComment path 1 line 3~

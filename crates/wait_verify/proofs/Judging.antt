@@ -11,7 +11,7 @@ use Rattle.label_list.specs.declared.labelled.Labelled.{Labelled}
 use Rattle.label_list.specs.Accepted.{IsAcceptedPair}
 use Rattle.label_list.specs.Lists.{path_labels}
 use Rattle.nc_verify.specs.declared.refusal.Refusal.{Refusal}
-use Rattle.nc_verify.specs.Verdict.{skips_of, waits_in, IsPairRefusal}
+use Rattle.nc_verify.specs.Verdict.{skips_of, dialect_in, IsPairRefusal}
 use Rattle.nc_verify.proofs.Refused.{by_refusal}
 use Rattle.open_order.specs.declared.premises.Premises.{Premises}
 use Rattle.open_order.specs.Trusted.{TrustView, no_trust, with_tape}
@@ -21,11 +21,11 @@ use Rattle.wait_verify.specs.Verdict.IsRefusalOf.{left, right, pair}
 
 -- the premises are those of the cell
 pub record IsPremises (asked : Asked) (cell : Cell) (premises : Premises) : Type 0 where
-  pub waits : premises.waits ≡ waits_in cell
+  pub dialect : premises.dialect ≡ dialect_in cell
   pub outside : premises.outside ≡ asked.outside
 
 same : (asked : Asked) (cell : Cell) (premises : Premises) → IsPremises asked cell premises → premises ≡ premises_of asked cell
-same asked cell premises is = λ i. record { waits = is.waits i; outside = is.outside i }
+same asked cell premises is = λ i. record { dialect = is.dialect i; outside = is.outside i }
 
 order_is : (asked : Asked) (cell : Cell) (premises : Premises) (skips : ℕ) (path : Path) (text : List ℕ) (tape : List Program)
     (own : List ControlProgram) → IsPremises asked cell premises → skips ≡ skips_of path cell

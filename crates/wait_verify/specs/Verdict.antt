@@ -12,7 +12,7 @@ use Rattle.label_list.specs.Accepted.{IsAcceptedPair}
 use Rattle.label_list.specs.Lists.{path_labels}
 use Rattle.nc_verify.specs.declared.refusal.Refusal.{Refusal}
 use Rattle.nc_verify.specs.Refusals.{at_line}
-use Rattle.nc_verify.specs.Verdict.{skips_of, waits_in, AreRefusedSettings, IsPairRefusal}
+use Rattle.nc_verify.specs.Verdict.{skips_of, dialect_in, AreRefusedSettings, IsPairRefusal}
 use Rattle.open_order.specs.declared.premises.Premises.{Premises}
 use Rattle.wait_verify.specs.Asked.{Asked, opened}
 use Rattle.open_order.specs.Exact.{IsOrdered, IsRefused}
@@ -20,7 +20,7 @@ use Rattle.open_order.specs.Trusted.{TrustView, no_trust, with_tape}
 
 -- by which the tapes are read
 abbrev pub premises_of : Asked → Cell → Premises
-premises_of asked cell = record { waits = waits_in cell; outside = asked.outside }
+premises_of asked cell = record { dialect = dialect_in cell; outside = asked.outside }
 
 -- the text of a tape reads as this tape, whose blocks have this order
 pub record IsOrderOf (premises : Premises) (skips : ℕ) (text : List ℕ) (tape : List Program) (order : List ControlProgram) : Type 0 where

@@ -7,28 +7,28 @@ use Rattle.nc_text.specs.Tape.{tape_of}
 use Rattle.nc_number.specs.declared.path.Path.{Path}
 use Rattle.nc_number.specs.declared.path.Path.TheVariants.{One, Two}
 use Rattle.cell_settings.specs.Cell.{Cell}
-use Rattle.block_forms.specs.declared.waits.WaitCodes.{WaitCodes}
+use Rattle.block_forms.specs.declared.dialect.Dialect.{Dialect}
 use Rattle.open_forms.specs.Widening.{has_interrupt}
 use Rattle.tape_flow.specs.Controls.{controls}
 use Rattle.tape_flow.specs.Forms.{ProgramForm}
 use Rattle.nc_verify.specs.Verdict as run
-use Rattle.nc_verify.specs.Verdict.{Texts, skips_of, waits_in}
+use Rattle.nc_verify.specs.Verdict.{Texts, skips_of, dialect_in}
 use Rattle.wait_verify.specs.Asked.{opened, asked}
 use Rattle.wait_verify.specs.Verdict.{Judged, AreAccepted}
 
 -- the block has no M96, M97 or M198, unless it is a wait or an argument
-abbrev pub IsPlainBlock : WaitCodes → Block → Type 0
-IsPlainBlock waits block = has_interrupt waits block.body ≡ false
+abbrev pub IsPlainBlock : Dialect → Block → Type 0
+IsPlainBlock dialect block = has_interrupt dialect block.body ≡ false
 
 -- the text has no comma, and its blocks are such
-pub record IsPlainText (waits : WaitCodes) (skips : ℕ) (text : List ℕ) : Type 0 where
+pub record IsPlainText (dialect : Dialect) (skips : ℕ) (text : List ℕ) : Type 0 where
   pub no_comma : opened text ≡ text
-  pub plain : (tape : List Program) → tape_of skips text ≡ Ok tape → All (IsPlainBlock waits) (blocks_in tape)
+  pub plain : (tape : List Program) → tape_of skips text ≡ Ok tape → All (IsPlainBlock dialect) (blocks_in tape)
 
 -- both texts of a pair are such
 pub record ArePlain (texts : Texts) (cell : Cell) : Type 0 where
-  pub left : IsPlainText (waits_in cell) (skips_of One cell) texts.left
-  pub right : IsPlainText (waits_in cell) (skips_of Two cell) texts.right
+  pub left : IsPlainText (dialect_in cell) (skips_of One cell) texts.left
+  pub right : IsPlainText (dialect_in cell) (skips_of Two cell) texts.right
 
 -- the pair is accepted for its waits, with the same orders of blocks, and so with the same lists of labels
 pub record IsWidened (texts : Texts) (cell : Cell) (left right : List ProgramForm) : Type 0 where

@@ -6,7 +6,7 @@ ghost use Rattle.cell_settings.specs.Cell.{settings_of};
 ghost use Rattle.cell_settings.specs.View.{view};
 ghost use Rattle.label_list.specs.Accepted.{IsAcceptedPair};
 ghost use Rattle.label_list.specs.Lists.{most_labels, path_labels};
-ghost use Rattle.nc_verify.specs.Verdict.{AreRefusedSettings, IsTooLong, IsPairRefusal, skips_of, waits_in};
+ghost use Rattle.nc_verify.specs.Verdict.{AreRefusedSettings, IsTooLong, IsPairRefusal, skips_of, dialect_in};
 ghost use Rattle.wait_verify.specs.Asked.{asked};
 ghost use Rattle.open_order.specs.Basis.{seen};
 ghost use Rattle.open_order.specs.Trusted.{no_trust, with_tape};
@@ -15,7 +15,7 @@ ghost use Rattle.wait_verify.specs.Verdict.{Judged, IsTold, IsRefusalOf};
 use crate::pair::WaitPair;
 use crate::refusal::{of_labels, of_pair, of_settings};
 use crate::tape::{OrderedTape, ordered_tape};
-use block_forms::WaitCodes;
+use block_forms::Dialect;
 use block_order::{BlockOrder, a_tape_without_faults_is_unforked};
 use cell_settings::{Settings, read_settings};
 use label_list::{LabelList, a_pair_is_accepted_by_its_lists, compare, labels_of_order};
@@ -51,11 +51,11 @@ fn skips_of(settings: &Settings, path: Path) -> u16
 }
 
 fn premises_of(settings: &Settings, outside: Option<Outside>) -> Premises
-    ensures waits { result.waits ≡ waits_in (view settings.now) }
+    ensures dialect { result.dialect ≡ dialect_in (view settings.now) }
     ensures outside { result.outside ≡ outside }
 {
     Premises {
-        waits: WaitCodes::of(settings),
+        dialect: Dialect::of(settings),
         outside,
     }
 }

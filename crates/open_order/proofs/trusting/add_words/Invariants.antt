@@ -6,4 +6,4 @@ use Rattle.open_order.proofs.trusting.add_words.Given as goal
 
 abbrev pub invariant-loop-word : goal.invariant-loop-word
 invariant-loop-word l =
-    with_words l.waits (seen l.fn.trust) l.words ≡ with_words l.waits (seen l.trust) (drop l.word-index l.words)
+    with_words l.dialect (seen l.fn.trust) l.words ≡ with_words l.dialect (seen l.trust) (drop l.word-index l.words)

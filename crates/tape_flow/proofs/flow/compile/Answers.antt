@@ -5,7 +5,7 @@ use Rattle.block_order.specs.Shape.{IsListed}
 use Rattle.block_order.specs.Answers.{IfFault}
 use Rattle.tape_flow.specs.Forms.{program_form}
 use Rattle.tape_flow.specs.Controls.{controls}
-use Rattle.tape_flow.specs.Exact.{waits_of, IsOrderFault}
+use Rattle.tape_flow.specs.Exact.{dialect_of, IsOrderFault}
 use Rattle.tape_flow.proofs.FirstRefused.{refused_by_reading, refused_by_order}
 use Rattle.tape_flow.proofs.Listed.{read_listed}
 use Rattle.tape_flow.proofs.flow.compile.Goals as goal
@@ -14,14 +14,14 @@ pub returns-in-Err-clause-refused : goal.returns-in-Err-clause-refused
 returns-in-Err-clause-refused c =
     let same = sym c.as_slice-tape.ensures.value in
     let shape = subst (λ tape. IsTapeShape tape) same c.as_slice-tape.ensures.shape in
-    rw same (refused_by_reading (waits_of c.args.settings.now) c.as_slice-tape.result.now c.in-Err.fault
+    rw same (refused_by_reading (dialect_of c.args.settings.now) c.as_slice-tape.result.now c.in-Err.fault
     shape c.in-Err.ensures)
 
 pub order_of-requires : goal.order_of-requires
 order_of-requires c =
     let shape = subst (λ tape. IsTapeShape tape) (sym c.as_slice-tape.ensures.value) c.as_slice-tape.ensures.shape in
     subst (λ programs. IsListed (controls (map program_form programs))) (sym c.as_slice.ensures)
-    (read_listed (waits_of c.args.settings.now) c.as_slice-tape.result.now (map program_form c.in-Ok.programs) shape
+    (read_listed (dialect_of c.args.settings.now) c.as_slice-tape.result.now (map program_form c.in-Ok.programs) shape
     c.in-Ok.ensures)
 
 pub returns-in-Err-order_of-clause-refused : goal.returns-in-Err-order_of-clause-refused
@@ -31,5 +31,5 @@ returns-in-Err-order_of-clause-refused c =
     (λ programs. IfFault error (λ fault. IsOrderFault (controls (map program_form programs)) fault.line fault.number))
     c.as_slice.ensures c.in-Err-order_of.ensures.first in
     rw (sym c.as_slice-tape.ensures.value)
-    (refused_by_order (waits_of c.args.settings.now) c.as_slice-tape.result.now (map program_form c.in-Ok.programs) error
+    (refused_by_order (dialect_of c.args.settings.now) c.as_slice-tape.result.now (map program_form c.in-Ok.programs) error
     c.in-Ok.ensures first)

@@ -6,4 +6,4 @@ use Rattle.tape_flow.proofs.reading.read_blocks.Given as goal
 
 abbrev pub invariant-loop-block : goal.invariant-loop-block
 invariant-loop-block l =
-    blocks_from l.waits [] l.blocks ≡ blocks_from l.waits (map block_form l.read.items) (drop l.block-index l.blocks)
+    blocks_from l.dialect [] l.blocks ≡ blocks_from l.dialect (map block_form l.read.items) (drop l.block-index l.blocks)

@@ -5,5 +5,5 @@ use Rattle.tape_flow.proofs.reading.read_programs.Given as goal
 
 abbrev pub invariant-loop-program : goal.invariant-loop-program
 invariant-loop-program l =
-    programs_from l.waits [] l.programs
-    ≡ programs_from l.waits (map program_form l.read.items) (drop l.program-index l.programs)
+    programs_from l.dialect [] l.programs
+    ≡ programs_from l.dialect (map program_form l.read.items) (drop l.program-index l.programs)

@@ -1,15 +1,15 @@
--- The blocks are read by the waiting codes of the cell.
+-- The blocks are read as the settings of the cell say.
 use Rattle.std.proofs.Common.{◌≡◌, map, subst}
 use Rattle.nc_number.specs.Answers.{Gives}
 use Rattle.tape_flow.specs.Forms.{program_form, programs_read}
-use Rattle.tape_flow.specs.Exact.{waits_of}
+use Rattle.tape_flow.specs.Exact.{dialect_of}
 use Rattle.tape_flow.proofs.reading.read_tape.Goals as goal
 
 pub returns : goal.returns
 returns c =
-    let codes = c.of-waits.ensures in
-    let same : c.of-waits.result ≡ waits_of c.args.settings.now =
-    λ i. record { low = codes.low i; high = codes.high i; bits = codes.bits i } in
+    let own = c.of-dialect.ensures in
+    let same : c.of-dialect.result ≡ dialect_of c.args.settings.now =
+    λ i. record { low = own.low i; high = own.high i; bits = own.bits i; system = own.system i } in
     subst
-    (λ waits. Gives (λ read. map program_form read) c.read_programs.result (programs_read waits c.args.tape.now)) same
+    (λ dialect. Gives (λ read. map program_form read) c.read_programs.result (programs_read dialect c.args.tape.now)) same
     c.read_programs.ensures

@@ -10,7 +10,7 @@ pub returns-in-Err-ordered_tape-clause-refused : goal.returns-in-Err-ordered_tap
 returns-in-Err-ordered_tape-clause-refused c =
     left_refused (asked c.args.left.now c.args.right.now c.args.settings.now c.args.outside) (view c.in-Ok.settings)
     c.premises_of-premises.result c.skips_of-first.result c.in-Err-ordered_tape.error c.in-Ok.ensures.settings
-    (record { waits = c.premises_of-premises.ensures.waits; outside = c.premises_of-premises.ensures.outside })
+    (record { dialect = c.premises_of-premises.ensures.dialect; outside = c.premises_of-premises.ensures.outside })
     c.skips_of-first.ensures c.in-Err-ordered_tape.ensures.refused
 
 pub returns-in-Err-ordered_tape-2-clause-refused : goal.returns-in-Err-ordered_tape-2-clause-refused
@@ -18,7 +18,7 @@ returns-in-Err-ordered_tape-2-clause-refused c =
     right_refused (asked c.args.left.now c.args.right.now c.args.settings.now c.args.outside) (view c.in-Ok.settings)
     c.premises_of-premises.result c.skips_of-first.result c.skips_of-second.result c.in-Ok-ordered_tape.tape.tape
     c.in-Ok-ordered_tape.tape.order c.in-Err-ordered_tape-2.error c.in-Ok.ensures.settings
-    (record { waits = c.premises_of-premises.ensures.waits; outside = c.premises_of-premises.ensures.outside })
+    (record { dialect = c.premises_of-premises.ensures.dialect; outside = c.premises_of-premises.ensures.outside })
     c.skips_of-first.ensures c.in-Ok-ordered_tape.ensures.ordered c.skips_of-second.ensures
     c.in-Err-ordered_tape-2.ensures.refused
 
@@ -34,7 +34,7 @@ returns-clause-refused c =
     } in
     pair_refused all judged c.in-Err-tell.error
     (orders_are all judged c.premises_of-premises.result c.skips_of-first.result c.skips_of-second.result c.in-Ok.ensures.settings
-    (record { waits = c.premises_of-premises.ensures.waits; outside = c.premises_of-premises.ensures.outside })
+    (record { dialect = c.premises_of-premises.ensures.dialect; outside = c.premises_of-premises.ensures.outside })
     c.skips_of-first.ensures c.skips_of-second.ensures c.in-Ok-ordered_tape.ensures.ordered c.in-Ok-ordered_tape-2.ensures.ordered)
     c.in-Err-tell.ensures.refused
 
@@ -49,7 +49,7 @@ returns-in-Ok-tell-clause-told c =
       right = c.in-Ok-ordered_tape-2.tape.order;
     } in
     let premises : IsPremises all judged.cell c.premises_of-premises.result =
-    record { waits = c.premises_of-premises.ensures.waits; outside = c.premises_of-premises.ensures.outside } in (
+    record { dialect = c.premises_of-premises.ensures.dialect; outside = c.premises_of-premises.ensures.outside } in (
       judged,
       pair_told all judged c.premises_of-premises.result c.in-Ok-tell.pair.left c.in-Ok-tell.pair.right (seen c.in-Ok-tell.pair.trust)
           (orders_are all judged c.premises_of-premises.result c.skips_of-first.result c.skips_of-second.result c.in-Ok.ensures.settings
