@@ -36,56 +36,59 @@ all_say = (
             (
               one_says 4002 (Code 2) (inr (inl refl)) refl,
               (
-                one_says 4005 (Code 5) (inr (inr (inl refl))) refl,
+                one_says 4003 (Code 3) (inr (inr (inl refl))) refl,
                 (
-                  one_says 4006 (Code 6) (inr (inr (inr (inl refl)))) refl,
+                  one_says 4005 (Code 5) (inr (inr (inr (inl refl)))) refl,
                   (
-                    one_says 4007 (Code 7) (inr (inr (inr (inr (inl refl))))) refl,
+                    one_says 4006 (Code 6) (inr (inr (inr (inr (inl refl))))) refl,
                     (
-                      one_says 4014 (Code 14) (inr (inr (inr (inr (inr refl))))) refl,
+                      one_says 4007 (Code 7) (inr (inr (inr (inr (inr (inl refl)))))) refl,
                       (
-                        one_says 4109 Feed tt refl,
+                        one_says 4014 (Code 14) (inr (inr (inr (inr (inr (inr refl)))))) refl,
                         (
-                          one_says 4119 Speed tt refl,
+                          one_says 4109 Feed tt refl,
                           (
-                            one_says 4120 Tool tt refl,
+                            one_says 4119 Speed tt refl,
                             (
-                              one_says 5001 (Programmed X) tt refl,
+                              one_says 4120 Tool tt refl,
                               (
-                                one_says 5002 (Programmed Z) tt refl,
+                                one_says 5001 (Programmed X) tt refl,
                                 (
-                                  one_says 5021 (Machine X) tt refl,
+                                  one_says 5002 (Programmed Z) tt refl,
                                   (
-                                    one_says 5022 (Machine Z) tt refl,
+                                    one_says 5021 (Machine X) tt refl,
                                     (
-                                      one_says 5201 (Work 0 X) (omega arith) refl,
+                                      one_says 5022 (Machine Z) tt refl,
                                       (
-                                        one_says 5202 (Work 0 Z) (omega arith) refl,
+                                        one_says 5201 (Work 0 X) (omega arith) refl,
                                         (
-                                          one_says 5221 (Work 1 X) (omega arith) refl,
+                                          one_says 5202 (Work 0 Z) (omega arith) refl,
                                           (
-                                            one_says 5222 (Work 1 Z) (omega arith) refl,
+                                            one_says 5221 (Work 1 X) (omega arith) refl,
                                             (
-                                              one_says 5241 (Work 2 X) (omega arith) refl,
+                                              one_says 5222 (Work 1 Z) (omega arith) refl,
                                               (
-                                                one_says 5242 (Work 2 Z) (omega arith) refl,
+                                                one_says 5241 (Work 2 X) (omega arith) refl,
                                                 (
-                                                  one_says 5261 (Work 3 X) (omega arith) refl,
+                                                  one_says 5242 (Work 2 Z) (omega arith) refl,
                                                   (
-                                                    one_says 5262 (Work 3 Z) (omega arith) refl,
+                                                    one_says 5261 (Work 3 X) (omega arith) refl,
                                                     (
-                                                      one_says 5281 (Work 4 X) (omega arith) refl,
+                                                      one_says 5262 (Work 3 Z) (omega arith) refl,
                                                       (
-                                                        one_says 5282 (Work 4 Z) (omega arith) refl,
+                                                        one_says 5281 (Work 4 X) (omega arith) refl,
                                                         (
-                                                          one_says 5301 (Work 5 X) (omega arith) refl,
+                                                          one_says 5282 (Work 4 Z) (omega arith) refl,
                                                           (
-                                                            one_says 5302 (Work 5 Z) (omega arith) refl,
+                                                            one_says 5301 (Work 5 X) (omega arith) refl,
                                                             (
-                                                              one_says 5321 (Work 6 X) (omega arith) refl,
+                                                              one_says 5302 (Work 5 Z) (omega arith) refl,
                                                               (
-                                                                one_says 5322 (Work 6 Z) (omega arith) refl,
-                                                                tt,
+                                                                one_says 5321 (Work 6 X) (omega arith) refl,
+                                                                (
+                                                                  one_says 5322 (Work 6 Z) (omega arith) refl,
+                                                                  tt,
+                                                                ),
                                                               ),
                                                             ),
                                                           ),
@@ -173,7 +176,8 @@ found_by_number (Code group) (inr (inl is)) = rw is refl
 found_by_number (Code group) (inr (inr (inl is))) = rw is refl
 found_by_number (Code group) (inr (inr (inr (inl is)))) = rw is refl
 found_by_number (Code group) (inr (inr (inr (inr (inl is))))) = rw is refl
-found_by_number (Code group) (inr (inr (inr (inr (inr is))))) = rw is refl
+found_by_number (Code group) (inr (inr (inr (inr (inr (inl is)))))) = rw is refl
+found_by_number (Code group) (inr (inr (inr (inr (inr (inr is)))))) = rw is refl
 found_by_number Feed there = refl
 found_by_number Speed there = refl
 found_by_number Tool there = refl

@@ -1,5 +1,5 @@
 -- The common variables #100 to #199 and #500 to #999, and which of them the paths share.
-use Rattle.std.specs.Prelude.{ℕ, ◌≤◌, ◌==◌, ◌⊎◌, List, [], ◌∷◌, Option, None, Some, replicate, slice_index_or, slice_set, if◌then◌else◌}
+use Rattle.std.specs.Prelude.{ℕ, ◌≤◌, ◌==◌, ◌⊎◌, Bool, ◌&&◌, ◌||◌, nat_le, List, [], ◌∷◌, Option, None, Some, replicate, slice_index_or, slice_set, if◌then◌else◌}
 use Rattle.std.specs.Option.{option_or}
 use Rattle.nc_number.specs.declared.value.Var.{Var}
 use Rattle.nc_number.specs.declared.value.Var.TheVariants.{Vacant}
@@ -7,6 +7,14 @@ use Rattle.nc_number.specs.declared.value.Var.TheVariants.{Vacant}
 -- a number that names a common variable
 abbrev pub IsCommon : ℕ → Type 0
 IsCommon v = ((100 ≤ v) × (v ≤ 199)) ⊎ ((500 ≤ v) × (v ≤ 999))
+
+-- the test of that
+abbrev pub is_common : ℕ → Bool
+is_common v = (nat_le 100 v && nat_le v 199) || (nat_le 500 v && nat_le v 999)
+
+-- the common variables are 100 to 199 and 500 to 999
+abbrev pub common_number : ℕ → Option ℕ
+common_number v = if is_common v then Some v else None
 
 -- the variables of one path, each at its own number, while none was written
 abbrev pub none_written : List Var

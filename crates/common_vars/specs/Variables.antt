@@ -21,7 +21,7 @@ one number variable = range number number (λ n. variable)
 abbrev pub variable_rows : List Row
 variable_rows =
     one 0 Null ∷ range 1 33 Local ∷ range 100 199 Common ∷ range 500 999 Common ∷ one 3000 Raise
-    ∷ one 4001 (Code 1) ∷ one 4002 (Code 2) ∷ one 4005 (Code 5) ∷ one 4006 (Code 6)
+    ∷ one 4001 (Code 1) ∷ one 4002 (Code 2) ∷ one 4003 (Code 3) ∷ one 4005 (Code 5) ∷ one 4006 (Code 6)
     ∷ one 4007 (Code 7) ∷ one 4014 (Code 14)
     ∷ one 4109 Feed ∷ one 4119 Speed ∷ one 4120 Tool
     ∷ one 5001 (Programmed X) ∷ one 5002 (Programmed Z) ∷ one 5021 (Machine X) ∷ one 5022 (Machine Z)
@@ -61,9 +61,9 @@ number_of (Machine axis) = 5020 + axis_place axis
 number_of (Work n axis) = 5200 + 20 * n + axis_place axis
 number_of Raise = 3000
 
--- the modal groups whose code can be read
+-- the modal groups whose code can be read, in a system that has the group
 abbrev pub IsModalGroup : ℕ → Type 0
-IsModalGroup group = (group ≡ 1) ⊎ (group ≡ 2) ⊎ (group ≡ 5) ⊎ (group ≡ 6) ⊎ (group ≡ 7) ⊎ (group ≡ 14)
+IsModalGroup group = (group ≡ 1) ⊎ (group ≡ 2) ⊎ (group ≡ 3) ⊎ (group ≡ 5) ⊎ (group ≡ 6) ⊎ (group ≡ 7) ⊎ (group ≡ 14)
 
 -- there is such a variable
 abbrev pub IsVariable : Variable → Type 0

@@ -8,11 +8,13 @@
 #![tactic(auto)]
 
 mod links;
+mod number;
 mod own;
 mod shared;
 mod variable;
 
 pub use links::Write;
+pub use number::CommonNumber;
 pub use own::{Own, is_common};
 pub use shared::{
     Shared, a_write_is_seen_from_its_stamp_on, is_shared, later_writes_change_no_earlier_value,

@@ -18,7 +18,8 @@ pub enum Variable {
     Local(u8),
     /// `#100` to `#199` and `#500` to `#999`: a common variable, by its number.
     Common(u32),
-    /// `#4001`, `#4002`, `#4005`, `#4006`, `#4007` and `#4014`: the code in force of that modal group.
+    /// `#4001`, `#4002`, `#4003`, `#4005`, `#4006`, `#4007` and `#4014`: the code in force of that modal
+    /// group, where the control's system has the group.
     Code(u8),
     /// `#4109`: F.
     Feed,
@@ -84,7 +85,7 @@ fn named_by(number: u32) -> Option<Variable>
         1..=33 => Variable::Local(number as u8),
         100..=199 | 500..=999 => Variable::Common(number),
         3000 => Variable::Raise,
-        4001 | 4002 | 4005 | 4006 | 4007 | 4014 => Variable::Code((number - 4000) as u8),
+        4001 | 4002 | 4003 | 4005 | 4006 | 4007 | 4014 => Variable::Code((number - 4000) as u8),
         4109 => Variable::Feed,
         4119 => Variable::Speed,
         4120 => Variable::Tool,

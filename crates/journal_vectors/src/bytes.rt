@@ -17,6 +17,15 @@ const TEXTS: &str =
 const HEADER: &str =
     "01000000405457494e00010000000000000017250a4f310a233530303d233530302b310a4d33300a250a00000017250a4f310a233530303d233530302b310a4d33300a250a";
 
+/// The same entry in version 2.
+const HEADER2: &str =
+    "01000000405457494e00020000000000000017250a4f310a233530303d233530302b310a4d33300a250a00000017250a4f310a233530303d233530302b310a4d33300a250a";
+
+/// Two edits of path 1: its work offset 1, that of G54, gets X-1. Z5., and #500 gets 7.
+const G54: &str = "0106010001fffffffffffffc180000000000001388";
+
+const SEVEN: &str = "01060401f4000000000000000100000000006acfc0";
+
 /// The value of a hexadecimal digit.
 fn digit(byte: u8) -> u8 {
     match byte {
@@ -49,6 +58,9 @@ fn digits_of(word: &str) -> &str {
         "THREE" => THREE,
         "FOUR" => FOUR,
         "HEADER" => HEADER,
+        "HEADER2" => HEADER2,
+        "G54" => G54,
+        "SEVEN" => SEVEN,
         "TEXTS" => TEXTS,
         "TAPE" => TAPE,
         _ => word,

@@ -1,4 +1,4 @@
-//! Tables of tests of disks, gates, records and journals: what each writes, byte by byte, what a stop at each of its calls leaves, and
+//! Tables of tests of disks, gates, records, journals and texts of edits: what each writes, byte by byte, what a stop at each of its calls leaves, and
 //! why a file is refused.
 //!
 //! The bytes and the answers that are expected are worked by hand from the rules of the journal, and never from what a call answered.
@@ -20,3 +20,5 @@ mod journals;
 mod records;
 #[cfg(test)]
 mod rows;
+#[cfg(test)]
+mod texts;

@@ -1,5 +1,6 @@
-use Rattle.std.specs.Prelude.{◌≡◌, List}
+use Rattle.std.specs.Prelude.{◌≡◌, List, Option, Some, None, if◌then◌else◌}
 use Rattle.nc_number.specs.declared.point.Point.{Point}
+use Rattle.nc_number.specs.Position.{is_position}
 pub use Rattle.offset_store.specs.Lists.{origin, offset_at}
 
 -- the offsets of a path, each at the place of its number
@@ -12,3 +13,7 @@ pub record OffsetTable : Type 0 where
 pub record IsSound (o : OffsetTable) : Type 0 where
   pub no_geometry : offset_at o.geometry 0 ≡ origin
   pub no_wear : offset_at o.wear 0 ≡ origin
+
+-- the offset to a point, where it may be one
+abbrev pub offset_of : Point → Option Point
+offset_of to = if is_position to then Some to else None

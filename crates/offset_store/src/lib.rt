@@ -11,10 +11,12 @@ mod change;
 mod fault;
 mod list;
 mod number;
+mod offset;
 mod offsets;
 mod slot;
 
 pub use fault::OffsetFault;
 pub use number::{LAST_WORK, ToolNumber, WorkNumber};
+pub use offset::Offset;
 pub use offsets::Offsets;
 pub use slot::{OffsetForm, Slot};

@@ -1,5 +1,5 @@
--- One batch more behind those of a journal.
-use Rattle.std.proofs.Common.{◌≡◌, inl, inr, ℕ, ◌+◌, ◌≤◌, List, [], ◌∷◌, ◌++◌, length, drop, slice_index, sym, ◌∙◌, ap, subst, arith, length-append}
+-- One piece more behind those of a journal.
+use Rattle.std.proofs.Common.{◌≡◌, inl, inr, ℕ, ◌+◌, ◌≤◌, List, [], ◌∷◌, ◌++◌, length, drop, slice_index, refl, sym, ◌∙◌, ap, subst, arith, length-append}
 use Rattle.std.proofs.lemmas.List.{append-nil, map-append}
 use Rattle.std.proofs.lemmas.List.Concat.{flat_map-append}
 use Rattle.disk_model.specs.Device.{DiskState}
@@ -7,29 +7,32 @@ use Rattle.disk_model.specs.Moments.{LeavesOnly}
 use Rattle.disk_model.proofs.Runs.{widened}
 use Rattle.gate_file.specs.Chain.{Opens, IsBeforeOrAfter}
 use Rattle.gate_file.specs.Gate.{Keeps}
-use Rattle.run_records.specs.declared.entry.Entry.{Entry}
 use Rattle.run_records.specs.declared.header.Header.{Header}
+use Rattle.run_records.specs.declared.version.Version.{Version}
+use Rattle.run_records.specs.declared.version.Version.TheVariants.{One, Two}
+use Rattle.run_records.specs.Entries.{Entry}
 use Rattle.run_records.specs.Spelling.{entry_bytes, IsEntry}
-use Rattle.run_journal.specs.Batches.{records_bytes, batch_bytes, bodies_of, records_of, AreEntries, IsBatch, AreBatches, IsRun}
+use Rattle.run_journal.specs.Batches.{records_bytes, batch_bytes, Piece, a_batch, the_mark, piece_bytes, raising_mark, bodies_of, records_in, records_of, MayStand, AreEntries, IsBatch, IsPiece, version_after, version_behind, ArePieces, IsRun}
 use Rattle.run_journal.specs.Kept.{HasBatch, pending_in}
-use Rattle.run_journal.specs.Stands.{Pends, Holds, StandsEither}
+use Rattle.run_journal.specs.Stands.{Pends, Stands, Holds, StandsEither}
 
-pub are_push : (entries : List Entry) (e : Entry) → AreEntries entries → IsEntry e → AreEntries (entries ++ e ∷ [])
-are_push [] e are is = (is, tt)
-are_push (x ∷ entries) e are is = (are.0, are_push entries e are.1 is)
+pub are_push : (version : Version) (entries : List Entry) (e : Entry) → AreEntries version entries → IsEntry e → MayStand version e → AreEntries version (entries ++ e ∷ [])
+are_push version [] e are is may = ((is, may), tt)
+are_push version (x ∷ entries) e are is may = (are.0, are_push version entries e are.1 is may)
 
 pub records_push : (entries : List Entry) (e : Entry) → records_bytes (entries ++ e ∷ []) ≡ records_bytes entries ++ entry_bytes e
 records_push entries e = flat_map-append entry_bytes entries (e ∷ []) ∙ ap (λ (l : List ℕ). records_bytes entries ++ l) (append-nil (entry_bytes e))
 
 -- a record is put behind those of a body
-pub pends_push : (pending : List Entry) (e : Entry) (batch more : List ℕ) → Pends pending batch → IsEntry e → more ≡ (pending_in batch + 1) ∷ (drop 1 batch ++ entry_bytes e) → Pends (pending ++ e ∷ []) more
-pends_push pending e batch more pends is put = record {
+pub pends_push : (version : Version) (pending : List Entry) (e : Entry) (batch more : List ℕ) → Pends version pending batch → IsEntry e → MayStand version e → more ≡ (pending_in batch + 1) ∷ (drop 1 batch ++ entry_bytes e)
+    → Pends version (pending ++ e ∷ []) more
+pends_push version pending e batch more pends is may put = record {
   bytes =
       let count : pending_in batch + 1 ≡ length (pending ++ e ∷ []) = omega (arith, ap (λ (l : List ℕ). slice_index l 0) pends.bytes, length-append pending (e ∷ [])) in
       put ∙ ap (λ (n : ℕ). n ∷ (drop 1 batch ++ entry_bytes e)) count
       ∙ ap (λ (l : List ℕ). length (pending ++ e ∷ []) ∷ (drop 1 l ++ entry_bytes e)) pends.bytes
       ∙ ap (λ (l : List ℕ). length (pending ++ e ∷ []) ∷ l) (sym (records_push pending e));
-  are = are_push pending e pends.are is;
+  are = are_push version pending e pends.are is may;
 }
 
 pub none_pending : (batch : List ℕ) → HasBatch batch → pending_in batch ≡ 0 → batch ≡ 0 ∷ []
@@ -37,43 +40,59 @@ none_pending [] has none = absurd (omega (arith, has.some))
 none_pending (count ∷ []) has none = ap (λ (n : ℕ). n ∷ []) none
 none_pending (count ∷ first ∷ records) has none = absurd (omega (arith, has.short, none))
 
-pub batches_push : (batches : List (List Entry)) (batch : List Entry) → AreBatches batches → IsBatch batch → AreBatches (batches ++ batch ∷ [])
-batches_push [] batch are is = (is, tt)
-batches_push (x ∷ batches) batch are is = (are.0, batches_push batches batch are.1 is)
+pub pieces_push : (version : Version) (pieces : List Piece) (piece : Piece) → ArePieces version pieces → IsPiece (version_behind version pieces) piece → ArePieces version (pieces ++ piece ∷ [])
+pieces_push version [] piece are is = (is, tt)
+pieces_push version (x ∷ pieces) piece are is = (are.0, pieces_push (version_after version x) pieces piece are.1 is)
 
-pub joined_push : (batches : List (List Entry)) (batch : List Entry) → records_of (batches ++ batch ∷ []) ≡ records_of batches ++ batch
-joined_push batches batch = flat_map-append (λ (b : List Entry). b) batches (batch ∷ []) ∙ ap (λ (l : List Entry). records_of batches ++ l) (append-nil batch)
+pub behind_push : (version : Version) (pieces : List Piece) (piece : Piece) → version_behind version (pieces ++ piece ∷ []) ≡ version_after (version_behind version pieces) piece
+behind_push version [] piece = refl
+behind_push version (x ∷ pieces) piece = behind_push (version_after version x) pieces piece
 
-pub bodies_push : (header : Header) (batches : List (List Entry)) (batch : List Entry) → bodies_of header (batches ++ batch ∷ []) ≡ bodies_of header batches ++ batch_bytes batch ∷ []
-bodies_push header batches batch = ap (λ (l : List (List ℕ)). bodies_of header [] ++ l) (map-append batch_bytes batches (batch ∷ []))
+pub joined_push : (pieces : List Piece) (piece : Piece) → records_of (pieces ++ piece ∷ []) ≡ records_of pieces ++ records_in piece
+joined_push pieces piece = flat_map-append records_in pieces (piece ∷ []) ∙ ap (λ (l : List Entry). records_of pieces ++ l) (append-nil (records_in piece))
 
-run_push : (header : Header) (batches : List (List Entry)) (entries batch : List Entry) → IsRun header batches entries → IsBatch batch → IsRun header (batches ++ batch ∷ []) (entries ++ batch)
-run_push header batches entries batch run is = record {
-  short = run.short;
-  are = batches_push batches batch run.are is;
-  joins = ap (λ (l : List Entry). l ++ batch) run.joins ∙ sym (joined_push batches batch);
-}
+pub bodies_push : (header : Header) (pieces : List Piece) (piece : Piece) → bodies_of header (pieces ++ piece ∷ []) ≡ bodies_of header pieces ++ piece_bytes piece ∷ []
+bodies_push header pieces piece = ap (λ (l : List (List ℕ)). bodies_of header [] ++ l) (map-append piece_bytes pieces (piece ∷ []))
 
--- a flush of these records, which are to be written
-module _ (header : Header) (entries pending : List Entry) (batch : List ℕ) (old new : DiskState) (end : ℕ) (pends : Pends pending batch) (holds : Holds header entries old end)
-    (few : pending_in batch ≤ 64) (some : 1 ≤ pending_in batch) (body : List ℕ) (same : body ≡ batch) where
-  is_batch : IsBatch pending
-  is_batch =
-      let count = ap (λ (l : List ℕ). slice_index l 0) pends.bytes in
-      record { some = omega (arith, count, some); few = omega (arith, count, few); are = pends.are }
+-- a piece that is written behind those that the disk holds
+module _ (header : Header) (version : Version) (entries : List Entry) (old new : DiskState) (end : ℕ) (holds : Holds header version entries old end) (piece : Piece) (is : IsPiece version piece) (body : List ℕ) (same : body ≡ piece_bytes piece) where
+  run : IsRun header (holds.0 ++ piece ∷ []) (entries ++ records_in piece)
+  run = record {
+    short = holds.1.short;
+    are = pieces_push header.version holds.0 piece holds.1.are (subst (λ v. IsPiece v piece) (sym holds.2) is);
+    joins = ap (λ (l : List Entry). l ++ records_in piece) holds.1.joins ∙ sym (joined_push holds.0 piece);
+  }
 
-  run : IsRun header (holds.0 ++ pending ∷ []) (entries ++ pending)
-  run = run_push header holds.0 entries pending holds.1 is_batch
+  behind : version_behind header.version (holds.0 ++ piece ∷ []) ≡ version_after version piece
+  behind = behind_push header.version holds.0 piece ∙ ap (λ v. version_after v piece) holds.2
 
-  bodies : bodies_of header (holds.0 ++ pending ∷ []) ≡ bodies_of header holds.0 ++ body ∷ []
-  bodies = bodies_push header holds.0 pending ∙ ap (λ (b : List ℕ). bodies_of header holds.0 ++ b ∷ []) (sym (same ∙ pends.bytes))
+  bodies : bodies_of header (holds.0 ++ piece ∷ []) ≡ bodies_of header holds.0 ++ body ∷ []
+  bodies = bodies_push header holds.0 piece ∙ ap (λ (b : List ℕ). bodies_of header holds.0 ++ b ∷ []) (sym same)
 
-  pub kept : (now : ℕ) → ((bodies : List (List ℕ)) → Keeps bodies old end → Keeps (bodies ++ body ∷ []) new now) → Holds header (entries ++ pending) new now
-  kept now step = (_, run, subst (λ (l : List (List ℕ)). Keeps l new now) (sym bodies) (step (bodies_of header holds.0) holds.2))
+  pub kept : (now : ℕ) → ((bodies : List (List ℕ)) → Keeps bodies old end → Keeps (bodies ++ body ∷ []) new now) → Holds header (version_after version piece) (entries ++ records_in piece) new now
+  kept now step = (_, run, behind, subst (λ (l : List (List ℕ)). Keeps l new now) (sym bodies) (step (bodies_of header holds.0) holds.3))
 
-  stands : (c : List ℕ) → IsBeforeOrAfter (bodies_of header holds.0) body c → StandsEither header entries pending c
+  stands : (c : List ℕ) → IsBeforeOrAfter (bodies_of header holds.0) body c → StandsEither header entries (records_in piece) c
   stands c (inl before) = inl (holds.0, holds.1, before)
   stands c (inr after) = inr (_, run, (after.0, subst (λ (l : List (List ℕ)). Opens l c after.0) (sym bodies) after.1, after.2))
 
-  pub moments : ((bodies : List (List ℕ)) → Keeps bodies old end → LeavesOnly (IsBeforeOrAfter bodies body) old new) → LeavesOnly (StandsEither header entries pending) old new
-  moments step = widened (IsBeforeOrAfter (bodies_of header holds.0) body) (StandsEither header entries pending) old new (step (bodies_of header holds.0) holds.2) stands
+  pub moments : ((bodies : List (List ℕ)) → Keeps bodies old end → LeavesOnly (IsBeforeOrAfter bodies body) old new) → LeavesOnly (StandsEither header entries (records_in piece)) old new
+  moments step = widened (IsBeforeOrAfter (bodies_of header holds.0) body) (StandsEither header entries (records_in piece)) old new (step (bodies_of header holds.0) holds.3) stands
+
+-- the records that are to be written are a batch
+pub is_batch : (version : Version) (pending : List Entry) (batch : List ℕ) → Pends version pending batch → pending_in batch ≤ 64 → 1 ≤ pending_in batch → IsBatch version pending
+is_batch version pending batch pends few some =
+    let count = ap (λ (l : List ℕ). slice_index l 0) pends.bytes in
+    record { some = omega (arith, count, some); few = omega (arith, count, few); are = pends.are }
+
+-- the mark is written behind the pieces that the disk holds: it holds the same records
+module _ (header : Header) (entries : List Entry) (old new : DiskState) (end : ℕ) (holds : Holds header One entries old end) where
+  pub raised : (now : ℕ) → ((bodies : List (List ℕ)) → Keeps bodies old end → Keeps (bodies ++ raising_mark ∷ []) new now) → Holds header Two entries new now
+  raised now step = subst (λ (l : List Entry). Holds header Two l new now) (append-nil entries) (kept header One entries old new end holds the_mark refl raising_mark refl now step)
+
+  still : (c : List ℕ) → StandsEither header entries [] c → Stands header entries c
+  still c (inl before) = before
+  still c (inr after) = subst (λ (l : List Entry). Stands header l c) (append-nil entries) after
+
+  pub raising : ((bodies : List (List ℕ)) → Keeps bodies old end → LeavesOnly (IsBeforeOrAfter bodies raising_mark) old new) → LeavesOnly (Stands header entries) old new
+  raising step = widened (StandsEither header entries []) (Stands header entries) old new (moments header One entries old new end holds the_mark refl raising_mark refl step) still

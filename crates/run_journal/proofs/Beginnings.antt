@@ -23,7 +23,7 @@ module _ {A B : Type 0} (header : Header) (short : IsShort header) (body : List 
   begun a b call =
       let same : Begins (header_bytes header) old new (Ok b) = subst (λ (l : List ℕ). Begins l old new (Ok b)) is call in
       record {
-        held = λ bytes reads. ([], no_record header short, same.kept bytes reads);
+        held = λ bytes reads. ([], no_record header short, refl, same.kept bytes reads);
         vacant = same.vacant;
         spares = same.spares;
         refused = tt;

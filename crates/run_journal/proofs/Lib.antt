@@ -2,7 +2,7 @@ pub mod Batches
 pub mod Beginnings
 pub mod Places
 pub mod Records
-pub mod BatchByBatch
+pub mod PieceByPiece
 pub mod Openings
 pub mod OneMeaning
 pub mod Ends

@@ -11,13 +11,14 @@ use Rattle.gate_file.specs.Gate.{Keeps}
 use Rattle.gate_file.specs.Opening.{Finds, RefusesOpening}
 use Rattle.gate_file.proofs.Reading.{uses_opening}
 use Rattle.run_records.specs.declared.bad_record.BadRecord.TheVariants.{NoHeader}
-use Rattle.run_records.specs.declared.entry.Entry.{Entry}
+use Rattle.run_records.specs.Entries.{Entry}
 use Rattle.run_records.specs.declared.header.Header.{Header}
+use Rattle.run_records.specs.declared.version.Version.{Version}
 use Rattle.run_records.specs.Headers.{header_bytes, IsShort}
 use Rattle.run_journal.specs.declared.fault.JournalFault.{JournalFault}
 use Rattle.run_journal.specs.declared.fault.JournalFault.TheVariants.{DiskFault, NoRun, Cut, BadRecord as Bad, NoMemory}
 use Rattle.run_journal.specs.Bad.{IsBadRun, unheaded}
-use Rattle.run_journal.specs.Batches.{batch_bytes}
+use Rattle.run_journal.specs.Batches.{piece_bytes}
 use Rattle.run_journal.specs.Opening.{RefusesRun, IsFaultOf, FindsRun}
 use Rattle.run_journal.specs.Reading.{IsContents, RefusesBodies}
 
@@ -83,15 +84,17 @@ module _ (old new : DiskState) where
       uses = finds.uses;
     }
 
-    pub run_found : (header : Header) (entries : List Entry) (offsets : List ℕ) → IsContents header entries offsets bodies → FindsRun old new (Ok (record { header = header; entries = entries; offsets = offsets; end = end }))
-    run_found header entries offsets is =
-        let count : length bodies ≡ 1 + length is.batches = omega (arith, ap length is.bodies_are, length-map is.batches batch_bytes) in
-        let used : 4 * (length bodies + 1) + 4 ≡ 4 * (length is.batches + 2) + 4 = omega (arith, count) in
+    pub run_found : (header : Header) (version : Version) (entries : List Entry) (offsets : List ℕ) → IsContents header version entries offsets bodies
+        → FindsRun old new (Ok (record { header = header; version = version; entries = entries; offsets = offsets; end = end }))
+    run_found header version entries offsets is =
+        let count : length bodies ≡ 1 + length is.pieces = omega (arith, ap length is.bodies_are, length-map is.pieces piece_bytes) in
+        let used : 4 * (length bodies + 1) + 4 ≡ 4 * (length is.pieces + 2) + 4 = omega (arith, count) in
         record {
           found = (
-            is.batches,
+            is.pieces,
             record {
               run = is.run;
+              version = is.version_is;
               offsets = is.offsets_are;
               file = λ bytes reads. subst (λ (l : List (List ℕ)). Spells l bytes × Keeps l new end) is.bodies_are (finds.found bytes reads);
               uses = subst (λ (n : ℕ). Uses n 0 old new) used finds.uses_ok;

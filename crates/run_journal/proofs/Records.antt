@@ -1,15 +1,18 @@
--- The records of a batch, read one by one.
+-- The records of a batch, read one by one, and the pieces that bodies are.
 use Rattle.std.proofs.Common.{◌≡◌, ◌⊎◌, ℕ, ◌+◌, ◌-◌, ◌≤◌, ◌<◌, List, [], ◌∷◌, ◌++◌, length, take, drop, get_or, refl, sym, ◌∙◌, ap, subst, arith, append_assoc, length-append, length-drop, Some}
 use Rattle.std.proofs.lemmas.List.{append-nil, take_all, drop_at, drop_all}
 use Rattle.run_records.specs.declared.bad_record.BadRecord.{BadRecord}
 use Rattle.run_records.specs.declared.bad_record.BadRecord.TheVariants.{WrongLength, WrongCount}
-use Rattle.run_records.specs.declared.entry.Entry.{Entry}
+use Rattle.run_records.specs.Entries.{Entry}
 use Rattle.run_records.specs.Spelling.{entry_bytes, IsEntry}
-use Rattle.run_records.specs.Causes.{cause_of}
-use Rattle.run_journal.specs.Batches.{records_bytes}
-use Rattle.run_journal.specs.Bad.{Begins, IsBadBatch, empty, uncounted, unread, late}
+use Rattle.run_records.specs.declared.version.Version.{Version}
+use Rattle.run_records.specs.declared.version.Version.TheVariants.{One, Two}
+use Rattle.run_journal.specs.declared.fault.JournalFault.{JournalFault}
+use Rattle.run_journal.specs.declared.fault.JournalFault.TheVariants.{DiskFault, NoRun, Cut, BadRecord as Bad, NoMemory}
+use Rattle.run_journal.specs.Batches.{records_bytes, raising_mark, a_batch, the_mark, MayStand}
+use Rattle.run_journal.specs.Bad.{cause_for, Begins, IsBadBatch, empty, uncounted, unread, late}
 use Rattle.run_journal.specs.Places.{record_places}
-use Rattle.run_journal.specs.Reading.{IsRecordsRead, IsUnread, IsBodyRead}
+use Rattle.run_journal.specs.Reading.{IsRecordsRead, IsUnread, IsBatchRead, IsPieceRead, RefusesBatch, RefusesBody}
 use Rattle.run_journal.proofs.Batches.{are_push, records_push}
 
 pub places_push : (at : ℕ) (entries : List Entry) (e : Entry) → record_places at (entries ++ e ∷ []) ≡ record_places at entries ++ (at + length (records_bytes entries)) ∷ []
@@ -25,25 +28,25 @@ rest_is front rest bytes is =
     let size : length bytes - length rest ≡ length front = omega (arith, ap length is, length-append front rest) in
     ap (λ (n : ℕ). drop n bytes) size ∙ ap (drop (length front)) is ∙ drop_at front rest (length front) refl
 
-module _ (at : ℕ) (bytes : List ℕ) (old : List Entry) (places_old : List ℕ) where
-  pub none_read : IsRecordsRead 0 at bytes bytes old old places_old places_old
+module _ (version : Version) (at : ℕ) (bytes : List ℕ) (old : List Entry) (places_old : List ℕ) where
+  pub none_read : IsRecordsRead version 0 at bytes bytes old old places_old places_old
   none_read = record { batch = []; count_is = refl; are = tt; bytes_are = refl; entries = sym (append-nil old); offsets = sym (append-nil places_old) }
 
-  module _ (round : ℕ) (rest : List ℕ) (now : List Entry) (places_now : List ℕ) (read : IsRecordsRead round at bytes rest old now places_old places_now) where
+  module _ (round : ℕ) (rest : List ℕ) (now : List Entry) (places_now : List ℕ) (read : IsRecordsRead version round at bytes rest old now places_old places_now) where
     front_size : length bytes ≡ length (records_bytes read.batch) + length rest
     front_size = ap length read.bytes_are ∙ length-append (records_bytes read.batch) rest
 
     pub rest_within : length rest ≤ length bytes
     rest_within = omega (arith, front_size)
 
-    pub read_more : (after : List ℕ) (e : Entry) (more : List Entry) (place : ℕ) (places_more : List ℕ) → IsEntry e → rest ≡ entry_bytes e ++ after → more ≡ now ++ e ∷ [] → place ≡ at + (length bytes - length rest) → places_more ≡ places_now ++ place ∷ []
-        → IsRecordsRead (round + 1) at bytes after old more places_old places_more
-    read_more after e more place places_more is split pushed stands marked =
+    pub read_more : (after : List ℕ) (e : Entry) (more : List Entry) (place : ℕ) (places_more : List ℕ) → IsEntry e → MayStand version e → rest ≡ entry_bytes e ++ after → more ≡ now ++ e ∷ [] → place ≡ at + (length bytes - length rest) → places_more ≡ places_now ++ place ∷ []
+        → IsRecordsRead version (round + 1) at bytes after old more places_old places_more
+    read_more after e more place places_more is may split pushed stands marked =
         let here : place ≡ at + length (records_bytes read.batch) = omega (arith, stands, front_size) in
         record {
           batch = read.batch ++ e ∷ [];
           count_is = omega (arith, read.count_is, length-append read.batch (e ∷ []));
-          are = are_push read.batch e read.are is;
+          are = are_push version read.batch e read.are is may;
           bytes_are =
               read.bytes_are ∙ ap (λ (l : List ℕ). records_bytes read.batch ++ l) split ∙ sym (append_assoc (records_bytes read.batch) (entry_bytes e) after)
               ∙ ap (λ (l : List ℕ). l ++ after) (sym (records_push read.batch e));
@@ -53,7 +56,7 @@ module _ (at : ℕ) (bytes : List ℕ) (old : List Entry) (places_old : List ℕ
               ∙ ap (λ (n : ℕ). places_old ++ (record_places at read.batch ++ n ∷ [])) here ∙ ap (λ (l : List ℕ). places_old ++ l) (sym (places_push at read.batch e));
         }
 
-    pub read_all : (count : ℕ) → round ≡ count → IsRecordsRead count at bytes (drop (length bytes - length rest) bytes) old now places_old places_now
+    pub read_all : (count : ℕ) → round ≡ count → IsRecordsRead version count at bytes (drop (length bytes - length rest) bytes) old now places_old places_now
     read_all count all = record {
       batch = read.batch;
       count_is = read.count_is ∙ all;
@@ -63,7 +66,7 @@ module _ (at : ℕ) (bytes : List ℕ) (old : List Entry) (places_old : List ℕ
       offsets = read.offsets;
     }
 
-    pub read_none : (count place : ℕ) (cause : BadRecord) → round < count → place ≡ length bytes - length rest → cause_of rest ≡ Some cause → IsUnread count bytes place cause
+    pub read_none : (count place : ℕ) (cause : BadRecord) → round < count → place ≡ length bytes - length rest → cause_for version rest ≡ Some cause → IsUnread version count bytes place cause
     read_none count place cause less stands none = record {
       whole = read.batch;
       rest = rest;
@@ -75,14 +78,14 @@ module _ (at : ℕ) (bytes : List ℕ) (old : List Entry) (places_old : List ℕ
     }
 
 -- the body of which the records are
-module _ (count at : ℕ) (records body : List ℕ) (is : body ≡ count ∷ records) (some : 1 ≤ count) (few : count ≤ 64) where
-  pub bad_unread : (place : ℕ) (cause : BadRecord) → IsUnread count records place cause → IsBadBatch body (1 + place) cause
+module _ (version : Version) (count at : ℕ) (records body : List ℕ) (is : body ≡ count ∷ records) (some : 1 ≤ count) (few : count ≤ 64) where
+  pub bad_unread : (place : ℕ) (cause : BadRecord) → IsUnread version count records place cause → IsBadBatch version body (1 + place) cause
   bad_unread place cause none =
-      let begins : Begins count none.whole none.rest body = record { some = some; few = few; are = none.are; bytes = is ∙ ap (λ (l : List ℕ). count ∷ l) none.bytes_are } in
-      subst (λ (n : ℕ). IsBadBatch body (1 + n) cause) (sym none.place_is) (unread count none.whole none.rest cause begins none.few none.none)
+      let begins : Begins version count none.whole none.rest body = record { some = some; few = few; are = none.are; bytes = is ∙ ap (λ (l : List ℕ). count ∷ l) none.bytes_are } in
+      subst (λ (n : ℕ). IsBadBatch version body (1 + n) cause) (sym none.place_is) (unread count none.whole none.rest cause begins none.few none.none)
 
-  module _ (size : ℕ) (old new : List Entry) (places_old places_new : List ℕ) (read : IsRecordsRead count (at + 1) records (drop size records) old new places_old places_new) where
-    begins : Begins (length read.batch) read.batch (drop size records) body
+  module _ (size : ℕ) (old new : List Entry) (places_old places_new : List ℕ) (read : IsRecordsRead version count (at + 1) records (drop size records) old new places_old places_new) where
+    begins : Begins version (length read.batch) read.batch (drop size records) body
     begins = record {
       some = omega (arith, some, read.count_is);
       few = omega (arith, few, read.count_is);
@@ -90,10 +93,10 @@ module _ (count at : ℕ) (records body : List ℕ) (is : body ≡ count ∷ rec
       bytes = is ∙ ap (λ (n : ℕ). n ∷ records) (sym read.count_is) ∙ ap (λ (l : List ℕ). length read.batch ∷ l) read.bytes_are;
     }
 
-    pub bad_late : size < length records → IsBadBatch body 0 WrongLength
+    pub bad_late : size < length records → IsBadBatch version body 0 WrongLength
     bad_late less = late read.batch (drop size records) begins (λ none. let left = length-drop size records in omega (arith, ap length none, left, less))
 
-    pub batch_read : length records ≤ size → IsBodyRead at body old new places_old places_new
+    pub batch_read : length records ≤ size → IsBatchRead version at body old new places_old places_new
     batch_read all = record {
       batch = read.batch;
       is = record { some = begins.some; few = begins.few; are = read.are };
@@ -102,14 +105,44 @@ module _ (count at : ℕ) (records body : List ℕ) (is : body ≡ count ∷ rec
       offsets = read.offsets;
     }
 
+-- a body that is read as a batch is a piece
+pub piece_read : (version : Version) (at : ℕ) (body : List ℕ) (old new : List Entry) (places_old places_new : List ℕ) → IsBatchRead version at body old new places_old places_new → IsPieceRead version version at body old new places_old places_new
+piece_read version at body old new places_old places_new read = record {
+  piece = a_batch read.batch;
+  is = read.is;
+  version_is = refl;
+  body_is = read.body_is;
+  entries = read.entries;
+  offsets = read.offsets;
+}
+
+-- the mark is a piece without a record
+pub mark_read : (at : ℕ) (body : List ℕ) (entries : List Entry) (places : List ℕ) → body ≡ raising_mark → IsPieceRead One Two at body entries entries places places
+mark_read at body entries places is = record {
+  piece = the_mark;
+  is = refl;
+  version_is = refl;
+  body_is = is;
+  entries = sym (append-nil entries);
+  offsets = sym (append-nil places);
+}
+
+-- a body that is no mark, where that may stand, is no piece if it is no batch
+pub piece_refused : (version : Version) (at : ℕ) (body : List ℕ) (fault : JournalFault) → (version ≡ One → body ≡ raising_mark → ⊥) → RefusesBatch version at body fault → RefusesBody version at body fault
+piece_refused version at body (Bad offset cause) unmarked (place, stands, bad) = (place, stands, record { unmarked = unmarked; batch = bad })
+piece_refused version at body NoMemory unmarked refused = tt
+piece_refused version at body DiskFault unmarked refused = absurd refused
+piece_refused version at body NoRun unmarked refused = absurd refused
+piece_refused version at body (Cut place) unmarked refused = absurd refused
+
 -- the first byte of a body, and the others
 pub count_first : (body : List ℕ) → 1 ≤ length body → body ≡ get_or body 0 0 ∷ take (length body - 1) (drop 1 body)
 count_first [] some = absurd (omega (arith, some))
 count_first (count ∷ records) some = ap (λ (l : List ℕ). count ∷ l) (sym (take_all (length (count ∷ records) - 1) records (omega arith)))
 
-pub bad_empty : (body : List ℕ) → length body < 1 → IsBadBatch body 0 WrongCount
-bad_empty [] none = empty refl
-bad_empty (count ∷ records) none = absurd (omega (arith, none))
+pub bad_empty : (version : Version) (body : List ℕ) → length body < 1 → IsBadBatch version body 0 WrongCount
+bad_empty version [] none = empty refl
+bad_empty version (count ∷ records) none = absurd (omega (arith, none))
 
-pub bad_count : (count : ℕ) (records body : List ℕ) → body ≡ count ∷ records → (count ≡ 0) ⊎ (64 < count) → IsBadBatch body 0 WrongCount
-bad_count count records body is wrong = uncounted count records is wrong
+pub bad_count : (version : Version) (count : ℕ) (records body : List ℕ) → body ≡ count ∷ records → (count ≡ 0) ⊎ (64 < count) → IsBadBatch version body 0 WrongCount
+bad_count version count records body is wrong = uncounted count records is wrong

@@ -1,8 +1,10 @@
--- Records in batches, and the bodies of a journal: its header, and then its batches.
-use Rattle.std.specs.Prelude.{◌≡◌, ℕ, ◌≤◌, List, [], ◌∷◌, length, map}
+-- Records in batches, the mark by which a journal is raised, and the bodies of a journal: its header, and then these pieces.
+use Rattle.std.specs.Prelude.{◌≡◌, ℕ, ◌≤◌, List, [], ◌∷◌, length, map, None}
 use Rattle.std.specs.List.{flat_map}
-use Rattle.run_records.specs.declared.entry.Entry.{Entry}
 use Rattle.run_records.specs.declared.header.Header.{Header}
+use Rattle.run_records.specs.declared.version.Version.{Version}
+use Rattle.run_records.specs.declared.version.Version.TheVariants.{One, Two}
+use Rattle.run_records.specs.Entries.{Entry, edit_of}
 use Rattle.run_records.specs.Headers.{header_bytes, IsShort}
 use Rattle.run_records.specs.Spelling.{entry_bytes, IsEntry}
 
@@ -14,30 +16,69 @@ records_bytes entries = flat_map entry_bytes entries
 abbrev pub batch_bytes : List Entry → List ℕ
 batch_bytes batch = length batch ∷ records_bytes batch
 
--- the bodies of a journal: its header, and its batches
-abbrev pub bodies_of : Header → List (List Entry) → List (List ℕ)
-bodies_of header batches = header_bytes header ∷ map batch_bytes batches
+-- the body that raises a journal to version 2
+abbrev pub raising_mark : List ℕ
+raising_mark = 255 ∷ 0 ∷ 2 ∷ []
 
--- the records of batches, in order
-abbrev pub records_of : List (List Entry) → List Entry
-records_of batches = flat_map (λ (batch : List Entry). batch) batches
+-- what a body behind the header is
+pub data Piece : Type 0 where
+  a_batch : List Entry → Piece
+  the_mark : Piece
 
-abbrev pub AreEntries : List Entry → Type 0
-AreEntries [] = Unit {0}
-AreEntries (entry ∷ entries) = IsEntry entry × AreEntries entries
+abbrev pub piece_bytes : Piece → List ℕ
+piece_bytes (a_batch batch) = batch_bytes batch
+piece_bytes the_mark = raising_mark
+
+-- the bodies of a journal: its header, and its pieces
+abbrev pub bodies_of : Header → List Piece → List (List ℕ)
+bodies_of header pieces = header_bytes header ∷ map piece_bytes pieces
+
+-- the records of a piece: the mark is none
+abbrev pub records_in : Piece → List Entry
+records_in (a_batch batch) = batch
+records_in the_mark = []
+
+-- the records of pieces, in order
+abbrev pub records_of : List Piece → List Entry
+records_of pieces = flat_map records_in pieces
+
+-- a journal of this version may have the record: in version 1 stand steps alone
+abbrev pub MayStand : Version → Entry → Type 0
+MayStand version entry = version ≡ One → edit_of entry.kind ≡ None
+
+-- records that a journal of this version may have
+abbrev pub AreEntries : Version → List Entry → Type 0
+AreEntries version [] = Unit {0}
+AreEntries version (entry ∷ entries) = (IsEntry entry × MayStand version entry) × AreEntries version entries
 
 -- a batch has 1 to 64 records
-pub record IsBatch (batch : List Entry) : Type 0 where
+pub record IsBatch (version : Version) (batch : List Entry) : Type 0 where
   pub some : 1 ≤ length batch
   pub few : length batch ≤ 64
-  pub are : AreEntries batch
+  pub are : AreEntries version batch
 
-abbrev pub AreBatches : List (List Entry) → Type 0
-AreBatches [] = Unit {0}
-AreBatches (batch ∷ batches) = IsBatch batch × AreBatches batches
+-- a piece that may stand in a journal of this version: the mark stands in version 1 alone
+abbrev pub IsPiece : Version → Piece → Type 0
+IsPiece version (a_batch batch) = IsBatch version batch
+IsPiece version the_mark = version ≡ One
 
--- a run: a short header, and batches that join to the records
-pub record IsRun (header : Header) (batches : List (List Entry)) (entries : List Entry) : Type 0 where
+-- the version of a journal behind a piece
+abbrev pub version_after : Version → Piece → Version
+version_after version (a_batch batch) = version
+version_after version the_mark = Two
+
+-- the version of a journal behind pieces
+abbrev pub version_behind : Version → List Piece → Version
+version_behind version [] = version
+version_behind version (piece ∷ pieces) = version_behind (version_after version piece) pieces
+
+-- each piece may stand where it stands, so that the mark stands once, and no edit before it
+abbrev pub ArePieces : Version → List Piece → Type 0
+ArePieces version [] = Unit {0}
+ArePieces version (piece ∷ pieces) = IsPiece version piece × ArePieces (version_after version piece) pieces
+
+-- a run: a short header, and pieces whose records join to these
+pub record IsRun (header : Header) (pieces : List Piece) (entries : List Entry) : Type 0 where
   pub short : IsShort header
-  pub are : AreBatches batches
-  pub joins : entries ≡ records_of batches
+  pub are : ArePieces header.version pieces
+  pub joins : entries ≡ records_of pieces

@@ -18,7 +18,7 @@ IsRunBeginning image header file = image file ⊎ (IsNoRun file ⊎ Stands heade
 -- What a call that begins a journal with this header promises.
 pub record BeginsRun {A : Type 0} (header : Header) (old new : DiskState) (result : Result A GateFault) : Type 0 where
   pub held : OnOk result ((bytes : List ℕ) → Reads old bytes
-      → Holds header [] new (5 + length (header_bytes header)))
+      → Holds header header.version [] new (5 + length (header_bytes header)))
   pub vacant : OnOk result ((bytes : List ℕ) → Reads old bytes → IsRunThere bytes → ⊥)
   -- a run that is there stays as it is, whatever the answer
   pub spares : (bytes : List ℕ) → Reads old bytes → IsRunThere bytes → Unwritten old new

@@ -1,12 +1,15 @@
 -- What callers see of a journal.
 use Rattle.std.specs.Prelude.{◌≡◌, ℕ, ◌+◌, ◌*◌, ◌≤◌, List, [], ◌∷◌, length, slice_index, IsTrue, Result, OnOk, OnErr, is_ok}
 use Rattle.gate_file.specs.Gate.{Gate}
+use Rattle.run_records.specs.declared.version.Version.{Version}
+use Rattle.run_records.specs.declared.version.Version.TheVariants.{Two}
 
--- the file, the body that is to be written next, and the number of records, those to be written counted
+-- the file, the body that is to be written next, the number of records, those to be written counted, and the version
 pub record Log (D : Type 0) : Type 0 where
   pub file : Gate D
   pub batch : List ℕ
   pub count : ℕ
+  pub version : Version
 
 -- how many records are to be written
 abbrev pub pending_in : List ℕ → ℕ
@@ -33,5 +36,15 @@ pub record IsFlushed {D T E : Type 0} (old new : Log D) (result : Result T E) : 
   pub emptied : OnOk result (new.batch ≡ 0 ∷ [])
   pub stays : OnErr result (new.batch ≡ old.batch)
   pub moved : OnOk result (1 ≤ pending_in old.batch → new.file.end ≡ old.file.end + 5 + length old.batch)
+  pub live : new.file.live ≡ is_ok result
+  pub count : new.count ≡ old.count
+  pub version : new.version ≡ old.version
+
+-- What raising makes of the journal itself.
+pub record IsRaised {D T E : Type 0} (old new : Log D) (result : Result T E) : Type 0 where
+  pub version : OnOk result (new.version ≡ Two)
+  pub stays : OnErr result (new.version ≡ old.version)
+  pub moved : OnOk result (new.file.end ≡ old.file.end + 8)
+  pub batch : new.batch ≡ old.batch
   pub live : new.file.live ≡ is_ok result
   pub count : new.count ≡ old.count

@@ -2,7 +2,7 @@
 use Rattle.std.specs.Prelude.{ℕ, List}
 use Rattle.gate_file.specs.Chain.{IsNoRun, IsCutAt}
 use Rattle.run_records.specs.declared.bad_record.BadRecord.{BadRecord}
-use Rattle.run_records.specs.declared.entry.Entry.{Entry}
+use Rattle.run_records.specs.Entries.{Entry}
 use Rattle.run_records.specs.declared.header.Header.{Header}
 use Rattle.run_journal.specs.Stands.{Stands}
 use Rattle.run_journal.specs.Bad.{IsBadAt}

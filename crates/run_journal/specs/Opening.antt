@@ -6,13 +6,14 @@ use Rattle.gate_file.specs.declared.fault.GateFault.{GateFault}
 use Rattle.gate_file.specs.declared.fault.GateFault.TheVariants.{DiskFault as GateDisk, NoRun as GateNone, RunThere as GateThere, Cut as GateCut, NoMemory as GateMemory}
 use Rattle.gate_file.specs.Chain.{Spells, IsNoRun, IsCutAt}
 use Rattle.gate_file.specs.Gate.{Keeps, OpeningUses}
-use Rattle.run_records.specs.declared.entry.Entry.{Entry}
+use Rattle.run_records.specs.Entries.{Entry}
 use Rattle.run_records.specs.declared.header.Header.{Header}
+use Rattle.run_records.specs.declared.version.Version.{Version}
 use Rattle.run_records.specs.Headers.{header_bytes}
 use Rattle.run_journal.specs.declared.fault.JournalFault.{JournalFault}
 use Rattle.run_journal.specs.declared.fault.JournalFault.TheVariants.{DiskFault, NoRun, Cut, BadRecord, NoMemory}
 use Rattle.run_journal.specs.declared.opening.Opened.{Opened}
-use Rattle.run_journal.specs.Batches.{bodies_of, IsRun}
+use Rattle.run_journal.specs.Batches.{Piece, bodies_of, version_behind, IsRun}
 use Rattle.run_journal.specs.Places.{places}
 use Rattle.run_journal.specs.Bad.{IsBadAt}
 
@@ -33,20 +34,22 @@ IsFaultOf GateThere fault = ⊥
 IsFaultOf (GateCut at) fault = fault ≡ Cut at
 IsFaultOf GateMemory fault = fault ≡ NoMemory
 
--- what an opening found: the header, the records, where each of them begins, and where the shut gate stands
+-- what an opening found: the header, the version by now, the records, where each of them begins, and where the shut gate stands
 pub record Found : Type 0 where
   pub header : Header
+  pub version : Version
   pub entries : List Entry
   pub offsets : List ℕ
   pub end : ℕ
 
--- what it found are these batches, which the file spells and the disk keeps
-pub record IsFound (batches : List (List Entry)) (old new : DiskState) (found : Found) : Type 0 where
-  pub run : IsRun found.header batches found.entries
-  pub offsets : found.offsets ≡ places (5 + length (header_bytes found.header)) batches
-  pub file : (bytes : List ℕ) → Reads old bytes → Spells (bodies_of found.header batches) bytes
-      × Keeps (bodies_of found.header batches) new found.end
-  pub uses : Uses (4 * (length batches + 2) + 4) 0 old new
+-- what it found are these pieces, which the file spells and the disk keeps
+pub record IsFound (pieces : List Piece) (old new : DiskState) (found : Found) : Type 0 where
+  pub run : IsRun found.header pieces found.entries
+  pub version : version_behind found.header.version pieces ≡ found.version
+  pub offsets : found.offsets ≡ places (5 + length (header_bytes found.header)) pieces
+  pub file : (bytes : List ℕ) → Reads old bytes → Spells (bodies_of found.header pieces) bytes
+      × Keeps (bodies_of found.header pieces) new found.end
+  pub uses : Uses (4 * (length pieces + 2) + 4) 0 old new
 
 -- the answer is a fault of the disk
 abbrev pub IsDiskFault : {A : Type 0} → Result A JournalFault → Type 0
@@ -55,7 +58,7 @@ IsDiskFault (Err fault) = fault ≡ DiskFault
 
 -- What a call that opens a journal promises.
 pub record FindsRun (old new : DiskState) (result : Result Found JournalFault) : Type 0 where
-  pub found : IfOk result (λ found. (batches : List (List Entry)) × IsFound batches old new found)
+  pub found : IfOk result (λ found. (pieces : List Piece) × IsFound pieces old new found)
   pub refused : IfErr result (λ fault. RefusesRun fault old new)
   pub later : old.faults ≤ new.faults
   -- no call of the disk failed, but where that is the answer
@@ -71,5 +74,11 @@ disk_opened (Err fault) = fault.0
 
 abbrev pub found_with : {D : Type 0} → Result (Opened D) (D × JournalFault) → Result Found JournalFault
 found_with (Ok opened) =
-    Ok (record { header = opened.header; entries = opened.entries.items; offsets = opened.offsets; end = opened.journal.file.end })
+    Ok (record {
+      header = opened.header;
+      version = opened.journal.version;
+      entries = opened.entries.items;
+      offsets = opened.offsets;
+      end = opened.journal.file.end;
+    })
 found_with (Err fault) = Err fault.1

@@ -1,7 +1,9 @@
 // The batch that is to be written next.
 ghost use Rattle.std.specs.Prelude.{◌≡◌, ◌+◌, ◌≤◌, ◌<◌, ◌++◌, [], ◌∷◌, List, ℕ, length, drop, slice_index, IfOk, vec_capacity};
-ghost use Rattle.run_records.specs.declared.entry.Entry.{Entry};
+ghost use Rattle.run_records.specs.Entries.{Entry};
 ghost use Rattle.run_records.specs.Spelling.{entry_bytes, IsEntry};
+ghost use Rattle.run_records.specs.declared.version.Version.{Version};
+ghost use Rattle.run_journal.specs.Batches.{MayStand};
 ghost use Rattle.run_journal.specs.Kept.{HasBatch, pending_in};
 ghost use Rattle.run_journal.specs.Stands.{Pends};
 
@@ -54,7 +56,8 @@ impl Batch {
     /// Puts a record behind the others.
     pub(crate) fn put(&mut self, entry: &Entry)
         requires { pending_in self.old < 64 }
-        ensures { (pending : List Entry) → Pends pending self.old → Pends (pending ++ entry.now ∷ []) self.new }
+        ensures { (version : Version) (pending : List Entry) → MayStand version entry.now → Pends version pending self.old
+            → Pends version (pending ++ entry.now ∷ []) self.new }
     {
         put_behind(&mut self.bytes, entry);
     }

@@ -24,8 +24,8 @@ pub enum JournalFault {
     /// The entry of the open gate at this offset, with the gate behind it, does not end inside the file.
     #[error("cut short at {0}")]
     Cut(u64),
-    /// The first body that is bad is no header, or no batch: for this cause, at this offset of the file. The causes are
-    /// `NoPath`, `NoKind`, `TooManyStamps`, `WrongLength`, `WrongCount` and `NoHeader`.
+    /// The first body that is bad is no header, or no batch and no mark: for this cause, at this offset of the file. The causes are
+    /// `NoPath`, `NoKind`, `TooManyStamps`, `WrongLength`, `WrongCount`, `NoHeader` and `BadEdit`.
     #[error("bad record at {offset}: {cause}")]
     BadRecord { offset: u64, cause: BadRecord },
     /// There is no memory left.

@@ -1,20 +1,26 @@
 // How the bodies of a journal are read.
-ghost use Rattle.std.specs.Prelude.{◌≡◌, ◌+◌, ◌*◌, ◌^◌, ◌≤◌, ◌<◌, ◌++◌, [], ◌∷◌, List, ℕ, length, drop, take, IfOk, IfErr, OnOk, vec_capacity};
-ghost use Rattle.run_records.specs.declared.entry.Entry.{Entry};
+ghost use Rattle.std.specs.Prelude.{◌≡◌, ◌↔◌, ◌+◌, ◌*◌, ◌^◌, ◌≤◌, ◌<◌, ◌++◌, [], ◌∷◌, List, ℕ, length, drop, take, None, Some, IsTrue, IfOk, IfErr, OnOk, vec_capacity};
 ghost use Rattle.run_records.specs.declared.header.Header.{Header};
+ghost use Rattle.run_records.specs.Entries.{Entry};
 ghost use Rattle.run_records.specs.Headers.{header_bytes, IsShort};
-ghost use Rattle.run_journal.specs.Reading.{AreRead, IsBodyRead, IsRecordsRead, IsUnread, RefusesBody, RefusesBodies, IsContents};
+ghost use Rattle.run_records.specs.Spelling.{entry_bytes, IsEntry};
+ghost use Rattle.run_journal.specs.Bad.{is_early_edit, cause_for};
+ghost use Rattle.run_journal.specs.Batches.{MayStand, raising_mark};
+ghost use Rattle.run_journal.specs.Reading.{AreRead, IsPieceRead, IsBatchRead, IsRecordsRead, IsUnread, RefusesBatch, RefusesBody, RefusesBodies, IsContents};
 
 use crate::batch::MOST_PENDING;
 use crate::{JournalFault, OffsetList};
 use gate_file::BodyList;
-use run_records::{BadRecord, EntryList, Header, HeaderFault, take_entry, take_header};
+use run_records::{
+    BadRecord, Entry, EntryList, Header, HeaderFault, Version, take_entry, take_header,
+};
 use std::alloc::Global;
 
-// What a journal holds.
+// What a journal holds, and its version by now.
 #[derive(Drop)]
 pub(crate) struct Contents {
     pub(crate) header: Header,
+    pub(crate) version: Version,
     pub(crate) entries: EntryList,
     pub(crate) offsets: OffsetList,
 }
@@ -22,7 +28,7 @@ pub(crate) struct Contents {
 // What the bodies of a file hold, of which there is one at least.
 pub(crate) fn read_contents(alloc: Global, bodies: &BodyList) -> Result<Contents, JournalFault>
     requires { bodies.now ≡ [] → ⊥ }
-    ensures contents { IfOk result (λ found. IsContents found.header found.entries.items found.offsets bodies.now) }
+    ensures contents { IfOk result (λ found. IsContents found.header found.version found.entries.items found.offsets bodies.now) }
     ensures refused { IfErr result (RefusesBodies bodies.now) }
 {
     let header = match take_header(alloc, bodies.body(0)) {
@@ -36,9 +42,10 @@ pub(crate) fn read_contents(alloc: Global, bodies: &BodyList) -> Result<Contents
     };
     let mut entries = EntryList::empty(alloc);
     let mut offsets = Vec::new(alloc);
-    match read_batches(bodies, &mut entries, &mut offsets) {
-        Ok(()) => Ok(Contents {
+    match read_pieces(header.version, bodies, &mut entries, &mut offsets) {
+        Ok(version) => Ok(Contents {
             header,
+            version,
             entries,
             offsets: OffsetList::of(offsets),
         }),
@@ -46,34 +53,74 @@ pub(crate) fn read_contents(alloc: Global, bodies: &BodyList) -> Result<Contents
     }
 }
 
-// Reads the batches behind the first body.
-fn read_batches(
+// Reads the pieces behind the first body, that of a header of this version, and answers the version behind them.
+fn read_pieces(
+    version: Version,
     bodies: &BodyList,
     entries: &mut EntryList,
     offsets: &mut Vec<u64>,
-) -> Result<(), JournalFault>
+) -> Result<Version, JournalFault>
     requires some { 1 ≤ length bodies.now }
     requires empty { (entries.old.items ≡ []) × (offsets.old.items ≡ []) }
-    ensures read { OnOk result (AreRead bodies.now (length bodies.now) entries.new.items offsets.new.items) }
-    ensures refused { IfErr result (λ fault. (header : Header) → IsShort header
+    ensures read { IfOk result (λ behind. AreRead version behind bodies.now (length bodies.now) entries.new.items offsets.new.items) }
+    ensures refused { IfErr result (λ fault. (header : Header) → IsShort header → header.version ≡ version
         → take 1 bodies.now ≡ header_bytes header ∷ [] → RefusesBodies bodies.now fault) }
 {
+    let mut now = version;
     for index in 1..bodies.len() {
-        read_batch(bodies.body(index), bodies.offset(index), entries, offsets)?;
+        now = read_piece(
+            now,
+            bodies.body(index),
+            bodies.offset(index),
+            entries,
+            offsets,
+        )?;
     }
-    Ok(())
+    Ok(now)
+}
+
+// Reads the piece that this body is, whose first byte stands at an offset of a journal that has this version so far, puts its records
+// behind the others, and answers the version behind it.
+fn read_piece(
+    version: Version,
+    body: &[u8],
+    at: u64,
+    entries: &mut EntryList,
+    offsets: &mut Vec<u64>,
+) -> Result<Version, JournalFault>
+    requires { at + length body.now < 2 ^ 63 }
+    ensures read { IfOk result (λ behind. IsPieceRead version behind at body.now
+        entries.old.items entries.new.items offsets.old.items offsets.new.items) }
+    ensures refused { IfErr result (RefusesBody version at body.now) }
+{
+    if version == Version::One && is_mark(body) {
+        return Ok(Version::Two);
+    }
+    match read_batch(version, body, at, entries, offsets) {
+        Ok(()) => Ok(version),
+        Err(fault) => Err(fault),
+    }
+}
+
+// Whether the body is the one that raises a journal to version 2.
+fn is_mark(body: &[u8]) -> bool
+    ensures { IsTrue result ↔ (body.now ≡ raising_mark) }
+{
+    matches!(body, [0xFF, 0, 2])
 }
 
 // Reads the batch that this body is, whose first byte stands at an offset, and puts its records behind the others.
 fn read_batch(
+    version: Version,
     body: &[u8],
     at: u64,
     entries: &mut EntryList,
     offsets: &mut Vec<u64>,
 ) -> Result<(), JournalFault>
     requires { at + length body.now < 2 ^ 63 }
-    ensures read { OnOk result (IsBodyRead at body.now entries.old.items entries.new.items offsets.old.items offsets.new.items) }
-    ensures refused { IfErr result (RefusesBody at body.now) }
+    ensures read { OnOk result (IsBatchRead version at body.now
+        entries.old.items entries.new.items offsets.old.items offsets.new.items) }
+    ensures refused { IfErr result (RefusesBatch version at body.now) }
 {
     let [count, records @ ..] = body else {
         return Err(wrong_count(at));
@@ -85,7 +132,7 @@ fn read_batch(
     if entries.reserve(count).is_err() || offsets.reserve(count).is_err() {
         return Err(JournalFault::NoMemory);
     }
-    match read_records(count, records, at + 1, entries, offsets) {
+    match read_records(version, count, records, at + 1, entries, offsets) {
         Err(Unread { place, cause }) => {
             let offset = at + 1 + place as u64;
             Err(JournalFault::BadRecord { offset, cause })
@@ -115,6 +162,7 @@ struct Unread {
 
 // Reads so many records, the first of which stands at an offset, and answers how many bytes they have.
 fn read_records(
+    version: Version,
     count: usize,
     bytes: &[u8],
     at: u64,
@@ -124,14 +172,14 @@ fn read_records(
     requires room { length entries.old.items + count ≤ entries.old.room }
     requires places { length offsets.old.items + count ≤ vec_capacity offsets.old }
     requires small { at + length bytes.now < 2 ^ 63 }
-    ensures read { IfOk result (λ size. IsRecordsRead count at bytes.now (drop size bytes.now)
+    ensures read { IfOk result (λ size. IsRecordsRead version count at bytes.now (drop size bytes.now)
         entries.old.items entries.new.items offsets.old.items offsets.new.items) }
     ensures within { IfOk result (λ size. size ≤ length bytes.now) }
-    ensures unread { IfErr result (λ fault. IsUnread count bytes.now fault.place fault.cause) }
+    ensures unread { IfErr result (λ fault. IsUnread version count bytes.now fault.place fault.cause) }
 {
     let mut rest = bytes;
     for _round in 0..count {
-        let (entry, size) = match take_entry(rest) {
+        let (entry, size) = match take_record(version, rest) {
             Ok(found) => found,
             Err(cause) => {
                 let place = bytes.len() - rest.len();
@@ -144,4 +192,26 @@ fn read_records(
         rest = after;
     }
     Ok(bytes.len() - rest.len())
+}
+
+// Reads the record of a journal of this version that the bytes begin with, and answers it and how many bytes it has. In version 1 an
+// edit is `NoKind`, whatever follows its kind.
+fn take_record(version: Version, bytes: &[u8]) -> Result<(Entry, usize), BadRecord>
+    ensures bytes { IfOk result (λ found. bytes.now ≡ entry_bytes found.0 ++ drop found.1 bytes.now) }
+    ensures size { IfOk result (λ found. found.1 ≡ length (entry_bytes found.0)) }
+    ensures entry { IfOk result (λ found. IsEntry found.0) }
+    ensures stands { IfOk result (λ found. MayStand version found.0) }
+    ensures cause { IfErr result (λ cause. cause_for version bytes.now ≡ Some cause) }
+{
+    if version == Version::One && begins_edit(bytes) {
+        return Err(BadRecord::NoKind);
+    }
+    take_entry(bytes)
+}
+
+// Whether the bytes begin with a path and the kind of an edit.
+fn begins_edit(bytes: &[u8]) -> bool
+    ensures { result ≡ is_early_edit Version.One bytes.now }
+{
+    matches!(bytes, [1 | 2, 6, ..])
 }

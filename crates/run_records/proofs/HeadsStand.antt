@@ -1,33 +1,98 @@
--- The stamps of a record that is pushed stand behind the others, and every record before it is as it was.
-use Rattle.std.proofs.Common.{◌≡◌, ℕ, List, [], ◌∷◌, ◌++◌, length, take, drop, refl, sym, ◌∙◌, ap, arith, length-drop}
-use Rattle.std.specs.Prelude.{All}
-use Rattle.std.proofs.lemmas.List.{take-append-le, drop-append-le, take_all, drop_at, map_push}
-use Rattle.std.proofs.lemmas.List.Elements.{All-head, All-tail}
-use Rattle.run_records.specs.declared.entry.Entry.{Entry}
+-- The stamps of a record that is pushed stand behind the others, or its edit, and every record before it is as it was.
+use Rattle.std.proofs.Common.{◌≡◌, ℕ, ◌+◌, ◌<◌, ◌≤◌, List, [], ◌∷◌, ◌++◌, length, take, drop, get_or, refl, sym, ◌∙◌, ap, subst, arith, length-drop, length-append, true, Some, None, Option}
+use Rattle.std.specs.Prelude.{All, is_some}
+use Rattle.std.proofs.lemmas.List.{take-append-le, drop-append-le, take_all, drop_at, map_push, get_or_at, get_or_append_left}
+use Rattle.std.proofs.lemmas.List.Elements.{All-head, All-tail, All-push, All-weaker}
+use Rattle.run_records.specs.declared.edit.Edit.{Edit}
+use Rattle.run_records.specs.declared.entry.EntryKind.{EntryKind}
+use Rattle.run_records.specs.declared.entry.EntryKind.TheVariants.{Edited}
 use Rattle.run_records.specs.declared.head.Head.{Head}
-use Rattle.run_records.specs.Heads.{entry_of, entries_of, StandsIn}
+use Rattle.run_records.specs.Entries.{Entry, edit_of, MayHave}
+use Rattle.run_records.specs.Heads.{step_of, step_in, edits_in, place_of, no_edit, edit_at, kind_at, entry_of, entries_of, IsPlaced, StandsIn}
+use Rattle.run_records.proofs.OneSpelling.{edited_kind}
 
-entry_stays : (stamps more : List ℕ) (head : Head) → StandsIn stamps head → entry_of (stamps ++ more) head ≡ entry_of stamps head
-entry_stays stamps more head stands =
-    let behind : drop head.first (stamps ++ more) ≡ drop head.first stamps ++ more = drop-append-le head.first stamps more (let w = stands.within in omega arith) in
-    let own : take head.count (drop head.first stamps ++ more) ≡ take head.count (drop head.first stamps) =
-    take-append-le head.count (drop head.first stamps) more (let w = stands.within in omega (arith, length-drop head.first stamps)) in
-    let same = ap (take head.count) behind ∙ own in
-    λ i. record { path = head.path; kind = head.kind; stamps = same i }
+stamps_stay : (placed : Option EntryKind) (first count edits : ℕ) (stamps more : List ℕ) → IsPlaced placed first count (length stamps) edits → take count (drop first (stamps ++ more)) ≡ take count (drop first stamps)
+stamps_stay (Some kind) first count edits stamps more within =
+    let behind : drop first (stamps ++ more) ≡ drop first stamps ++ more = drop-append-le first stamps more (omega arith) in
+    ap (take count) behind ∙ take-append-le count (drop first stamps) more (omega (arith, length-drop first stamps))
+stamps_stay None first count edits stamps more within = rw (within.0) refl
 
-entries_stay : (stamps more : List ℕ) (heads : List Head) → All (StandsIn stamps) heads → entries_of (stamps ++ more) heads ≡ entries_of stamps heads
-entries_stay stamps more [] stand = refl
-entries_stay stamps more (head ∷ heads) stand =
-    let first = entry_stays stamps more head (All-head (StandsIn stamps) head heads stand) in
-    let others = entries_stay stamps more heads (All-tail (StandsIn stamps) head heads stand) in
+kind_stays : (placed : Option EntryKind) (first count stamps : ℕ) (edits new : List Edit) → IsPlaced placed first count stamps (length edits) → kind_at (edits ++ new) first placed ≡ kind_at edits first placed
+kind_stays (Some kind) first count stamps edits new within = refl
+kind_stays None first count stamps edits new within = ap Edited (get_or_append_left edits new no_edit first within.1)
+
+entry_stays : (stamps more : List ℕ) (edits new : List Edit) (head : Head) → StandsIn stamps edits head → entry_of (stamps ++ more) (edits ++ new) head ≡ entry_of stamps edits head
+entry_stays stamps more edits new head stands =
+    let own = stamps_stay (step_of head.kind) head.first head.count (length edits) stamps more stands.within in
+    let kind = kind_stays (step_of head.kind) head.first head.count (length stamps) edits new stands.within in
+    λ i. record { path = head.path; kind = kind i; stamps = own i }
+
+entries_stay : (stamps more : List ℕ) (edits new : List Edit) (heads : List Head) → All (StandsIn stamps edits) heads → entries_of (stamps ++ more) (edits ++ new) heads ≡ entries_of stamps edits heads
+entries_stay stamps more edits new [] stand = refl
+entries_stay stamps more edits new (head ∷ heads) stand =
+    let first = entry_stays stamps more edits new head (All-head (StandsIn stamps edits) head heads stand) in
+    let others = entries_stay stamps more edits new heads (All-tail (StandsIn stamps edits) head heads stand) in
     λ i. first i ∷ others i
 
--- a record more, whose stamps stand behind the others
-pub entries_push : (before stamps : List ℕ) (heads : List Head) (head : Head) → All (StandsIn before) heads → head.count ≡ length stamps → head.first ≡ length before
-    → entries_of (before ++ stamps) (heads ++ head ∷ []) ≡ entries_of before heads ++ record { path = head.path; kind = head.kind; stamps = stamps } ∷ []
-entries_push before stamps heads head stand count first =
-    let own : take head.count (drop head.first (before ++ stamps)) ≡ stamps =
-    ap (take head.count) (drop_at before stamps head.first (sym first)) ∙ take_all head.count stamps (omega arith) in
-    map_push (entry_of (before ++ stamps)) heads head
-    ∙ ap (λ (l : List Entry). l ++ entry_of (before ++ stamps) head ∷ []) (entries_stay before stamps heads stand)
-    ∙ ap (λ (l : List ℕ). entries_of before heads ++ record { path = head.path; kind = head.kind; stamps = l } ∷ []) own
+-- what a head of this kind is put with: its stamps and its edit, behind those before
+kind_put : (kind : EntryKind) (x : Option Edit) → edit_of kind ≡ x → (stamps : ℕ) (edits : List Edit)
+    → kind_at (edits ++ edits_in x) (place_of (step_in kind) stamps (length edits)) (step_in kind) ≡ kind
+kind_put kind None e stamps edits = rw e refl
+kind_put kind (Some edit) e stamps edits = rw e (ap Edited (get_or_at edits edit [] no_edit (length edits) refl) ∙ sym (edited_kind kind edit e))
+
+stamps_put : (kind : EntryKind) (x : Option Edit) → edit_of kind ≡ x → (before stamps : List ℕ) (edits : ℕ) → MayHave kind stamps
+    → take (length stamps) (drop (place_of (step_in kind) (length before) edits) (before ++ stamps)) ≡ stamps
+stamps_put kind None e before stamps edits bare =
+    rw e (ap (take (length stamps)) (drop_at before stamps (length before) refl) ∙ take_all (length stamps) stamps (omega arith))
+stamps_put kind (Some edit) e before stamps edits bare = rw (bare (ap is_some e)) refl
+
+-- a record more, whose stamps or whose edit stand behind the others
+pub entries_push : (before : List ℕ) (edits : List Edit) (heads : List Head) (head : Head) (entry : Entry) → All (StandsIn before edits) heads → MayHave entry.kind entry.stamps → head.path ≡ entry.path
+    → step_of head.kind ≡ step_in entry.kind → head.count ≡ length entry.stamps → head.first ≡ place_of (step_in entry.kind) (length before) (length edits)
+    → entries_of (before ++ entry.stamps) (edits ++ edits_in (edit_of entry.kind)) (heads ++ head ∷ []) ≡ entries_of before edits heads ++ entry ∷ []
+entries_push before edits heads head entry stand bare path kind count first =
+    let own : take head.count (drop head.first (before ++ entry.stamps)) ≡ entry.stamps =
+    (λ i. take (count i) (drop (first i) (before ++ entry.stamps))) ∙ stamps_put entry.kind (edit_of entry.kind) refl before entry.stamps (length edits) bare in
+    let same : kind_at (edits ++ edits_in (edit_of entry.kind)) head.first (step_of head.kind) ≡ entry.kind =
+    (λ i. kind_at (edits ++ edits_in (edit_of entry.kind)) (first i) (kind i)) ∙ kind_put entry.kind (edit_of entry.kind) refl (length before) edits in
+    let last : entry_of (before ++ entry.stamps) (edits ++ edits_in (edit_of entry.kind)) head ≡ entry = λ i. record { path = path i; kind = same i; stamps = own i } in
+    map_push (entry_of (before ++ entry.stamps) (edits ++ edits_in (edit_of entry.kind))) heads head
+    ∙ (λ i. entries_stay before entry.stamps edits (edits_in (edit_of entry.kind)) heads stand i ++ last i ∷ [])
+
+placed_more : (placed : Option EntryKind) (first count stamps more edits new : ℕ) → IsPlaced placed first count stamps edits → IsPlaced placed first count (stamps + more) (edits + new)
+placed_more (Some kind) first count stamps more edits new within = omega arith
+placed_more None first count stamps more edits new within = (within.0, omega (arith, within.1))
+
+stands_more : (stamps more : List ℕ) (edits new : List Edit) (head : Head) → StandsIn stamps edits head → StandsIn (stamps ++ more) (edits ++ new) head
+stands_more stamps more edits new head stands =
+    let placed = placed_more (step_of head.kind) head.first head.count (length stamps) (length more) (length edits) (length new) stands.within in
+    let long = sym (length-append stamps more) in
+    let all = sym (length-append edits new) in
+    record { few = stands.few; within = subst (λ n. IsPlaced (step_of head.kind) head.first head.count n (length (edits ++ new))) long (subst (λ n. IsPlaced (step_of head.kind) head.first head.count (length stamps + length more) n) all placed) }
+
+placed_put : (kind : EntryKind) (x : Option Edit) → edit_of kind ≡ x → (count stamps edits : ℕ) → (is_some x ≡ true → count ≡ 0)
+    → IsPlaced (step_in kind) (place_of (step_in kind) stamps edits) count (stamps + count) (edits + length (edits_in x))
+placed_put kind None e count stamps edits bare = rw e (omega arith)
+placed_put kind (Some edit) e count stamps edits bare = rw e (bare refl, omega arith)
+
+-- each record stands in its place, also the last one
+pub stand_push : (before : List ℕ) (edits : List Edit) (heads : List Head) (head : Head) (entry : Entry) → All (StandsIn before edits) heads → MayHave entry.kind entry.stamps → length entry.stamps ≤ 32
+    → step_of head.kind ≡ step_in entry.kind → head.count ≡ length entry.stamps → head.first ≡ place_of (step_in entry.kind) (length before) (length edits)
+    → All (StandsIn (before ++ entry.stamps) (edits ++ edits_in (edit_of entry.kind))) (heads ++ head ∷ [])
+stand_push before edits heads head entry stand bare few kind count first =
+    let stamps = before ++ entry.stamps in
+    let all = edits ++ edits_in (edit_of entry.kind) in
+    let none : is_some (edit_of entry.kind) ≡ true → length entry.stamps ≡ 0 = λ some. ap length (bare some) in
+    let placed = placed_put entry.kind (edit_of entry.kind) refl (length entry.stamps) (length before) (length edits) none in
+    let long = sym (length-append before entry.stamps) in
+    let many = sym (length-append edits (edits_in (edit_of entry.kind))) in
+    let within : IsPlaced (step_of head.kind) head.first head.count (length stamps) (length all) =
+    subst (λ p. IsPlaced p head.first head.count (length stamps) (length all)) (sym kind) (subst (λ n. IsPlaced (step_in entry.kind) n head.count (length stamps) (length all)) (sym first) (subst (λ n. IsPlaced (step_in entry.kind) (place_of (step_in entry.kind) (length before) (length edits)) n (length stamps) (length all)) (sym count)
+    (subst (λ n. IsPlaced (step_in entry.kind) (place_of (step_in entry.kind) (length before) (length edits)) (length entry.stamps) n (length all)) long
+    (subst (λ n. IsPlaced (step_in entry.kind) (place_of (step_in entry.kind) (length before) (length edits)) (length entry.stamps) (length before + length entry.stamps) n) many placed)))) in
+    let last : StandsIn stamps all head = record { few = omega (arith, few, count); within = within } in
+    All-push (StandsIn stamps all) heads head (All-weaker (StandsIn before edits) (StandsIn stamps all) (λ h. stands_more before entry.stamps edits (edits_in (edit_of entry.kind)) h) heads stand) last
+
+pub edits_few : (x : Option Edit) → length (edits_in x) ≤ 1
+edits_few None = omega arith
+edits_few (Some edit) = omega arith

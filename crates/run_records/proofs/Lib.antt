@@ -1,3 +1,7 @@
+pub mod EditsSpelled
 mod HeadsStand
+pub mod OneSpelling
+mod PutBehind
+mod Read
 pub mod Stamps
 pub mod Texts

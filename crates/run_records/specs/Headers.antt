@@ -2,16 +2,24 @@
 use Rattle.std.specs.Prelude.{ℕ, ◌+◌, ◌^◌, ◌<◌, List, [], ◌∷◌, ◌++◌, length, codes}
 use Rattle.byteorder.specs.Endian.{big_bytes}
 use Rattle.run_records.specs.declared.header.Header.{Header}
+use Rattle.run_records.specs.declared.version.Version.{Version}
+use Rattle.run_records.specs.declared.version.Version.TheVariants.{One, Two}
 
 abbrev pub text_bytes : List ℕ → List ℕ
 text_bytes text = big_bytes 4 (length text) ++ text
 
--- `TWIN`, and version 1
-abbrev pub header_mark : List ℕ
-header_mark = codes "TWIN" ++ 0 ∷ 1 ∷ []
+-- the number of a version, which is 1 or 2
+abbrev pub version_number : Version → ℕ
+version_number One = 1
+version_number Two = 2
+
+-- `TWIN`, and the version in two bytes
+abbrev pub header_mark : Version → List ℕ
+header_mark version = codes "TWIN" ++ 0 ∷ version_number version ∷ []
 
 abbrev pub header_bytes : Header → List ℕ
-header_bytes header = header_mark ++ text_bytes header.settings ++ text_bytes header.left ++ text_bytes header.right
+header_bytes header =
+    header_mark header.version ++ text_bytes header.settings ++ text_bytes header.left ++ text_bytes header.right
 
 -- the mark, the three lengths and the three texts are together fewer bytes than a body may have
 abbrev pub IsShort : Header → Type 0

@@ -1,4 +1,6 @@
 pub mod Causes
+pub mod Edits
+pub mod Entries
 pub mod Headers
 pub mod Heads
 pub mod Room

@@ -1,10 +1,15 @@
--- How a record is spelled: path, kind, number of stamps, and each stamp in four bytes, the high one first.
-use Rattle.std.specs.Prelude.{ℕ, ◌≤◌, List, [], ◌∷◌, ◌++◌, length}
+-- How a record is spelled: path and kind, and behind them, of a step, the number of stamps, and each stamp in four bytes, of an edit
+-- its four numbers. The high byte of a number comes first.
+use Rattle.std.specs.Prelude.{ℕ, ◌≤◌, List, [], ◌∷◌, ◌++◌, length, Option, Some, None}
+use Rattle.std.specs.Int.{w64, cast_unsigned}
 use Rattle.byteorder.specs.Endian.{big_bytes}
 use Rattle.nc_number.specs.Path.{number_of}
+use Rattle.run_records.specs.declared.edit.Edit.{Edit}
 use Rattle.run_records.specs.declared.entry.EntryKind.{EntryKind}
-use Rattle.run_records.specs.declared.entry.EntryKind.TheVariants.{Did, Arrived, Met, Ended, Alarmed}
-use Rattle.run_records.specs.declared.entry.Entry.{Entry}
+use Rattle.run_records.specs.declared.entry.EntryKind.TheVariants.{Did, Arrived, Met, Ended, Alarmed, Edited}
+use Rattle.run_records.specs.declared.numbers.EditNumbers.{EditNumbers}
+use Rattle.run_records.specs.Edits.{numbers_of, IsEdit}
+use Rattle.run_records.specs.Entries.{Entry, edit_of, MayHave}
 use Rattle.run_records.specs.Stamps.{AreStamps}
 
 abbrev pub kind_number : EntryKind → ℕ
@@ -13,15 +18,34 @@ kind_number Arrived = 2
 kind_number Met = 3
 kind_number Ended = 4
 kind_number Alarmed = 5
+kind_number (Edited edit) = 6
 
 abbrev pub stamp_bytes : List ℕ → List ℕ
 stamp_bytes [] = []
 stamp_bytes (stamp ∷ stamps) = big_bytes 4 stamp ++ stamp_bytes stamps
 
+-- the numbers of an edit: one byte, two, and eight each for a and b
+abbrev pub numbers_bytes : EditNumbers → List ℕ
+numbers_bytes numbers =
+    numbers.what ∷ (big_bytes 2 numbers.number
+    ++ (big_bytes 8 (cast_unsigned w64 numbers.a) ++ big_bytes 8 (cast_unsigned w64 numbers.b)))
+
+-- what stands behind the kind
+abbrev pub bytes_behind : Option Edit → List ℕ → List ℕ
+bytes_behind None stamps = length stamps ∷ stamp_bytes stamps
+bytes_behind (Some edit) stamps = numbers_bytes (numbers_of edit)
+
 abbrev pub entry_bytes : Entry → List ℕ
-entry_bytes entry = number_of entry.path ∷ kind_number entry.kind ∷ length entry.stamps ∷ stamp_bytes entry.stamps
+entry_bytes entry = number_of entry.path ∷ kind_number entry.kind ∷ bytes_behind (edit_of entry.kind) entry.stamps
+
+-- what is true of a kind
+abbrev pub IsKind : Option Edit → Type 0
+IsKind None = Unit {0}
+IsKind (Some edit) = IsEdit edit
 
 -- what is true of every record
 pub record IsEntry (entry : Entry) : Type 0 where
   pub few : length entry.stamps ≤ 32
   pub stamps : AreStamps entry.stamps
+  pub bare : MayHave entry.kind entry.stamps
+  pub edit : IsKind (edit_of entry.kind)

@@ -35,10 +35,13 @@ pub enum BadRecord {
     /// The tapes of the header are refused.
     #[error("refused tapes")]
     RefusedTapes,
+    /// What an edit sets is not there, or what it gets is out of range.
+    #[error("bad edit")]
+    BadEdit,
 }
 
 impl BadRecord {
-    /// The number of the cause, from 1 to 9. Of several causes of one record the least is told.
+    /// The number of the cause, from 1 to 10. Of several causes of one record the least is told.
     pub fn number(self) -> u8
         ensures { result ≡ cause_number self }
     {
@@ -52,6 +55,7 @@ impl BadRecord {
             BadRecord::NoHeader => 7,
             BadRecord::TooManyRecords => 8,
             BadRecord::RefusedTapes => 9,
+            BadRecord::BadEdit => 10,
         }
     }
 }

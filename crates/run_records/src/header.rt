@@ -1,9 +1,11 @@
 // The header of a run, and its bytes.
 ghost use Rattle.std.specs.Prelude.{◌≡◌, ◌+◌, ◌*◌, ◌^◌, ◌≤◌, ◌<◌, ◌++◌, [], ◌∷◌, ℕ, List, length, take, drop, IfOk, IfErr, IfSome, IfNone, OnOk};
 ghost use Rattle.run_records.specs.declared.header.Header.{Header};
+ghost use Rattle.run_records.specs.declared.version.Version.{Version};
 ghost use Rattle.run_records.specs.declared.header.HeaderFault.TheVariants.{NoMemory as Memory};
 ghost use Rattle.run_records.specs.Headers.{text_bytes, header_mark, header_bytes, IsShort};
 
+use crate::Version;
 use byteorder::{BigEndian, ByteOrder};
 use nc_number::{ByteList, NoMemory};
 use std::alloc::{AllocError, Global};
@@ -12,12 +14,10 @@ use thiserror::Error;
 /// The least number of bytes that no header has.
 const TOO_LONG: usize = 1 << 32;
 
-/// `TWIN`, and version 1.
-const MARK: [u8; 6] = [b'T', b'W', b'I', b'N', 0, 1];
-
-/// What a run is made with: the texts of the settings and of the two tapes.
+/// What a run is made with: the texts of the settings and of the two tapes, and the version of the journal that begins with them.
 #[derive(Debug, Drop)]
 pub struct Header {
+    pub version: Version,
     pub settings: ByteList,
     pub left: ByteList,
     pub right: ByteList,
@@ -47,7 +47,7 @@ pub fn put_header(alloc: Global, header: &Header) -> Result<Vec<u8>, NoMemory>
     requires { IsShort header.now }
     ensures { IfOk result (λ bytes. bytes.items ≡ header_bytes header.now) }
 {
-    let mut bytes = Vec::from_slice(alloc, &MARK)?;
+    let mut bytes = Vec::from_slice(alloc, &header.version.mark())?;
     put_text(&mut bytes, header.settings.as_slice())?;
     put_text(&mut bytes, header.left.as_slice())?;
     put_text(&mut bytes, header.right.as_slice())?;
@@ -75,23 +75,24 @@ pub fn take_header(alloc: Global, bytes: &[u8]) -> Result<Header, HeaderFault>
     if bytes.len() >= TOO_LONG {
         return Err(HeaderFault::Bad);
     }
-    let Some((settings, left, right)) = texts_of(bytes) else {
+    let Some((version, settings, left, right)) = parts_of(bytes) else {
         return Err(HeaderFault::Bad);
     };
     Ok(Header {
+        version,
         settings: ByteList::of(settings.to_vec(alloc)?),
         left: ByteList::of(left.to_vec(alloc)?),
         right: ByteList::of(right.to_vec(alloc)?),
     })
 }
 
-// The three texts of a header.
-fn texts_of(bytes: &[u8]) -> Option<(&[u8], &[u8], &[u8])>
-    ensures some { IfSome result (λ texts. bytes.now ≡ header_mark
-        ++ text_bytes texts.0.now ++ text_bytes texts.1.now ++ text_bytes texts.2.now) }
+// The version and the three texts of a header.
+fn parts_of(bytes: &[u8]) -> Option<(Version, &[u8], &[u8], &[u8])>
+    ensures some { IfSome result (λ parts. bytes.now ≡ header_mark parts.0
+        ++ text_bytes parts.1.now ++ text_bytes parts.2.now ++ text_bytes parts.3.now) }
     ensures none { IfNone result ((header : Header) → IsShort header → bytes.now ≡ header_bytes header → ⊥) }
 {
-    let Some(rest) = behind_mark(bytes) else {
+    let Some((version, rest)) = behind_mark(bytes) else {
         return None;
     };
     let Some((settings, rest)) = text_at(rest) else {
@@ -106,15 +107,17 @@ fn texts_of(bytes: &[u8]) -> Option<(&[u8], &[u8], &[u8])>
     if !rest.is_empty() {
         return None;
     }
-    Some((settings, left, right))
+    Some((version, settings, left, right))
 }
 
-fn behind_mark(bytes: &[u8]) -> Option<&[u8]>
-    ensures some { IfSome result (λ rest. bytes.now ≡ header_mark ++ rest.now) }
-    ensures none { IfNone result ((rest : List ℕ) → bytes.now ≡ header_mark ++ rest → ⊥) }
+// The version, and what stands behind it.
+fn behind_mark(bytes: &[u8]) -> Option<(Version, &[u8])>
+    ensures some { IfSome result (λ found. bytes.now ≡ header_mark found.0 ++ found.1.now) }
+    ensures none { IfNone result ((version : Version) (rest : List ℕ) → bytes.now ≡ header_mark version ++ rest → ⊥) }
 {
     match bytes {
-        [b'T', b'W', b'I', b'N', 0, 1, rest @ ..] => Some(rest),
+        [b'T', b'W', b'I', b'N', 0, 1, rest @ ..] => Some((Version::One, rest)),
+        [b'T', b'W', b'I', b'N', 0, 2, rest @ ..] => Some((Version::Two, rest)),
         _ => None,
     }
 }

@@ -1,6 +1,6 @@
 // Each record and each header has one spelling.
 ghost use Rattle.std.specs.Prelude.{◌≡◌, ◌++◌, ℕ, List, None};
-ghost use Rattle.run_records.specs.declared.entry.Entry.{Entry};
+ghost use Rattle.run_records.specs.Entries.{Entry};
 ghost use Rattle.run_records.specs.declared.header.Header.{Header};
 ghost use Rattle.run_records.specs.Spelling.{entry_bytes, IsEntry};
 ghost use Rattle.run_records.specs.Headers.{header_bytes, IsShort};

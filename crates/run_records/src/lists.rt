@@ -1,11 +1,14 @@
 // The lists that records and headers are made of.
-ghost use Rattle.std.specs.Prelude.{◌≡◌, ◌+◌, ◌^◌, ◌≤◌, ◌<◌, ◌++◌, [], ◌∷◌, List, ℕ, length, get_or, OnOk};
+ghost use Rattle.std.specs.Prelude.{◌≡◌, ◌+◌, ◌^◌, ◌≤◌, ◌<◌, ◌++◌, [], ◌∷◌, List, ℕ, length, get_or, OnOk, vec_len, vec_capacity};
 ghost use Rattle.run_records.specs.Stamps.{AreStamps};
+ghost use Rattle.run_records.specs.Entries.{edit_of};
+ghost use Rattle.run_records.specs.Heads.{step_of, place_of, edits_in};
 
-use crate::Entry;
-use crate::head::Head;
+use crate::head::{Head, HeadKind};
+use crate::{Edit, Entry, EntryKind};
 use arrayvec::ArrayVec;
-use nc_number::NoMemory;
+use nc_number::{NoMemory, Var};
+use offset_store::Slot;
 use std::alloc::Global;
 use std::marker::Model;
 
@@ -70,11 +73,13 @@ impl StampList {
     }
 }
 
-/// A list of records, the first one first. It keeps the stamps of all of them in one place, so that a record without stamps is small.
+/// A list of records, the first one first. It keeps the stamps of all of them in one place, and their edits in another, so that a
+/// record without stamps is small.
 #[derive(Debug, Drop)]
 pub struct EntryList {
     heads: Vec<Head>,
     stamps: Vec<u32>,
+    edits: Vec<Edit>,
     /// How many records there is room for in all.
     room: usize,
 }
@@ -86,10 +91,11 @@ impl Model for EntryList {
 
     ghost Value = { Entries };
 
-    ghost view = { λ l. record { items = entries_of l.stamps.items l.heads.items; room = l.room } };
+    ghost view = { λ l. record { items = entries_of l.stamps.items l.edits.items l.heads.items; room = l.room } };
 
-    ghost invariant = { λ l. All (StandsIn l.stamps.items) l.heads.items
-        × HasRoom l.room (vec_len l.heads) (vec_capacity l.heads) (vec_len l.stamps) (vec_capacity l.stamps) };
+    ghost invariant = { λ l. All (StandsIn l.stamps.items l.edits.items) l.heads.items
+        × HasRoom l.room (vec_len l.heads) (vec_capacity l.heads) (vec_len l.stamps) (vec_capacity l.stamps)
+        (vec_len l.edits) (vec_capacity l.edits) };
 }
 
 impl EntryList {
@@ -100,6 +106,7 @@ impl EntryList {
         EntryList {
             heads: Vec::new(alloc),
             stamps: Vec::new(alloc),
+            edits: Vec::new(alloc),
             room: 0,
         }
     }
@@ -117,11 +124,16 @@ impl EntryList {
         ensures { result ≡ get_or self.now.items index result }
     {
         let head = self.heads[index];
-        let end = head.first + head.count as usize;
-        Entry {
-            path: head.path,
-            kind: head.kind,
-            stamps: StampList::of(&self.stamps[head.first..end]),
+        match head.kind.step() {
+            Some(kind) => {
+                let end = head.first + head.count as usize;
+                Entry::of_step(
+                    head.path,
+                    kind,
+                    StampList::of(&self.stamps[head.first..end]),
+                )
+            }
+            None => Entry::of_edit(head.path, &self.edits[head.first]),
         }
     }
 
@@ -136,6 +148,7 @@ impl EntryList {
         };
         self.heads.reserve(n)?;
         self.stamps.reserve(stamps)?;
+        self.edits.reserve(n)?;
         self.room = self.room.max(self.heads.len() + n);
         Ok(())
     }
@@ -147,12 +160,47 @@ impl EntryList {
         ensures room { self.new.room ≡ self.old.room }
     {
         let stamps = entry.stamps.as_slice();
+        let kind = HeadKind::of(&entry.kind);
         self.heads.push_reserved(Head {
             path: entry.path,
-            kind: entry.kind,
+            kind,
             count: stamps.len() as u8,
-            first: self.stamps.len(),
+            first: place_of(kind, self.stamps.len(), self.edits.len()),
         });
         self.stamps.extend_from_slice(stamps).unwrap();
+        push_edit(&mut self.edits, &entry.kind);
+    }
+}
+
+// Where the stamps of a record, or its edit, will stand: behind so many stamps, or so many edits.
+fn place_of(kind: HeadKind, stamps: usize, edits: usize) -> usize
+    ensures { result ≡ place_of (step_of kind) stamps edits }
+{
+    match kind.step() {
+        Some(_) => stamps,
+        None => edits,
+    }
+}
+
+// Puts the edit that a kind is, if it is one, behind the others.
+fn push_edit(edits: &mut Vec<Edit>, kind: &EntryKind)
+    requires { vec_len edits.old < vec_capacity edits.old }
+    ensures items { edits.new.items ≡ edits.old.items ++ edits_in (edit_of kind.now) }
+    ensures len { vec_len edits.new ≡ vec_len edits.old + length (edits_in (edit_of kind.now)) }
+    ensures capacity { vec_capacity edits.old ≤ vec_capacity edits.new }
+{
+    match kind {
+        EntryKind::Edited(Edit::Offset { slot, to }) => {
+            let slot: Slot = *slot;
+            edits.push_reserved(Edit::Offset { slot, to: *to });
+        }
+        EntryKind::Edited(Edit::Common { variable, to }) => {
+            let to: Var = *to;
+            edits.push_reserved(Edit::Common {
+                variable: *variable,
+                to,
+            });
+        }
+        _ => {}
     }
 }

@@ -1,18 +1,26 @@
 // A record, read from its bytes.
-ghost use Rattle.std.specs.Prelude.{◌≡◌, ◌+◌, ◌*◌, ◌≤◌, ◌++◌, ℕ, List, length, take, drop, Some, None, Ok, IfOk, IfErr, IfSome, IsSome, ◌↔◌, ◌⊎◌};
+ghost use Rattle.std.specs.Prelude.{◌≡◌, ◌+◌, ◌*◌, ◌≤◌, ◌++◌, ◌∷◌, ℕ, List, length, take, drop, Some, None, Ok, IfOk, IfErr, IfSome, IsSome, ◌↔◌, ◌⊎◌};
 ghost use Rattle.nc_number.specs.Path.{number_of};
-ghost use Rattle.run_records.specs.Spelling.{kind_number, stamp_bytes, entry_bytes, IsEntry};
+ghost use Rattle.run_records.specs.Entries.{edit_of};
+ghost use Rattle.run_records.specs.Spelling.{kind_number, stamp_bytes, numbers_bytes, entry_bytes, IsEntry};
 ghost use Rattle.run_records.specs.Stamps.{AreStamps};
-ghost use Rattle.run_records.specs.Causes.{cause_of};
+ghost use Rattle.run_records.specs.Causes.{cause_of, numbers_in};
 
 use crate::lists::MOST_STAMPS;
+use crate::numbers::{EditNumbers, edit_with};
 use crate::{BadRecord, Entry, EntryKind, StampList};
 use byteorder::{BigEndian, ByteOrder};
 use nc_number::Path;
 
+/// The kind byte of an edit.
+const EDITED: u8 = 6;
+
+/// How many bytes the numbers of an edit have.
+const EDIT_SIZE: usize = 19;
+
 /// Reads the record that the bytes begin with, and answers it and how many bytes it has. It takes no memory. Where there is none,
-/// the error is the least cause that holds of the bytes that are there: `NoPath`, `NoKind`, `TooManyStamps`, or `WrongLength` where
-/// the bytes end before the record does.
+/// the error is the least cause that holds of the bytes that are there: `NoPath`, `NoKind`, `TooManyStamps`, `WrongLength` where
+/// the bytes end before the record does, or `BadEdit`.
 pub fn take_entry(bytes: &[u8]) -> Result<(Entry, usize), BadRecord>
     ensures whole { IfOk result (λ found. cause_of bytes.now ≡ None) }
     ensures bytes { IfOk result (λ found. bytes.now ≡ entry_bytes found.0 ++ drop found.1 bytes.now) }
@@ -29,10 +37,62 @@ pub fn take_entry(bytes: &[u8]) -> Result<(Entry, usize), BadRecord>
     let [second, rest @ ..] = rest else {
         return Err(BadRecord::WrongLength);
     };
-    let Some(kind) = kind_of(*second) else {
-        return Err(BadRecord::NoKind);
-    };
-    let [count, rest @ ..] = rest else {
+    if *second == EDITED {
+        return take_edit(path, rest);
+    }
+    match kind_of(*second) {
+        Some(kind) => take_step(path, kind, rest),
+        None => Err(BadRecord::NoKind),
+    }
+}
+
+// The record of an edit of this path, where its numbers are at the front of the bytes.
+fn take_edit(path: Path, bytes: &[u8]) -> Result<(Entry, usize), BadRecord>
+    ensures whole { IfOk result (λ found. cause_of (number_of path ∷ 6 ∷ bytes.now) ≡ None) }
+    ensures bytes { IfOk result (λ found. number_of path ∷ 6 ∷ bytes.now
+        ≡ entry_bytes found.0 ++ drop found.1 (number_of path ∷ 6 ∷ bytes.now)) }
+    ensures size { IfOk result (λ found. found.1 ≡ length (entry_bytes found.0)) }
+    ensures entry { IfOk result (λ found. IsEntry found.0) }
+    ensures cause { IfErr result (λ cause. cause_of (number_of path ∷ 6 ∷ bytes.now) ≡ Some cause) }
+{
+    if bytes.len() < EDIT_SIZE {
+        return Err(BadRecord::WrongLength);
+    }
+    let numbers = take_numbers(bytes);
+    match edit_with(&numbers) {
+        Some(edit) => Ok((Entry::of_edit(path, &edit), 2 + EDIT_SIZE)),
+        None => Err(BadRecord::BadEdit),
+    }
+}
+
+// The numbers of an edit.
+fn take_numbers(bytes: &[u8]) -> EditNumbers
+    requires { 19 ≤ length bytes.now }
+    ensures numbers { result ≡ numbers_in bytes.now }
+    ensures bytes { numbers_bytes result ++ drop 19 bytes.now ≡ bytes.now }
+{
+    let (_, number) = bytes.split_at(1);
+    let (_, a) = bytes.split_at(3);
+    let (_, b) = bytes.split_at(11);
+    EditNumbers {
+        what: bytes[0],
+        number: BigEndian::read_u16(number),
+        a: BigEndian::read_i64(a),
+        b: BigEndian::read_i64(b),
+    }
+}
+
+// The record of a step of this path and this kind, where its stamps are at the front of the bytes, behind their number.
+fn take_step(path: Path, kind: EntryKind, bytes: &[u8]) -> Result<(Entry, usize), BadRecord>
+    requires { edit_of kind ≡ None }
+    ensures whole { IfOk result (λ found. cause_of (number_of path ∷ kind_number kind ∷ bytes.now) ≡ None) }
+    ensures bytes { IfOk result (λ found. number_of path ∷ kind_number kind ∷ bytes.now
+        ≡ entry_bytes found.0 ++ drop found.1 (number_of path ∷ kind_number kind ∷ bytes.now)) }
+    ensures size { IfOk result (λ found. found.1 ≡ length (entry_bytes found.0)) }
+    ensures entry { IfOk result (λ found. IsEntry found.0) }
+    ensures cause { IfErr result (λ cause. cause_of (number_of path ∷ kind_number kind ∷ bytes.now) ≡ Some cause) }
+{
+    let [count, rest @ ..] = bytes else {
         return Err(BadRecord::WrongLength);
     };
     let count = *count as usize;
@@ -44,11 +104,13 @@ pub fn take_entry(bytes: &[u8]) -> Result<(Entry, usize), BadRecord>
     }
     let (front, _) = rest.split_at(4 * count);
     let stamps = take_stamps(front, count);
-    Ok((Entry { path, kind, stamps }, 3 + 4 * count))
+    Ok((Entry::of_step(path, kind, stamps), 3 + 4 * count))
 }
 
+// The step of this kind byte.
 fn kind_of(byte: u8) -> Option<EntryKind>
     ensures some { IfSome result (λ kind. kind_number kind ≡ byte) }
+    ensures step { IfSome result (λ kind. edit_of kind ≡ None) }
     ensures none { IsSome result ↔ ((1 ≤ byte) × (byte ≤ 5)) }
 {
     match byte {

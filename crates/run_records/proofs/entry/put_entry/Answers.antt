@@ -1,20 +1,26 @@
-use Rattle.std.proofs.Common.{◌∷◌, List, ℕ, length, refl, ◌∙◌, ap, arith}
+use Rattle.std.proofs.Common.{◌≡◌, ◌+◌, ◌*◌, ◌∷◌, List, ℕ, Some, None, length, take, sym, ◌∙◌, ap, arith}
+use Rattle.std.specs.Option.{option_copied}
 use Rattle.nc_number.specs.Path.{number_of}
-use Rattle.run_records.specs.Spelling.{kind_number, stamp_bytes}
-use Rattle.run_records.proofs.Stamps.{put_all, put_front, put_back}
+use Rattle.run_records.specs.Edits.{numbers_of}
+use Rattle.run_records.specs.Spelling.{kind_number, stamp_bytes, numbers_bytes, bytes_behind, entry_bytes}
+use Rattle.run_records.proofs.PutBehind.{put_front}
+use Rattle.run_records.proofs.Stamps.{length-stamp_bytes}
 use Rattle.run_records.proofs.entry.put_entry.Goals as goal
 
-pub returns-clause-written : goal.returns-clause-written
-returns-clause-written c =
-    let e = c.args.entry.now in
-    let stamps = c.as_slice-stamps.result.now in
-    let all = put_all (number_of e.path) (kind_number e.kind) stamps c.args.into.now c.put_head.new.into _ c.put_stamps.new.into (omega (arith, c.requires, c.as_slice-stamps.ensures.fits, ap length c.as_slice-stamps.ensures.stamps)) c.put_head.ensures refl c.put_stamps.ensures in
-    put_front (number_of e.path) (kind_number e.kind) stamps c.args.into.now _ all
-    ∙ ap (λ (l : List ℕ). number_of e.path ∷ kind_number e.kind ∷ length l ∷ stamp_bytes l) c.as_slice-stamps.ensures.stamps
+pub returns-in-Some-clause-written : goal.returns-in-Some-clause-written
+returns-in-Some-clause-written c =
+    let e = c.entry.inside in
+    let into = c.put_edit.new.into in
+    let is_edit = sym (ap option_copied c.in-Some.is) ∙ c.edit.ensures in
+    let front = put_front (number_of e.path) (kind_number e.kind) (numbers_bytes (numbers_of c.in-Some.edit.now)) c.args.into.now c.put_head.new.into into 21 (omega arith) c.put_head.ensures c.put_edit.ensures.bytes in
+    ap (λ n. take n into) c.put_edit.ensures.size ∙ front ∙ ap (λ x. number_of e.path ∷ kind_number e.kind ∷ bytes_behind x e.stamps) is_edit ∙ ap entry_bytes c.entry.view_is
 
-pub returns-clause-rest : goal.returns-clause-rest
-returns-clause-rest c =
-    let e = c.args.entry.now in
-    let stamps = c.as_slice-stamps.result.now in
-    let all = put_all (number_of e.path) (kind_number e.kind) stamps c.args.into.now c.put_head.new.into _ c.put_stamps.new.into (omega (arith, c.requires, c.as_slice-stamps.ensures.fits, ap length c.as_slice-stamps.ensures.stamps)) c.put_head.ensures refl c.put_stamps.ensures in
-    put_back (number_of e.path) (kind_number e.kind) stamps c.args.into.now _ all
+pub returns-in-None-clause-written : goal.returns-in-None-clause-written
+returns-in-None-clause-written c =
+    let e = c.entry.inside in
+    let into = c.put_stamps.new.into in
+    let stamps = c.as_slice.result.now in
+    let is_step = sym (ap option_copied c.in-None.is) ∙ c.edit.ensures in
+    let front = put_front (number_of e.path) (kind_number e.kind) (length stamps ∷ stamp_bytes stamps) c.args.into.now c.put_head.new.into into (3 + 4 * length stamps) (omega (arith, length-stamp_bytes stamps)) c.put_head.ensures c.put_stamps.ensures.bytes in
+    ap (λ n. take n into) c.put_stamps.ensures.size ∙ front ∙ (λ i. number_of e.path ∷ kind_number e.kind ∷ bytes_behind None (c.as_slice.ensures.stamps i))
+    ∙ ap (λ x. number_of e.path ∷ kind_number e.kind ∷ bytes_behind x e.stamps) is_step ∙ ap entry_bytes c.entry.view_is

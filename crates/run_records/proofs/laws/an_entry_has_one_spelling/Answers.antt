@@ -1,4 +1,4 @@
-use Rattle.run_records.proofs.Stamps.{one_entry, no_cause}
+use Rattle.run_records.proofs.OneSpelling.{one_entry, no_cause}
 use Rattle.run_records.proofs.laws.an_entry_has_one_spelling.Goals as goal
 
 pub returns-clause-one : goal.returns-clause-one
