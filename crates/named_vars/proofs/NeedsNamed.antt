@@ -8,7 +8,7 @@ use Rattle.nc_number.specs.declared.value.Var.{Var}
 use Rattle.nc_number.specs.Variables.{or_zero}
 use Rattle.common_vars.specs.declared.variable.Variable.{Variable}
 use Rattle.common_vars.specs.declared.variable.Variable.TheVariants as variable
-use Rattle.common_vars.specs.Variables.{variable_of}
+use Rattle.code_tables.specs.declared.system.System.{System}
 use Rattle.local_levels.specs.Stack.{all_vacant}
 use Rattle.offset_store.specs.declared.slot.Slot.{Slot}
 use Rattle.offset_store.specs.declared.slot.Slot.TheVariants.{Work}
@@ -35,7 +35,7 @@ use Rattle.macro_eval.specs.declared.scope.Eval.TheVariants.{Got, Need, Fault}
 use Rattle.macro_eval.specs.Meaning.{Answer, made, function_value, operator_value, whole_number, variable_number, seen, looked_by, looked_up, then_with, meaning}
 use Rattle.tape_flow.specs.declared.flow.Flow.{Flow}
 use Rattle.path_state.specs.View.{Fixed, PathView}
-use Rattle.path_state.specs.Looks.{look_of}
+use Rattle.path_state.specs.Looks.{variable_in, look_of}
 use Rattle.path_state.specs.Outcomes.{Outcome, Gives, Needs, Alarms, ◌>>=◌, reading_none, answered, evaluated}
 use Rattle.path_state.specs.Values.{Values, Sense, nothing_said, sense_of, taken, taken_var, word_taken, words_taken}
 use Rattle.path_state.specs.Arguments.{argument_taken, arguments_taken}
@@ -133,10 +133,10 @@ module _ (fixed : Fixed) (path : PathView) (P : ℕ → Type 0) where
 
   name_asks : (name : Named) → ((v : ℕ) → some_names (evaluated_name name) v ≡ true → P v)
       → (reads : List Var) → Asks P (named fixed path name reads)
-  name_asks (Plain n) all reads = none_asks P (existing (variable_of n)) reads
+  name_asks (Plain n) all reads = none_asks P (existing (variable_in path.modal n)) reads
   name_asks (Computed t) all reads =
       then_asks P (evaluated fixed path t reads) _ (value_asks t (λ v e. all v (first_names t [] v e)) reads)
-      (λ value left. none_asks P (number_named (variable_number value)) left)
+      (λ value left. none_asks P (number_named path.modal (variable_number value)) left)
 
   offset_asks : (slot : Slot) (to : Result Point OffsetFault) (left : List Var)
       → Asks P (written_path (with_offset path slot to) left)
@@ -275,11 +275,11 @@ module _ (tape : List ControlProgram) (fixed : Fixed) (path : PathView) (P : ℕ
   moves-ask c (Ok moved) = controlled-asks moved None c
   moves-ask c (Err number) = tt
 
-  values-ask : (words : List FlowWord) (c : Control) (values : Outcome Values) → Asks P values
-      → EffectAsks P (of_values tape fixed path words c values)
-  values-ask words c (Gives values left) asks = moves-ask c (acted fixed path words values)
-  values-ask words c (Needs variable) asks = asks
-  values-ask words c (Alarms number value) asks = tt
+  values-ask : (system : System) (words : List FlowWord) (c : Control) (values : Outcome Values) → Asks P values
+      → EffectAsks P (of_values tape fixed path system words c values)
+  values-ask system words c (Gives values left) asks = moves-ask c (acted fixed path system words values)
+  values-ask system words c (Needs variable) asks = asks
+  values-ask system words c (Alarms number value) asks = tt
 
   call-asks : (c : Control) (arguments : Outcome (List Var)) → Asks P arguments
       → EffectAsks P (of_arguments tape path c arguments)
@@ -292,22 +292,22 @@ module _ (tape : List ControlProgram) (fixed : Fixed) (path : PathView) (P : ℕ
   after-asks (Needs variable) asks = asks
   after-asks (Alarms number value) asks = tt
 
-  purpose-asks : (purpose : Purpose) (words : List FlowWord) → ((v : ℕ) → words_name words v ≡ true → P v)
-      → (c : Control) (reads : List Var) → EffectAsks P (of_purpose tape fixed path purpose words c reads)
-  purpose-asks MacroCall words all c reads =
+  purpose-asks : (purpose : Purpose) (system : System) (words : List FlowWord) → ((v : ℕ) → words_name words v ≡ true → P v)
+      → (c : Control) (reads : List Var) → EffectAsks P (of_purpose tape fixed path purpose system words c reads)
+  purpose-asks MacroCall system words all c reads =
       call-asks c (arguments_taken fixed path words all_vacant reads) (arguments_ask fixed path P words all all_vacant reads)
-  purpose-asks purpose words all c reads =
-      values-ask words c (words_taken fixed path (sense_of path purpose words) words nothing_said reads)
-      (words_ask fixed path P (sense_of path purpose words) words all nothing_said reads)
+  purpose-asks purpose system words all c reads =
+      values-ask system words c (words_taken fixed path (sense_of path purpose system words) words nothing_said reads)
+      (words_ask fixed path P (sense_of path purpose system words) words all nothing_said reads)
 
-  words-ask : (purpose : Purpose) (words : List FlowWord) → ((v : ℕ) → words_name words v ≡ true → P v)
-      → (c : Control) (reads : List Var) → EffectAsks P (block_of_words tape fixed path purpose words c reads)
-  words-ask purpose words all (control.Wait code) reads = tt
-  words-ask purpose words all c reads = purpose-asks purpose words all c reads
+  words-ask : (purpose : Purpose) (system : System) (words : List FlowWord) → ((v : ℕ) → words_name words v ≡ true → P v)
+      → (c : Control) (reads : List Var) → EffectAsks P (block_of_words tape fixed path purpose system words c reads)
+  words-ask purpose system words all (control.Wait code) reads = tt
+  words-ask purpose system words all c reads = purpose-asks purpose system words all c reads
 
   body-asks : (body : FlowBody) → ((v : ℕ) → body_names body v ≡ true → P v)
       → (c : Control) (reads : List Var) → EffectAsks P (effect_of_body tape fixed path body c reads)
-  body-asks (Words words) all c reads = words-ask words.purpose words.words all c reads
+  body-asks (Words words) all c reads = words-ask words.purpose words.dialect.system words.words all c reads
   body-asks (Statement statement) all c reads =
       after-asks (statement_effect tape fixed path (sentence_of statement.statement) reads)
       (statement_asks fixed path P tape (sentence_of statement.statement) all reads)

@@ -5,10 +5,11 @@ use Rattle.nc_number.specs.declared.cause.Cause.{Cause}
 use Rattle.nc_number.specs.declared.point.Point.{Point}
 use Rattle.nc_number.specs.declared.value.Var.{Var}
 use Rattle.nc_moves.specs.declared.motion.Move.{Move}
+use Rattle.modal_state.specs.View.{ModalView}
 use Rattle.common_vars.specs.declared.variable.Variable.{Variable}
 use Rattle.common_vars.specs.declared.variable.Variable.TheVariants as variable
-use Rattle.common_vars.specs.Variables.{variable_of}
 use Rattle.common_vars.proofs.VariableNumbers.{what_is_named}
+use Rattle.code_tables.specs.declared.system.System.{System}
 use Rattle.local_levels.specs.Stack.{all_vacant}
 use Rattle.offset_store.specs.declared.slot.Slot.{Slot}
 use Rattle.offset_store.specs.declared.slot.Slot.TheVariants.{Work}
@@ -28,13 +29,14 @@ use Rattle.macro_expr.specs.Tree.{Tree, Named, Fixed as Plain, Computed, Aim, Se
 use Rattle.macro_eval.specs.Meaning.{variable_number}
 use Rattle.tape_flow.specs.declared.flow.Flow.{Flow}
 use Rattle.path_state.specs.View.{Fixed, PathView}
-use Rattle.path_state.specs.Looks.{is_shared}
+use Rattle.path_state.specs.Looks.{is_shared, variable_in}
 use Rattle.path_state.specs.Outcomes.{Outcome, Gives, Needs, Alarms, reading_none, evaluated}
 use Rattle.path_state.specs.Values.{Values, nothing_said, sense_of, words_taken}
 use Rattle.path_state.specs.Arguments.{arguments_taken}
 use Rattle.path_state.specs.Places.{Standing, goes_on, jumped, loop_left, loop_again}
 use Rattle.path_state.specs.Statements.{Write, After, standing_of, existing, number_named, length_of, along, with_offset, written_path, with_common, written, named, assigned, tested, aimed, moved, gone_to, gone_next, assigned_next, statement_effect}
 use Rattle.path_state.specs.Effect.{Effect, Done, Moved, acted, done_by, controlled, of_moved, of_values, of_arguments, of_purpose, block_of_words, of_after, effect_of_body, effect_of_block, block_at, effect_of}
+use Rattle.path_state.proofs.NeedsShared.{named_in_table}
 use Rattle.path_state.proofs.ControlledStatements.{OnGives, behind_gives, after_any, either}
 use Rattle.named_vars.specs.Names.{may_be, sentence_may_write, body_may_write, found_may_write, block_may_write}
 
@@ -55,26 +57,26 @@ computed_meant : (t : Tree) (v : Variable) → IsMeant (Computed t) v
 computed_meant t (variable.Common v) = refl
 computed_meant t _ = tt
 
-plain_meant : (n : ℕ) (v : Variable) → variable_of n ≡ Some v → IsMeant (Plain n) v
-plain_meant n (variable.Common v) is =
-    subst (λ k. (k == v) ≡ true) (what_is_named n (variable.Common v) is).1 (eq-eqb v v refl)
-plain_meant n _ is = tt
+plain_meant : (modal : ModalView) (n : ℕ) (v : Variable) → variable_in modal n ≡ Some v → IsMeant (Plain n) v
+plain_meant modal n (variable.Common v) is =
+    subst (λ k. (k == v) ≡ true) (what_is_named n (variable.Common v) (named_in_table modal n (variable.Common v) is)).1 (eq-eqb v v refl)
+plain_meant modal n _ is = tt
 
 module _ (fixed : Fixed) (path : PathView) where
-  plain_gives : (n : ℕ) (found : Option Variable) → variable_of n ≡ found → (reads : List Var)
+  plain_gives : (n : ℕ) (found : Option Variable) → variable_in path.modal n ≡ found → (reads : List Var)
       → OnGives (IsMeant (Plain n)) (reading_none (existing found) reads)
   plain_gives n None is reads = tt
-  plain_gives n (Some v) is reads = plain_meant n v is
+  plain_gives n (Some v) is reads = plain_meant path.modal n v is
 
   number_gives : (t : Tree) (r : Result Variable Cause) (left : List Var) → OnGives (IsMeant (Computed t)) (reading_none r left)
   number_gives t (Ok v) left = computed_meant t v
   number_gives t (Err cause) left = tt
 
   named_gives : (name : Named) (reads : List Var) → OnGives (IsMeant name) (named fixed path name reads)
-  named_gives (Plain n) reads = plain_gives n (variable_of n) refl reads
+  named_gives (Plain n) reads = plain_gives n (variable_in path.modal n) refl reads
   named_gives (Computed t) reads =
       after_any (IsMeant (Computed t)) (evaluated fixed path t reads) _
-      (λ value left. number_gives t (number_named (variable_number value)) left)
+      (λ value left. number_gives t (number_named path.modal (variable_number value)) left)
 
   module _ (P : ℕ → Type 0) where
     common-writes : (shared : Bool) (v : ℕ) (value : Var) → P v → Writes P (with_common shared path v value)
@@ -151,27 +153,27 @@ module _ (tape : List ControlProgram) (fixed : Fixed) (path : PathView) (P : ℕ
   moves-write c (Ok moved) = controlled-writes moved None c
   moves-write c (Err number) = tt
 
-  values-write : (words : List FlowWord) (c : Control) (values : Outcome Values)
-      → EffectWrites P (of_values tape fixed path words c values)
-  values-write words c (Gives values left) = moves-write c (acted fixed path words values)
-  values-write words c (Needs variable) = tt
-  values-write words c (Alarms number value) = tt
+  values-write : (system : System) (words : List FlowWord) (c : Control) (values : Outcome Values)
+      → EffectWrites P (of_values tape fixed path system words c values)
+  values-write system words c (Gives values left) = moves-write c (acted fixed path system words values)
+  values-write system words c (Needs variable) = tt
+  values-write system words c (Alarms number value) = tt
 
   arguments-write : (c : Control) (arguments : Outcome (List Var)) → EffectWrites P (of_arguments tape path c arguments)
   arguments-write c (Gives arguments left) = controlled-writes (record { path = path; moves = [] }) (Some arguments) c
   arguments-write c (Needs variable) = tt
   arguments-write c (Alarms number value) = tt
 
-  purpose-writes : (purpose : Purpose) (words : List FlowWord) (c : Control) (reads : List Var)
-      → EffectWrites P (of_purpose tape fixed path purpose words c reads)
-  purpose-writes MacroCall words c reads = arguments-write c (arguments_taken fixed path words all_vacant reads)
-  purpose-writes purpose words c reads =
-      values-write words c (words_taken fixed path (sense_of path purpose words) words nothing_said reads)
+  purpose-writes : (purpose : Purpose) (system : System) (words : List FlowWord) (c : Control) (reads : List Var)
+      → EffectWrites P (of_purpose tape fixed path purpose system words c reads)
+  purpose-writes MacroCall system words c reads = arguments-write c (arguments_taken fixed path words all_vacant reads)
+  purpose-writes purpose system words c reads =
+      values-write system words c (words_taken fixed path (sense_of path purpose system words) words nothing_said reads)
 
-  words-write : (purpose : Purpose) (words : List FlowWord) (c : Control) (reads : List Var)
-      → EffectWrites P (block_of_words tape fixed path purpose words c reads)
-  words-write purpose words (control.Wait code) reads = tt
-  words-write purpose words c reads = purpose-writes purpose words c reads
+  words-write : (purpose : Purpose) (system : System) (words : List FlowWord) (c : Control) (reads : List Var)
+      → EffectWrites P (block_of_words tape fixed path purpose system words c reads)
+  words-write purpose system words (control.Wait code) reads = tt
+  words-write purpose system words c reads = purpose-writes purpose system words c reads
 
   after-writes : (after : Outcome After) → OnGives (Writes P) after → EffectWrites P (of_after after)
   after-writes (Gives after left) writes = writes
@@ -180,7 +182,7 @@ module _ (tape : List ControlProgram) (fixed : Fixed) (path : PathView) (P : ℕ
 
   body-writes : (body : FlowBody) → ((v : ℕ) → body_may_write body v ≡ true → P v) → (c : Control) (reads : List Var)
       → EffectWrites P (effect_of_body tape fixed path body c reads)
-  body-writes (Words words) all c reads = words-write words.purpose words.words c reads
+  body-writes (Words words) all c reads = words-write words.purpose words.dialect.system words.words c reads
   body-writes (Statement statement) all c reads =
       after-writes (statement_effect tape fixed path (sentence_of statement.statement) reads)
       (statement-writes fixed path P tape (sentence_of statement.statement) all reads)

@@ -56,8 +56,8 @@ body-steady : (tape : List ControlProgram) (fixed : Fixed) (path : PathView) (bo
     → standing tape path.place ≡ Some (control_of_body body)
     → IsSteady tape path (effect_of_body tape fixed path body (control_of_body body) reads)
 body-steady tape fixed path (Words words) reads stands =
-    words-steady tape fixed path words.purpose words.words (control_of_body (Words words)) reads stands
-    (words_end_no_loop words.waits words.words)
+    words-steady tape fixed path words.purpose words.dialect.system words.words (control_of_body (Words words)) reads
+    stands (words_end_no_loop words.dialect words.words)
 body-steady tape fixed path (Statement statement) reads stands =
     after-steady tape path (statement_effect tape fixed path (sentence_of statement.statement) reads)
     (statement-goes tape fixed path (sentence_of statement.statement) reads stands)

@@ -10,7 +10,7 @@ use Rattle.block_order.specs.Labels.{IsUnforked}
 use Rattle.block_order.specs.Steps.{Step, standing, IsPlace, Kept, KeepsLabels}
 use Rattle.block_order.proofs.Faultless.{faultless_unforked}
 use Rattle.block_order.proofs.OnePath.{keeps_labels}
-use Rattle.block_forms.specs.declared.waits.WaitCodes.{WaitCodes}
+use Rattle.block_forms.specs.declared.dialect.Dialect.{Dialect}
 use Rattle.nc_text.specs.declared.tape.Program.{Program}
 use Rattle.tape_flow.specs.Exact.{IsAccepted}
 use Rattle.tape_flow.specs.Forms.{program_form}
@@ -55,11 +55,11 @@ labels_kept flow unforked path reads here =
     (steady flow path reads).goes
 
 -- the order of an accepted tape
-pub accepted_sound : (flow : Flow) (waits : WaitCodes) (tape : List Program)
-    → IsAccepted waits tape (map program_form flow.programs) → IsSound flow.order
-accepted_sound flow waits tape accepted = rw (flow.agrees) (accepted.sound)
+pub accepted_sound : (flow : Flow) (dialect : Dialect) (tape : List Program)
+    → IsAccepted dialect tape (map program_form flow.programs) → IsSound flow.order
+accepted_sound flow dialect tape accepted = rw (flow.agrees) (accepted.sound)
 
-pub accepted_unforked : (flow : Flow) (waits : WaitCodes) (tape : List Program)
-    → IsAccepted waits tape (map program_form flow.programs) → IsUnforked flow.order
-accepted_unforked flow waits tape accepted =
-    faultless_unforked flow.order (accepted_sound flow waits tape accepted).waits
+pub accepted_unforked : (flow : Flow) (dialect : Dialect) (tape : List Program)
+    → IsAccepted dialect tape (map program_form flow.programs) → IsUnforked flow.order
+accepted_unforked flow dialect tape accepted =
+    faultless_unforked flow.order (accepted_sound flow dialect tape accepted).waits

@@ -3,6 +3,7 @@
 use Rattle.std.proofs.Common.{◌≡◌, ℕ, Bool, true, false, ◌||◌, nat_le, List, [], codes, Option, Some, None, Result, Ok, Err, refl, ap, subst, ◌∙◌, if◌then◌else◌}
 use Rattle.nc_number.specs.declared.cause.Cause.{Cause}
 use Rattle.nc_number.specs.declared.value.Var.{Var}
+use Rattle.code_tables.specs.declared.system.System.{System}
 use Rattle.modal_state.specs.View.{ModalView}
 use Rattle.local_levels.specs.Stack.{all_vacant}
 use Rattle.block_order.specs.declared.control.Control.{Control}
@@ -10,7 +11,7 @@ use Rattle.block_order.specs.declared.control.Control.TheVariants as control
 use Rattle.block_order.specs.declared.program.ControlProgram.{ControlProgram}
 use Rattle.block_order.specs.Steps.{standing}
 use Rattle.block_forms.specs.declared.word.FlowWord.{FlowWord}
-use Rattle.block_forms.specs.declared.waits.WaitCodes.{WaitCodes}
+use Rattle.block_forms.specs.declared.dialect.Dialect.{Dialect}
 use Rattle.block_forms.specs.declared.purpose.Purpose.{Purpose}
 use Rattle.block_forms.specs.declared.purpose.Purpose.TheVariants.{MacroCall, Subprogram, Return, Wait}
 use Rattle.block_forms.specs.Codes.{one_shot, m_codes, has_code, first_waiting, purpose_of}
@@ -55,42 +56,42 @@ end-no_end : (b : Bool) → EndsNoLoop (if b then control.End else control.Next)
 end-no_end true = tt
 end-no_end false = tt
 
-control-no_end : (purpose : Purpose) (waits : WaitCodes) (words : List FlowWord)
-    → EndsNoLoop (control_by purpose waits words)
-control-no_end MacroCall waits words = tt
-control-no_end Subprogram waits words =
+control-no_end : (purpose : Purpose) (dialect : Dialect) (words : List FlowWord)
+    → EndsNoLoop (control_by purpose dialect words)
+control-no_end MacroCall dialect words = tt
+control-no_end Subprogram dialect words =
     call-no_end (nat_le 10000 (or_number 0 (number_of (codes "P") words))) _ _ _ _
-control-no_end Return waits words = back-no_end (number_of (codes "P") words)
-control-no_end Wait waits words = wait-no_end (first_waiting waits (m_codes words))
-control-no_end _ waits words = end-no_end (has_code 2 words || has_code 30 words)
+control-no_end Return dialect words = back-no_end (number_of (codes "P") words)
+control-no_end Wait dialect words = wait-no_end (first_waiting dialect (m_codes words))
+control-no_end _ dialect words = end-no_end (has_code 2 words || has_code 30 words)
 
-pub words_end_no_loop : (waits : WaitCodes) (words : List FlowWord)
-    → EndsNoLoop (control_of_words waits words)
-words_end_no_loop waits words = control-no_end (purpose_of waits words) waits words
+pub words_end_no_loop : (dialect : Dialect) (words : List FlowWord)
+    → EndsNoLoop (control_of_words dialect words)
+words_end_no_loop dialect words = control-no_end (purpose_of dialect words) dialect words
 
 -- where the words move the path, it stays on its block
 abbrev MovesThere : PathView → Result Moved ℕ → Type 0
 MovesThere path (Ok moved) = Stays path moved.path
 MovesThere path (Err number) = Unit {0}
 
-motion-stays : (path : PathView) (modal : ModalView) (words : List FlowWord) (values : Values)
-    (motion : Result Motion ℕ)
-    → MovesThere path (after_motion path modal words values motion)
-motion-stays path modal words values (Ok motion) = record { place = refl; fixed = refl }
-motion-stays path modal words values (Err number) = tt
+motion-stays : (path : PathView) (modal : ModalView) (system : System) (words : List FlowWord)
+    (values : Values) (motion : Result Motion ℕ)
+    → MovesThere path (after_motion path modal system words values motion)
+motion-stays path modal system words values (Ok motion) = record { place = refl; fixed = refl }
+motion-stays path modal system words values (Err number) = tt
 
-modal-stays : (fixed : Fixed) (path : PathView) (words : List FlowWord) (values : Values)
-    (modal : Result ModalView ℕ)
-    → MovesThere path (motion_with fixed path words values modal)
-modal-stays fixed path words values (Ok modal) =
-    motion-stays path modal words values
-    (motion_of fixed path modal (motion_kind modal (one_shot words)) (has (codes "L") words) values)
-modal-stays fixed path words values (Err number) = tt
+modal-stays : (fixed : Fixed) (path : PathView) (system : System) (words : List FlowWord)
+    (values : Values) (modal : Result ModalView ℕ)
+    → MovesThere path (motion_with fixed path system words values modal)
+modal-stays fixed path system words values (Ok modal) =
+    motion-stays path modal system words values
+    (motion_of fixed path modal (motion_kind modal (one_shot system words)) (has (codes "L") words) values)
+modal-stays fixed path system words values (Err number) = tt
 
-acted-stays : (fixed : Fixed) (path : PathView) (words : List FlowWord) (values : Values)
-    → MovesThere path (acted fixed path words values)
-acted-stays fixed path words values =
-    modal-stays fixed path words values (modal_after path.modal words values)
+acted-stays : (fixed : Fixed) (path : PathView) (system : System) (words : List FlowWord) (values : Values)
+    → MovesThere path (acted fixed path system words values)
+acted-stays fixed path system words values =
+    modal-stays fixed path system words values (modal_after path.modal system words values)
 
 done-steady : (tape : List ControlProgram) (path : PathView) (moved : Moved)
     (to : Result Standing Cause) → Stays path moved.path
@@ -133,15 +134,15 @@ moves-steady tape path c (Ok moved) stays stands runs =
     controlled-steady tape path moved None c stays stands runs
 moves-steady tape path c (Err number) stays stands runs = record { goes = tt; keeps = tt }
 
-values-steady : (tape : List ControlProgram) (fixed : Fixed) (path : PathView) (words : List FlowWord)
-    (c : Control) (values : Outcome Values)
+values-steady : (tape : List ControlProgram) (fixed : Fixed) (path : PathView) (system : System)
+    (words : List FlowWord) (c : Control) (values : Outcome Values)
     → standing tape path.place ≡ Some c → Runs c
-    → IsSteady tape path (of_values tape fixed path words c values)
-values-steady tape fixed path words c (Gives values left) stands runs =
-    moves-steady tape path c (acted fixed path words values) (acted-stays fixed path words values)
+    → IsSteady tape path (of_values tape fixed path system words c values)
+values-steady tape fixed path system words c (Gives values left) stands runs =
+    moves-steady tape path c (acted fixed path system words values) (acted-stays fixed path system words values)
     stands runs
-values-steady tape fixed path words c (Needs variable) stands runs = record { goes = tt; keeps = tt }
-values-steady tape fixed path words c (Alarms number value) stands runs =
+values-steady tape fixed path system words c (Needs variable) stands runs = record { goes = tt; keeps = tt }
+values-steady tape fixed path system words c (Alarms number value) stands runs =
     record { goes = tt; keeps = tt }
 
 arguments-steady : (tape : List ControlProgram) (path : PathView) (c : Control)
@@ -155,22 +156,22 @@ arguments-steady tape path c (Needs variable) stands runs = record { goes = tt; 
 arguments-steady tape path c (Alarms number value) stands runs = record { goes = tt; keeps = tt }
 
 purpose-steady : (tape : List ControlProgram) (fixed : Fixed) (path : PathView) (purpose : Purpose)
-    (words : List FlowWord) (c : Control) (reads : List Var)
+    (system : System) (words : List FlowWord) (c : Control) (reads : List Var)
     → standing tape path.place ≡ Some c → Runs c
-    → IsSteady tape path (of_purpose tape fixed path purpose words c reads)
-purpose-steady tape fixed path MacroCall words c reads stands runs =
+    → IsSteady tape path (of_purpose tape fixed path purpose system words c reads)
+purpose-steady tape fixed path MacroCall system words c reads stands runs =
     arguments-steady tape path c (arguments_taken fixed path words all_vacant reads) stands runs
-purpose-steady tape fixed path purpose words c reads stands runs =
-    values-steady tape fixed path words c
-    (words_taken fixed path (sense_of path purpose words) words nothing_said reads) stands runs
+purpose-steady tape fixed path purpose system words c reads stands runs =
+    values-steady tape fixed path system words c
+    (words_taken fixed path (sense_of path purpose system words) words nothing_said reads) stands runs
 
 -- a block of words
 pub words-steady : (tape : List ControlProgram) (fixed : Fixed) (path : PathView) (purpose : Purpose)
-    (words : List FlowWord) (c : Control) (reads : List Var)
+    (system : System) (words : List FlowWord) (c : Control) (reads : List Var)
     → standing tape path.place ≡ Some c → EndsNoLoop c
-    → IsSteady tape path (block_of_words tape fixed path purpose words c reads)
-words-steady tape fixed path purpose words (control.Wait code) reads stands no_end =
+    → IsSteady tape path (block_of_words tape fixed path purpose system words c reads)
+words-steady tape fixed path purpose system words (control.Wait code) reads stands no_end =
     record { goes = stands; keeps = tt }
-words-steady tape fixed path purpose words (control.EndLoop name) reads stands no_end = absurd no_end
-words-steady tape fixed path purpose words c reads stands no_end =
-    purpose-steady tape fixed path purpose words c reads stands tt
+words-steady tape fixed path purpose system words (control.EndLoop name) reads stands no_end = absurd no_end
+words-steady tape fixed path purpose system words c reads stands no_end =
+    purpose-steady tape fixed path purpose system words c reads stands tt

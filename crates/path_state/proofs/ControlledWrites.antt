@@ -6,6 +6,7 @@ use Rattle.nc_number.specs.declared.value.Var.{Var}
 use Rattle.nc_moves.specs.declared.motion.Move.{Move}
 use Rattle.common_vars.specs.declared.variable.Variable.{Variable}
 use Rattle.common_vars.specs.declared.variable.Variable.TheVariants as variable
+use Rattle.code_tables.specs.declared.system.System.{System}
 use Rattle.local_levels.specs.Stack.{all_vacant}
 use Rattle.offset_store.specs.declared.slot.Slot.{Slot}
 use Rattle.offset_store.specs.declared.slot.Slot.TheVariants.{Work}
@@ -126,11 +127,11 @@ module _ (tape : List ControlProgram) (fixed : Fixed) (path : PathView) where
   moves-write c (Ok moved) = controlled-writes moved None c
   moves-write c (Err number) = tt
 
-  values-write : (words : List FlowWord) (c : Control) (values : Outcome Values)
-      → EffectWrites fixed (of_values tape fixed path words c values)
-  values-write words c (Gives values left) = moves-write c (acted fixed path words values)
-  values-write words c (Needs variable) = tt
-  values-write words c (Alarms number value) = tt
+  values-write : (system : System) (words : List FlowWord) (c : Control) (values : Outcome Values)
+      → EffectWrites fixed (of_values tape fixed path system words c values)
+  values-write system words c (Gives values left) = moves-write c (acted fixed path system words values)
+  values-write system words c (Needs variable) = tt
+  values-write system words c (Alarms number value) = tt
 
   arguments-write : (c : Control) (arguments : Outcome (List Var))
       → EffectWrites fixed (of_arguments tape path c arguments)
@@ -139,17 +140,17 @@ module _ (tape : List ControlProgram) (fixed : Fixed) (path : PathView) where
   arguments-write c (Needs variable) = tt
   arguments-write c (Alarms number value) = tt
 
-  purpose-writes : (purpose : Purpose) (words : List FlowWord) (c : Control) (reads : List Var)
-      → EffectWrites fixed (of_purpose tape fixed path purpose words c reads)
-  purpose-writes MacroCall words c reads =
+  purpose-writes : (purpose : Purpose) (system : System) (words : List FlowWord) (c : Control) (reads : List Var)
+      → EffectWrites fixed (of_purpose tape fixed path purpose system words c reads)
+  purpose-writes MacroCall system words c reads =
       arguments-write c (arguments_taken fixed path words all_vacant reads)
-  purpose-writes purpose words c reads =
-      values-write words c (words_taken fixed path (sense_of path purpose words) words nothing_said reads)
+  purpose-writes purpose system words c reads =
+      values-write system words c (words_taken fixed path (sense_of path purpose system words) words nothing_said reads)
 
-  words-write : (purpose : Purpose) (words : List FlowWord) (c : Control) (reads : List Var)
-      → EffectWrites fixed (block_of_words tape fixed path purpose words c reads)
-  words-write purpose words (control.Wait code) reads = tt
-  words-write purpose words c reads = purpose-writes purpose words c reads
+  words-write : (purpose : Purpose) (system : System) (words : List FlowWord) (c : Control) (reads : List Var)
+      → EffectWrites fixed (block_of_words tape fixed path purpose system words c reads)
+  words-write purpose system words (control.Wait code) reads = tt
+  words-write purpose system words c reads = purpose-writes purpose system words c reads
 
   after-writes : (after : Outcome After) → OnGives (Writes fixed) after
       → EffectWrites fixed (of_after after)
@@ -159,7 +160,7 @@ module _ (tape : List ControlProgram) (fixed : Fixed) (path : PathView) where
 
   body-writes : (body : FlowBody) (c : Control) (reads : List Var)
       → EffectWrites fixed (effect_of_body tape fixed path body c reads)
-  body-writes (Words words) c reads = words-write words.purpose words.words c reads
+  body-writes (Words words) c reads = words-write words.purpose words.dialect.system words.words c reads
   body-writes (Statement statement) c reads =
       after-writes (statement_effect tape fixed path (sentence_of statement.statement) reads)
       (statement-writes fixed path tape (sentence_of statement.statement) reads)

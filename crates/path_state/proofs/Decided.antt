@@ -1,6 +1,7 @@
 -- What a block comes to, decided step by step.
 use Rattle.std.proofs.Common.{◌≡◌, ◌≢◌, ℕ, Bool, true, false, List, [], Option, Some, None, Result, Ok, Err, refl, ap, sym, ◌∙◌}
 use Rattle.nc_number.specs.declared.value.Var.{Var}
+use Rattle.code_tables.specs.declared.system.System.{System}
 use Rattle.block_order.specs.declared.control.Control.{Control}
 use Rattle.block_order.specs.declared.program.ControlProgram.{ControlProgram}
 use Rattle.block_forms.specs.declared.word.FlowWord.{FlowWord}
@@ -9,7 +10,7 @@ use Rattle.block_forms.specs.declared.purpose.Purpose.TheVariants.{MacroCall, Su
 use Rattle.path_state.specs.declared.outcome.Stop.{Stop}
 use Rattle.path_state.specs.declared.outcome.Stop.TheVariants as stop
 use Rattle.path_state.specs.declared.values.Values as kept
-use Rattle.block_forms.specs.declared.waits.WaitCodes.{WaitCodes}
+use Rattle.block_forms.specs.declared.dialect.Dialect.{Dialect}
 use Rattle.block_forms.specs.Controls.{control_by}
 use Rattle.path_state.specs.View.{Fixed, PathView}
 use Rattle.path_state.specs.Looks.{look_of}
@@ -31,18 +32,18 @@ use Rattle.path_state.specs.Decisions.{of_said, of_arguments_said, MayTake}
 use Rattle.path_state.proofs.ByTable.{by_table, arguments_by_table}
 
 -- of a step that gives values or stops, the effect
-pub of_values_said : (tape : List ControlProgram) (path : PathView) (words : List FlowWord) (control : Control) (said : Result kept.Values Stop) (left : List Var)
-    → of_values tape path.fixed path words control (outcome_of values_seen said left) ≡ of_said tape path words control said
-of_values_said tape path words control (Ok values) left = refl
-of_values_said tape path words control (Err (stop.Needs variable)) left = refl
-of_values_said tape path words control (Err (stop.Alarms number value)) left = refl
+pub of_values_said : (tape : List ControlProgram) (path : PathView) (system : System) (words : List FlowWord) (control : Control) (said : Result kept.Values Stop) (left : List Var)
+    → of_values tape path.fixed path system words control (outcome_of values_seen said left) ≡ of_said tape path system words control said
+of_values_said tape path system words control (Ok values) left = refl
+of_values_said tape path system words control (Err (stop.Needs variable)) left = refl
+of_values_said tape path system words control (Err (stop.Alarms number value)) left = refl
 
-pub words_said : (tape : List ControlProgram) (path : PathView) (sense : Sense) (words : List FlowWord) (control : Control) (reads : List Var) (said : Result kept.Values Stop) (left : List Var)
+pub words_said : (tape : List ControlProgram) (path : PathView) (sense : Sense) (system : System) (words : List FlowWord) (control : Control) (reads : List Var) (said : Result kept.Values Stop) (left : List Var)
     → outcome_of values_seen said left ≡ words_with (look_of path.fixed path) sense words nothing_said reads
-    → of_values tape path.fixed path words control (words_taken path.fixed path sense words nothing_said reads) ≡ of_said tape path words control said
-words_said tape path sense words control reads said left e =
-    ap (of_values tape path.fixed path words control) (sym (e ∙ by_table path.fixed path sense words nothing_said reads))
-    ∙ of_values_said tape path words control said left
+    → of_values tape path.fixed path system words control (words_taken path.fixed path sense words nothing_said reads) ≡ of_said tape path system words control said
+words_said tape path sense system words control reads said left e =
+    ap (of_values tape path.fixed path system words control) (sym (e ∙ by_table path.fixed path sense words nothing_said reads))
+    ∙ of_values_said tape path system words control said left
 
 -- what is taken, where it is taken
 abbrev pub if_taken : {A B : Type 0} → Result A Stop → B → Result B Stop
@@ -64,34 +65,34 @@ arguments_said tape path words control reads arguments taken left e =
     ∙ of_taken tape path control arguments taken left
 
 -- a block of words that calls no macro, and stands at no wait
-pub plain : (tape : List ControlProgram) (fixed : Fixed) (path : PathView) (purpose : Purpose) (words : List FlowWord) (control : Control) (reads : List Var)
-    → is_macro_call purpose ≡ false → of_purpose tape fixed path purpose words control reads ≡ words_effect tape fixed path purpose words control reads
-plain tape fixed path MacroCall words control reads is = absurd cc
-plain tape fixed path Subprogram words control reads is = refl
-plain tape fixed path Return words control reads is = refl
-plain tape fixed path Wait words control reads is = refl
-plain tape fixed path Dwell words control reads is = refl
-plain tape fixed path Setting words control reads is = refl
-plain tape fixed path Other words control reads is = refl
+pub plain : (tape : List ControlProgram) (fixed : Fixed) (path : PathView) (purpose : Purpose) (system : System) (words : List FlowWord) (control : Control) (reads : List Var)
+    → is_macro_call purpose ≡ false → of_purpose tape fixed path purpose system words control reads ≡ words_effect tape fixed path purpose system words control reads
+plain tape fixed path MacroCall system words control reads is = absurd cc
+plain tape fixed path Subprogram system words control reads is = refl
+plain tape fixed path Return system words control reads is = refl
+plain tape fixed path Wait system words control reads is = refl
+plain tape fixed path Dwell system words control reads is = refl
+plain tape fixed path Setting system words control reads is = refl
+plain tape fixed path Other system words control reads is = refl
 
-pub unwaiting : (tape : List ControlProgram) (fixed : Fixed) (path : PathView) (purpose : Purpose) (words : List FlowWord) (control : Control) (reads : List Var)
+pub unwaiting : (tape : List ControlProgram) (fixed : Fixed) (path : PathView) (purpose : Purpose) (system : System) (words : List FlowWord) (control : Control) (reads : List Var)
     → ((code : ℕ) → control ≢ AtWait code) → is_macro_call purpose ≡ false
-    → block_of_words tape fixed path purpose words control reads ≡ words_effect tape fixed path purpose words control reads
-unwaiting tape fixed path purpose words (AtWait n) reads is calls = absurd (is n refl)
-unwaiting tape fixed path purpose words Next reads is calls = plain tape fixed path purpose words Next reads calls
-unwaiting tape fixed path purpose words (Goto n) reads is calls = plain tape fixed path purpose words (Goto n) reads calls
-unwaiting tape fixed path purpose words (While n) reads is calls = plain tape fixed path purpose words (While n) reads calls
-unwaiting tape fixed path purpose words (Do n) reads is calls = plain tape fixed path purpose words (Do n) reads calls
-unwaiting tape fixed path purpose words (EndLoop n) reads is calls = plain tape fixed path purpose words (EndLoop n) reads calls
-unwaiting tape fixed path purpose words End reads is calls = plain tape fixed path purpose words End reads calls
-unwaiting tape fixed path purpose words (Call p r) reads is calls = plain tape fixed path purpose words (Call p r) reads calls
-unwaiting tape fixed path purpose words Back reads is calls = plain tape fixed path purpose words Back reads calls
-unwaiting tape fixed path purpose words (BackTo n) reads is calls = plain tape fixed path purpose words (BackTo n) reads calls
+    → block_of_words tape fixed path purpose system words control reads ≡ words_effect tape fixed path purpose system words control reads
+unwaiting tape fixed path purpose system words (AtWait n) reads is calls = absurd (is n refl)
+unwaiting tape fixed path purpose system words Next reads is calls = plain tape fixed path purpose system words Next reads calls
+unwaiting tape fixed path purpose system words (Goto n) reads is calls = plain tape fixed path purpose system words (Goto n) reads calls
+unwaiting tape fixed path purpose system words (While n) reads is calls = plain tape fixed path purpose system words (While n) reads calls
+unwaiting tape fixed path purpose system words (Do n) reads is calls = plain tape fixed path purpose system words (Do n) reads calls
+unwaiting tape fixed path purpose system words (EndLoop n) reads is calls = plain tape fixed path purpose system words (EndLoop n) reads calls
+unwaiting tape fixed path purpose system words End reads is calls = plain tape fixed path purpose system words End reads calls
+unwaiting tape fixed path purpose system words (Call p r) reads is calls = plain tape fixed path purpose system words (Call p r) reads calls
+unwaiting tape fixed path purpose system words Back reads is calls = plain tape fixed path purpose system words Back reads calls
+unwaiting tape fixed path purpose system words (BackTo n) reads is calls = plain tape fixed path purpose system words (BackTo n) reads calls
 
 -- a block that calls a macro
-pub called : (purpose : Purpose) (waits : WaitCodes) (words : List FlowWord) → purpose ≡ MacroCall → (program : ℕ) × (repeats : ℕ) × (control_by purpose waits words ≡ Call program repeats)
-called MacroCall waits words is = (_, _, refl)
-called _ waits words is = absurd cc
+pub called : (purpose : Purpose) (dialect : Dialect) (words : List FlowWord) → purpose ≡ MacroCall → (program : ℕ) × (repeats : ℕ) × (control_by purpose dialect words ≡ Call program repeats)
+called MacroCall dialect words is = (_, _, refl)
+called _ dialect words is = absurd cc
 
 -- behind a block that is no end control goes on
 pub goes : (tape : List ControlProgram) (moved : Moved) (arguments : Option (List Var)) (control : Control) → control ≢ End

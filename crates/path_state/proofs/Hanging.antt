@@ -1,7 +1,8 @@
 -- What the parts of a block hang on: its motion on the position and the offsets of its path, and each on its own words.
 use Rattle.std.proofs.Common.{◌≡◌, ℕ, Bool, List, Option, refl}
 use Rattle.code_tables.specs.declared.kind.CodeKind.{CodeKind}
-use Rattle.code_tables.specs.declared.kind.CodeKind.TheVariants.{Rapid, Feed, ArcCw, ArcCcw, Thread, CycleTurn, CycleThread, CycleFace, Surface, Spindle, PerMin, PerRev, Inch, Metric, NoseOff, NoseOn, Work, Dwell, Setting, Home, Limit, Machine, MacroCall, Idle}
+use Rattle.code_tables.specs.declared.kind.CodeKind.TheVariants.{Rapid, Feed, ArcCw, ArcCcw, Thread, CycleTurn, CycleThread, CycleFace, Surface, Spindle, PerMin, PerRev, Inch, Metric, NoseOff, NoseOn, Work, Dwell, Setting, Home, Limit, Machine, MacroCall, Absolute, Incremental, Idle}
+use Rattle.code_tables.specs.declared.system.System.{System}
 use Rattle.modal_state.specs.View.{ModalView}
 use Rattle.path_state.specs.View.{Fixed, PathView}
 use Rattle.path_state.specs.Values.{Values}
@@ -14,9 +15,10 @@ use Rattle.path_state.specs.Moves.{all_moves}
 use Rattle.path_state.specs.Effect.{modal_after}
 use Rattle.path_state.specs.Drawn.{homed, standing_at, motion_said, motion_part, settings_said, modal_behind}
 
-pub modal_hangs : (modal : ModalView) (words : List FlowWord) (values : Values)
-    → modal_after modal words values ≡ modal_behind modal (rows words) (settings_said values.feed values.speed values.tool)
-modal_hangs modal words values = refl
+pub modal_hangs : (modal : ModalView) (system : System) (words : List FlowWord) (values : Values)
+    → modal_after modal system words values
+    ≡ modal_behind modal (rows system words) (settings_said values.feed values.speed values.tool)
+modal_hangs modal system words values = refl
 
 pub moves_hang : (limits : Bool) (modal : ModalView) (values : Values) (motion : List Move) (code : Option ℕ)
     → all_moves limits modal values motion code
@@ -50,4 +52,6 @@ motion_hangs fixed path modal Home has_l values = refl
 motion_hangs fixed path modal Limit has_l values = refl
 motion_hangs fixed path modal Machine has_l values = refl
 motion_hangs fixed path modal MacroCall has_l values = refl
+motion_hangs fixed path modal Absolute has_l values = refl
+motion_hangs fixed path modal Incremental has_l values = refl
 motion_hangs fixed path modal Idle has_l values = refl

@@ -15,5 +15,6 @@ pub mod NeedsWords
 mod RoutedSearches
 mod StandingLevels
 pub mod Decided
+mod AssignedNext
 pub mod NextBlocks
 mod StatementCodes

@@ -18,8 +18,9 @@ use Rattle.macro_eval.specs.declared.scope.Eval.{Eval}
 use Rattle.macro_eval.specs.declared.scope.Eval.TheVariants.{Got, Need, Fault}
 use Rattle.macro_eval.specs.Meaning.{Answer, made, function_value, operator_value, variable_number, seen, looked_by, looked_up, then_with, meaning}
 use Rattle.macro_eval.proofs.TakenReads.{takes, needs}
+use Rattle.modal_state.specs.View.{ModalView}
 use Rattle.path_state.specs.View.{Fixed, PathView}
-use Rattle.path_state.specs.Looks.{is_shared, held_by, look_of}
+use Rattle.path_state.specs.Looks.{is_shared, is_there, if_there, variable_in, held_by, look_of}
 use Rattle.path_state.specs.Outcomes.{Outcome, Gives, Needs, Alarms, ◌>>=◌, reading_none, answered, evaluated}
 
 -- what a step needs is shared by the table
@@ -68,10 +69,23 @@ module _ (table : ℕ → Result Look VarFault) where
       (λ v left. then_needs (meaning table b left) _ (meaning_needs b left)
       (λ w rest. made_needs (operator_value op (or_zero v) (or_zero w))))
 
+-- a number that names a variable in some system names it in the table of all
+pub named_in_table : (modal : ModalView) (n : ℕ) (v : Variable) → variable_in modal n ≡ Some v → variable_of n ≡ Some v
+named_in_table modal n v named = go (variable_of n) named
+  where
+    held : (found : Variable) (b : Bool) → ◌≡◌ {A = Option Variable} (if b then Some found else None) (Some v)
+        → Some found ≡ Some v
+    held found true e = e
+    held found false e = absurd cc
+
+    go : (o : Option Variable) → if_there modal o ≡ Some v → o ≡ Some v
+    go None e = absurd cc
+    go (Some found) e = held found (is_there modal found) e
+
 -- a look says that a variable is shared only where it is
 looked-shared : (fixed : Fixed) (path : PathView) (n : ℕ) → look_of fixed path n ≡ Ok look.Shared
     → is_shared fixed n ≡ true
-looked-shared fixed path n is = go (variable_of n) refl is
+looked-shared fixed path n is = go (variable_in path.modal n) refl is
   where
     common : (v : ℕ) (b : Bool) → is_shared fixed v ≡ b
         → ◌≡◌ {A = Result Look VarFault} (if b then Ok look.Shared else Ok (look.Is (value_of v path.own)))
@@ -79,11 +93,11 @@ looked-shared fixed path n is = go (variable_of n) refl is
     common v true shared e = shared
     common v false shared e = absurd cc
 
-    go : (o : Option Variable) → variable_of n ≡ o → held_by fixed path o ≡ Ok look.Shared
+    go : (o : Option Variable) → variable_in path.modal n ≡ o → held_by fixed path o ≡ Ok look.Shared
         → is_shared fixed n ≡ true
     go None named e = absurd cc
     go (Some (variable.Common v)) named e =
-        subst (λ k. is_shared fixed k ≡ true) (what_is_named n (variable.Common v) named).1
+        subst (λ k. is_shared fixed k ≡ true) (what_is_named n (variable.Common v) (named_in_table path.modal n (variable.Common v) named)).1
         (common v (is_shared fixed v) refl e)
     go (Some _) named e = absurd cc
 

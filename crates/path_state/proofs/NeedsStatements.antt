@@ -5,7 +5,6 @@ use Rattle.nc_number.specs.declared.point.Point.{Point}
 use Rattle.nc_number.specs.declared.value.Var.{Var}
 use Rattle.common_vars.specs.declared.variable.Variable.{Variable}
 use Rattle.common_vars.specs.declared.variable.Variable.TheVariants as variable
-use Rattle.common_vars.specs.Variables.{variable_of}
 use Rattle.offset_store.specs.declared.slot.Slot.{Slot}
 use Rattle.offset_store.specs.declared.slot.Slot.TheVariants.{Work}
 use Rattle.offset_store.specs.declared.fault.OffsetFault.{OffsetFault}
@@ -14,6 +13,7 @@ use Rattle.block_order.specs.declared.program.ControlProgram.{ControlProgram}
 use Rattle.macro_expr.specs.Tree.{Tree, Named, Fixed as Numbered, Computed, Test, Aim, ToNumber, ToNumberOf, Sentence, Assign, Goto, IfGoto, IfThen, WhileDo, DoOnly, EndLoop, variables, variables_in, evaluated_name, evaluated_aim, evaluated as evaluated_in}
 use Rattle.macro_eval.specs.Meaning.{whole_number, variable_number}
 use Rattle.path_state.specs.View.{Fixed, PathView}
+use Rattle.path_state.specs.Looks.{variable_in}
 use Rattle.path_state.specs.Outcomes.{Outcome, ◌>>=◌, evaluated}
 use Rattle.path_state.specs.Places.{Standing, jumped, loop_left, loop_again}
 use Rattle.path_state.specs.Statements.{After, standing_of, existing, number_named, length_of, along, with_offset, written_path, written, named, assigned, tested, sequence_number, aimed, moved, gone_to, gone_next, assigned_next, statement_effect}
@@ -27,11 +27,11 @@ append_variables (tree ∷ first) second = let rest = append_variables first sec
 module _ (fixed : Fixed) (path : PathView) where
   named_asks : (name : Named) (reads : List Var)
       → Asks fixed (variables_in (evaluated_name name)) reads (named fixed path name reads)
-  named_asks (Numbered n) reads = none_asks fixed 0 reads (existing (variable_of n))
+  named_asks (Numbered n) reads = none_asks fixed 0 reads (existing (variable_in path.modal n))
   named_asks (Computed tree) reads =
       then_asks fixed (variables tree) 0 _ (omega arith) reads (evaluated fixed path tree reads) _
       (tree_asks fixed path tree reads)
-      (λ value left. none_asks fixed 0 left (number_named (variable_number value)))
+      (λ value left. none_asks fixed 0 left (number_named path.modal (variable_number value)))
 
   offset_asks : (slot : Slot) (to : Result Point OffsetFault) (left : List Var)
       → Asks fixed 0 left (written_path (with_offset path slot to) left)

@@ -2,6 +2,7 @@
 use Rattle.std.proofs.Common.{◌≡◌, ℕ, ◌<◌, ◌≤◌, true, List, [], ◌∷◌, length, Option, Some, None, Result, Ok, Err, subst, arith}
 use Rattle.nc_number.specs.declared.cause.Cause.{Cause}
 use Rattle.nc_number.specs.declared.value.Var.{Var}
+use Rattle.code_tables.specs.declared.system.System.{System}
 use Rattle.local_levels.specs.Stack.{all_vacant}
 use Rattle.block_order.specs.declared.control.Control.{Control}
 use Rattle.block_order.specs.declared.control.Control.TheVariants as control
@@ -87,12 +88,12 @@ module _ (fixed : Fixed) (path : PathView) where
     moves-ask c (Ok moved) = controlled-asks moved None c
     moves-ask c (Err number) = tt
 
-    values-ask : (words : List FlowWord) (c : Control) (values : Outcome Values)
+    values-ask : (system : System) (words : List FlowWord) (c : Control) (values : Outcome Values)
         → Asks fixed most reads values
-        → AsksFor fixed most reads (of_values tape fixed path words c values)
-    values-ask words c (Gives values left) asks = moves-ask c (acted fixed path words values)
-    values-ask words c (Needs variable) asks = asks
-    values-ask words c (Alarms number value) asks = tt
+        → AsksFor fixed most reads (of_values tape fixed path system words c values)
+    values-ask system words c (Gives values left) asks = moves-ask c (acted fixed path system words values)
+    values-ask system words c (Needs variable) asks = asks
+    values-ask system words c (Alarms number value) asks = tt
 
     arguments-ask : (c : Control) (arguments : Outcome (List Var)) → Asks fixed most reads arguments
         → AsksFor fixed most reads (of_arguments tape path c arguments)
@@ -107,25 +108,25 @@ module _ (fixed : Fixed) (path : PathView) where
     after-asks (Needs variable) asks = asks
     after-asks (Alarms number value) asks = tt
 
-  purpose-asks : (tape : List ControlProgram) (purpose : Purpose) (words : List FlowWord) (c : Control)
-      (reads : List Var)
-      → AsksFor fixed (variables_of_words words) reads (of_purpose tape fixed path purpose words c reads)
-  purpose-asks tape MacroCall words c reads =
+  purpose-asks : (tape : List ControlProgram) (purpose : Purpose) (system : System) (words : List FlowWord)
+      (c : Control) (reads : List Var)
+      → AsksFor fixed (variables_of_words words) reads (of_purpose tape fixed path purpose system words c reads)
+  purpose-asks tape MacroCall system words c reads =
       arguments-ask tape (variables_of_words words) reads c _ (arguments_asks words all_vacant reads)
-  purpose-asks tape purpose words c reads =
-      values-ask tape (variables_of_words words) reads words c _
-      (words_asks (sense_of path purpose words) words nothing_said reads)
+  purpose-asks tape purpose system words c reads =
+      values-ask tape (variables_of_words words) reads system words c _
+      (words_asks (sense_of path purpose system words) words nothing_said reads)
 
-  block-asks : (tape : List ControlProgram) (purpose : Purpose) (words : List FlowWord) (c : Control)
-      (reads : List Var)
-      → AsksFor fixed (variables_of_words words) reads (block_of_words tape fixed path purpose words c reads)
-  block-asks tape purpose words (control.Wait code) reads = tt
-  block-asks tape purpose words c reads = purpose-asks tape purpose words c reads
+  block-asks : (tape : List ControlProgram) (purpose : Purpose) (system : System) (words : List FlowWord)
+      (c : Control) (reads : List Var)
+      → AsksFor fixed (variables_of_words words) reads (block_of_words tape fixed path purpose system words c reads)
+  block-asks tape purpose system words (control.Wait code) reads = tt
+  block-asks tape purpose system words c reads = purpose-asks tape purpose system words c reads
 
   -- what stands in a block asks for as many values as it names variables, at most
   pub body_asks : (tape : List ControlProgram) (body : FlowBody) (c : Control) (reads : List Var)
       → AsksFor fixed (variables_of_body body) reads (effect_of_body tape fixed path body c reads)
-  body_asks tape (Words words) c reads = block-asks tape words.purpose words.words c reads
+  body_asks tape (Words words) c reads = block-asks tape words.purpose words.dialect.system words.words c reads
   body_asks tape (Statement statement) c reads =
       after-asks tape (variables_in (evaluated_in (sentence_of statement.statement))) reads _
       (statement_asks fixed path tape (sentence_of statement.statement) reads)

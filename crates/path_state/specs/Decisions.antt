@@ -1,6 +1,7 @@
 -- What a decision of the code comes to, as an effect.
 use Rattle.std.specs.Prelude.{ℕ, List, [], Option, Some, None, Result, Ok, Err, ℤ}
 use Rattle.nc_number.specs.declared.value.Var.{Var}
+use Rattle.code_tables.specs.declared.system.System.{System}
 use Rattle.block_order.specs.PlaceSteps.{MayPass}
 use Rattle.path_state.specs.declared.words_step.WordsStep.{WordsStep}
 use Rattle.path_state.specs.declared.decision.Decision.{Decision}
@@ -39,9 +40,10 @@ stopped (stop.Needs variable) = Need variable
 stopped (stop.Alarms number value) = Alarm number value
 
 -- a block whose words say these values, or say nothing
-abbrev pub of_said : List ControlProgram → PathView → List FlowWord → Control → Result kept.Values Stop → Effect
-of_said tape path words control (Ok values) = of_moved tape control (acted path.fixed path words (values_seen values))
-of_said tape path words control (Err stop) = stopped stop
+abbrev pub of_said : List ControlProgram → PathView → System → List FlowWord → Control → Result kept.Values Stop → Effect
+of_said tape path system words control (Ok values) =
+    of_moved tape control (acted path.fixed path system words (values_seen values))
+of_said tape path system words control (Err stop) = stopped stop
 
 -- a macro call with these arguments, or without them
 abbrev pub of_arguments_said : List ControlProgram → PathView → Control → Result (List Var) Stop → Effect

@@ -3,6 +3,7 @@ use Rattle.std.specs.Prelude.{ℕ, Bool, List, [], ◌∷◌, Option, Some, None
 use Rattle.std.specs.List.{list_any}
 use Rattle.nc_number.specs.declared.value.Var.{Var}
 use Rattle.code_tables.specs.declared.row.Row.{Row}
+use Rattle.code_tables.specs.declared.system.System.TheVariants.{A}
 use Rattle.modal_state.specs.View.{ModalView}
 use Rattle.modal_state.specs.Modal.{opening_modal, with_codes}
 use Rattle.modal_state.specs.Words.{with_words, tool_fault}
@@ -37,7 +38,7 @@ standing_at position offsets = record {
   calls = [];
   levels = [];
   own = [];
-  modal = opening_modal;
+  modal = opening_modal A;
   offsets = offsets;
   position = position;
   fixed = record { home = position; shared100 = 0; shared500 = 0 };

@@ -6,6 +6,7 @@ use Rattle.nc_number.specs.declared.point.Point.{Point}
 use Rattle.nc_number.specs.declared.value.Var.{Var}
 use Rattle.nc_number.specs.Causes.{cause_number}
 use Rattle.nc_moves.specs.declared.motion.Move.{Move}
+use Rattle.code_tables.specs.declared.system.System.{System}
 use Rattle.local_levels.specs.Stack.{all_vacant}
 use Rattle.modal_state.specs.declared.fault.ModalFault.{ModalFault}
 use Rattle.modal_state.specs.declared.words.ModalWords.{ModalWords}
@@ -64,9 +65,10 @@ unless_fault None modal = Ok modal
 unless_fault (Some fault) modal = Err fault.number
 
 -- G codes set their groups, and F, S and T are taken; alarm 40 of T
-abbrev pub modal_after : ModalView → List FlowWord → Values → Result ModalView ℕ
-modal_after modal words values =
-    unless_fault (tool_fault values.tool) (with_words (with_codes modal (rows words)) (modal_words (gives is_limit words) values))
+abbrev pub modal_after : ModalView → System → List FlowWord → Values → Result ModalView ℕ
+modal_after modal system words values =
+    unless_fault (tool_fault values.tool)
+    (with_words (with_codes modal (rows system words)) (modal_words (gives system is_limit words) values))
 
 abbrev pub with_set_offset : OffsetTable → Option (Slot × Point) → OffsetTable
 with_set_offset offsets None = offsets
@@ -77,9 +79,9 @@ pub record Moved : Type 0 where
   pub path : PathView
   pub moves : List Move
 
-abbrev pub moved_by : PathView → ModalView → List FlowWord → Values → Motion → Moved
-moved_by path modal words values motion =
-    let moves = all_moves (gives is_limit words) modal values motion.moves (m_code words) in
+abbrev pub moved_by : PathView → ModalView → System → List FlowWord → Values → Motion → Moved
+moved_by path modal system words values motion =
+    let moves = all_moves (gives system is_limit words) modal values motion.moves (m_code words) in
     record {
       path = record path {
         modal = record modal { cycle = motion.cycle };
@@ -89,19 +91,20 @@ moved_by path modal words values motion =
       moves = moves;
     }
 
-abbrev pub after_motion : PathView → ModalView → List FlowWord → Values → Result Motion ℕ → Result Moved ℕ
-after_motion path modal words values (Ok motion) = Ok (moved_by path modal words values motion)
-after_motion path modal words values (Err number) = Err number
+abbrev pub after_motion : PathView → ModalView → System → List FlowWord → Values → Result Motion ℕ → Result Moved ℕ
+after_motion path modal system words values (Ok motion) = Ok (moved_by path modal system words values motion)
+after_motion path modal system words values (Err number) = Err number
 
-abbrev pub motion_with : Fixed → PathView → List FlowWord → Values → Result ModalView ℕ → Result Moved ℕ
-motion_with fixed path words values (Ok modal) =
-    after_motion path modal words values
-    (motion_of fixed path modal (motion_kind modal (one_shot words)) (has (codes "L") words) values)
-motion_with fixed path words values (Err number) = Err number
+abbrev pub motion_with : Fixed → PathView → System → List FlowWord → Values → Result ModalView ℕ → Result Moved ℕ
+motion_with fixed path system words values (Ok modal) =
+    after_motion path modal system words values
+    (motion_of fixed path modal (motion_kind modal (one_shot system words)) (has (codes "L") words) values)
+motion_with fixed path system words values (Err number) = Err number
 
--- the modal state and then the motion of a block whose words are evaluated
-abbrev pub acted : Fixed → PathView → List FlowWord → Values → Result Moved ℕ
-acted fixed path words values = motion_with fixed path words values (modal_after path.modal words values)
+-- the modal state and then the motion of a block whose words are evaluated, its G codes those of the system
+abbrev pub acted : Fixed → PathView → System → List FlowWord → Values → Result Moved ℕ
+acted fixed path system words values =
+    motion_with fixed path system words values (modal_after path.modal system words values)
 
 abbrev pub alarm_of : Cause → Effect
 alarm_of cause = Alarm (cause_number cause) (pos 0)
@@ -119,15 +122,17 @@ abbrev pub of_moved : List ControlProgram → Control → Result Moved ℕ → E
 of_moved tape control (Ok moved) = controlled tape moved None control
 of_moved tape control (Err number) = Alarm number (pos 0)
 
-abbrev pub of_values : List ControlProgram → Fixed → PathView → List FlowWord → Control → Outcome Values → Effect
-of_values tape fixed path words control (Gives values left) = of_moved tape control (acted fixed path words values)
-of_values tape fixed path words control (Needs variable) = Need variable
-of_values tape fixed path words control (Alarms number value) = Alarm number value
+abbrev pub of_values : List ControlProgram → Fixed → PathView → System → List FlowWord → Control → Outcome Values → Effect
+of_values tape fixed path system words control (Gives values left) =
+    of_moved tape control (acted fixed path system words values)
+of_values tape fixed path system words control (Needs variable) = Need variable
+of_values tape fixed path system words control (Alarms number value) = Alarm number value
 
 -- a block of words that calls no macro
-abbrev pub words_effect : List ControlProgram → Fixed → PathView → Purpose → List FlowWord → Control → List Var → Effect
-words_effect tape fixed path purpose words control reads =
-    of_values tape fixed path words control (words_taken fixed path (sense_of path purpose words) words nothing_said reads)
+abbrev pub words_effect : List ControlProgram → Fixed → PathView → Purpose → System → List FlowWord → Control → List Var → Effect
+words_effect tape fixed path purpose system words control reads =
+    of_values tape fixed path system words control
+    (words_taken fixed path (sense_of path purpose system words) words nothing_said reads)
 
 abbrev pub of_arguments : List ControlProgram → PathView → Control → Outcome (List Var) → Effect
 of_arguments tape path control (Gives arguments left) =
@@ -140,14 +145,16 @@ abbrev pub macro_effect : List ControlProgram → Fixed → PathView → List Fl
 macro_effect tape fixed path words control reads =
     of_arguments tape path control (arguments_taken fixed path words all_vacant reads)
 
-abbrev pub of_purpose : List ControlProgram → Fixed → PathView → Purpose → List FlowWord → Control → List Var → Effect
-of_purpose tape fixed path MacroCall words control reads = macro_effect tape fixed path words control reads
-of_purpose tape fixed path purpose words control reads = words_effect tape fixed path purpose words control reads
+abbrev pub of_purpose : List ControlProgram → Fixed → PathView → Purpose → System → List FlowWord → Control → List Var → Effect
+of_purpose tape fixed path MacroCall system words control reads = macro_effect tape fixed path words control reads
+of_purpose tape fixed path purpose system words control reads =
+    words_effect tape fixed path purpose system words control reads
 
--- a block of words; at a wait nothing is done
-abbrev pub block_of_words : List ControlProgram → Fixed → PathView → Purpose → List FlowWord → Control → List Var → Effect
-block_of_words tape fixed path purpose words (Wait code) reads = AtWait code
-block_of_words tape fixed path purpose words control reads = of_purpose tape fixed path purpose words control reads
+-- a block of words, whose G codes are those of the system; at a wait nothing is done
+abbrev pub block_of_words : List ControlProgram → Fixed → PathView → Purpose → System → List FlowWord → Control → List Var → Effect
+block_of_words tape fixed path purpose system words (Wait code) reads = AtWait code
+block_of_words tape fixed path purpose system words control reads =
+    of_purpose tape fixed path purpose system words control reads
 
 abbrev pub of_after : Outcome After → Effect
 of_after (Gives after left) = Done after.path after.write []
@@ -165,7 +172,7 @@ past_the_last = alarm_of RanOff
 -- a block that stands there, by what stands in it
 abbrev pub effect_of_body : List ControlProgram → Fixed → PathView → FlowBody → Control → List Var → Effect
 effect_of_body tape fixed path (Words words) control reads =
-    block_of_words tape fixed path words.purpose words.words control reads
+    block_of_words tape fixed path words.purpose words.dialect.system words.words control reads
 effect_of_body tape fixed path (Statement statement) control reads =
     block_of_statement tape fixed path (sentence_of statement.statement) reads
 

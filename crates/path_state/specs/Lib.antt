@@ -20,6 +20,7 @@ pub mod Fits
 pub mod Advances
 pub mod Opening
 pub mod Controlled
+pub mod Edits
 pub mod Ahead
 pub mod Worked
 pub mod Seen

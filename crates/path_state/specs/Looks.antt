@@ -1,5 +1,5 @@
 -- What each variable holds as a block begins.
-use Rattle.std.specs.Prelude.{ℕ, ◌+◌, ◌&&◌, ◌||◌, nat_le, nat_lt, Bool, Option, Some, None, Result, Ok, Err, ℤ, pos, ◌-ℤ◌, if◌then◌else◌}
+use Rattle.std.specs.Prelude.{ℕ, ◌+◌, ◌&&◌, ◌||◌, nat_le, nat_lt, Bool, true, Option, Some, None, is_some, Result, Ok, Err, ℤ, pos, ◌-ℤ◌, if◌then◌else◌}
 use Rattle.nc_number.specs.declared.value.Var.{Var}
 use Rattle.nc_number.specs.declared.value.Var.TheVariants.{Vacant, Is}
 use Rattle.nc_number.specs.declared.point.Point.{Point}
@@ -15,6 +15,7 @@ use Rattle.macro_eval.specs.declared.scope.Look.{Look}
 use Rattle.macro_eval.specs.declared.scope.Look.TheVariants as look
 use Rattle.macro_eval.specs.declared.scope.VarFault.{VarFault}
 use Rattle.macro_eval.specs.declared.scope.VarFault.TheVariants.{Range}
+use Rattle.modal_state.specs.View.{ModalView}
 use Rattle.modal_state.specs.Modal.{code_of, work_of}
 use Rattle.offset_store.specs.Table.{offset_at}
 use Rattle.offset_store.specs.Offsets.{shift_of}
@@ -48,6 +49,19 @@ abbrev pub is_shared : Fixed → ℕ → Bool
 is_shared fixed v =
     (nat_le 100 v && nat_lt v (100 + fixed.shared100)) || (nat_le 500 v && nat_lt v (500 + fixed.shared500))
 
+-- the code of a modal group is a variable only where the system has the group: that of absolute and incremental in B alone
+abbrev pub is_there : ModalView → Variable → Bool
+is_there modal (variable.Code group) = is_some (code_of modal group)
+is_there modal _ = true
+
+abbrev pub if_there : ModalView → Option Variable → Option Variable
+if_there modal None = None
+if_there modal (Some variable) = if is_there modal variable then Some variable else None
+
+-- what a number names in the system whose codes are in force
+abbrev pub variable_in : ModalView → ℕ → Option Variable
+variable_in modal n = if_there modal (variable_of n)
+
 -- what a variable holds, or that each reading of it is an event of its own
 abbrev pub held : Fixed → PathView → Variable → Result Look VarFault
 held fixed path variable.Null = Ok (look.Is Vacant)
@@ -68,4 +82,4 @@ held_by fixed path (Some variable) = held fixed path variable
 
 -- a look at the variable of a number, as the block before left it
 abbrev pub look_of : Fixed → PathView → ℕ → Result Look VarFault
-look_of fixed path n = held_by fixed path (variable_of n)
+look_of fixed path n = held_by fixed path (variable_in path.modal n)

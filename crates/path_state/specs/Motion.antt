@@ -1,12 +1,15 @@
 -- The motion of a block: by its one-shot code if it has one, else by the motion code in force.
-use Rattle.std.specs.Prelude.{ℕ, Bool, true, false, ◌==◌, List, [], ◌∷◌, Option, Some, None, unwrap_or, Result, Ok, Err}
+use Rattle.std.specs.Prelude.{ℕ, Bool, true, false, List, [], ◌∷◌, Option, Some, None, unwrap_or, Result, Ok, Err, ℤ}
 use Rattle.nc_number.specs.declared.point.Point.{Point}
 use Rattle.nc_number.specs.declared.axis.Axis.{Axis}
+use Rattle.nc_number.specs.declared.axis.Axis.TheVariants.{By}
+use Rattle.nc_number.specs.declared.cause.Cause.TheVariants.{UnknownCode}
 use Rattle.nc_number.specs.Axes.{axis_of}
+use Rattle.nc_number.specs.Causes.{cause_number}
 use Rattle.nc_number.specs.Results.{◌>>=◌}
 use Rattle.nc_number.specs.Variables.{or_zero}
 use Rattle.code_tables.specs.declared.kind.CodeKind.{CodeKind}
-use Rattle.code_tables.specs.declared.kind.CodeKind.TheVariants.{Dwell, Setting}
+use Rattle.code_tables.specs.declared.kind.CodeKind.TheVariants.{Dwell, Setting, Machine}
 use Rattle.modal_state.specs.View.{ModalView}
 use Rattle.modal_state.specs.Modal.{work_of}
 use Rattle.motion_track.specs.declared.block.BlockMotion.{BlockMotion}
@@ -52,11 +55,17 @@ offset_number (Err fault) = Err fault.number
 abbrev pub motion_kind : ModalView → Option CodeKind → CodeKind
 motion_kind modal one_shot = unwrap_or one_shot modal.motion
 
-abbrev pub x_axis : Values → Axis
-x_axis values = axis_of values.x values.u
+-- what the words of an axis say: X and Z are incremental where G91 is in force, as U and W always are
+abbrev pub axis_under : Bool → Option ℤ → Option ℤ → Axis
+axis_under false word way = axis_of word way
+axis_under true None way = axis_of None way
+axis_under true (Some word) way = By word
 
-abbrev pub z_axis : Values → Axis
-z_axis values = axis_of values.z values.w
+abbrev pub x_axis : ModalView → Values → Axis
+x_axis modal values = axis_under modal.incremental values.x values.u
+
+abbrev pub z_axis : ModalView → Values → Axis
+z_axis modal values = axis_under modal.incremental values.z values.w
 
 -- what the motion hangs on: the modal state is the one with the block's codes and words taken
 abbrev pub block_motion : Fixed → PathView → ModalView → Values → BlockMotion
@@ -64,8 +73,8 @@ block_motion fixed path modal values = record {
   start = path.position;
   shift = shift_of path.offsets (work_of modal) modal.offset;
   home = fixed.home;
-  x = x_axis values;
-  z = z_axis values;
+  x = x_axis modal values;
+  z = z_axis modal values;
   i = values.i;
   k = values.k;
   r = values.r;
@@ -73,15 +82,16 @@ block_motion fixed path modal values = record {
   per_rev = modal.per_rev;
 }
 
--- G10: with L a work offset, without it a tool's; alarm 40 of its number, then 41 of the offset
+-- G10: with L a work offset, without it a tool's; an absolute word sets, an incremental one adds. Alarm 40 of its number, then 41
+-- of the offset
 abbrev pub form_of : Bool → OffsetForm
 form_of true = WorkOffset
 form_of false = ToolOffset
 
-abbrev pub setting_of : OffsetTable → Bool → Values → Result (Slot × Point) OffsetFault
-setting_of offsets has_l values = do
+abbrev pub setting_of : OffsetTable → ModalView → Bool → Values → Result (Slot × Point) OffsetFault
+setting_of offsets modal has_l values = do
   slot ← slot_named (form_of has_l) values.number
-  to ← in_range (changed_point (point_at offsets slot) (x_axis values) (z_axis values))
+  to ← in_range (changed_point (point_at offsets slot) (x_axis modal values) (z_axis modal values))
   Ok (slot, to)
 
 abbrev pub set_motion : Option Point → Result (Slot × Point) OffsetFault → Result Motion OffsetFault
@@ -101,9 +111,21 @@ abbrev pub cut_motion : Option CycleKind → CodeKind → Option Point → Block
 cut_motion (Some cycle) kind kept block = passed_motion (pass_of cycle kept block)
 cut_motion None kind kept block = tracked kept (moves_of kind block)
 
+-- the motion of a code that leads the turret, or of one that leads it nowhere
+abbrev pub turret_motion : Fixed → PathView → ModalView → CodeKind → Values → Result Motion ℕ
+turret_motion fixed path modal kind values =
+    motion_number (cut_motion (cycle_kind_of kind) kind modal.cycle (block_motion fixed path modal values))
+
+-- the machine's own coordinates have no increments: alarm 56 of G53 where G91 is in force, whatever words stand beside it
+abbrev pub unless_incremental : Bool → Result Motion ℕ → Result Motion ℕ
+unless_incremental true motion = Err (cause_number UnknownCode)
+unless_incremental false motion = motion
+
 -- the motion of a block by the kind of its code
 abbrev pub motion_of : Fixed → PathView → ModalView → CodeKind → Bool → Values → Result Motion ℕ
 motion_of fixed path modal Dwell has_l values = Ok (moving modal.cycle (move.Dwell (unwrap_or values.rest 0) ∷ []))
-motion_of fixed path modal Setting has_l values = offset_number (set_motion modal.cycle (setting_of path.offsets has_l values))
-motion_of fixed path modal kind has_l values =
-    motion_number (cut_motion (cycle_kind_of kind) kind modal.cycle (block_motion fixed path modal values))
+motion_of fixed path modal Setting has_l values =
+    offset_number (set_motion modal.cycle (setting_of path.offsets modal has_l values))
+motion_of fixed path modal Machine has_l values =
+    unless_incremental modal.incremental (turret_motion fixed path modal Machine values)
+motion_of fixed path modal kind has_l values = turret_motion fixed path modal kind values

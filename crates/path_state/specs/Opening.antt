@@ -40,14 +40,15 @@ with_presets path (preset ∷ presets) offsets = with_presets path presets (with
 abbrev pub point_of : Path → List Point → Point
 point_of path points = slice_index_or points (index_of path) origin
 
--- a path at the first block of its main program, with nothing said: its turret and its offsets are as the settings have them
+-- A path at the first block of its main program, with nothing said: its system of G codes, its turret and its offsets are as the
+-- settings have them.
 abbrev pub opening_path : Flow → Settings → Path → PathView
 opening_path flow settings path = record {
   place = start flow.order;
   calls = [];
   levels = base_level ∷ [];
   own = none_written;
-  modal = opening_modal;
+  modal = opening_modal settings.system;
   offsets = with_presets path settings.presets no_offsets;
   position = point_of path settings.place;
   fixed = record {

@@ -13,8 +13,8 @@ use Rattle.common_vars.specs.declared.variable.Variable.TheVariants as variable
 use Rattle.common_vars.specs.declared.variable.AxisLetter.{AxisLetter}
 use Rattle.common_vars.specs.declared.variable.AxisLetter.TheVariants.{X, Z}
 use Rattle.common_vars.specs.Common.{with_value}
-use Rattle.common_vars.specs.Variables.{variable_of}
 use Rattle.local_levels.specs.Stack.{with_local}
+use Rattle.modal_state.specs.View.{ModalView}
 use Rattle.macro_expr.specs.Tree.{Tree, Named, Fixed as Numbered, Computed, Test, Aim, ToNumber, ToNumberOf, Sentence, Assign, Goto, IfGoto, IfThen, WhileDo, DoOnly, EndLoop}
 use Rattle.macro_eval.specs.Meaning.{whole_number, variable_number}
 use Rattle.macro_eval.specs.Relations.{holds_of}
@@ -24,7 +24,7 @@ use Rattle.offset_store.specs.declared.fault.OffsetFault.{OffsetFault}
 use Rattle.offset_store.specs.Changes.{changed_point, in_range, point_at, with_point}
 use Rattle.block_order.specs.declared.program.ControlProgram.{ControlProgram}
 use Rattle.path_state.specs.View.{Fixed, PathView}
-use Rattle.path_state.specs.Looks.{is_shared}
+use Rattle.path_state.specs.Looks.{is_shared, variable_in}
 use Rattle.path_state.specs.Outcomes.{Outcome, Gives, Alarms, ◌>>=◌, alarm, reading_none, evaluated}
 use Rattle.path_state.specs.Places.{Standing, next, jumped, loop_left, loop_again}
 
@@ -52,15 +52,15 @@ abbrev pub existing : Option Variable → Result Variable Cause
 existing None = Err VariableRange
 existing (Some variable) = Ok variable
 
-abbrev pub number_named : Result ℕ Cause → Result Variable Cause
-number_named (Ok n) = existing (variable_of n)
-number_named (Err cause) = Err cause
+abbrev pub number_named : ModalView → Result ℕ Cause → Result Variable Cause
+number_named modal (Ok n) = existing (variable_in modal n)
+number_named modal (Err cause) = Err cause
 
 -- the variable on the left side: its number is computed before the value
 abbrev pub named : Fixed → PathView → Named → List Var → Outcome Variable
-named fixed path (Numbered n) reads = reading_none (existing (variable_of n)) reads
+named fixed path (Numbered n) reads = reading_none (existing (variable_in path.modal n)) reads
 named fixed path (Computed tree) reads =
-    evaluated fixed path tree reads >>= λ value left. reading_none (number_named (variable_number value)) left
+    evaluated fixed path tree reads >>= λ value left. reading_none (number_named path.modal (variable_number value)) left
 
 -- millimetres as a length in 0.001 mm, to the nearest, halves away from zero
 abbrev pub length_of : Var → ℤ

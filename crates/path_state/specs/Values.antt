@@ -7,6 +7,7 @@ use Rattle.nc_number.specs.declared.value.Var.{Var}
 use Rattle.nc_number.specs.declared.value.Var.TheVariants.{Vacant, Is}
 use Rattle.nc_number.specs.Arithmetic.{whole_of}
 use Rattle.nc_number.specs.Conversions.{thousandths_of}
+use Rattle.code_tables.specs.declared.system.System.{System}
 use Rattle.code_tables.specs.Kinds.{is_arc}
 use Rattle.block_forms.specs.declared.word.FlowWord.{FlowWord}
 use Rattle.block_forms.specs.declared.word.WordValue.{WordValue}
@@ -64,11 +65,11 @@ pub record Sense : Type 0 where
   pub setting : Bool
 
 -- the sense of a block: the motion code in force is that behind the block's own G codes
-abbrev pub sense_of : PathView → Purpose → List FlowWord → Sense
-sense_of path purpose words = record {
+abbrev pub sense_of : PathView → Purpose → System → List FlowWord → Sense
+sense_of path purpose system words = record {
   purpose = purpose;
-  arc = is_arc (motion_after path.modal (rows words));
-  setting = gives is_setting words;
+  arc = is_arc (motion_after path.modal (rows system words));
+  setting = gives system is_setting words;
 }
 
 -- I, K and R mean something there

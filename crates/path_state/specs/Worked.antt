@@ -6,6 +6,8 @@ use Rattle.nc_number.specs.declared.value.Var.TheVariants.{Vacant, Is}
 use Rattle.nc_moves.specs.declared.motion.Move.{Move}
 use Rattle.nc_moves.specs.declared.motion.Move.TheVariants as move
 use Rattle.nc_moves.specs.declared.motion.Centre.TheVariants.{Offset}
+use Rattle.code_tables.specs.declared.system.System.{System}
+use Rattle.code_tables.specs.declared.system.System.TheVariants.{A, B}
 use Rattle.common_vars.specs.Common.{none_written}
 use Rattle.local_levels.specs.Stack.{base_level, local}
 use Rattle.modal_state.specs.Modal.{opening_modal}
@@ -32,18 +34,21 @@ minus n = neg_ℤ (pos n)
 abbrev pub cell : Fixed
 cell = record { home = point (pos 0) (pos 0); shared100 = 0; shared500 = 100 }
 
--- a path at the first block of program 1, at this point
-abbrev pub path_at : Point → PathView
-path_at at = record {
+-- a path of the system at the first block of program 1, at this point
+abbrev pub path_of : System → Point → PathView
+path_of system at = record {
   place = record { program = 1; block = 0; left = 0 } ∷ [];
   calls = [];
   levels = base_level ∷ [];
   own = none_written;
-  modal = opening_modal;
+  modal = opening_modal system;
   offsets = no_offsets;
   position = at;
   fixed = cell;
 }
+
+abbrev pub path_at : Point → PathView
+path_at at = path_of A at
 
 -- a word that is written out, in millionths, with a point or without; and one that is computed
 abbrev pub written : ℕ → ℤ → FlowWord
@@ -66,7 +71,11 @@ place_in (Done path write moves) = path.place
 place_in other = []
 
 abbrev pub words_done : PathView → List FlowWord → Effect
-words_done path words = block_of_words [] cell path Other words Next []
+words_done path words = block_of_words [] cell path Other A words Next []
+
+-- a block of a path of system B, from X50. Z2.
+abbrev pub done_in_b : List FlowWord → Effect
+done_in_b words = block_of_words [] cell (path_of B (point (pos 50000) (pos 2000))) Other B words Next []
 
 abbrev pub statement_done : PathView → Sentence → List Var → Effect
 statement_done path sentence reads = block_of_statement [] cell path sentence reads
@@ -99,21 +108,21 @@ pub record WorkedBlocks : Type 0 where
       (IfGoto (record { left = Variable 1; rel = Eq; right = Number (pos 0) }) (ToNumber 90)) [])
       ≡ record { program = 1; block = 1; left = 0 } ∷ []
   -- G65 P1000 A1. opens a call, and its level has #1
-  pub called : place_in (block_of_words [] cell (path_at (point (pos 0) (pos 0))) MacroCall
+  pub called : place_in (block_of_words [] cell (path_at (point (pos 0) (pos 0))) MacroCall A
       (written 71 (pos 65000000) ∷ written 80 (pos 1000000000) ∷ written 65 (pos 1000000) ∷ []) (Call 1000 1) [])
       ≡ record { program = 1000; block = 0; left = 0 } ∷ record { program = 1; block = 0; left = 0 } ∷ []
-  pub argument : local_in 1 (block_of_words [] cell (path_at (point (pos 0) (pos 0))) MacroCall
+  pub argument : local_in 1 (block_of_words [] cell (path_at (point (pos 0) (pos 0))) MacroCall A
       (written 71 (pos 65000000) ∷ written 80 (pos 1000000000) ∷ written 65 (pos 1000000) ∷ []) (Call 1000 1) [])
       ≡ Is (pos 1000000)
   -- T0101 with the geometry of tool 1 at X-1.: the programmed X is 10. where the machine stands at 9.
   pub programmed : local_in 1 (statement_done
       (record (path_at (point (pos 9000) (pos 0))) {
-        modal = record opening_modal { tool = 101; offset = 1 };
+        modal = record (opening_modal A) { tool = 101; offset = 1 };
         offsets = record no_offsets { geometry = slice_set no_offsets.geometry 1 (point (minus 1000) (pos 0)) };
       })
       (Assign (Numbered 1) (Variable 5001)) []) ≡ Is (pos 10000000)
   -- G04 X1.5 rests 1,500 ms
-  pub rest : moves_in (block_of_words [] cell (path_at (point (pos 0) (pos 0))) Dwell
+  pub rest : moves_in (block_of_words [] cell (path_at (point (pos 0) (pos 0))) Dwell A
       (written 71 (pos 4000000) ∷ written 88 (pos 1500000) ∷ []) Next []) ≡ move.Dwell 1500 ∷ []
   -- G28 U0 W0 from X50. Z2.: to the intermediate point, and home
   pub home : moves_in (words_done (path_at (point (pos 50000) (pos 2000)))
@@ -141,15 +150,34 @@ pub record WorkedBlocks : Type 0 where
         place = record { program = 2; block = 7; left = 1 } ∷ record { program = 1; block = 4; left = 0 } ∷ [];
         calls = Macro ∷ [];
         levels = base_level ∷ base_level ∷ [];
-      }) Return (written 77 (pos 99000000) ∷ []) Back [])
+      }) Return A (written 77 (pos 99000000) ∷ []) Back [])
       ≡ record { program = 2; block = 0; left = 0 } ∷ record { program = 1; block = 4; left = 0 } ∷ []
   pub returns : place_in (block_of_words [] cell
       (record (path_at (point (pos 0) (pos 0))) {
         place = record { program = 2; block = 7; left = 0 } ∷ record { program = 1; block = 4; left = 0 } ∷ [];
         calls = Macro ∷ [];
         levels = base_level ∷ base_level ∷ [];
-      }) Return (written 77 (pos 99000000) ∷ []) Back [])
+      }) Return A (written 77 (pos 99000000) ∷ []) Back [])
       ≡ record { program = 1; block = 5; left = 0 } ∷ []
   -- M30 with a word beside it acts, and stays
-  pub ends : moves_in (block_of_words [] cell (path_at (point (pos 0) (pos 0))) Other
+  pub ends : moves_in (block_of_words [] cell (path_at (point (pos 0) (pos 0))) Other A
       (written 88 (pos 1000000) ∷ written 77 (pos 30000000) ∷ []) End []) ≡ move.Rapid (point (pos 1000) (pos 0)) ∷ []
+  -- Of system B: G91 G01 X-5. Z-1. F0.2 goes so far, G77 X40. Z-20. F0.2 is the cycle that G90 is in A, G91 G53 X0 is alarm 56,
+  -- and so is G91 G53 alone.
+  pub incremental : moves_in (done_in_b (written 71 (pos 91000000) ∷ written 71 (pos 1000000) ∷ written 88 (minus 5000000)
+      ∷ written 90 (minus 1000000) ∷ written 70 (pos 200000) ∷ []))
+      ≡ move.Feed (point (pos 45000) (pos 1000)) (pos 200000) true ∷ []
+  pub cycle_in_b : moves_in (done_in_b (written 71 (pos 77000000) ∷ written 88 (pos 40000000) ∷ written 90 (negsuc 19999999)
+      ∷ written 70 (pos 200000) ∷ []))
+      ≡ move.Rapid (point (pos 40000) (pos 2000)) ∷ move.Feed (point (pos 40000) (negsuc 19999)) (pos 200000) true
+      ∷ move.Feed (point (pos 50000) (negsuc 19999)) (pos 200000) true ∷ move.Rapid (point (pos 50000) (pos 2000)) ∷ []
+  pub in_machine : done_in_b (written 71 (pos 91000000) ∷ written 71 (pos 53000000) ∷ written 88 (pos 0) ∷ []) ≡ Alarm 56 (pos 0)
+  pub in_machine_alone : done_in_b (written 71 (pos 91000000) ∷ written 71 (pos 53000000) ∷ []) ≡ Alarm 56 (pos 0)
+  -- #1=#4003 is 90 at first in system B, and alarm 30 in A; #4003=0 is alarm 31 in B, and alarm 30 in A
+  pub absolute_in_b : local_in 1 (statement_done (path_of B (point (pos 0) (pos 0))) (Assign (Numbered 1) (Variable 4003)) [])
+      ≡ Is (pos 90000000)
+  pub absolute_in_a : statement_done (path_at (point (pos 0) (pos 0))) (Assign (Numbered 1) (Variable 4003)) [] ≡ Alarm 30 (pos 0)
+  pub protected_in_b : statement_done (path_of B (point (pos 0) (pos 0))) (Assign (Numbered 4003) (Number (pos 0))) []
+      ≡ Alarm 31 (pos 0)
+  pub nameless_in_a : statement_done (path_at (point (pos 0) (pos 0))) (Assign (Numbered 4003) (Number (pos 0))) []
+      ≡ Alarm 30 (pos 0)

@@ -49,7 +49,8 @@ impl PathState {
     fn motion_behind(&self, modal: &Modal, words: &FlowWords, values: &Values) -> Result<Motion, u8>
         requires { AreLengthsSaid values.now }
         ensures motion { seen result ≡ motion_of self.now.fixed self.now modal.now
-            (motion_kind modal.now (one_shot words.now.words)) (has (codes "L") words.now.words) (values_seen values.now) }
+            (motion_kind modal.now (one_shot words.now.dialect.system words.now.words))
+            (has (codes "L") words.now.words) (values_seen values.now) }
         ensures few { IfOk result (λ motion. length motion.moves ≤ 4) }
         ensures within { IfOk result (λ motion. AreMovesWithin LONGEST motion.moves) }
         ensures cycle { IfOk result (λ motion. IfSome motion.cycle IsPosition) }
@@ -70,12 +71,13 @@ impl PathState {
     /// What the words of a block do: its codes are taken, then F, S and T, then its motion. It looks
     /// only.
     ///
-    /// Alarms, as their numbers: 40 of T; 40 and 41 of the setting of an offset; 41, 43, 42 and 44 of
+    /// Alarms, as their numbers: 40 of T; 40 and 41 of the setting of an offset; 41, 43, 42, 44 and 56 of
     /// the motion.
     pub(crate) fn words_step(&self, words: &FlowWords, values: &Values) -> Result<WordsStep, u8>
         requires { AreLengthsSaid values.now }
         ensures fit { IfOk result IsFit }
-        ensures acted { moved_seen self.now result ≡ acted self.now.fixed self.now words.now.words (values_seen values.now) }
+        ensures acted { moved_seen self.now result ≡ acted self.now.fixed self.now words.now.dialect.system
+            words.now.words (values_seen values.now) }
     {
         let modal = match modal_behind(&self.modal, words, values) {
             Ok(modal) => modal,
@@ -100,8 +102,8 @@ impl PathState {
         requires cycle { IfSome motion.now.cycle IsPosition }
         requires offset { IfSome motion.now.offset (λ set. IsPosition set.1) }
         ensures fit { IsFit result }
-        ensures moved { moved_seen self.now (Ok result) ≡ Ok (moved_by self.now modal words.now.words
-            (values_seen values.now) (motion_view motion.now)) }
+        ensures moved { moved_seen self.now (Ok result) ≡ Ok (moved_by self.now modal words.now.dialect.system
+            words.now.words (values_seen values.now) (motion_view motion.now)) }
     {
         let moves = all_moves_of(words, values, &modal, &motion.moves);
         let position = last_end(self.position, moves.as_slice());
@@ -120,8 +122,8 @@ impl PathState {
 #[tactic(auto, using(crate::proofs::Hanging::moves_hang))]
 fn all_moves_of(words: &FlowWords, values: &Values, modal: &Modal, motion: &MoveList) -> MoveList
     requires { length motion.now ≤ 4 }
-    ensures moves { result ≡ all_moves (gives is_limit words.now.words) modal.now (values_seen values.now)
-        motion.now (m_code words.now.words) }
+    ensures moves { result ≡ all_moves (gives words.now.dialect.system is_limit words.now.words) modal.now
+        (values_seen values.now) motion.now (m_code words.now.words) }
     ensures few { length result ≤ 7 }
     ensures within { AreMovesWithin LONGEST motion.now → AreMovesWithin LONGEST result }
 {

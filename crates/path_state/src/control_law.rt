@@ -10,7 +10,7 @@ ghost use Rattle.block_order.specs.Labels.{IsUnforked};
 ghost use Rattle.block_order.specs.Steps.{IsPlace, standing};
 ghost use Rattle.nc_text.specs.declared.tape.Program.{Program};
 ghost use Rattle.block_forms.specs.declared.body.FlowBody.{FlowBody};
-ghost use Rattle.block_forms.specs.declared.waits.WaitCodes.{WaitCodes};
+ghost use Rattle.block_forms.specs.declared.dialect.Dialect.{Dialect};
 ghost use Rattle.block_forms.specs.Variables.{variables_of_body};
 ghost use Rattle.tape_flow.specs.declared.flow.Flow.{Flow};
 ghost use Rattle.tape_flow.specs.Exact.{IsAccepted};
@@ -54,10 +54,10 @@ pub fn each_block_keeps_the_labels()
 
 /// The order of an accepted tape's flow is sound, and all its runs come to one list of labels.
 pub fn the_flow_of_an_accepted_tape_is_unforked()
-    ensures sound { (flow : Flow) (waits : WaitCodes) (tape : List Program)
-        → IsAccepted waits tape (map program_form flow.programs) → IsSound flow.order }
-    ensures unforked { (flow : Flow) (waits : WaitCodes) (tape : List Program)
-        → IsAccepted waits tape (map program_form flow.programs) → IsUnforked flow.order }
+    ensures sound { (flow : Flow) (dialect : Dialect) (tape : List Program)
+        → IsAccepted dialect tape (map program_form flow.programs) → IsSound flow.order }
+    ensures unforked { (flow : Flow) (dialect : Dialect) (tape : List Program)
+        → IsAccepted dialect tape (map program_form flow.programs) → IsUnforked flow.order }
 {}
 
 /// What a block needs is a variable that both paths share.

@@ -101,7 +101,7 @@ impl Decision {
 /// The program that a block of words calls as a macro, and how many times.
 #[tactic(auto, using(crate::proofs::Decided::called))]
 fn macro_call(words: &FlowWords, control: Control) -> Option<(u16, u16)>
-    requires { control ≡ control_of_words words.now.waits words.now.words }
+    requires { control ≡ control_of_words words.now.dialect words.now.words }
     ensures some { IfSome result
         (λ call. (words.now.purpose ≡ MacroCall) × (control ≡ Control.Call call.0 call.1)) }
     ensures none { IsNone result → is_macro_call words.now.purpose ≡ false }
@@ -116,7 +116,7 @@ impl PathState {
     /// What decides the meaning of the words of a block.
     fn sense_of(&self, words: &FlowWords) -> Sense
         requires { is_macro_call words.now.purpose ≡ false }
-        ensures { sense_seen result ≡ sense_of self.now words.now.purpose words.now.words }
+        ensures { sense_seen result ≡ sense_of self.now words.now.purpose words.now.dialect.system words.now.words }
     {
         Sense {
             purpose: words.purpose,
@@ -127,7 +127,7 @@ impl PathState {
 
     /// Whether the motion code in force behind the codes of a block is that of an arc.
     fn is_arc_behind(&self, words: &FlowWords) -> bool
-        ensures { result ≡ is_arc (motion_after self.now.modal (rows words.now.words)) }
+        ensures { result ≡ is_arc (motion_after self.now.modal (rows words.now.dialect.system words.now.words)) }
     {
         self.modal.motion_after(words.rows.as_slice()).is_arc()
     }
@@ -138,8 +138,8 @@ impl PathState {
         requires { is_macro_call words.now.purpose ≡ false }
         ensures within { IfOk result AreLengthsSaid }
         ensures said { (tape : List ControlProgram) (control : Control)
-            → words_effect tape self.now.fixed self.now words.now.purpose words.now.words control reads.now
-            ≡ of_said tape self.now words.now.words control result }
+            → words_effect tape self.now.fixed self.now words.now.purpose words.now.dialect.system words.now.words
+            control reads.now ≡ of_said tape self.now words.now.dialect.system words.now.words control result }
     {
         let sense = self.sense_of(words);
         words_taken(words.words.as_slice(), &sense, self, reads).0
@@ -215,7 +215,7 @@ impl PathState {
         requires { is_macro_call words.now.purpose ≡ false }
         ensures fit { HasFitWords result }
         ensures decided { decided self.now result ≡ block_of_words order.now self.now.fixed self.now words.now.purpose
-            words.now.words control reads.now }
+            words.now.dialect.system words.now.words control reads.now }
     {
         if let Control::Wait(code) = control {
             return Decision::AtWait(code);
@@ -237,7 +237,8 @@ impl PathState {
         requires { AreLengthsSaid values.now }
         ensures fit { HasFitWords result }
         ensures decided { decided self.now result
-            ≡ of_moved order.now control (acted self.now.fixed self.now words.now.words (values_seen values.now)) }
+            ≡ of_moved order.now control (acted self.now.fixed self.now words.now.dialect.system words.now.words
+            (values_seen values.now)) }
     {
         match self.words_step(words, values) {
             Ok(step) => self.decide_control(order, step, control),

@@ -14,6 +14,7 @@ mod advance;
 mod arguments;
 mod control_law;
 mod decision;
+mod editing;
 mod laws;
 mod modal;
 mod motion;
@@ -41,6 +42,7 @@ pub use control_law::{
     waits_and_ends_stop_a_path, what_is_needed_is_shared, what_is_written_is_shared,
 };
 pub use decision::Decision;
+pub use editing::edits_keep_control;
 pub use laws::words_are_taken_by_what_a_path_holds;
 pub use modal::{modal_after, modal_states_hang_on_their_rows};
 pub use motion::{Motion, MotionWords, motion_of, motions_hang_on_their_words, setting};

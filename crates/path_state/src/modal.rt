@@ -1,5 +1,6 @@
 //! The modal state behind the codes and words of a block.
 ghost use Rattle.std.specs.Prelude.{◌≡◌, List};
+ghost use Rattle.code_tables.specs.declared.system.System.{System};
 ghost use Rattle.modal_state.specs.View.{ModalView};
 ghost use Rattle.block_forms.specs.declared.word.FlowWord.{FlowWord};
 ghost use Rattle.block_forms.specs.Codes.{rows};
@@ -41,7 +42,7 @@ pub fn modal_after(
 
 /// The modal state behind the codes and words of a block. Alarm 40 of T, as its number.
 pub(crate) fn modal_behind(modal: &Modal, words: &FlowWords, values: &Values) -> Result<Modal, u8>
-    ensures { result ≡ modal_after modal.now words.now.words (values_seen values.now) }
+    ensures { result ≡ modal_after modal.now words.now.dialect.system words.now.words (values_seen values.now) }
 {
     modal_after(
         modal,
@@ -73,6 +74,7 @@ fn speed_word(limits: bool, speed: Var) -> SpeedWord
 /// and T.
 #[tactic(auto, using(crate::proofs::Hanging::modal_hangs))]
 pub fn modal_states_hang_on_their_rows()
-    ensures { (modal : ModalView) (words : List FlowWord) (values : said.Values) → modal_after modal words values
-        ≡ modal_behind modal (rows words) (settings_said values.feed values.speed values.tool) }
+    ensures { (modal : ModalView) (system : System) (words : List FlowWord) (values : said.Values)
+        → modal_after modal system words values
+        ≡ modal_behind modal (rows system words) (settings_said values.feed values.speed values.tool) }
 {}

@@ -1,11 +1,12 @@
 //! The motion of a block: by its one-shot code if it has one, else by the motion code in force.
-ghost use Rattle.std.specs.Prelude.{Bool, ◌≡◌, ◌≤◌, ◌∷◌, [], length, None, IfOk, IfSome};
+ghost use Rattle.std.specs.Prelude.{ℕ, Bool, ◌≡◌, ◌≤◌, ◌∷◌, [], length, None, IfOk, IfSome, unsigned_abs};
+ghost use Rattle.nc_number.specs.Axes.{IsAxisWithin};
 ghost use Rattle.nc_number.specs.Position.{IsPosition};
 ghost use Rattle.nc_moves.specs.declared.motion.Move.TheVariants.{Dwell};
 ghost use Rattle.motion_track.specs.Block.{IsBlockWithin};
 ghost use Rattle.motion_track.specs.Within.{AreMovesWithin};
 ghost use Rattle.turn_cycles.specs.Pass.{cycle_kind_of};
-ghost use Rattle.path_state.specs.Motion.{form_of, setting_of, block_motion, cut_motion, motion_of};
+ghost use Rattle.path_state.specs.Motion.{axis_under, form_of, setting_of, block_motion, cut_motion, motion_of};
 ghost use Rattle.path_state.specs.Drawn.{seen, homed, standing_at, motion_said, motion_part, AreLengthsWithin};
 ghost use Rattle.path_state.specs.View.{Fixed, PathView};
 ghost use Rattle.path_state.specs.Values.{Values};
@@ -16,7 +17,7 @@ use code_tables::CodeKind;
 use modal_state::Modal;
 use motion_track::{BlockMotion, LONGEST, MotionFault, track};
 use nc_moves::{Move, MoveList};
-use nc_number::{Axis, Point};
+use nc_number::{Axis, Cause, Point};
 use offset_store::{OffsetFault, OffsetForm, Offsets, Slot};
 use turn_cycles::{CycleKind, cycle_pass};
 
@@ -50,7 +51,8 @@ pub struct Motion {
 /// an offset, a cycle, a line, an arc, a thread, a way home, or none.
 ///
 /// Alarms, as their numbers: 40 of an offset that does not exist, 41 past the range, 43 of an arc without
-/// a centre, 42 of one that ends off its circle, 44 of a cut without a feed.
+/// a centre, 42 of one that ends off its circle, 44 of a cut without a feed; 56 of a rapid in machine
+/// coordinates while words are incremental, whatever words stand beside it.
 #[tactic(auto, using(crate::proofs::Ends::none_within))]
 pub fn motion_of(
     position: Point,
@@ -72,7 +74,7 @@ pub fn motion_of(
 {
     match kind {
         CodeKind::Dwell => Ok(dwell(modal.cycle(), words.rest)),
-        CodeKind::Setting => match setting(offsets, has_l, words) {
+        CodeKind::Setting => match setting(offsets, modal, has_l, words) {
             Ok(set) => Ok(Motion {
                 moves: MoveList::empty(),
                 cycle: modal.cycle(),
@@ -80,6 +82,7 @@ pub fn motion_of(
             }),
             Err(fault) => Err(fault.number),
         },
+        CodeKind::Machine if modal.is_incremental() => Err(Cause::UnknownCode.number()),
         _ => {
             let block = block_motion(position, home, modal, offsets, words);
             match cut_motion(kind, modal.cycle(), &block) {
@@ -105,21 +108,38 @@ fn dwell(cycle: Option<Point>, ms: u64) -> Motion
     }
 }
 
-/// The offset that G10 sets, and to what: with L a work offset, else a tool's. Alarm 40 exactly where P
-/// names none, then 41 exactly where a part of it would be past 99,999.999 mm.
+// What the words of an axis say: X and Z are incremental where G91 is in force, as U and W always are.
+fn axis_under(incremental: bool, word: Option<i64>, way: Option<i64>) -> Axis
+    ensures told { result ≡ axis_under incremental word way }
+    ensures range { (far : ℕ) → IfSome word (λ n. unsigned_abs n ≤ far)
+        → IfSome way (λ n. unsigned_abs n ≤ far) → IsAxisWithin far result }
+{
+    if !incremental {
+        return Axis::of(word, way);
+    }
+    match word {
+        Some(length) => Axis::By(length),
+        None => Axis::of(None, way),
+    }
+}
+
+/// The offset that G10 sets, and to what: with L a work offset, else a tool's. An absolute word sets, and
+/// an incremental one adds. Alarm 40 exactly where P names none, then 41 exactly where a part of it would
+/// be past 99,999.999 mm.
 pub fn setting(
     offsets: &Offsets,
+    modal: &Modal,
     has_l: bool,
     words: &MotionWords,
 ) -> Result<(Slot, Point), OffsetFault>
-    ensures set { result ≡ setting_of offsets.now has_l (motion_said words.now) }
+    ensures set { result ≡ setting_of offsets.now modal.now has_l (motion_said words.now) }
     ensures position { IfOk result (λ set. IsPosition set.1) }
 {
     let slot = Slot::named(form_of(has_l), words.number)?;
     let to = offsets.changed(
         &slot,
-        Axis::of(words.x, words.u),
-        Axis::of(words.z, words.w),
+        axis_under(modal.is_incremental(), words.x, words.u),
+        axis_under(modal.is_incremental(), words.z, words.w),
     )?;
     Ok((slot, to))
 }
@@ -152,8 +172,8 @@ fn block_motion(
         start: position,
         shift: offsets.shift(modal.work(), modal.offset()),
         home,
-        x: Axis::of(words.x, words.u),
-        z: Axis::of(words.z, words.w),
+        x: axis_under(modal.is_incremental(), words.x, words.u),
+        z: axis_under(modal.is_incremental(), words.z, words.w),
         i: words.i,
         k: words.k,
         r: words.r,

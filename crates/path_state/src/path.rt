@@ -117,8 +117,8 @@ fn preset_offsets(path: Path, presets: &[Preset]) -> Offsets
 }
 
 impl PathState {
-    /// A path at the first block of its main program, with nothing said: its turret stands, and its
-    /// offsets are, as the settings have it.
+    /// A path at the first block of its main program, with nothing said: its system of G codes, its turret
+    /// and its offsets are as the settings have them.
     pub fn new(
         alloc: Global,
         flow: &Flow,
@@ -131,7 +131,7 @@ impl PathState {
         Ok(PathState {
             standing: Standing::start(flow.main()),
             own,
-            modal: Modal::new(),
+            modal: Modal::for_system(settings.system),
             offsets: preset_offsets(path, settings.presets.as_slice()),
             position: settings.place[path.index()],
             fixed: Fixed {

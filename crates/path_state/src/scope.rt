@@ -3,20 +3,43 @@ ghost use Rattle.std.specs.Prelude.{◌≡◌, ℕ, ◌≤◌, ◌-ℤ◌, unsig
 ghost use Rattle.nc_number.specs.Position.{IsWithin, travel};
 ghost use Rattle.offset_store.specs.Offsets.{shift_travel};
 ghost use Rattle.common_vars.specs.Variables.{IsVariable, variable_of};
-ghost use Rattle.path_state.specs.Looks.{look_of, held, part, or_vacant, in_units, in_millimetres, code_in_force, shift_now, is_shared};
+ghost use Rattle.path_state.specs.Looks.{look_of, held, part, or_vacant, in_units, in_millimetres, code_in_force, shift_now, is_shared, is_there, variable_in};
 
 use crate::path::PathState;
 use common_vars::{AxisLetter, Variable, a_variable_has_one_number, variable_of};
 use macro_eval::{Look, Scope, VarFault};
+use modal_state::Modal;
 use nc_number::{Point, Value, Var};
 
 /// The variable of a number, if there is one.
-pub(crate) fn known_variable(number: u32) -> Option<Variable>
+fn known_variable(number: u32) -> Option<Variable>
     ensures named { result ≡ variable_of number }
     ensures exists { IfSome result IsVariable }
 {
     a_variable_has_one_number();
     variable_of(number)
+}
+
+/// Whether the variable is one of the system whose codes are in force: the code of a modal group is where
+/// the system has the group, and every other variable.
+fn is_there(modal: &Modal, variable: Variable) -> bool
+    ensures { result ≡ is_there modal.now variable }
+{
+    match variable {
+        Variable::Code(group) => modal.code(group).is_some(),
+        _ => true,
+    }
+}
+
+/// The variable of a number in the system whose codes are in force, if there is one.
+pub(crate) fn variable_in(modal: &Modal, number: u32) -> Option<Variable>
+    ensures named { result ≡ variable_in modal.now number }
+    ensures exists { IfSome result IsVariable }
+{
+    match known_variable(number) {
+        Some(variable) if is_there(modal, variable) => Some(variable),
+        _ => None,
+    }
 }
 
 /// The part of a point along an axis.
@@ -140,7 +163,7 @@ impl Scope for PathState {
     fn look(&self, variable: u32) -> Result<Look, VarFault>
         ensures { result ≡ look_of self.now.fixed self.now variable }
     {
-        match known_variable(variable) {
+        match variable_in(&self.modal, variable) {
             Some(named) => self.held(named),
             None => Err(VarFault::Range),
         }

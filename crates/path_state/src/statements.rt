@@ -1,13 +1,13 @@
 //! What a statement does: an assignment, a jump, the head or the end of a loop.
 ghost use Rattle.std.specs.Prelude.{◌≡◌, ◌≤◌, ◌++◌, ◌∷◌, ℕ, [], List, IfOk, length};
 ghost use Rattle.nc_number.specs.declared.value.Var.{Var};
-ghost use Rattle.common_vars.specs.Variables.{IsVariable, variable_of as known};
+ghost use Rattle.common_vars.specs.Variables.{IsVariable};
 ghost use Rattle.macro_expr.specs.Tree.{IfGoto, IfThen, WhileDo, variable_of, test_of, aim_of, sentence_of, evaluated_name, evaluated_test, evaluated_aim};
 ghost use Rattle.macro_eval.specs.Meaning.{variable_number, whole_number};
 ghost use Rattle.block_order.specs.declared.program.ControlProgram.{ControlProgram};
 ghost use Rattle.block_order.specs.PlaceSteps.{MayPass};
 ghost use Rattle.path_state.specs.View.{PathView};
-ghost use Rattle.path_state.specs.Looks.{is_shared};
+ghost use Rattle.path_state.specs.Looks.{is_shared, variable_in};
 ghost use Rattle.path_state.specs.Outcomes.{reading_none, evaluated};
 ghost use Rattle.path_state.specs.Seen.{outcome_of};
 ghost use Rattle.path_state.specs.Routes.{led};
@@ -19,7 +19,7 @@ ghost use Rattle.path_state.specs.StatementSteps.{after_writing, after_step, ste
 use crate::outcome::Stop;
 use crate::path::PathState;
 use crate::route::Route;
-use crate::scope::known_variable;
+use crate::scope::variable_in;
 use crate::standing::Standing;
 use crate::writing::{Change, StatementStep, Writing};
 use block_forms::FlowStatement;
@@ -27,27 +27,28 @@ use block_order::BlockOrder;
 use common_vars::{AxisLetter, Variable};
 use macro_eval::{Code, Eval, evaluate, holds, variable_number, whole_number};
 use macro_expr::{Cond, Rel, Statement, Target, VarRef};
+use modal_state::Modal;
 use nc_number::{Axis, Cause, Value, Var, to_increment};
 use offset_store::{Slot, WorkNumber};
 
 /// The variable of a number, or alarm 30.
-fn existing(number: u32) -> Result<Variable, Cause>
-    ensures existing { result ≡ existing (known number) }
+fn existing(modal: &Modal, number: u32) -> Result<Variable, Cause>
+    ensures existing { result ≡ existing (variable_in modal.now number) }
     ensures exists { IfOk result IsVariable }
 {
-    match known_variable(number) {
+    match variable_in(modal, number) {
         Some(variable) => Ok(variable),
         None => Err(Cause::VariableRange),
     }
 }
 
 /// The variable whose number was computed, or alarm 4 or 30.
-fn number_named(value: &Var) -> Result<Variable, Cause>
-    ensures named { result ≡ number_named (variable_number value.now) }
+fn number_named(modal: &Modal, value: &Var) -> Result<Variable, Cause>
+    ensures named { result ≡ number_named modal.now (variable_number value.now) }
     ensures exists { IfOk result IsVariable }
 {
     match variable_number(value) {
-        Ok(number) => existing(number),
+        Ok(number) => existing(modal, number),
         Err(cause) => Err(cause),
     }
 }
@@ -136,11 +137,11 @@ impl PathState {
         ensures exists { IfOk result.0 IsVariable }
     {
         match name {
-            VarRef::Fixed(n) => (variable_or_stop(existing(*n)), reads),
+            VarRef::Fixed(n) => (variable_or_stop(existing(&self.modal, *n)), reads),
             VarRef::Computed(_) => {
                 let (answer, left) = self.evaluated(&number[0], reads);
                 match answer {
-                    Ok(value) => (variable_or_stop(number_named(&value)), left),
+                    Ok(value) => (variable_or_stop(number_named(&self.modal, &value)), left),
                     Err(stop) => (Err(stop), left),
                 }
             }

@@ -1,7 +1,7 @@
 //! What the parts of a block come to: its modal state, its motion and its moves in their order.
 use crate::lone_path::{put_var, units};
 use crate::move_text::put_move;
-use code_tables::{CodeKind, Row, system_a};
+use code_tables::{CodeKind, Row, System, system_a, system_b};
 use modal_state::Modal;
 use nc_moves::{Move, MoveList};
 use nc_number::{Point, Var};
@@ -25,7 +25,14 @@ fn rest_text(alloc: Global, tool: u16, code: u32) -> Result<String, AllocError> 
     let mut motion = MoveList::empty();
     motion.push(Move::Dwell { ms: 500 });
     let speed = units(1_200);
-    let moves = all_moves(false, &Modal::new(), speed, Some(tool), &motion, Some(code));
+    let moves = all_moves(
+        false,
+        &Modal::for_system(System::A),
+        speed,
+        Some(tool),
+        &motion,
+        Some(code),
+    );
     moves_text(alloc, &moves)
 }
 
@@ -33,7 +40,14 @@ fn rest_text(alloc: Global, tool: u16, code: u32) -> Result<String, AllocError> 
 fn limit_text(alloc: Global, code: u32) -> Result<String, AllocError> {
     let motion = MoveList::empty();
     let speed = units(1_200);
-    let moves = all_moves(true, &Modal::new(), speed, None, &motion, Some(code));
+    let moves = all_moves(
+        true,
+        &Modal::for_system(System::A),
+        speed,
+        None,
+        &motion,
+        Some(code),
+    );
     moves_text(alloc, &moves)
 }
 
@@ -62,7 +76,13 @@ fn modal_text(alloc: Global, modal: &Modal) -> Result<String, AllocError> {
 
 /// What a block of these codes with a speed and a tool leaves in force, or its alarm.
 fn text_after(alloc: Global, codes: &[Row], speed: Var, tool: u16) -> Result<String, AllocError> {
-    match modal_after(&Modal::new(), codes, Var::Vacant, speed, Some(tool)) {
+    match modal_after(
+        &Modal::for_system(System::A),
+        codes,
+        Var::Vacant,
+        speed,
+        Some(tool),
+    ) {
         Ok(after) => modal_text(alloc, &after),
         Err(number) => format!(in alloc; "alarm {number}"),
     }
@@ -87,8 +107,22 @@ fn beside_g50_a_speed_is_the_highest_and_a_tool_without_an_offset_is_refused(
     Ok(())
 }
 
+/// What is in force behind G91 of system B.
+fn incremental() -> Modal {
+    let mut modal = Modal::for_system(System::B);
+    if let Some(row) = system_b().find(91) {
+        modal.take(&[row]);
+    }
+    modal
+}
+
 /// The moves of the words X40. W-5. by a code of this kind from X50. Z2., or their alarm.
-fn motion_text(alloc: Global, kind: CodeKind, has_l: bool) -> Result<String, AllocError> {
+fn motion_text(
+    alloc: Global,
+    modal: &Modal,
+    kind: CodeKind,
+    has_l: bool,
+) -> Result<String, AllocError> {
     let words = MotionWords {
         x: Some(40_000),
         z: None,
@@ -108,8 +142,8 @@ fn motion_text(alloc: Global, kind: CodeKind, has_l: bool) -> Result<String, All
         x: 300_000,
         z: 200_000,
     };
-    let (modal, offsets) = (Modal::new(), Offsets::new());
-    match motion_of(at, home, &modal, &offsets, kind, has_l, &words) {
+    let offsets = Offsets::new();
+    match motion_of(at, home, modal, &offsets, kind, has_l, &words) {
         Ok(motion) => moves_text(alloc, &motion.moves),
         Err(number) => format!(in alloc; "alarm {number}"),
     }
@@ -117,11 +151,24 @@ fn motion_text(alloc: Global, kind: CodeKind, has_l: bool) -> Result<String, All
 
 #[test]
 fn a_rapid_leads_to_its_target_and_a_cut_wants_a_feed(rt: HostRuntime) -> Result<(), Fail> {
-    let rapid = motion_text(rt.alloc(), CodeKind::Rapid, false)?;
+    let modal = Modal::for_system(System::A);
+    let rapid = motion_text(rt.alloc(), &modal, CodeKind::Rapid, false)?;
     assert_eq!(&rt; rapid.as_str(), "rapid X40.000 Z-3.000~");
-    let cut = motion_text(rt.alloc(), CodeKind::Feed, false)?;
+    let cut = motion_text(rt.alloc(), &modal, CodeKind::Feed, false)?;
     assert_eq!(&rt; cut.as_str(), "alarm 44");
-    let set = motion_text(rt.alloc(), CodeKind::Setting, true)?;
+    let set = motion_text(rt.alloc(), &modal, CodeKind::Setting, true)?;
+    assert_eq!(&rt; set.as_str(), "alarm 40");
+    Ok(())
+}
+
+#[test]
+fn under_g91_x_is_incremental_and_g53_is_refused(rt: HostRuntime) -> Result<(), Fail> {
+    let modal = incremental();
+    let rapid = motion_text(rt.alloc(), &modal, CodeKind::Rapid, false)?;
+    assert_eq!(&rt; rapid.as_str(), "rapid X90.000 Z-3.000~");
+    let machine = motion_text(rt.alloc(), &modal, CodeKind::Machine, false)?;
+    assert_eq!(&rt; machine.as_str(), "alarm 56");
+    let set = motion_text(rt.alloc(), &modal, CodeKind::Setting, true)?;
     assert_eq!(&rt; set.as_str(), "alarm 40");
     Ok(())
 }

@@ -246,6 +246,10 @@ IF [#100 EQ 1] GOTO 9~#100=1~M98 P1|N9 M99|X1.|depth 0~to 6
 |#34=#500||alarm 30
 |#4001=1/0||alarm 2
 |#4001=#500||reads #500~alarm 31
+|#1=#4003||alarm 30
+|#4003=90||alarm 30
+|#4003=1/0||alarm 30
+|#[4003]=#500||alarm 30
 |#0=1||alarm 31
 |#[#1]=1||alarm 31
 |#5001=1||alarm 31
@@ -307,6 +311,91 @@ DO1|GOTO 9|END1~N9 M30|to 6
 DO1~X1.|END1||to 3
 WHILE [#1 LT 2] DO1~#1=#1+1|END1||to 3
 DO1~DO2~X1.|END2|END1~M30|to 4";
+
+/// The same, in a cell whose tapes are of G-code system B.
+const ROWS_B: &str = "\
+|X1.||rapid X1.000 Z50.000~at X1.000 Z50.000~to 4
+|G90 X1. Z0||rapid X1.000 Z10.000~at X1.000 Z10.000~to 4
+|G90||to 4
+|G91||G91~to 4
+|G91 X1.||rapid X101.000 Z50.000~at X101.000 Z50.000~G91~to 4
+|X1. G91||rapid X101.000 Z50.000~at X101.000 Z50.000~G91~to 4
+|G91 X-1. Z2.||rapid X99.000 Z52.000~at X99.000 Z52.000~G91~to 4
+|G91 G90 X1.||rapid X1.000 Z50.000~at X1.000 Z50.000~to 4
+|G90 G91 X1.||rapid X101.000 Z50.000~at X101.000 Z50.000~G91~to 4
+G91|X1.||rapid X101.000 Z50.000~at X101.000 Z50.000~to 5
+G91|G90 X1.||rapid X1.000 Z50.000~at X1.000 Z50.000~G90~to 5
+G91|X#1||to 5
+G91~#1=2|X#1 Z-#1||rapid X102.000 Z48.000~at X102.000 Z48.000~to 6
+G91|X1. X2.||rapid X102.000 Z50.000~at X102.000 Z50.000~to 5
+|G91 X#500||reads #500~rapid X110.000 Z50.000~at X110.000 Z50.000~G91~to 4
+|G91 T0101 X1. Z1.||tool T0101~rapid X101.000 Z51.000~at X101.000 Z51.000~G91~T0101~offset 1~to 4
+|G91 X99899.999||rapid X99999.999 Z50.000~at X99999.999 Z50.000~G91~to 4
+|G91 X99900.||alarm 41
+|G91 G01 X-5. Z-1. F0.2||feed X95.000 Z49.000 F0.2 rev~at X95.000 Z49.000~G01~G91~F 0.2~to 4
+|G91 G01 X-5.||alarm 44
+|G94 G01 X50. F100||feed X50.000 Z50.000 F100 min~at X50.000 Z50.000~G01~G94~F 100~to 4
+G94|G95 G01 X50. F0.2||feed X50.000 Z50.000 F0.2 rev~at X50.000 Z50.000~G01~G95~F 0.2~to 5
+|G91 G02 X-40. I-10. F1.||cw X60.000 Z50.000 I-10.000 K0.000 F1 rev~at X60.000 Z50.000~G02~G91~F 1~to 4
+|G91 G03 Z-20. K-10. F1.||ccw X100.000 Z30.000 I0.000 K-10.000 F1 rev~at X100.000 Z30.000~G03~G91~F 1~to 4
+|G91 G02 X-40. R50. F1.||cw X60.000 Z50.000 R50.000 F1 rev~at X60.000 Z50.000~G02~G91~F 1~to 4
+|G33 Z0 F2.||thread X100.000 Z10.000 F2~at X100.000 Z10.000~G33~F 2~to 4
+|G91 G33 Z-40. F2.||thread X100.000 Z10.000 F2~at X100.000 Z10.000~G33~G91~F 2~to 4
+|G77 X40. Z0 F0.2||rapid X40.000 Z50.000~feed X40.000 Z10.000 F0.2 rev~feed X100.000 Z10.000 F0.2 rev~rapid X100.000 Z50.000~G77~F 0.2~cycle X40.000 Z10.000~to 4
+|G78 X40. Z0 F2.||rapid X40.000 Z50.000~thread X40.000 Z10.000 F2~rapid X100.000 Z10.000~rapid X100.000 Z50.000~G78~F 2~cycle X40.000 Z10.000~to 4
+|G79 X40. Z0 F0.2||rapid X100.000 Z10.000~feed X40.000 Z10.000 F0.2 rev~feed X40.000 Z50.000 F0.2 rev~rapid X100.000 Z50.000~G79~F 0.2~cycle X40.000 Z10.000~to 4
+|G91 G77 X-60. Z-40. F0.2||rapid X40.000 Z50.000~feed X40.000 Z10.000 F0.2 rev~feed X100.000 Z10.000 F0.2 rev~rapid X100.000 Z50.000~G77~G91~F 0.2~cycle X40.000 Z10.000~to 4
+|G91 G78 X-60. Z-40. F2.||rapid X40.000 Z50.000~thread X40.000 Z10.000 F2~rapid X100.000 Z10.000~rapid X100.000 Z50.000~G78~G91~F 2~cycle X40.000 Z10.000~to 4
+|G91 G79 X-60. Z-40. F0.2||rapid X100.000 Z10.000~feed X40.000 Z10.000 F0.2 rev~feed X40.000 Z50.000 F0.2 rev~rapid X100.000 Z50.000~G79~G91~F 0.2~cycle X40.000 Z10.000~to 4
+G77 X40. Z0 F0.2|G91 X-4.||rapid X96.000 Z50.000~feed X96.000 Z10.000 F0.2 rev~feed X100.000 Z10.000 F0.2 rev~rapid X100.000 Z50.000~G91~cycle X96.000 Z10.000~to 5
+G91 G77 X-60. Z-40. F0.2|G90 X38.||rapid X38.000 Z50.000~feed X38.000 Z10.000 F0.2 rev~feed X100.000 Z10.000 F0.2 rev~rapid X100.000 Z50.000~G90~cycle X38.000 Z10.000~to 5
+G77 X40. Z0 F0.2|G00||G00~no cycle~to 5
+|G77 X40. Z0 R1. F0.2||alarm 56
+|G28 X50.||rapid X50.000 Z50.000~rapid X300.000 Z50.000~at X300.000 Z50.000~to 4
+|G91 G28 X0 Z0||rapid X100.000 Z50.000~rapid X300.000 Z200.000~at X300.000 Z200.000~G91~to 4
+|G91 G28 X-5.||rapid X95.000 Z50.000~rapid X300.000 Z50.000~at X300.000 Z50.000~G91~to 4
+|G91 G28||G91~to 4
+|G53 X10. Z20.||rapid X10.000 Z20.000~at X10.000 Z20.000~to 4
+|G53||to 4
+|G91 G53 X0||alarm 56
+|G91 G53 X10. Z20.||alarm 56
+|G91 G53||alarm 56
+|G91 G53 X#1||alarm 56
+|G91 G53 X#500||reads #500~alarm 56
+|G53 X0 G91||alarm 56
+G91|G53 X10.||alarm 56
+G91|G53||alarm 56
+G91|G90 G53 X10.||rapid X10.000 Z50.000~at X10.000 Z50.000~G90~to 5
+G91|G53 G90 X10.||rapid X10.000 Z50.000~at X10.000 Z50.000~G90~to 5
+|G91 G53 X10. T0165||alarm 40
+|G91 G53 X100000.||alarm 56
+|G91 G53 S[1.5]||alarm 64
+|G91 G53 G04 P5||dwell 5~G91~to 4
+|G91 G04 X1.5||dwell 1500~G91~to 4
+|G10 L2 P1 X1. Z2.||work 1 X1.000 Z2.000~to 4
+|G91 G10 L2 P1 X1. Z-3.||G91~work 1 X1.000 Z7.000~to 4
+|G91 G10 P1 X0.25||G91~wear 1 X0.750 Z0.000~to 4
+|G91 G10 P10001 Z1.||G91~geometry 1 X-20.000 Z-4.000~to 4
+G91|G90 G10 P1 X0.25||G90~wear 1 X0.250 Z0.000~to 5
+|G91 G10 P1 X99999.5||alarm 41
+|G91 G10 P65 X1.||alarm 40
+|G92 S2500||limit S2500~limit 2500~to 4
+|G91 G92 S2500||limit S2500~G91~limit 2500~to 4
+S800|G92 S2500||limit S2500~limit 2500~to 5
+|G92 S1000 G04 P5||limit S1000~dwell 5~limit 1000~to 4
+|S800||speed G97 S800~S 800~to 4
+|G96 S200||speed G96 S200~G96~S 200~to 4
+|G65 P2 U6 W8|M30~O2~M99|depth 1~in O2~#21 0.006~#23 0.008~to 6
+|#1=#4003||#1 90~to 4
+G91|#1=#4003||#1 91~to 5
+|G91 X#4003||rapid X190.000 Z50.000~at X190.000 Z50.000~G91~to 4
+|#4003=91||alarm 31
+|#4003=1/0||alarm 2
+|#4003=#500||reads #500~alarm 31
+|#[4003]=91||alarm 31
+|#1=#4001+#4002+#4003+#4005+#4006+#4007+#4014||#1 397~to 4
+|IF [#4003 EQ 90] GOTO 9|X1.~N9 M30|to 5
+|M30 G91 X1.||rapid X101.000 Z50.000~end~at X101.000 Z50.000~G91";
 
 /// Lets the path run until it stands at the line, for a hundred turns at most.
 fn run_to(alloc: Global, path: &mut PathState, flow: &Flow, line: u32) -> Result<(), AllocError> {
@@ -413,6 +502,24 @@ fn a_block_and_what_it_does(rt: HostRuntime) -> Result<(), Fail> {
     let alloc = rt.alloc();
     let settings = settings_of(alloc, CELL)?;
     for row in ROWS.lines() {
+        row_holds(&rt, alloc, &settings, row)?;
+    }
+    Ok(())
+}
+
+/// The settings of the cell, for tapes of system B.
+fn settings_b(alloc: Global) -> Result<Settings, Fail> {
+    let mut text = String::new(alloc);
+    text.push_str("codes B~")?;
+    text.push_str(CELL)?;
+    settings_of(alloc, text.as_str())
+}
+
+#[test]
+fn a_block_of_system_b_and_what_it_does(rt: HostRuntime) -> Result<(), Fail> {
+    let alloc = rt.alloc();
+    let settings = settings_b(alloc)?;
+    for row in ROWS_B.lines() {
         row_holds(&rt, alloc, &settings, row)?;
     }
     Ok(())

@@ -13,3 +13,5 @@ mod lone_path;
 mod move_text;
 #[cfg(test)]
 mod path_rows;
+#[cfg(test)]
+mod system_rows;

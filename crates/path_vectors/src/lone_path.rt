@@ -58,6 +58,21 @@ pub(crate) fn flow_of(alloc: Global, text: &str, settings: &Settings) -> Result<
     }
 }
 
+fn refusal_text(alloc: Global, number: u8, line: u32) -> Result<String, Fail> {
+    Ok(format!(in alloc; "refused {number} line {line}")?)
+}
+
+/// The refusal of a tape, in which `~` stands for the end of a line, and its line.
+pub(crate) fn refusal_of(alloc: Global, text: &str, settings: &Settings) -> Result<String, Fail> {
+    let bytes = lines_of(alloc, text)?;
+    let tape = tape_of(alloc, bytes.as_slice())?;
+    match compile(alloc, &tape, settings) {
+        Err(Failing::Fault(fault)) => refusal_text(alloc, fault.number, fault.line),
+        Ok(_) => Err(Fail::new("a tape that is refused")),
+        Err(Failing::NoMemory) => Err(Fail::new("out of memory")),
+    }
+}
+
 /// So many units as a variable holds them.
 pub(crate) fn units(number: i64) -> Var {
     match Value::of_units(number) {
@@ -233,8 +248,8 @@ fn put_place(out: &mut String, path: &PathState) -> Result<(), AllocError> {
     writeln!(out, "\ndepth {depth}\nin O{program}\nleft {left}")
 }
 
-/// The groups of codes that a modal state keeps.
-const GROUPS: &[u8] = &[1, 2, 5, 6, 7, 14];
+/// The groups of codes that a modal state keeps; system A has no group 3.
+const GROUPS: &[u8] = &[1, 2, 3, 5, 6, 7, 14];
 
 fn put_groups(out: &mut String, modal: &Modal) -> Result<(), AllocError> {
     for group in GROUPS {

@@ -95,7 +95,12 @@ fn told(alloc: Global, path: &mut PathState, flow: &Flow) -> Result<String, NoMe
 }
 
 /// What the path does by the flow, from its start.
-fn run(alloc: Global, flow: &Flow, settings: &Settings, path: Path) -> Result<String, NoMemory> {
+pub(crate) fn run(
+    alloc: Global,
+    flow: &Flow,
+    settings: &Settings,
+    path: Path,
+) -> Result<String, NoMemory> {
     match PathState::new(alloc, flow, settings, path) {
         Ok(mut state) => told(alloc, &mut state, flow),
         Err(fail) => Err(fail),

@@ -12,4 +12,4 @@ returns c =
     let settings = settings_said values.feed values.speed values.tool in
     c.modal_after.ensures
     ∙ ap (λ rows. modal_behind modal rows settings) (c.as_slice.ensures ∙ words.rows_are)
-    ∙ sym (modal_hangs modal words.words (values_seen values))
+    ∙ sym (modal_hangs modal words.dialect.system words.words (values_seen values))

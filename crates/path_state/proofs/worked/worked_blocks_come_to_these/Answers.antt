@@ -26,4 +26,12 @@ returns c = record {
   repeats = refl;
   returns = refl;
   ends = refl;
+  incremental = refl;
+  cycle_in_b = refl;
+  in_machine = refl;
+  in_machine_alone = refl;
+  absolute_in_b = refl;
+  absolute_in_a = refl;
+  protected_in_b = refl;
+  nameless_in_a = refl;
 }

@@ -10,6 +10,6 @@ returns-in-Err c =
       fit = c.of_stop.ensures.fit;
       decided = c.of_stop.ensures.decided c.args.self.now
           ∙ sym (c.in-Err.ensures.said c.args.order.now c.args.control)
-          ∙ sym (unwaiting c.args.order.now c.args.self.now.fixed c.args.self.now words.purpose words.words c.args.control c.args.reads.now
+          ∙ sym (unwaiting c.args.order.now c.args.self.now.fixed c.args.self.now words.purpose words.dialect.system words.words c.args.control c.args.reads.now
           (λ code. c.in_default.not-Wait code) c.requires);
     }

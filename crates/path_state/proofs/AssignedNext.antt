@@ -1,0 +1,26 @@
+-- An assignment whose variable is known does what is left: the variable takes the value.
+use Rattle.std.proofs.Common.{◌≡◌, List, refl, ap, ◌∙◌}
+use Rattle.nc_number.specs.declared.value.Var.{Var}
+use Rattle.common_vars.specs.declared.variable.Variable.{Variable}
+use Rattle.macro_expr.specs.Tree.{Tree, Named}
+use Rattle.path_state.specs.View.{Fixed, PathView}
+use Rattle.path_state.specs.Outcomes.{Outcome, Gives, Needs, Alarms, ◌>>=◌, evaluated}
+use Rattle.path_state.specs.Statements.{After, named, written, and_next, assigned_next}
+use Rattle.path_state.specs.StatementSteps.{taken_next}
+
+-- three steps are the first, and then the other two
+in_turn : {A B C : Type 0} → (step : Outcome A) (next : A → List Var → Outcome B) (last : B → List Var → Outcome C)
+    → ((step >>= next) >>= last) ≡ (step >>= λ value left. next value left >>= last)
+in_turn (Gives value left) next last = refl
+in_turn (Needs variable) next last = refl
+in_turn (Alarms number value) next last = refl
+
+pub assigned_by : (fixed : Fixed) (path : PathView) (name : Named) (tree : Tree) (reads left : List Var) (variable : Variable)
+    → named fixed path name reads ≡ Gives variable left
+    → assigned_next fixed path name tree reads ≡ taken_next fixed path variable tree left
+assigned_by fixed path name tree reads left variable is =
+    ap (λ (step : Outcome Variable).
+    (step >>= λ v behind_name. evaluated fixed path tree behind_name >>= λ value rest. written fixed path v value rest)
+    >>= λ (after : After) rest. Gives (and_next after) rest) is
+    ∙ in_turn (evaluated fixed path tree left) (λ value rest. written fixed path variable value rest)
+    (λ after rest. Gives (and_next after) rest)
