@@ -83,6 +83,7 @@ pub(crate) fn put_turn(out: &mut String, turn: &Turn) -> Result<(), AllocError> 
             out.push_str("halted by ")?;
             put_alarm(out, alarm)
         }
+        Turn::Edited => out.push_str("edited"),
     }
 }
 

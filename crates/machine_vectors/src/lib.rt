@@ -1,11 +1,17 @@
-//! Tables of tests of the machine of two paths: what its turns answer, that each record is done again on a second machine with
-//! the same answer, and which records are illegal.
+//! Tables of tests of the machine of two paths: what its turns answer, what its edits set, that each record is done again on a
+//! second machine with the same answer, and which records are illegal.
 //!
 //! The answers that are expected stem from the rules of turns and of histories, and never from what a machine answered.
 #![tactic(auto)]
 
 #[cfg(test)]
 mod answer;
+#[cfg(test)]
+mod edit;
+#[cfg(test)]
+mod edit_rows;
+#[cfg(test)]
+mod edit_walk;
 #[cfg(test)]
 mod held;
 #[cfg(test)]

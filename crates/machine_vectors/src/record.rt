@@ -1,8 +1,14 @@
-//! Records, from their texts.
+//! Records of steps, from their texts.
+ghost use Rattle.std.specs.Prelude.{◌≡◌, None};
+ghost use Rattle.run_records.specs.Entries.{edit_of};
+
 use crate::answer::path_of;
 use run_records::{Entry, EntryKind, StampList};
 
-fn kind_of(word: &str) -> EntryKind {
+/// A step of this word.
+fn kind_of(word: &str) -> EntryKind
+    ensures { edit_of result ≡ None }
+{
     match word {
         "did" => EntryKind::Did,
         "arrived" => EntryKind::Arrived,
@@ -28,5 +34,5 @@ pub(crate) fn entry_of(text: &str) -> Entry {
             stamps.push(stamp_of(word));
         }
     }
-    Entry { path, kind, stamps }
+    Entry::of_step(path, kind, stamps)
 }

@@ -4,6 +4,7 @@ ghost use Rattle.two_path.specs.Machine.{without_reads};
 ghost use Rattle.two_path.specs.Joined.{AreAtTheirWaits};
 
 use crate::answer::put_turn;
+use crate::edit_walk::{put_edit, put_edit_record};
 use crate::held::{put_difference, put_held, state_of};
 use crate::pair::flow_of;
 use crate::record::entry_of;
@@ -33,7 +34,7 @@ fn opened(
 }
 
 /// Makes room for a record. There is none for more than a thousand.
-fn make_room(machine: &mut Machine) -> Result<(), NoMemory>
+pub(crate) fn make_room(machine: &mut Machine) -> Result<(), NoMemory>
     ensures machine { machine.new.machine ≡ machine.old.machine }
     ensures room { OnOk result (0 < machine.new.room) }
     ensures few { OnOk result (machine.new.machine.count < 1000) }
@@ -75,7 +76,7 @@ fn put_again(
 }
 
 /// What the turn of a record is that is done again, where that is not the answer.
-fn put_other(
+pub(crate) fn put_other(
     out: &mut String,
     alloc: Global,
     machine: &mut Machine,
@@ -159,7 +160,7 @@ fn put_both(
 }
 
 /// Where the machines of a pair do not hold the same, what they hold.
-fn put_disagreement(
+pub(crate) fn put_disagreement(
     out: &mut String,
     alloc: Global,
     machine: &Machine,
@@ -211,7 +212,7 @@ fn put_answered(
 }
 
 /// A record that the second machine is given, and its answer.
-fn put_given(
+pub(crate) fn put_given(
     out: &mut String,
     alloc: Global,
     second: &mut Machine,
@@ -256,7 +257,8 @@ fn put_record(
     )
 }
 
-/// One word of a row: `1` or `2` is a turn of that path, `?` asks what the second machine holds, and all else is a record.
+/// One word of a row: `1` or `2` is a turn of that path, `?` asks what the second machine holds, `edit` and a line is that edit on
+/// both machines, `edited` and a line is the record of that edit, and all else is the record of a step.
 fn put_word(
     out: &mut String,
     alloc: Global,
@@ -277,6 +279,31 @@ fn put_word(
         "1" => put_step(out, alloc, machine, second, left, right, Path::One),
         "2" => put_step(out, alloc, machine, second, left, right, Path::Two),
         "?" => Ok(put_held(out, alloc, second, left, right)?),
+        _ => put_line(out, alloc, machine, second, left, right, word),
+    }
+}
+
+/// One word of a row that is an edit or a record.
+fn put_line(
+    out: &mut String,
+    alloc: Global,
+    machine: &mut Machine,
+    second: &mut Machine,
+    left: &Flow,
+    right: &Flow,
+    word: &str,
+) -> Result<(), NoMemory>
+    requires waits { AreAtTheirWaits left.now.order right.now.order machine.old.machine }
+    requires no_reads { without_reads second.old.machine ≡ second.old.machine }
+    requires second_waits { AreAtTheirWaits left.now.order right.now.order second.old.machine }
+    ensures waits { AreAtTheirWaits left.now.order right.now.order machine.new.machine }
+    ensures no_reads { without_reads second.new.machine ≡ second.new.machine }
+    ensures second_waits { AreAtTheirWaits left.now.order right.now.order second.new.machine }
+{
+    let (first, line) = word.split_once(' ').unwrap_or((word, ""));
+    match first {
+        "edit" => put_edit(out, alloc, machine, second, left, right, line),
+        "edited" => put_edit_record(out, alloc, second, left, right, line),
         _ => put_record(out, alloc, second, left, right, word),
     }
 }

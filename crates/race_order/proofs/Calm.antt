@@ -9,7 +9,7 @@ use Rattle.path_state.specs.Effect as effect
 use Rattle.two_path.specs.declared.turn.Turn.TheVariants as turn
 use Rattle.two_path.specs.Machine.{MachineView, own_first, opening}
 use Rattle.two_path.specs.Turns.{Blocks, Tapes, result, result_by, result_at_wait, behind_meeting, alarm_result, crossed_waits, unless_idle, block_turn, own_turn}
-use Rattle.two_path.specs.Histories.{Event, TurnOf, behind_event, run}
+use Rattle.two_path.specs.Histories.{TurnOf, behind_event, run, turns_of}
 
 -- an alarm leaves a path unfinished
 abbrev Leaves : MachineView → Type 0
@@ -54,22 +54,22 @@ event_leaves tapes One m before = own_leaves tapes.first One m before
 event_leaves tapes Two m before =
     swap_leaves (own_turn tapes.second Two (own_first Two m)).machine (own_leaves tapes.second Two (own_first Two m) (swap_leaves m before))
 
-run_leaves : (tapes : Tapes) (m : MachineView) → Leaves m → (events : List Event) → Leaves (run tapes m events)
+run_leaves : (tapes : Tapes) (m : MachineView) → Leaves m → (turns : List Path) → Leaves (run tapes m (turns_of turns))
 run_leaves tapes m before [] = before
-run_leaves tapes m before (TurnOf path ∷ events) =
-    run_leaves tapes (behind_event tapes (TurnOf path) m) (event_leaves tapes path m before) events
+run_leaves tapes m before (path ∷ turns) =
+    run_leaves tapes (behind_event tapes (TurnOf path) m) (event_leaves tapes path m before) turns
 
-pub finished_calm : (tapes : Tapes) (first second : PathView) (events : List Event)
-    → (run tapes (opening first second) events).first.finished ≡ true → (run tapes (opening first second) events).second.finished ≡ true
-    → (run tapes (opening first second) events).alarm ≡ None
-finished_calm tapes first second events here there =
-    go (run tapes (opening first second) events).alarm refl
+pub finished_calm : (tapes : Tapes) (first second : PathView) (turns : List Path)
+    → (run tapes (opening first second) (turns_of turns)).first.finished ≡ true → (run tapes (opening first second) (turns_of turns)).second.finished ≡ true
+    → (run tapes (opening first second) (turns_of turns)).alarm ≡ None
+finished_calm tapes first second turns here there =
+    go (run tapes (opening first second) (turns_of turns)).alarm refl
   where
-    go : (o : Option Alarm) → (run tapes (opening first second) events).alarm ≡ o → (run tapes (opening first second) events).alarm ≡ None
+    go : (o : Option Alarm) → (run tapes (opening first second) (turns_of turns)).alarm ≡ o → (run tapes (opening first second) (turns_of turns)).alarm ≡ None
     go None e = e
-    go (Some a) e = not (run_leaves tapes (opening first second) (λ a e. absurd cc) events a e)
+    go (Some a) e = not (run_leaves tapes (opening first second) (λ a e. absurd cc) turns a e)
       where
-        not : ((run tapes (opening first second) events).first.finished ≡ false) ⊎ ((run tapes (opening first second) events).second.finished ≡ false)
-            → (run tapes (opening first second) events).alarm ≡ None
+        not : ((run tapes (opening first second) (turns_of turns)).first.finished ≡ false) ⊎ ((run tapes (opening first second) (turns_of turns)).second.finished ≡ false)
+            → (run tapes (opening first second) (turns_of turns)).alarm ≡ None
         not (inl x) = absurd cc
         not (inr x) = absurd cc

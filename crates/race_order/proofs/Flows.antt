@@ -105,11 +105,11 @@ begins flow shared path b = record {
 }
 
 pub race_free_agree : (left right : Flow) → IsUnforked left.order → IsUnforked right.order → RaceFreeRunsAgree left right
-race_free_agree left right ul ur shared free first second here there events others done also =
+race_free_agree left right ul ur shared free first second here there turns others done also =
     runs_agree (blocks_of left) (blocks_of right) (known_of left ul shared) (known_of right ur shared)
     (record {
       first = λ n v may named. free.first n v (record { is_shared = may.0; writes = may.1; names = named.1 });
       second = λ n v may named. free.second n v (record { is_shared = may.0; writes = may.1; names = named.1 });
     }) first second
     (begins left shared first here) (begins right shared second there)
-    events others done also
+    turns others done also

@@ -11,7 +11,7 @@ use Rattle.path_state.specs.View.{PathView}
 use Rattle.path_state.specs.Statements.{Write as Written}
 use Rattle.two_path.specs.Machine.{Part, MachineView, own_first, opening}
 use Rattle.two_path.specs.Turns.{Blocks, Tapes, TurnResult, unless_idle, block_turn, turn_of}
-use Rattle.two_path.specs.Histories.{Event, TurnOf, behind_event, run}
+use Rattle.two_path.specs.Histories.{TurnOf, behind_event, run, turns_of}
 use Rattle.race_order.proofs.Alone.{PathOf}
 use Rattle.race_order.proofs.Together.{Pair, pair_at, Goes, one, two, meet, IsRun, begun, gone, IsFree, race_free_runs_agree}
 use Rattle.race_order.proofs.Calm.{finished_calm}
@@ -101,35 +101,35 @@ halted_event tapes Two m a e =
     ap (λ (x : MachineView). x.alarm)
     (halted (own_first Two m) m.alarm a e m.second.finished m.second.waiting (block_turn tapes.second Two (own_first Two m))) ∙ e
 
-halted_run : (tapes : Tapes) (m : MachineView) (a : Alarm) → m.alarm ≡ Some a → (events : List Event) → (run tapes m events).alarm ≡ Some a
+halted_run : (tapes : Tapes) (m : MachineView) (a : Alarm) → m.alarm ≡ Some a → (turns : List Path) → (run tapes m (turns_of turns)).alarm ≡ Some a
 halted_run tapes m a e [] = e
-halted_run tapes m a e (TurnOf path ∷ events) =
-    halted_run tapes (behind_event tapes (TurnOf path) m) a (halted_event tapes path m a e) events
+halted_run tapes m a e (path ∷ turns) =
+    halted_run tapes (behind_event tapes (TurnOf path) m) a (halted_event tapes path m a e) turns
 
-calm_before : (tapes : Tapes) (m : MachineView) (events : List Event) → (run tapes m events).alarm ≡ None → m.alarm ≡ None
-calm_before tapes m events calm = go m.alarm refl
+calm_before : (tapes : Tapes) (m : MachineView) (turns : List Path) → (run tapes m (turns_of turns)).alarm ≡ None → m.alarm ≡ None
+calm_before tapes m turns calm = go m.alarm refl
   where
     go : (o : Option Alarm) → m.alarm ≡ o → m.alarm ≡ None
-    go (Some a) e = let on = halted_run tapes m a e events in absurd cc
+    go (Some a) e = let on = halted_run tapes m a e turns in absurd cc
     go None e = e
 
 run_shown : (b d : Blocks) (k : Known b) (l : Known d) (x : Pair Var (path_of b k) (path_of d l)) (m : MachineView) (mine yours : List Moves)
-    → IsShown b d k l x m mine yours → (events : List Event) → (run (tapes_with b d) m events).alarm ≡ None
-    → IsShown b d k l x (run (tapes_with b d) m events)
-    (mine ++ moves_by (tapes_with b d) One m events) (yours ++ moves_by (tapes_with b d) Two m events)
+    → IsShown b d k l x m mine yours → (turns : List Path) → (run (tapes_with b d) m (turns_of turns)).alarm ≡ None
+    → IsShown b d k l x (run (tapes_with b d) m (turns_of turns))
+    (mine ++ moves_by (tapes_with b d) One m turns) (yours ++ moves_by (tapes_with b d) Two m turns)
 run_shown b d k l x m mine yours s [] calm =
     subst (λ xs. IsShown b d k l x m xs (yours ++ [])) (sym (append-nil mine))
     (subst (λ ys. IsShown b d k l x m mine ys) (sym (append-nil yours)) s)
-run_shown b d k l x m mine yours s (TurnOf path ∷ events) calm =
+run_shown b d k l x m mine yours s (path ∷ turns) calm =
     let tapes = tapes_with b d in
     let to = (turn_of tapes path m).machine in
     let t = (turn_of tapes path m).turn in
-    let next = turn_shown b d k l x path m mine yours s (calm_before tapes to events calm) in
-    let more = run_shown b d k l x to (mine ++ turn_moves One path t) (yours ++ turn_moves Two path t) next events calm in
-    subst (λ xs. IsShown b d k l x (run tapes to events) xs (yours ++ moves_by tapes Two m (TurnOf path ∷ events)))
-    (append_assoc mine (turn_moves One path t) (moves_by tapes One to events))
-    (subst (λ ys. IsShown b d k l x (run tapes to events) ((mine ++ turn_moves One path t) ++ moves_by tapes One to events) ys)
-    (append_assoc yours (turn_moves Two path t) (moves_by tapes Two to events)) more)
+    let next = turn_shown b d k l x path m mine yours s (calm_before tapes to turns calm) in
+    let more = run_shown b d k l x to (mine ++ turn_moves One path t) (yours ++ turn_moves Two path t) next turns calm in
+    subst (λ xs. IsShown b d k l x (run tapes to (turns_of turns)) xs (yours ++ moves_by tapes Two m (path ∷ turns)))
+    (append_assoc mine (turn_moves One path t) (moves_by tapes One to turns))
+    (subst (λ ys. IsShown b d k l x (run tapes to (turns_of turns)) ((mine ++ turn_moves One path t) ++ moves_by tapes One to turns) ys)
+    (append_assoc yours (turn_moves Two path t) (moves_by tapes Two to turns)) more)
 
 same_part : (a b : Part) → a.path ≡ b.path → a.values ≡ b.values → a.waiting ≡ b.waiting → a.finished ≡ b.finished
     → unstamped a ≡ unstamped b
@@ -158,14 +158,14 @@ told_count m t u told first second =
     let all = told.count in omega arith
 
 pub runs_agree : (b d : Blocks) (k : Known b) (l : Known d) → IsFree (path_of b k) (path_of d l) → (first second : PathView)
-    → k.In 0 first → l.In 0 second → (events others : List Event)
-    → AreDone (run (tapes_with b d) (opening first second) events) → AreDone (run (tapes_with b d) (opening first second) others)
-    → Agree (tapes_with b d) (opening first second) events others
-runs_agree b d k l free first second here there events others done also =
+    → k.In 0 first → l.In 0 second → (turns others : List Path)
+    → AreDone (run (tapes_with b d) (opening first second) (turns_of turns)) → AreDone (run (tapes_with b d) (opening first second) (turns_of others))
+    → Agree (tapes_with b d) (opening first second) turns others
+runs_agree b d k l free first second here there turns others done also =
     let tapes = tapes_with b d in
     let start = opening first second in
-    let m = run tapes start events in
-    let n = run tapes start others in
+    let m = run tapes start (turns_of turns) in
+    let n = run tapes start (turns_of others) in
     let x = shown b d k l start [] [] nothing_told nothing_told (λ _. Vacant) in
     let begins : IsShown b d k l x start [] [] = record {
       env = λ _. Vacant;
@@ -177,12 +177,12 @@ runs_agree b d k l free first second here there events others done also =
       first = λ code waits. refl;
       second = λ code waits. refl;
     } in
-    let calm = finished_calm tapes first second events done.first done.second in
+    let calm = finished_calm tapes first second turns done.first done.second in
     let also_calm = finished_calm tapes first second others also.first also.second in
-    let a = run_shown b d k l x start [] [] begins events calm in
+    let a = run_shown b d k l x start [] [] begins turns calm in
     let o = run_shown b d k l x start [] [] begins others also_calm in
     let same = race_free_runs_agree var_stable (path_of b k) (path_of d l) free x
-    (shown b d k l m (moves_by tapes One start events) (moves_by tapes Two start events) a.one_told a.two_told a.env)
+    (shown b d k l m (moves_by tapes One start turns) (moves_by tapes Two start turns) a.one_told a.two_told a.env)
     (shown b d k l n (moves_by tapes One start others) (moves_by tapes Two start others) o.one_told o.two_told o.env)
     here there a.run o.run (rw done.first refl, rw done.second refl) (rw also.first refl, rw also.second refl) in
     let one : a.one_told ≡ o.one_told = ap (λ y. y.first.state.2) same in

@@ -14,7 +14,7 @@ use Rattle.two_path.specs.declared.turn.Turn.{Turn}
 use Rattle.two_path.specs.declared.turn.Turn.TheVariants as turn
 use Rattle.two_path.specs.Machine.{Part, MachineView, opening}
 use Rattle.two_path.specs.Turns.{Tapes, tapes_of, turn_of}
-use Rattle.two_path.specs.Histories.{Event, TurnOf, behind_event, run}
+use Rattle.two_path.specs.Histories.{run, turns_of}
 use Rattle.race_order.specs.Races.{HasNoRace}
 
 -- the moves that a turn answers
@@ -28,6 +28,7 @@ moves_in (turn.Waiting code) = []
 moves_in turn.Finished = []
 moves_in (turn.Alarm alarm) = []
 moves_in (turn.Halted alarm) = []
+moves_in turn.Edited = []
 
 -- the moves of one path in a turn of a path
 abbrev pub turn_moves : Path → Path → Turn → List Moves
@@ -36,11 +37,11 @@ turn_moves Two Two turn = moves_in turn
 turn_moves One Two turn = []
 turn_moves Two One turn = []
 
--- the moves of a path in a run
-abbrev pub moves_by : Tapes → Path → MachineView → List Event → List Moves
+-- the moves of a path in a run of these turns
+abbrev pub moves_by : Tapes → Path → MachineView → List Path → List Moves
 moves_by tapes who m [] = []
-moves_by tapes who m (TurnOf path ∷ events) =
-    turn_moves who path (turn_of tapes path m).turn ++ moves_by tapes who (behind_event tapes (TurnOf path) m) events
+moves_by tapes who m (path ∷ turns) =
+    turn_moves who path (turn_of tapes path m).turn ++ moves_by tapes who (turn_of tapes path m).machine turns
 
 -- both paths have finished
 pub record AreDone (m : MachineView) : Type 0 where
@@ -63,30 +64,30 @@ pub data AreMixed : List Written → List Written → List Write → Type 0 wher
   two : (mine yours : List Written) (writes : List Write) (stamp : ℕ) (w : Written) → AreMixed mine yours writes
       → AreMixed mine (yours ++ w ∷ []) (writes ++ record { stamp = stamp; variable = w.variable; value = w.value } ∷ [])
 
--- Two runs come to the same: one machine but for the order of its records and their numbers, and the moves of each path. Each
--- path has written the same in the same order, and each variable holds the same.
-pub record Agree (tapes : Tapes) (start : MachineView) (events others : List Event) : Type 0 where
-  pub machine : but_for_order (run tapes start events) ≡ but_for_order (run tapes start others)
-  pub first_moves : moves_by tapes One start events ≡ moves_by tapes One start others
-  pub second_moves : moves_by tapes Two start events ≡ moves_by tapes Two start others
+-- The runs of two lists of turns come to the same: one machine but for the order of its records and their numbers, and the moves
+-- of each path. Each path has written the same in the same order, and each variable holds the same.
+pub record Agree (tapes : Tapes) (start : MachineView) (turns others : List Path) : Type 0 where
+  pub machine : but_for_order (run tapes start (turns_of turns)) ≡ but_for_order (run tapes start (turns_of others))
+  pub first_moves : moves_by tapes One start turns ≡ moves_by tapes One start others
+  pub second_moves : moves_by tapes Two start turns ≡ moves_by tapes Two start others
   pub first_writes : List Written
   pub second_writes : List Written
-  pub written : AreMixed first_writes second_writes (run tapes start events).writes
-  pub also_written : AreMixed first_writes second_writes (run tapes start others).writes
-  pub values : (v : ℕ) → value_after (run tapes start events).count v (run tapes start events).writes
-      ≡ value_after (run tapes start others).count v (run tapes start others).writes
+  pub written : AreMixed first_writes second_writes (run tapes start (turns_of turns)).writes
+  pub also_written : AreMixed first_writes second_writes (run tapes start (turns_of others)).writes
+  pub values : (v : ℕ) → value_after (run tapes start (turns_of turns)).count v (run tapes start (turns_of turns)).writes
+      ≡ value_after (run tapes start (turns_of others)).count v (run tapes start (turns_of others)).writes
 
 -- the path is at the start of its flow, and shares these variables with the other
 pub record IsBeginning (flow : Flow) (shared : ℕ → Bool) (path : PathView) : Type 0 where
   pub place : path.place ≡ start flow.order
   pub shares : (v : ℕ) → is_shared path.fixed v ≡ shared v
 
--- Where there is no race, all runs that finish come to the same, whichever path has which turn.
+-- Where there is no race, all runs of turns that finish come to the same, whichever path has which turn. An edit is no turn.
 abbrev pub RaceFreeRunsAgree : Flow → Flow → Type 0
 RaceFreeRunsAgree left right =
     (shared : ℕ → Bool) → HasNoRace shared left right
     → (first second : PathView) → IsBeginning left shared first → IsBeginning right shared second
-    → (events others : List Event)
-    → AreDone (run (tapes_of left right) (opening first second) events)
-    → AreDone (run (tapes_of left right) (opening first second) others)
-    → Agree (tapes_of left right) (opening first second) events others
+    → (turns others : List Path)
+    → AreDone (run (tapes_of left right) (opening first second) (turns_of turns))
+    → AreDone (run (tapes_of left right) (opening first second) (turns_of others))
+    → Agree (tapes_of left right) (opening first second) turns others

@@ -15,7 +15,7 @@ none settings left right list = record { first = λ n v is. list.one n v is; sec
 
 pub one_outcome : (settings : Settings) (left right : Flow) → IsAcceptedPair left.order right.order
     → IsRaceList (shared_by settings) left right [] → HasOneOutcome settings left right
-one_outcome settings left right pair list events others done also =
+one_outcome settings left right pair list turns others done also =
     race_free_agree left right pair.left_unforked pair.right_unforked (shared_by settings) (none settings left right list)
     (opening_path left settings One) (opening_path right settings Two)
-    (record { place = refl; shares = λ v. refl }) (record { place = refl; shares = λ v. refl }) events others done also
+    (record { place = refl; shares = λ v. refl }) (record { place = refl; shares = λ v. refl }) turns others done also

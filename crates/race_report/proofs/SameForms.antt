@@ -24,11 +24,11 @@ use Rattle.race_report.proofs.OneList.{one_list}
 
 -- what a block names and may write, by its form
 abbrev form_names : Form → ℕ → Bool
-form_names (OfWords words) v = words_name words v
+form_names (OfWords dialect words) v = words_name words v
 form_names (OfSentence sentence) v = sentence_names sentence v
 
 abbrev form_may_write : Form → ℕ → Bool
-form_may_write (OfWords words) v = false
+form_may_write (OfWords dialect words) v = false
 form_may_write (OfSentence sentence) v = sentence_may_write sentence v
 
 names_by_form : (body : FlowBody) (v : ℕ) → body_names body v ≡ form_names (form_of body) v

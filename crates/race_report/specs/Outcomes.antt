@@ -1,12 +1,13 @@
 -- What a pair without a race comes to.
 use Rattle.std.specs.Prelude.{List}
+use Rattle.nc_number.specs.declared.path.Path.{Path}
 use Rattle.nc_number.specs.declared.path.Path.TheVariants.{One, Two}
 use Rattle.cell_settings.specs.declared.settings.Settings.{Settings}
 use Rattle.tape_flow.specs.declared.flow.Flow.{Flow}
 use Rattle.path_state.specs.Opening.{opening_path}
 use Rattle.two_path.specs.Machine.{MachineView, opening}
 use Rattle.two_path.specs.Turns.{tapes_of}
-use Rattle.two_path.specs.Histories.{Event, run}
+use Rattle.two_path.specs.Histories.{run, turns_of}
 use Rattle.race_order.specs.Agreement.{AreDone, Agree}
 
 -- the machine of a pair before its first turn
@@ -16,7 +17,7 @@ opening_of settings left right = opening (opening_path left settings One) (openi
 -- any two lists of turns after which both paths have finished come to the same
 abbrev pub HasOneOutcome : Settings → Flow → Flow → Type 0
 HasOneOutcome settings left right =
-    (events others : List Event)
-    → AreDone (run (tapes_of left right) (opening_of settings left right) events)
-    → AreDone (run (tapes_of left right) (opening_of settings left right) others)
-    → Agree (tapes_of left right) (opening_of settings left right) events others
+    (turns others : List Path)
+    → AreDone (run (tapes_of left right) (opening_of settings left right) (turns_of turns))
+    → AreDone (run (tapes_of left right) (opening_of settings left right) (turns_of others))
+    → Agree (tapes_of left right) (opening_of settings left right) turns others

@@ -5,7 +5,7 @@ use Rattle.nc_number.specs.declared.path.Path.{Path}
 use Rattle.nc_number.specs.declared.path.Path.TheVariants.{One, Two}
 use Rattle.nc_number.specs.Path.{other_of}
 use Rattle.nc_moves.specs.declared.alarm.Alarm.{Alarm}
-use Rattle.run_records.specs.declared.entry.Entry.{Entry}
+use Rattle.run_records.specs.Entries.{Entry}
 use Rattle.path_state.specs.View.{PathView}
 use Rattle.two_path.specs.Machine.{MachineView, opening, without_reads}
 use Rattle.two_path.specs.Turns.{Tapes, turn_of, entry_of}

@@ -11,7 +11,7 @@ use Rattle.path_state.specs.View.{PathView}
 use Rattle.path_state.specs.Effect.{Effect, Need, Done, AtWait, AtEnd, effect_of}
 use Rattle.path_state.specs.Effect as effect
 use Rattle.path_state.specs.Controlled.{AsksForShared}
-use Rattle.run_records.specs.declared.entry.Entry.{Entry}
+use Rattle.run_records.specs.Entries.{Entry}
 use Rattle.run_records.specs.declared.entry.EntryKind.{EntryKind}
 use Rattle.run_records.specs.declared.entry.EntryKind.TheVariants as kind
 use Rattle.tape_flow.specs.declared.flow.Flow.{Flow}

@@ -1,7 +1,7 @@
 -- How a run whose paths take turns ends.
 use Rattle.std.specs.Prelude.{ℕ, ◌==◌, ◌&&◌, Bool, true, false, List, length, Option, Some, None, unwrap_or, if◌then◌else◌}
 use Rattle.nc_moves.specs.declared.alarm.Alarm.{Alarm}
-use Rattle.run_records.specs.declared.entry.Entry.{Entry}
+use Rattle.run_records.specs.Entries.{Entry}
 use Rattle.two_path.specs.Machine.{MachineView}
 use Rattle.two_path.specs.Turns.{Tapes}
 use Rattle.two_path.specs.Histories.{fold}

@@ -4,7 +4,7 @@ use Rattle.nc_number.specs.declared.path.Path.{Path}
 use Rattle.nc_number.specs.declared.path.Path.TheVariants.{One, Two}
 use Rattle.nc_number.specs.Path.{other_of}
 use Rattle.nc_verify.specs.declared.verified.Verified.{Verified}
-use Rattle.run_records.specs.declared.entry.Entry.{Entry}
+use Rattle.run_records.specs.Entries.{Entry}
 use Rattle.path_state.specs.Opening.{opening_path}
 use Rattle.two_path.specs.Machine.{MachineView, opening}
 use Rattle.two_path.specs.Turns.{Tapes, tapes_of}

@@ -3,7 +3,7 @@
 ghost use Rattle.std.specs.Prelude.{◌≡◌, ℕ, List};
 ghost use Rattle.nc_verify.specs.declared.verified.Verified.{Verified};
 ghost use Rattle.path_state.specs.View.{PathView};
-ghost use Rattle.run_records.specs.declared.entry.Entry.{Entry};
+ghost use Rattle.run_records.specs.Entries.{Entry};
 ghost use Rattle.two_path.specs.Machine.{MachineView, opening, without_reads};
 ghost use Rattle.two_path.specs.Histories.{IsKept, IsLegal};
 ghost use Rattle.two_path.specs.Stuck.{IsStuck};

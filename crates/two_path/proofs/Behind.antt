@@ -2,7 +2,7 @@
 use Rattle.std.proofs.Common.{◌≡◌, List, None, refl, sym, ap, subst, ◌∙◌}
 use Rattle.nc_number.specs.declared.path.Path.{Path}
 use Rattle.nc_number.specs.declared.path.Path.TheVariants.{One, Two}
-use Rattle.run_records.specs.declared.entry.Entry.{Entry}
+use Rattle.run_records.specs.Entries.{Entry}
 use Rattle.path_state.specs.View.{PathView}
 use Rattle.two_path.specs.Machine.{MachineView, own_first, without_reads, opening}
 use Rattle.two_path.specs.Turns.{Tapes, tape_of}

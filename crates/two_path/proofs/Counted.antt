@@ -1,21 +1,25 @@
 -- What the fold of a legal history counts, in words of the history alone.
-use Rattle.std.proofs.Common.{◌≡◌, ℕ, zero, suc, ◌+◌, ◌≤◌, Bool, true, false, ◌==◌, List, [], ◌∷◌, ◌++◌, length, take, Option, Some, None, refl, ap, ◌∙◌, arith, if◌then◌else◌}
+use Rattle.std.proofs.Common.{◌≡◌, ℕ, zero, suc, ◌+◌, ◌≤◌, Bool, true, false, ◌==◌, List, [], ◌∷◌, ◌++◌, length, take, Option, Some, None, inl, inr, refl, sym, ap, subst, ◌∙◌, arith, if◌then◌else◌}
 use Rattle.nc_number.specs.declared.path.Path.{Path}
 use Rattle.nc_number.specs.declared.path.Path.TheVariants.{One, Two}
 use Rattle.nc_number.specs.declared.value.Var.{Var}
 use Rattle.common_vars.specs.Writes.{value_after}
-use Rattle.run_records.specs.declared.entry.Entry.{Entry}
+use Rattle.run_records.specs.Entries.{Entry}
+use Rattle.run_records.specs.declared.edit.Edit.{Edit}
 use Rattle.run_records.specs.declared.entry.EntryKind.{EntryKind}
-use Rattle.run_records.specs.declared.entry.EntryKind.TheVariants.{Did, Arrived, Met, Ended, Alarmed}
+use Rattle.run_records.specs.declared.entry.EntryKind.TheVariants.{Did, Arrived, Met, Ended, Alarmed, Edited}
 use Rattle.path_state.specs.View.{PathView}
 use Rattle.path_state.specs.Statements.{Write as Written}
+use Rattle.path_state.specs.Edits.{shared_write}
 use Rattle.path_state.specs.Effect.{Effect, Need, Done, AtWait, AtEnd}
 use Rattle.path_state.specs.Effect as effect
 use Rattle.two_path.specs.declared.turn.Turn.TheVariants as turn
 use Rattle.two_path.specs.Machine.{MachineView, own_first, without_reads, opening}
-use Rattle.two_path.specs.Turns.{Blocks, Tapes, result, behind_meeting, crossed_waits, alarm_result, with_write, result_at_wait, result_by, kind_of}
+use Rattle.two_path.specs.Turns.{Blocks, Tapes, tape_of, result, behind_meeting, crossed_waits, alarm_result, with_write, result_at_wait, result_by, kind_of}
+use Rattle.two_path.specs.Edits.{behind_edit_of, edit_entry}
 use Rattle.two_path.specs.Histories.{values_at, with_values, with_reads, IsStep, behind_step, behind_entry, IsNext, fold, IsLegal, is_coming, came_from, Counts, HistoriesAreRuns}
 use Rattle.two_path.proofs.Idle.{own_awake, awake_of}
+use Rattle.two_path.proofs.Edited.{step_no_edit, behind_step_entry, behind_edit_entry}
 use Rattle.two_path.proofs.Lawful.{value_written, opening_sound}
 use Rattle.two_path.proofs.Recorded.{history_from}
 use Rattle.two_path.proofs.Scheduled.{run_of, lawful_of}
@@ -68,23 +72,34 @@ same_coming Arrived = (refl, refl)
 same_coming Met = (refl, refl)
 same_coming Ended = (refl, refl)
 same_coming Alarmed = (refl, refl)
+same_coming (Edited edit) = (refl, refl)
+
+grows_step : (tapes : Tapes) (n : MachineView) (p : Path) (k : EntryKind) (ks : List ℕ) → IsStep (tape_of tapes p) p (own_first p n) k ks
+    → Grows n (own_first p (behind_step (tape_of tapes p) p ks (own_first p n))) (is_coming p k One) (is_coming p k Two)
+grows_step tapes n One k ks i = grows_first tapes.first One n k ks i
+grows_step tapes n Two k ks i =
+    let g = grows_first tapes.second Two (own_first Two n) k ks i in
+    let same = same_coming k in
+    record {
+      count = g.count;
+      first = g.second ∙ ap (λ b. since_after b n.count n.first.since) same.1;
+      second = g.first ∙ ap (λ b. since_after b n.count n.second.since) same.0;
+      write = g.write;
+      writes = g.writes;
+    }
+
+grows_edit : (n : MachineView) (p : Path) (edit : Edit) → Grows n (behind_edit_of p edit n) true true
+grows_edit n One edit = record { count = refl; first = refl; second = refl; write = shared_write n.first.path.fixed edit; writes = refl }
+grows_edit n Two edit = record { count = refl; first = refl; second = refl; write = shared_write n.second.path.fixed edit; writes = refl }
 
 pub grows : (tapes : Tapes) (n : MachineView) (e : Entry) → IsNext tapes n e → Grows n (behind_entry tapes e n) (is_coming e.path e.kind One) (is_coming e.path e.kind Two)
-grows tapes n e i = go e.path i
-  where
-    go : (p : Path) → IsNext tapes n (record { path = p; kind = e.kind; stamps = e.stamps })
-        → Grows n (behind_entry tapes (record { path = p; kind = e.kind; stamps = e.stamps }) n) (is_coming p e.kind One) (is_coming p e.kind Two)
-    go One i = grows_first tapes.first One n e.kind e.stamps i
-    go Two i =
-        let g = grows_first tapes.second Two (own_first Two n) e.kind e.stamps i in
-        let same = same_coming e.kind in
-        record {
-          count = g.count;
-          first = g.second ∙ ap (λ b. since_after b n.count n.first.since) same.1;
-          second = g.first ∙ ap (λ b. since_after b n.count n.second.since) same.0;
-          write = g.write;
-          writes = g.writes;
-        }
+grows tapes n e (inl i) =
+    let step = step_no_edit (tape_of tapes e.path) e.path (own_first e.path n) e.kind e.stamps i in
+    rw (behind_step_entry tapes n e step) (grows_step tapes n e.path e.kind e.stamps i)
+grows tapes n e (inr i) =
+    rw (behind_edit_entry tapes n e i.edit i.is)
+    (subst (λ (x : Entry). Grows n (behind_edit_of e.path i.edit n) (is_coming x.path x.kind One) (is_coming x.path x.kind Two)) (sym i.is)
+    (grows_edit n e.path i.edit))
 
 count_of : (tapes : Tapes) (m : MachineView) (rs : List Entry) → IsLegal tapes m rs → (fold tapes m rs).count ≡ m.count + length rs
 count_of tapes m [] legal = omega arith

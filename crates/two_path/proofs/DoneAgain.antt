@@ -1,6 +1,6 @@
 -- A record that is legal there is done again.
 use Rattle.std.proofs.Common.{Result, Ok, Err, IsOk, OnErr, refl}
-use Rattle.run_records.specs.declared.entry.Entry.{Entry}
+use Rattle.run_records.specs.Entries.{Entry}
 use Rattle.two_path.specs.declared.turn.Turn.{Turn}
 use Rattle.two_path.specs.Machine.{MachineView}
 use Rattle.two_path.specs.Turns.{Tapes}

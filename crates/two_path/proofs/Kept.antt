@@ -1,14 +1,15 @@
 -- What a machine beside its history keeps: over each event, each record that is done again, and each restart.
 use Rattle.std.proofs.Common.{◌≡◌, ℕ, ◌+◌, ◌≤◌, Bool, true, false, List, [], ◌∷◌, ◌++◌, take, refl, sym, ap, subst, append-nil, arith}
 use Rattle.nc_number.specs.declared.path.Path.TheVariants.{One, Two}
-use Rattle.run_records.specs.declared.entry.Entry.{Entry}
+use Rattle.run_records.specs.Entries.{Entry}
 use Rattle.path_state.specs.View.{PathView}
 use Rattle.two_path.specs.Machine.{Part, MachineView, own_first, part_without_reads, without_reads, opening}
 use Rattle.two_path.specs.Turns.{Tapes}
 use Rattle.two_path.specs.Histories.{Event, behind_event, records_of, behind_entry, IsNext, fold, IsLegal, is_coming, IsKept, Keeps, Episode, Happens, Restarts, Recorded, behind_episode, behind_episodes, IsKeptOverRestarts}
+use Rattle.two_path.proofs.Edited.{entry_bare}
 use Rattle.two_path.proofs.Lawful.{event_sound, lawful_none, opening_sound}
 use Rattle.two_path.proofs.Recorded.{joins_event}
-use Rattle.two_path.proofs.Scheduled.{from_end, fold_push, legal_front, legal_push, entry_bare, fold_bare}
+use Rattle.two_path.proofs.Scheduled.{from_end, fold_push, legal_front, legal_push, fold_bare}
 use Rattle.two_path.proofs.Counted.{fold_parts, since_after, grows, legal_take}
 
 legal_join : (tapes : Tapes) (m : MachineView) (rs ss : List Entry) → IsLegal tapes m rs → IsLegal tapes (fold tapes m rs) ss → IsLegal tapes m (rs ++ ss)

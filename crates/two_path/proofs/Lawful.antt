@@ -5,6 +5,7 @@ use Rattle.nc_number.specs.declared.path.Path.{Path}
 use Rattle.nc_number.specs.declared.path.Path.TheVariants.{One, Two}
 use Rattle.nc_number.specs.declared.value.Var.{Var}
 use Rattle.nc_moves.specs.declared.alarm.Alarm.{Alarm}
+use Rattle.run_records.specs.declared.edit.Edit.{Edit}
 use Rattle.common_vars.specs.declared.links.Write.{Write}
 use Rattle.common_vars.specs.Writes.{is_write_of, value_after}
 use Rattle.common_vars.proofs.Laws.{seen_from_its_stamp}
@@ -14,7 +15,8 @@ use Rattle.path_state.specs.Effect.{Effect, Need, Done, AtWait, AtEnd}
 use Rattle.path_state.specs.Effect as effect
 use Rattle.two_path.specs.Machine.{Part, MachineView, own_first, part_without_reads, opening}
 use Rattle.two_path.specs.Turns.{Blocks, Tapes, with_write, behind_meeting, with_alarm, crossed_waits, alarm_at, result_at_wait, result_by, own_turn}
-use Rattle.two_path.specs.Histories.{Event, TurnOf, behind_event, value_asked, and_next, values_from, AsksFrom, AreInOrder, is_idle, IsLawful, AreLawful}
+use Rattle.two_path.specs.Edits.{behind_edit_of, unless_alarm}
+use Rattle.two_path.specs.Histories.{Event, TurnOf, EditOf, behind_event, value_asked, and_next, values_from, AsksFrom, AreInOrder, is_idle, IsLawful, AreLawful}
 use Rattle.two_path.proofs.Idle.{is_still, own_awake, own_still, awake_part}
 
 passes_over : (k v : ℕ) (w : Write) → k < w.stamp → is_write_of k v w ≡ false
@@ -154,11 +156,27 @@ turn_sound mine theirs path m s = go (is_still m) refl
     go false e = rw (own_awake mine path m e)
         (by_sound mine theirs path (mine.line m.first.path.place) m (mine.effect m.first.path m.first.values) s e refl)
 
+-- behind an edit no block has read anything
+pub edit_sound : (tapes : Tapes) (p : Path) (edit : Edit) (m : MachineView) → AreLawful tapes (behind_edit_of p edit m)
+edit_sound tapes One edit m = record {
+  first = lawful_none tapes.first (behind_edit_of One edit m) refl refl (omega arith);
+  second = lawful_none tapes.second (own_first Two (behind_edit_of One edit m)) refl refl (omega arith);
+}
+edit_sound tapes Two edit m = record {
+  first = lawful_none tapes.first (behind_edit_of Two edit m) refl refl (omega arith);
+  second = lawful_none tapes.second (own_first Two (behind_edit_of Two edit m)) refl refl (omega arith);
+}
+
 pub event_sound : (tapes : Tapes) (e : Event) (m : MachineView) → AreLawful tapes m → AreLawful tapes (behind_event tapes e m)
 event_sound tapes (TurnOf One) m s = turn_sound tapes.first tapes.second One m s
 event_sound tapes (TurnOf Two) m s =
     sound_swap tapes.second tapes.first (own_turn tapes.second Two (own_first Two m)).machine
     (turn_sound tapes.second tapes.first Two (own_first Two m) (sound_swap tapes.first tapes.second m s))
+event_sound tapes (EditOf p edit) m s = go m.alarm
+  where
+    go : (a : Option Alarm) → AreLawful tapes (unless_alarm a m (behind_edit_of p edit m))
+    go (Some alarm) = s
+    go None = edit_sound tapes p edit m
 
 pub opening_sound : (tapes : Tapes) (first second : PathView) → AreLawful tapes (opening first second)
 opening_sound tapes first second = record {

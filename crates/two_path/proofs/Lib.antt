@@ -1,4 +1,5 @@
 mod Idle
+pub mod Edited
 mod Lawful
 mod Recorded
 mod Scheduled

@@ -5,6 +5,7 @@ use Rattle.nc_number.specs.declared.cause.Cause.TheVariants.{UnknownCode, WordRa
 use Rattle.nc_number.specs.declared.literal.Literal.{Literal}
 use Rattle.nc_number.specs.declared.value.Var.{Var}
 use Rattle.nc_number.specs.declared.value.Var.TheVariants.{Vacant, Is}
+use Rattle.code_tables.specs.declared.system.System.{System}
 use Rattle.local_levels.specs.Stack.{all_vacant}
 use Rattle.modal_state.specs.declared.fault.ModalFault.{ModalFault}
 use Rattle.modal_state.specs.View.{ModalView}
@@ -63,28 +64,32 @@ taken_var_other sense letter minus Vacant values = tt
 taken_var_other sense letter minus (Is value) values = taken_other sense letter (computed minus value) values
 
 -- the codes and words of a block, and its motion
-modal_other : (modal : ModalView) (words : List FlowWord) (values : Values) → IsOtherNumber (modal_after modal words values)
-modal_other modal words values =
-    let after : ModalView = with_words (with_codes modal (rows words)) (modal_words (gives is_limit words) values) in
+modal_other : (modal : ModalView) (system : System) (words : List FlowWord) (values : Values)
+    → IsOtherNumber (modal_after modal system words values)
+modal_other modal system words values =
+    let after : ModalView = with_words (with_codes modal (rows system words)) (modal_words (gives system is_limit words) values) in
     either (λ (f : Option ModalFault). IsOtherNumber (unless_fault f after)) (has_tool_offset values.tool) None (Some (fault OffsetNumber)) tt refl
 
-after_motion_other : (path : PathView) (modal : ModalView) (words : List FlowWord) (values : Values) (motion : Result Motion ℕ)
-    → IsOtherNumber motion → IsOtherNumber (after_motion path modal words values motion)
-after_motion_other path modal words values (Ok motion) other = tt
-after_motion_other path modal words values (Err number) other = other
+after_motion_other : (path : PathView) (modal : ModalView) (system : System) (words : List FlowWord) (values : Values)
+    (motion : Result Motion ℕ)
+    → IsOtherNumber motion → IsOtherNumber (after_motion path modal system words values motion)
+after_motion_other path modal system words values (Ok motion) other = tt
+after_motion_other path modal system words values (Err number) other = other
 
-motion_with_other : (fixed : Fixed) (path : PathView) (words : List FlowWord) (values : Values) (modal : Result ModalView ℕ)
-    → IsOtherNumber modal → IsOtherNumber (motion_with fixed path words values modal)
-motion_with_other fixed path words values (Ok modal) other =
-    after_motion_other path modal words values
-    (motion_of fixed path modal (motion_kind modal (one_shot words)) (has (codes "L") words) values)
-    (motion_other fixed path modal (motion_kind modal (one_shot words)) (has (codes "L") words) values)
-motion_with_other fixed path words values (Err number) other = other
+motion_with_other : (fixed : Fixed) (path : PathView) (system : System) (words : List FlowWord) (values : Values)
+    (modal : Result ModalView ℕ)
+    → IsOtherNumber modal → IsOtherNumber (motion_with fixed path system words values modal)
+motion_with_other fixed path system words values (Ok modal) other =
+    after_motion_other path modal system words values
+    (motion_of fixed path modal (motion_kind modal (one_shot system words)) (has (codes "L") words) values)
+    (motion_other fixed path modal (motion_kind modal (one_shot system words)) (has (codes "L") words) values)
+motion_with_other fixed path system words values (Err number) other = other
 
-acted_other : (fixed : Fixed) (path : PathView) (words : List FlowWord) (values : Values)
-    → IsOtherNumber (acted fixed path words values)
-acted_other fixed path words values =
-    motion_with_other fixed path words values (modal_after path.modal words values) (modal_other path.modal words values)
+acted_other : (fixed : Fixed) (path : PathView) (system : System) (words : List FlowWord) (values : Values)
+    → IsOtherNumber (acted fixed path system words values)
+acted_other fixed path system words values =
+    motion_with_other fixed path system words values (modal_after path.modal system words values)
+    (modal_other path.modal system words values)
 
 module _ (fixed : Fixed) (path : PathView) where
   word_other : (sense : Sense) (letter : ℕ) (value : WordValue) (values : Values) (reads : List Var)
@@ -130,12 +135,13 @@ module _ (tape : List ControlProgram) where
   moved_other c (Ok moved) other = controlled_other moved None c
   moved_other c (Err number) other = other
 
-  values_other : (fixed : Fixed) (path : PathView) (words : List FlowWord) (c : Control) (values : Outcome Values)
-      → IsOtherAlarm values → IsOtherEffect (of_values tape fixed path words c values)
-  values_other fixed path words c (Gives values left) other =
-      moved_other c (acted fixed path words values) (acted_other fixed path words values)
-  values_other fixed path words c (Needs variable) other = tt
-  values_other fixed path words c (Alarms number value) other = other
+  values_other : (fixed : Fixed) (path : PathView) (system : System) (words : List FlowWord) (c : Control)
+      (values : Outcome Values)
+      → IsOtherAlarm values → IsOtherEffect (of_values tape fixed path system words c values)
+  values_other fixed path system words c (Gives values left) other =
+      moved_other c (acted fixed path system words values) (acted_other fixed path system words values)
+  values_other fixed path system words c (Needs variable) other = tt
+  values_other fixed path system words c (Alarms number value) other = other
 
   of_arguments_other : (path : PathView) (c : Control) (arguments : Outcome (List Var)) → IsOtherAlarm arguments
       → IsOtherEffect (of_arguments tape path c arguments)
@@ -144,18 +150,20 @@ module _ (tape : List ControlProgram) where
   of_arguments_other path c (Needs variable) other = tt
   of_arguments_other path c (Alarms number value) other = other
 
-  purpose_other : (fixed : Fixed) (path : PathView) (purpose : Purpose) (words : List FlowWord) (c : Control) (reads : List Var)
-      → IsOtherEffect (of_purpose tape fixed path purpose words c reads)
-  purpose_other fixed path MacroCall words c reads =
+  purpose_other : (fixed : Fixed) (path : PathView) (purpose : Purpose) (system : System) (words : List FlowWord) (c : Control)
+      (reads : List Var)
+      → IsOtherEffect (of_purpose tape fixed path purpose system words c reads)
+  purpose_other fixed path MacroCall system words c reads =
       of_arguments_other path c (arguments_taken fixed path words all_vacant reads) (arguments_other fixed path words all_vacant reads)
-  purpose_other fixed path purpose words c reads =
-      values_other fixed path words c (words_taken fixed path (sense_of path purpose words) words nothing_said reads)
-      (words_other fixed path (sense_of path purpose words) words nothing_said reads)
+  purpose_other fixed path purpose system words c reads =
+      values_other fixed path system words c (words_taken fixed path (sense_of path purpose system words) words nothing_said reads)
+      (words_other fixed path (sense_of path purpose system words) words nothing_said reads)
 
-  block_other : (fixed : Fixed) (path : PathView) (purpose : Purpose) (words : List FlowWord) (c : Control) (reads : List Var)
-      → IsOtherEffect (block_of_words tape fixed path purpose words c reads)
-  block_other fixed path purpose words (control.Wait code) reads = tt
-  block_other fixed path purpose words c reads = purpose_other fixed path purpose words c reads
+  block_other : (fixed : Fixed) (path : PathView) (purpose : Purpose) (system : System) (words : List FlowWord) (c : Control)
+      (reads : List Var)
+      → IsOtherEffect (block_of_words tape fixed path purpose system words c reads)
+  block_other fixed path purpose system words (control.Wait code) reads = tt
+  block_other fixed path purpose system words c reads = purpose_other fixed path purpose system words c reads
 
   after_other : (after : Outcome After) → IsOtherAlarm after → IsOtherEffect (of_after after)
   after_other (Gives after left) other = tt
@@ -164,7 +172,7 @@ module _ (tape : List ControlProgram) where
 
   body_other : (fixed : Fixed) (path : PathView) (body : FlowBody) (c : Control) (reads : List Var)
       → IsOtherEffect (effect_of_body tape fixed path body c reads)
-  body_other fixed path (Words words) c reads = block_other fixed path words.purpose words.words c reads
+  body_other fixed path (Words words) c reads = block_other fixed path words.purpose words.dialect.system words.words c reads
   body_other fixed path (Statement statement) c reads =
       after_other (statement_effect tape fixed path (sentence_of statement.statement) reads)
       (statement_other fixed path tape (sentence_of statement.statement) reads)

@@ -31,7 +31,7 @@ use Rattle.offset_store.specs.Slots.{slot_of, slot_named}
 use Rattle.offset_store.specs.Table.{OffsetTable}
 use Rattle.path_state.specs.View.{Fixed, PathView}
 use Rattle.path_state.specs.Values.{Values}
-use Rattle.path_state.specs.Motion.{Motion, motion_number, offset_number, x_axis, z_axis, block_motion, form_of, setting_of, set_motion, passed_motion, tracked, cut_motion, motion_of}
+use Rattle.path_state.specs.Motion.{Motion, motion_number, offset_number, x_axis, z_axis, block_motion, form_of, setting_of, set_motion, passed_motion, tracked, cut_motion, turret_motion, unless_incremental, motion_of}
 use Rattle.two_path.proofs.NoCrossing.{IsOtherError, either}
 use Rattle.two_path.proofs.NoCrossingStatements.{offset_alarm, in_range_other}
 
@@ -129,23 +129,37 @@ ok_or_other : (slot : Option Slot) → IsOtherOffset (ok_or slot (offset_fault O
 ok_or_other (Some slot) = tt
 ok_or_other None = refl
 
-setting_other : (offsets : OffsetTable) (has_l : Bool) (values : Values) → IsOtherOffset (setting_of offsets has_l values)
-setting_other offsets has_l values =
+setting_other : (offsets : OffsetTable) (modal : ModalView) (has_l : Bool) (values : Values)
+    → IsOtherOffset (setting_of offsets modal has_l values)
+setting_other offsets modal has_l values =
     error_behind offset_alarm (slot_named (form_of has_l) values.number) _ (ok_or_other (slot_of (form_of has_l) values.number))
-    (λ slot. error_behind offset_alarm (in_range (changed_point (point_at offsets slot) (x_axis values) (z_axis values))) _
-    (in_range_other (changed_point (point_at offsets slot) (x_axis values) (z_axis values))) (λ to. tt))
+    (λ slot. error_behind offset_alarm (in_range (changed_point (point_at offsets slot) (x_axis modal values) (z_axis modal values))) _
+    (in_range_other (changed_point (point_at offsets slot) (x_axis modal values) (z_axis modal values))) (λ to. tt))
 
 set_number_other : (cycle : Option Point) (r : Result (Slot × Point) OffsetFault) → IsOtherOffset r
     → IsOtherError itself (offset_number (set_motion cycle r))
 set_number_other cycle (Ok set) other = tt
 set_number_other cycle (Err f) other = other
 
+-- a motion that leads the turret, also where the machine's own coordinates have no increments
+turret_other : (fixed : Fixed) (path : PathView) (modal : ModalView) (k : CodeKind) (values : Values)
+    → IsOtherError itself (turret_motion fixed path modal k values)
+turret_other fixed path modal k values =
+    let block : BlockMotion = block_motion fixed path modal values in
+    motion_number_other (cut_motion (cycle_kind_of k) k modal.cycle block) (cut_other (cycle_kind_of k) k modal.cycle block)
+
+incremental_other : (incremental : Bool) (motion : Result Motion ℕ) → IsOtherError itself motion
+    → IsOtherError itself (unless_incremental incremental motion)
+incremental_other true motion other = refl
+incremental_other false motion other = other
+
 -- the motion of a block
 pub motion_other : (fixed : Fixed) (path : PathView) (modal : ModalView) (k : CodeKind) (has_l : Bool) (values : Values)
     → IsOtherError itself (motion_of fixed path modal k has_l values)
 motion_other fixed path modal kind.Dwell has_l values = tt
 motion_other fixed path modal kind.Setting has_l values =
-    set_number_other modal.cycle (setting_of path.offsets has_l values) (setting_other path.offsets has_l values)
-motion_other fixed path modal k has_l values =
-    let block : BlockMotion = block_motion fixed path modal values in
-    motion_number_other (cut_motion (cycle_kind_of k) k modal.cycle block) (cut_other (cycle_kind_of k) k modal.cycle block)
+    set_number_other modal.cycle (setting_of path.offsets modal has_l values) (setting_other path.offsets modal has_l values)
+motion_other fixed path modal kind.Machine has_l values =
+    incremental_other modal.incremental (turret_motion fixed path modal kind.Machine values)
+    (turret_other fixed path modal kind.Machine values)
+motion_other fixed path modal k has_l values = turret_other fixed path modal k values

@@ -7,7 +7,6 @@ use Rattle.nc_number.specs.declared.value.Var.{Var}
 use Rattle.nc_number.specs.Position.{is_position}
 use Rattle.common_vars.specs.declared.variable.Variable.{Variable}
 use Rattle.common_vars.specs.declared.variable.Variable.TheVariants as variable
-use Rattle.common_vars.specs.Variables.{variable_of}
 use Rattle.offset_store.specs.declared.slot.Slot.{Slot}
 use Rattle.offset_store.specs.declared.slot.Slot.TheVariants.{Work}
 use Rattle.offset_store.specs.declared.fault.OffsetFault.{OffsetFault}
@@ -16,7 +15,9 @@ use Rattle.offset_store.specs.Faults.{fault}
 use Rattle.block_order.specs.declared.program.ControlProgram.{ControlProgram}
 use Rattle.macro_expr.specs.Tree.{Tree, Named, Fixed as Numbered, Computed, Test, Aim, ToNumber, ToNumberOf, Sentence, Assign, Goto, IfGoto, IfThen, WhileDo, DoOnly, EndLoop}
 use Rattle.macro_eval.specs.Meaning.{whole_number, variable_number}
+use Rattle.modal_state.specs.View.{ModalView}
 use Rattle.path_state.specs.View.{Fixed, PathView}
+use Rattle.path_state.specs.Looks.{variable_in}
 use Rattle.path_state.specs.Outcomes.{Outcome, ◌>>=◌, evaluated}
 use Rattle.path_state.specs.Places.{Standing, jumped, loop_left, loop_again}
 use Rattle.path_state.specs.Statements.{After, standing_of, existing, number_named, length_of, along, with_offset, written_path, written, named, assigned, tested, sequence_number, aimed, moved, gone_to, gone_next, assigned_next, statement_effect}
@@ -35,9 +36,9 @@ existing_other : (v : Option Variable) → IsOtherCause (existing v)
 existing_other None = refl
 existing_other (Some v) = tt
 
-number_named_other : (n : Result ℕ Cause) → IsOtherCause n → IsOtherCause (number_named n)
-number_named_other (Ok n) other = existing_other (variable_of n)
-number_named_other (Err cause) other = other
+number_named_other : (modal : ModalView) (n : Result ℕ Cause) → IsOtherCause n → IsOtherCause (number_named modal n)
+number_named_other modal (Ok n) other = existing_other (variable_in modal n)
+number_named_other modal (Err cause) other = other
 
 sequence_other : (n : Result ℤ Cause) → IsOtherCause n → IsOtherCause (sequence_number n)
 sequence_other (Ok (pos n)) other = tt
@@ -46,11 +47,12 @@ sequence_other (Err cause) other = other
 
 module _ (fixed : Fixed) (path : PathView) where
   named_other : (name : Named) (reads : List Var) → IsOtherAlarm (named fixed path name reads)
-  named_other (Numbered n) reads = none_other (existing (variable_of n)) (existing_other (variable_of n)) reads
+  named_other (Numbered n) reads =
+      none_other (existing (variable_in path.modal n)) (existing_other (variable_in path.modal n)) reads
   named_other (Computed tree) reads =
       alarm_behind (evaluated fixed path tree reads) _ (tree_other fixed path tree reads)
-      (λ value left. none_other (number_named (variable_number value))
-      (number_named_other (variable_number value) (variable_number_other value)) left)
+      (λ value left. none_other (number_named path.modal (variable_number value))
+      (number_named_other path.modal (variable_number value) (variable_number_other value)) left)
 
   offset_other : (slot : Slot) (to : Result Point OffsetFault) → IsOtherError offset_alarm to → (left : List Var)
       → IsOtherAlarm (written_path (with_offset path slot to) left)

@@ -16,6 +16,7 @@ use Rattle.block_order.specs.declared.label.Label.TheVariants as label
 use Rattle.block_order.specs.declared.program.ControlProgram.{ControlProgram}
 use Rattle.block_order.specs.Labels.{ahead, list, start}
 use Rattle.block_order.specs.Steps.{Step, IsPlace, standing, passed, Kept, KeepsLabels}
+use Rattle.run_records.specs.declared.edit.Edit.{Edit}
 use Rattle.path_state.specs.View.{PathView}
 use Rattle.path_state.specs.Statements.{Write as Written}
 use Rattle.path_state.specs.Effect.{Effect, Need, Done, AtWait, AtEnd}
@@ -23,7 +24,8 @@ use Rattle.path_state.specs.Effect as effect
 use Rattle.path_state.specs.Controlled.{GoesAsOrdered}
 use Rattle.two_path.specs.Machine.{Part, MachineView, own_first, opening}
 use Rattle.two_path.specs.Turns.{Blocks, Tapes, tape_of, result_at_wait, result_by, own_turn}
-use Rattle.two_path.specs.Histories.{Event, TurnOf, behind_event, run, is_idle}
+use Rattle.two_path.specs.Edits.{behind_edit_of, unless_alarm}
+use Rattle.two_path.specs.Histories.{Event, TurnOf, EditOf, behind_event, run, is_idle}
 use Rattle.two_path.specs.Stuck.{IsStuck, IsCrossed, RaisesNoCrossing, IsFree}
 use Rattle.two_path.proofs.Idle.{is_still, own_awake, own_still}
 
@@ -249,6 +251,28 @@ pub record IsLawfulPair (left right : List ControlProgram) (tapes : Tapes) : Typ
   pub second_raises : RaisesNoCrossing tapes.second
   pub equal : list left ≡ list right
 
+-- an edit leaves places and what the marks say of them
+edit_paired : (left right : List ControlProgram) (all : List Label) (m : MachineView) (edit : Edit) → IsPaired left right all m
+    → (p : Path) → IsPaired left right all (behind_edit_of p edit m)
+edit_paired left right all m edit k One = record {
+  sound = λ e. let s = k.sound e in record {
+    first = record { place = s.first.place; waits = s.first.waits; ends = s.first.ends };
+    second = record { place = s.second.place; waits = s.second.waits; ends = s.second.ends };
+    agree = s.agree;
+    one = s.one;
+  };
+  never = k.never;
+}
+edit_paired left right all m edit k Two = record {
+  sound = λ e. let s = k.sound e in record {
+    first = record { place = s.first.place; waits = s.first.waits; ends = s.first.ends };
+    second = record { place = s.second.place; waits = s.second.waits; ends = s.second.ends };
+    agree = s.agree;
+    one = s.one;
+  };
+  never = k.never;
+}
+
 event_paired : (left right : List ControlProgram) (tapes : Tapes) → IsLawfulPair left right tapes → (e : Event) (m : MachineView)
     → IsPaired left right (list left) m → IsPaired left right (list left) (behind_event tapes e m)
 event_paired left right tapes pair (TurnOf One) m k = turn_paired left right tapes.first pair.first_raises pair.first pair.second pair.first_led One m k
@@ -260,6 +284,11 @@ event_paired left right tapes pair (TurnOf Two) m k =
     turn_paired right left tapes.second pair.second_raises pair.second pair.first pair.second_led Two (own_first Two m) turned in
     subst (λ all. IsPaired left right all (own_first Two to)) (sym pair.equal)
     (paired_swap right left (list right) to done)
+event_paired left right tapes pair (EditOf p edit) m k = go m.alarm
+  where
+    go : (a : Option Alarm) → IsPaired left right (list left) (unless_alarm a m (behind_edit_of p edit m))
+    go (Some alarm) = k
+    go None = edit_paired left right (list left) m edit k p
 
 run_paired : (left right : List ControlProgram) (tapes : Tapes) → IsLawfulPair left right tapes → (es : List Event) (m : MachineView)
     → IsPaired left right (list left) m → IsPaired left right (list left) (run tapes m es)

@@ -1,14 +1,15 @@
 -- What a machine keeps over each record that is done again, in the parts that the code keeps.
-use Rattle.std.proofs.Common.{◌≡◌, List, Result, Ok, Err, IfOk, OnErr, sym, ap, subst}
+use Rattle.std.proofs.Common.{◌≡◌, List, Option, None, Result, Ok, Err, IfOk, OnErr, refl, sym, ap, subst, ◌∙◌}
 use Rattle.nc_number.specs.declared.path.Path.{Path}
 use Rattle.nc_number.specs.declared.path.Path.TheVariants.{One, Two}
 use Rattle.block_order.specs.declared.program.ControlProgram.{ControlProgram}
-use Rattle.run_records.specs.declared.entry.Entry.{Entry}
+use Rattle.run_records.specs.Entries.{Entry, edit_of}
 use Rattle.two_path.specs.declared.turn.Turn.{Turn}
 use Rattle.two_path.specs.Machine.{Part, MachineView, own_first, without_reads}
 use Rattle.two_path.specs.Turns.{Tapes, tape_of}
 use Rattle.two_path.specs.Joined.{JointView, machine_of, AreShared, AreAtTheirWaits}
 use Rattle.two_path.specs.Again.{AreReady, IsStepDone, IsStepRefused, IsDoneAgain, IsRefused}
+use Rattle.two_path.proofs.Edited.{behind_step_entry, turn_of_step, next_of_step, step_of_next}
 
 pub ready_of : (tape other_tape : List ControlProgram) (me other : Part) (joint : JointView) → AreShared me joint → AreShared other joint
     → AreAtTheirWaits tape other_tape (machine_of me other joint) → without_reads (machine_of me other joint) ≡ machine_of me other joint
@@ -40,33 +41,43 @@ pub bare_of : (tape other_tape : List ControlProgram) (me other : Part) (joint :
     → without_reads (machine_of me other joint) ≡ machine_of me other joint
 bare_of tape other_tape me other joint r = λ i. machine_of (r.my_reads i) (r.other_reads i) joint
 
--- the record of a path, done again in the path's own machine, is done again
-done_by : (tapes : Tapes) (p : Path) (entry : Entry) (before after : MachineView) (turn : Turn)
-    → IsStepDone (tape_of tapes p) p entry.kind entry.stamps (own_first p before) (own_first p after) turn
-    → IsDoneAgain tapes (record { path = p; kind = entry.kind; stamps = entry.stamps }) before after turn
-done_by tapes One entry before after turn s = record { legal = s.legal; machine = s.machine; answer = s.answer }
-done_by tapes Two entry before after turn s = record { legal = s.legal; machine = ap (own_first Two) (s.machine); answer = s.answer }
+-- the other way round twice
+twice : (p : Path) (m : MachineView) → own_first p (own_first p m) ≡ m
+twice One m = refl
+twice Two m = refl
 
-refused_by : (tapes : Tapes) (p : Path) (entry : Entry) (before after : MachineView)
-    → IsStepRefused (tape_of tapes p) p entry.kind entry.stamps (own_first p before) (own_first p after)
-    → IsRefused tapes (record { path = p; kind = entry.kind; stamps = entry.stamps }) before after
-refused_by tapes One entry before after s = record { illegal = s.illegal; unchanged = s.unchanged }
-refused_by tapes Two entry before after s = record { illegal = s.illegal; unchanged = ap (own_first Two) (s.unchanged) }
+-- the record of a step, done again in its path's own machine, is done again
+done_by : (tapes : Tapes) (e : Entry) (before after : MachineView) (turn : Turn) → edit_of e.kind ≡ None
+    → IsStepDone (tape_of tapes e.path) e.path e.kind e.stamps (own_first e.path before) (own_first e.path after) turn
+    → IsDoneAgain tapes e before after turn
+done_by tapes e before after turn step s = record {
+  legal = next_of_step tapes before e s.legal;
+  machine = sym (twice e.path after) ∙ ap (own_first e.path) s.machine ∙ sym (behind_step_entry tapes before e step);
+  answer = s.answer ∙ sym (turn_of_step tapes before e step);
+}
+
+refused_by : (tapes : Tapes) (e : Entry) (before after : MachineView) → edit_of e.kind ≡ None
+    → IsStepRefused (tape_of tapes e.path) e.path e.kind e.stamps (own_first e.path before) (own_first e.path after)
+    → IsRefused tapes e before after
+refused_by tapes e before after step s = record {
+  illegal = λ next. s.illegal (step_of_next tapes before e step next);
+  unchanged = sym (twice e.path after) ∙ ap (own_first e.path) s.unchanged ∙ twice e.path before;
+}
 
 pub done_in : {E : Type 0} (result : Result Turn E) (tapes : Tapes) (p : Path) (entry : Entry) (before after : MachineView) → entry.path ≡ p
+    → edit_of entry.kind ≡ None
     → IfOk result (λ turn. IsStepDone (tape_of tapes p) entry.path entry.kind entry.stamps (own_first p before) (own_first p after) turn)
     → IfOk result (λ turn. IsDoneAgain tapes entry before after turn)
-done_in (Ok turn) tapes p entry before after e s =
-    subst (λ q. IsDoneAgain tapes (record { path = q; kind = entry.kind; stamps = entry.stamps }) before after turn) (sym e)
-    (done_by tapes p entry before after turn
-    (subst (λ q. IsStepDone (tape_of tapes p) q entry.kind entry.stamps (own_first p before) (own_first p after) turn) e s))
-done_in (Err error) tapes p entry before after e s = tt
+done_in (Ok turn) tapes p entry before after e step s =
+    done_by tapes entry before after turn step
+    (subst (λ q. IsStepDone (tape_of tapes q) entry.path entry.kind entry.stamps (own_first q before) (own_first q after) turn) (sym e) s)
+done_in (Err error) tapes p entry before after e step s = tt
 
 pub refused_in : {E : Type 0} (result : Result Turn E) (tapes : Tapes) (p : Path) (entry : Entry) (before after : MachineView) → entry.path ≡ p
+    → edit_of entry.kind ≡ None
     → OnErr result (IsStepRefused (tape_of tapes p) entry.path entry.kind entry.stamps (own_first p before) (own_first p after))
     → OnErr result (IsRefused tapes entry before after)
-refused_in (Ok turn) tapes p entry before after e s = tt
-refused_in (Err error) tapes p entry before after e s =
-    subst (λ q. IsRefused tapes (record { path = q; kind = entry.kind; stamps = entry.stamps }) before after) (sym e)
-    (refused_by tapes p entry before after
-    (subst (λ q. IsStepRefused (tape_of tapes p) q entry.kind entry.stamps (own_first p before) (own_first p after)) e s))
+refused_in (Ok turn) tapes p entry before after e step s = tt
+refused_in (Err error) tapes p entry before after e step s =
+    refused_by tapes entry before after step
+    (subst (λ q. IsStepRefused (tape_of tapes q) entry.path entry.kind entry.stamps (own_first q before) (own_first q after)) (sym e) s)

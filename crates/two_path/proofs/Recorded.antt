@@ -1,16 +1,19 @@
 -- Whatever happens, the records are a legal history, whose fold is the machine but for block reads.
-use Rattle.std.proofs.Common.{◌≡◌, ℕ, Bool, true, false, ◌==◌, List, [], ◌∷◌, ◌++◌, Option, Some, None, refl, sym, ap, ◌∙◌, if◌then◌else◌}
+use Rattle.std.proofs.Common.{◌≡◌, ℕ, Bool, true, false, ◌==◌, List, [], ◌∷◌, ◌++◌, Option, Some, None, inl, inr, refl, sym, ap, ◌∙◌, if◌then◌else◌}
 use Rattle.nc_number.specs.declared.path.Path.{Path}
 use Rattle.nc_number.specs.declared.path.Path.TheVariants.{One, Two}
-use Rattle.run_records.specs.declared.entry.Entry.{Entry}
+use Rattle.nc_moves.specs.declared.alarm.Alarm.{Alarm}
+use Rattle.run_records.specs.Entries.{Entry}
 use Rattle.run_records.specs.declared.entry.EntryKind.{EntryKind}
 use Rattle.path_state.specs.Effect.{Effect, Need, Done, AtWait, AtEnd}
 use Rattle.path_state.specs.Effect as effect
 use Rattle.two_path.specs.declared.turn.Turn.TheVariants as turn
 use Rattle.two_path.specs.Machine.{MachineView, own_first, without_reads}
 use Rattle.two_path.specs.Turns.{Blocks, Tapes, result, behind_meeting, crossed_waits, alarm_result, result_at_wait, result_by, own_turn, kind_of, entry_with}
-use Rattle.two_path.specs.Histories.{Event, TurnOf, behind_event, list_of, records_of, run, history, with_values, IsStep, behind_step, behind_entry, IsNext, fold, IsLegal, IsLawful, AreLawful, IsHistory}
+use Rattle.two_path.specs.Edits.{behind_edit_of, edit_entry, unless_alarm}
+use Rattle.two_path.specs.Histories.{Event, TurnOf, EditOf, behind_event, list_of, records_of, run, history, with_values, IsStep, behind_step, behind_entry, IsNext, fold, IsLegal, IsLawful, AreLawful, IsHistory}
 use Rattle.two_path.proofs.Idle.{is_still, own_awake, own_still}
+use Rattle.two_path.proofs.Edited.{entry, step_no_edit, behind_step_entry}
 use Rattle.two_path.proofs.Lawful.{event_sound}
 
 -- the machine in which only the first path's block has read
@@ -90,18 +93,21 @@ turn_makes blocks path m l k e = go (is_still m) refl k e
 Makes : Tapes → MachineView → MachineView → Path → Option EntryKind → List ℕ → Type 0
 Makes tapes b to path None stamps = to ≡ b
 Makes tapes b to path (Some kind) stamps =
-    IsNext tapes b (record { path = path; kind = kind; stamps = stamps })
-    × (behind_entry tapes (record { path = path; kind = kind; stamps = stamps }) b ≡ to)
+    IsNext tapes b (entry path kind stamps) × (behind_entry tapes (entry path kind stamps) b ≡ to)
 
 makes_first : (tapes : Tapes) (b to : MachineView) (k : Option EntryKind) (ks : List ℕ) → MakesFirst tapes.first One b to k ks → Makes tapes b to One k ks
 unfolding Makes
 makes_first tapes b to None ks h = h
-makes_first tapes b to (Some k) ks h = h
+makes_first tapes b to (Some k) ks h =
+    (inl h.0, behind_step_entry tapes b (entry One k ks) (step_no_edit tapes.first One b k ks h.0) ∙ h.1)
 
 makes_second : (tapes : Tapes) (b to : MachineView) (k : Option EntryKind) (ks : List ℕ) → MakesFirst tapes.second Two (own_first Two b) to k ks → Makes tapes b (own_first Two to) Two k ks
 unfolding Makes
 makes_second tapes b to None ks h = ap (own_first Two) h
-makes_second tapes b to (Some k) ks h = (h.0, ap (own_first Two) h.1)
+makes_second tapes b to (Some k) ks h = (
+  inl h.0,
+  behind_step_entry tapes b (entry Two k ks) (step_no_edit tapes.second Two (own_first Two b) k ks h.0) ∙ ap (own_first Two) h.1,
+)
 
 joins : (tapes : Tapes) (b to end : MachineView) (p : Path) (k : Option EntryKind) (ks : List ℕ) (rs : List Entry) → Makes tapes b to p k ks
     → IsLegal tapes to rs → fold tapes to rs ≡ end
@@ -122,6 +128,22 @@ joins_event tapes m end (TurnOf Two) rs s =
     joins tapes (without_reads m) (without_reads (behind_event tapes (TurnOf Two) m)) end Two (kind_of (own_turn tapes.second Two o).turn) m.second.stamps rs
     (makes_second tapes (without_reads m) (without_reads (own_turn tapes.second Two o).machine) (kind_of (own_turn tapes.second Two o).turn) m.second.stamps
     (turn_makes tapes.second Two o s.second (kind_of (own_turn tapes.second Two o).turn) refl))
+joins_event tapes m end (EditOf p edit) rs s = go m.alarm refl
+  where
+    -- what was read before an edit is nothing behind it
+    bare : (p : Path) → behind_entry tapes (edit_entry p edit) (without_reads m) ≡ without_reads (behind_edit_of p edit m)
+    bare One = refl
+    bare Two = refl
+
+    go : (a : Option Alarm) → m.alarm ≡ a → IsLegal tapes (without_reads (unless_alarm a m (behind_edit_of p edit m))) rs
+        → fold tapes (without_reads (unless_alarm a m (behind_edit_of p edit m))) rs ≡ end
+        → IsLegal tapes (without_reads m) (unless_alarm a [] (edit_entry p edit ∷ []) ++ rs)
+        × (fold tapes (without_reads m) (unless_alarm a [] (edit_entry p edit ∷ []) ++ rs) ≡ end)
+    go (Some alarm) e legal folds = (legal, folds)
+    go None e legal folds = (
+      (inr (record { edit = edit; is = refl; calm = e }), rw (bare p) legal),
+      rw (bare p) folds,
+    )
 
 pub history_from : (tapes : Tapes) (m : MachineView) (es : List Event) → AreLawful tapes m → IsHistory tapes m es
 history_from tapes m [] s = record { legal = tt; folds = refl; lawful = s }

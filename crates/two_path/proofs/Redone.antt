@@ -1,10 +1,10 @@
 -- What a record that is done again comes to, and when it is legal.
-use Rattle.std.proofs.Common.{◌≡◌, ℕ, ◌+◌, ◌≤◌, ◌<◌, Bool, true, false, ◌==◌, List, [], ◌∷◌, length, drop, slice_index_or, Option, Some, None, Result, Ok, Err, OnOk, OnErr, refl, sym, ap, subst, ◌∙◌, arith}
+use Rattle.std.proofs.Common.{◌≡◌, ℕ, ◌+◌, ◌≤◌, ◌<◌, Bool, true, false, IsTrue, ◌==◌, List, [], ◌∷◌, length, drop, slice_index_or, Option, Some, None, Result, Ok, Err, OnOk, OnErr, refl, sym, ap, subst, ◌∙◌, arith}
 use Rattle.std.specs.Option.{option_eq}
 use Rattle.std.proofs.lemmas.List.{drop_more, drop_all}
 use Rattle.nc_number.specs.declared.path.Path.{Path}
 use Rattle.block_order.specs.declared.program.ControlProgram.{ControlProgram}
-use Rattle.run_records.specs.declared.entry.Entry.{Entry}
+use Rattle.run_records.specs.Entries.{Entry}
 use Rattle.run_records.specs.declared.entry.EntryKind.{EntryKind}
 use Rattle.run_records.specs.declared.entry.EntryKind.TheVariants.{Did, Arrived, Met, Ended, Alarmed}
 use Rattle.path_state.specs.View.{PathView}
@@ -27,21 +27,6 @@ use Rattle.two_path.proofs.Steady.{step_shared, step_waits}
 pub asked : (low count stamp : ℕ) (path : PathView) (reads : List Var) (e : Effect) (v : ℕ) → variable_due low count stamp e ≡ Some v → AsksForShared path reads e
     → (is_shared path.fixed v ≡ true) × (length reads < 32)
 asked low count stamp path reads e v due asks = subst (AsksForShared path reads) (due_some low count stamp e v due).2 asks
-
--- two kinds of which a test says that they differ
-pub differ : (same : EntryKind → EntryKind → Bool) → same Did Did ≡ true → same Arrived Arrived ≡ true → same Met Met ≡ true → same Ended Ended ≡ true
-    → same Alarmed Alarmed ≡ true → (o : Option EntryKind) (kind : EntryKind) → option_eq same o (Some kind) ≡ false → o ≡ Some kind → ⊥
-differ same did arrived met ended alarmed o kind e is =
-    let f : same kind kind ≡ false = subst (λ x. option_eq same x (Some kind) ≡ false) is e in
-    let t : same kind kind ≡ true = go kind in
-    cc
-  where
-    go : (kind : EntryKind) → same kind kind ≡ true
-    go Did = did
-    go Arrived = arrived
-    go Met = met
-    go Ended = ended
-    go Alarmed = alarmed
 
 -- in a loop over stamps: the one at this place, and those behind it
 stamp_at : (all : List ℕ) (i : ℕ) → i < length all → drop i all ≡ slice_index_or all i 0 ∷ drop (i + 1) all
@@ -236,3 +221,7 @@ ready_behind tape other_tape blocks led keeps path kind stamps me other me' othe
       my_reads = ap (λ (m : MachineView). m.first) bare;
       other_reads = ap (λ (m : MachineView). m.second) bare;
     }
+
+-- a test that holds, and does not
+pub not_due : (b : Bool) → IsTrue b → b ≡ false → ⊥
+not_due b is e = cc

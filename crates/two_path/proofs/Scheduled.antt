@@ -6,7 +6,8 @@ use Rattle.nc_number.specs.declared.path.Path.TheVariants.{One, Two}
 use Rattle.nc_number.specs.declared.value.Var.{Var}
 use Rattle.nc_moves.specs.declared.alarm.Alarm.{Alarm}
 use Rattle.common_vars.specs.declared.links.Write.{Write}
-use Rattle.run_records.specs.declared.entry.Entry.{Entry}
+use Rattle.run_records.specs.Entries.{Entry}
+use Rattle.run_records.specs.declared.edit.Edit.{Edit}
 use Rattle.run_records.specs.declared.entry.EntryKind.{EntryKind}
 use Rattle.path_state.specs.View.{PathView}
 use Rattle.path_state.specs.Statements.{Write as Written}
@@ -14,8 +15,10 @@ use Rattle.path_state.specs.Effect.{Effect, Need, Done, AtWait, AtEnd}
 use Rattle.path_state.specs.Effect as effect
 use Rattle.two_path.specs.Machine.{Part, MachineView, own_first, part_without_reads, without_reads, opening}
 use Rattle.two_path.specs.Turns.{Blocks, Tapes, tape_of, with_write, part_at, crossed_waits, result_at_wait, result_by, own_turn, kind_of}
-use Rattle.two_path.specs.Histories.{Event, TurnOf, behind_event, records_of, run, history, and_next, values_from, values_at, AsksFrom, AreInOrder, MayRead, with_values, with_reads, IsStep, behind_step, behind_entry, IsNext, fold, IsLegal, is_idle, IsLawful, AreLawful, IsReached, IsRun}
+use Rattle.two_path.specs.Edits.{behind_edit_of, edit_entry, unless_alarm}
+use Rattle.two_path.specs.Histories.{Event, TurnOf, EditOf, behind_event, records_of, run, history, and_next, values_from, values_at, AsksFrom, AreInOrder, MayRead, with_values, with_reads, IsStep, behind_step, behind_entry, IsNext, fold, IsLegal, is_idle, IsLawful, AreLawful, IsReached, IsRun}
 use Rattle.two_path.proofs.Idle.{is_still, own_awake, awake_of}
+use Rattle.two_path.proofs.Edited.{entry, calmly, step_no_edit, behind_step_entry, behind_edit_entry, entry_bare}
 use Rattle.two_path.proofs.Lawful.{next_written, values_written, values_push}
 
 -- a list from its end
@@ -345,9 +348,6 @@ extend_first tapes m n rs base ks ko r s = from_end
 step_ready : (blocks : Blocks) (path : Path) (m : MachineView) (k : EntryKind) (ks : List ℕ) → IsStep blocks path m k ks → Ready blocks m ks
 step_ready blocks path m k ks i = record { may = i.reads; idle = λ e. absurd (let awake : is_still m ≡ false = step_awake blocks path m k ks i in cc) }
 
-abbrev entry : Path → EntryKind → List ℕ → Entry
-entry p k ks = record { path = p; kind = k; stamps = ks }
-
 turned_first : (tapes : Tapes) (m n : MachineView) (rs : List Entry) (k : EntryKind) (ks : List ℕ) → Claim tapes m rs n → IsStep tapes.first One n k ks
     → Base tapes m (rs ++ entry One k ks ∷ []) (behind_step tapes.first One ks n)
 turned_first tapes m n rs k ks claim i ks' ko r s b b' =
@@ -372,10 +372,45 @@ turned_second tapes m n rs k ks claim i ko ks' s r b' b =
     (claim ko ks th.0 (step_ready a Two (own_first Two n) k ks i))
     (rw (step_kind a c Two (own_first Two n) k ks ko i) refl) (ap (own_first Two) th.1))
 
-base_of : (tapes : Tapes) (m n : MachineView) (rs : List Entry) (p : Path) (k : EntryKind) (ks : List ℕ) → Claim tapes m rs n
-    → IsNext tapes n (entry p k ks) → Base tapes m (rs ++ entry p k ks ∷ []) (behind_entry tapes (entry p k ks) n)
-base_of tapes m n rs One k ks claim i = turned_first tapes m n rs k ks claim i
-base_of tapes m n rs Two k ks claim i = turned_second tapes m n rs k ks claim i
+turned : (tapes : Tapes) (m n : MachineView) (rs : List Entry) (p : Path) (k : EntryKind) (ks : List ℕ) → Claim tapes m rs n
+    → IsStep (tape_of tapes p) p (own_first p n) k ks
+    → Base tapes m (rs ++ entry p k ks ∷ []) (own_first p (behind_step (tape_of tapes p) p ks (own_first p n)))
+turned tapes m n rs One k ks claim i = turned_first tapes m n rs k ks claim i
+turned tapes m n rs Two k ks claim i = turned_second tapes m n rs k ks claim i
+
+-- an edit forgets what was read: no read that counts behind it was made before it
+edited_base : (tapes : Tapes) (m n : MachineView) (rs : List Entry) (p : Path) (edit : Edit) → Claim tapes m rs n → n.alarm ≡ None
+    → Base tapes m (rs ++ edit_entry p edit ∷ []) (behind_edit_of p edit n)
+edited_base tapes m n rs p edit claim calm ks ko r s b b' =
+    let none = unread p r s b b' in
+    rw (none.0, none.1) (more tapes m (loaded tapes.first tapes.second [] [] n)
+    (loaded tapes.first tapes.second [] [] (behind_edit_of p edit n)) rs (EditOf p edit) (edit_entry p edit ∷ [])
+    (claim [] [] (ready_none tapes.first n) (ready_none tapes.second (own_first Two n)))
+    (calmly n.alarm [] (edit_entry p edit ∷ []) calm)
+    (calmly n.alarm (loaded tapes.first tapes.second [] [] n) (behind_edit_of p edit (loaded tapes.first tapes.second [] [] n)) calm ∙ same p))
+  where
+    unread : (p : Path) {ks ko : List ℕ} → Ready tapes.first (behind_edit_of p edit n) ks
+        → Ready tapes.second (own_first Two (behind_edit_of p edit n)) ko
+        → Below (behind_edit_of p edit n).count ks → Below (behind_edit_of p edit n).count ko → (ks ≡ []) × (ko ≡ [])
+    unread One r s b b' =
+        (order_none (n.count + 1) (n.count + 1) _ r.may.order b, order_none (n.count + 1) (n.count + 1) _ s.may.order b')
+    unread Two r s b b' =
+        (order_none (n.count + 1) (n.count + 1) _ r.may.order b, order_none (n.count + 1) (n.count + 1) _ s.may.order b')
+
+    same : (p : Path) → behind_edit_of p edit (loaded tapes.first tapes.second [] [] n)
+        ≡ loaded tapes.first tapes.second [] [] (behind_edit_of p edit n)
+    same One = refl
+    same Two = refl
+
+base_of : (tapes : Tapes) (m n : MachineView) (rs : List Entry) (e : Entry) → Claim tapes m rs n → IsNext tapes n e
+    → Base tapes m (rs ++ e ∷ []) (behind_entry tapes e n)
+base_of tapes m n rs e claim (inl i) =
+    let step = step_no_edit (tape_of tapes e.path) e.path (own_first e.path n) e.kind e.stamps i in
+    rw (behind_step_entry tapes n e step) (turned tapes m n rs e.path e.kind e.stamps claim i)
+base_of tapes m n rs e claim (inr i) =
+    rw (behind_edit_entry tapes n e i.edit i.is)
+    (subst (λ (x : Entry). Base tapes m (rs ++ x ∷ []) (behind_edit_of e.path i.edit n)) (sym i.is)
+    (edited_base tapes m n rs e.path i.edit claim i.calm))
 
 -- at the opening no read has been made
 base_none : (tapes : Tapes) (first second : PathView) → Base tapes (opening first second) [] (opening first second)
@@ -391,14 +426,7 @@ reached tapes first second =
     (λ legal. extend_first tapes m m [] (base_none tapes first second))
     (λ rs e rest legal. let l = legal_front tapes m rs e legal in
     extend_first tapes m (fold tapes m (rs ++ e ∷ [])) (rs ++ e ∷ [])
-    (rw (fold_push tapes m rs e) (base_of tapes m (fold tapes m rs) rs e.path e.kind e.stamps (rest l.0) l.1)))
-
-pub entry_bare : (tapes : Tapes) (e : Entry) (m : MachineView) → without_reads (behind_entry tapes e m) ≡ behind_entry tapes e m
-entry_bare tapes e m = go e.path
-  where
-    go : (p : Path) → without_reads (own_first p (behind_step (tape_of tapes p) p e.stamps (own_first p m))) ≡ own_first p (behind_step (tape_of tapes p) p e.stamps (own_first p m))
-    go One = refl
-    go Two = refl
+    (rw (fold_push tapes m rs e) (base_of tapes m (fold tapes m rs) rs e (rest l.0) l.1)))
 
 pub fold_bare : (tapes : Tapes) (m : MachineView) (rs : List Entry) → without_reads m ≡ m → without_reads (fold tapes m rs) ≡ fold tapes m rs
 fold_bare tapes m [] h = h

@@ -5,7 +5,7 @@ use Rattle.nc_moves.specs.declared.motion.Moves.{Moves}
 use Rattle.block_order.specs.declared.control.Control.TheVariants.{Wait}
 use Rattle.block_order.specs.declared.program.ControlProgram.{ControlProgram}
 use Rattle.block_order.specs.Steps.{standing}
-use Rattle.run_records.specs.declared.entry.Entry.{Entry}
+use Rattle.run_records.specs.Entries.{Entry}
 use Rattle.run_records.specs.declared.entry.EntryKind.{EntryKind}
 use Rattle.path_state.specs.declared.advance.Advance.{Advance}
 use Rattle.path_state.specs.declared.advance.Advance.TheVariants as advance

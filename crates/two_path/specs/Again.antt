@@ -1,6 +1,7 @@
 -- A record that is done again.
 use Rattle.std.specs.Prelude.{◌≡◌, ℕ, ◌==◌, ◌&&◌, nat_le, List, [], ◌∷◌, ◌++◌, Option, Some, None, if◌then◌else◌}
-use Rattle.run_records.specs.declared.entry.Entry.{Entry}
+use Rattle.run_records.specs.Entries.{Entry, edit_of}
+use Rattle.run_records.specs.declared.edit.Edit.{Edit}
 use Rattle.run_records.specs.declared.entry.EntryKind.{EntryKind}
 use Rattle.run_records.specs.declared.entry.EntryKind.TheVariants as kind
 use Rattle.nc_number.specs.declared.path.Path.{Path}
@@ -8,6 +9,7 @@ use Rattle.block_order.specs.declared.program.ControlProgram.{ControlProgram}
 use Rattle.path_state.specs.Effect.{Effect, Need, Done, AtWait, AtEnd}
 use Rattle.path_state.specs.Effect as effect
 use Rattle.two_path.specs.declared.turn.Turn.{Turn}
+use Rattle.two_path.specs.declared.turn.Turn.TheVariants as turn
 use Rattle.common_vars.specs.Writes.{value_after}
 use Rattle.two_path.specs.Machine.{Part, MachineView, own_first, part_without_reads}
 use Rattle.two_path.specs.Turns.{Blocks, Tapes, tape_of, own_turn}
@@ -81,12 +83,15 @@ pub record IsUnfit (blocks : Blocks) (entry : Entry) (other : Part) (joint : Joi
   pub illegal : IsStep blocks entry.path (machine_of before other joint) entry.kind entry.stamps → ⊥
   pub rest : part_without_reads after ≡ before
 
+-- what a record of the first path answers that is done again, which is an edit or has these stamps
+abbrev pub turn_by : Blocks → Path → Option Edit → List ℕ → MachineView → Turn
+turn_by blocks path (Some edit) stamps m = turn.Edited
+turn_by blocks path None stamps m = (own_turn blocks path (with_reads blocks stamps m)).turn
+
 -- what the turn of a record answers
 abbrev pub turn_of_entry : Tapes → Entry → MachineView → Turn
 turn_of_entry tapes entry m =
-    let own = own_first entry.path m in
-    let blocks = tape_of tapes entry.path in
-    (own_turn blocks entry.path (with_reads blocks entry.stamps own)).turn
+    turn_by (tape_of tapes entry.path) entry.path (edit_of entry.kind) entry.stamps (own_first entry.path m)
 
 -- the record is legal there, and was done: the turn's answer, and the machine behind it
 pub record IsDoneAgain (tapes : Tapes) (entry : Entry) (before after : MachineView) (turn : Turn) : Type 0 where

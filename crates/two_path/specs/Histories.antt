@@ -1,26 +1,34 @@
 -- Runs and histories: any list of events, the records of it, and which lists of records are legal.
-use Rattle.std.specs.Prelude.{◌≡◌, ℕ, ◌+◌, ◌≤◌, Bool, true, false, ◌||◌, List, [], ◌∷◌, ◌++◌, length, take, Option, Some, None, is_some, if◌then◌else◌}
+use Rattle.std.specs.Prelude.{◌≡◌, ℕ, ◌+◌, ◌≤◌, ◌⊎◌, Bool, true, false, ◌||◌, List, [], ◌∷◌, ◌++◌, length, take, map, Option, Some, None, is_some, if◌then◌else◌}
 use Rattle.nc_number.specs.declared.path.Path.{Path}
 use Rattle.nc_number.specs.declared.path.Path.TheVariants.{One, Two}
 use Rattle.nc_number.specs.declared.value.Var.{Var}
 use Rattle.nc_number.specs.declared.value.Var.TheVariants.{Vacant}
 use Rattle.common_vars.specs.declared.links.Write.{Write}
 use Rattle.common_vars.specs.Writes.{value_after}
-use Rattle.run_records.specs.declared.entry.Entry.{Entry}
+use Rattle.run_records.specs.Entries.{Entry, edit_of}
+use Rattle.run_records.specs.declared.edit.Edit.{Edit}
 use Rattle.run_records.specs.declared.entry.EntryKind.{EntryKind}
-use Rattle.run_records.specs.declared.entry.EntryKind.TheVariants.{Did, Arrived, Met, Ended, Alarmed}
+use Rattle.run_records.specs.declared.entry.EntryKind.TheVariants.{Did, Arrived, Met, Ended, Alarmed, Edited}
 use Rattle.path_state.specs.View.{PathView}
 use Rattle.path_state.specs.Effect.{Effect, Need}
 use Rattle.two_path.specs.Machine.{Part, MachineView, own_first, without_reads}
 use Rattle.two_path.specs.Turns.{Blocks, Tapes, tape_of, own_turn, turn_of, kind_of, entry_of}
+use Rattle.two_path.specs.Edits.{behind_edit, behind_edit_of, edit_entry, unless_alarm}
 
--- an event: a turn of a path
+-- an event: a turn of a path, or an operator's edit of one
 pub data Event : Type 0 where
   TurnOf : (path : Path) → Event
+  EditOf : (path : Path) (edit : Edit) → Event
+
+-- the turns of these paths, in order
+abbrev pub turns_of : List Path → List Event
+turns_of paths = map TurnOf paths
 
 -- the machine behind an event
 abbrev pub behind_event : Tapes → Event → MachineView → MachineView
 behind_event tapes (TurnOf path) m = (turn_of tapes path m).machine
+behind_event tapes (EditOf path edit) m = unless_alarm m.alarm m (behind_edit_of path edit m)
 
 abbrev pub list_of : Option Entry → List Entry
 list_of None = []
@@ -29,6 +37,7 @@ list_of (Some entry) = entry ∷ []
 -- the records of an event: one, or none
 abbrev pub records_of : Tapes → Event → MachineView → List Entry
 records_of tapes (TurnOf path) m = list_of (entry_of tapes path m)
+records_of tapes (EditOf path edit) m = unless_alarm m.alarm [] (edit_entry path edit ∷ [])
 
 -- the machine behind any list of events
 abbrev pub run : Tapes → MachineView → List Event → MachineView
@@ -71,7 +80,7 @@ AreInOrder lowest highest [] = Unit {0}
 AreInOrder lowest highest (stamp ∷ stamps) = (lowest ≤ stamp) × (stamp ≤ highest) × AreInOrder stamp highest stamps
 
 -- With these stamps the first path's block may have read up to now: none is from before the path came to the
--- block, and none is later than the last record.
+-- block or from before an edit, and none is later than the last record.
 pub record MayRead (blocks : Blocks) (m : MachineView) (stamps : List ℕ) : Type 0 where
   pub order : AreInOrder m.first.since m.count stamps
   pub asks : AsksFrom blocks m.first.path m.writes [] stamps
@@ -92,14 +101,26 @@ pub record IsStep (blocks : Blocks) (path : Path) (m : MachineView) (kind : Entr
 abbrev pub behind_step : Blocks → Path → List ℕ → MachineView → MachineView
 behind_step blocks path stamps m = without_reads (own_turn blocks path (with_reads blocks stamps m)).machine
 
+-- behind a record of the first path, which is an edit or has these stamps
+abbrev pub behind_own : Blocks → Path → Option Edit → List ℕ → MachineView → MachineView
+behind_own blocks path (Some edit) stamps m = behind_edit edit m
+behind_own blocks path None stamps m = behind_step blocks path stamps m
+
 -- behind a record
 abbrev pub behind_entry : Tapes → Entry → MachineView → MachineView
 behind_entry tapes entry m =
-    own_first entry.path (behind_step (tape_of tapes entry.path) entry.path entry.stamps (own_first entry.path m))
+    own_first entry.path (behind_own (tape_of tapes entry.path) entry.path (edit_of entry.kind) entry.stamps (own_first entry.path m))
 
--- the record is legal there: it is the machine's step with exactly its reads
+-- the record is an edit, which is legal wherever there is no alarm
+pub record IsEdit (m : MachineView) (entry : Entry) : Type 0 where
+  pub edit : Edit
+  pub is : entry ≡ edit_entry entry.path edit
+  pub calm : m.alarm ≡ None
+
+-- the record is legal there: it is the machine's step with exactly its reads, or an edit
 abbrev pub IsNext : Tapes → MachineView → Entry → Type 0
-IsNext tapes m entry = IsStep (tape_of tapes entry.path) entry.path (own_first entry.path m) entry.kind entry.stamps
+IsNext tapes m entry =
+    IsStep (tape_of tapes entry.path) entry.path (own_first entry.path m) entry.kind entry.stamps ⊎ IsEdit m entry
 
 -- the machine behind a history
 abbrev pub fold : Tapes → MachineView → List Entry → MachineView
@@ -152,22 +173,23 @@ is_same One Two = false
 is_same Two One = false
 is_same Two Two = true
 
--- a record of this path and kind brings that path to its next block
+-- a record of this path and kind brings that path to its next block, or back to its block, which then reads anew
 abbrev pub is_coming : Path → EntryKind → Path → Bool
 is_coming path Did to = is_same path to
 is_coming path Arrived to = false
 is_coming path Met to = true
 is_coming path Ended to = false
 is_coming path Alarmed to = false
+is_coming path (Edited edit) to = true
 
--- how many records there were just after the one by which the path came to its block, counted on from here
+-- how many records there were just after the one by which the path came to its block or its reads began anew, counted on from here
 abbrev pub came_from : ℕ → ℕ → Path → List Entry → ℕ
 came_from since count path [] = since
 came_from since count path (e ∷ entries) =
     came_from (if is_coming e.path e.kind path then count + 1 else since) (count + 1) path entries
 
--- What the fold of a history counts: its records, when each path came to its block, and what each variable held
--- after each number of records.
+-- What the fold of a history counts: its records, from which of them on each path's block may have read, and what each variable
+-- held after each number of records.
 pub record Counts (tapes : Tapes) (m : MachineView) (entries : List Entry) : Type 0 where
   pub count : (fold tapes m entries).count ≡ length entries
   pub first : (fold tapes m entries).first.since ≡ came_from 0 0 One entries

@@ -1,5 +1,6 @@
 pub mod Machine
 pub mod Turns
+pub mod Edits
 pub mod Histories
 pub mod Stuck
 pub mod Joined

@@ -5,9 +5,9 @@ use Rattle.nc_number.specs.declared.path.Path.{Path}
 use Rattle.nc_moves.specs.declared.motion.Move.{Move}
 use Rattle.nc_outside.specs.declared.lined_move.LinedMove.{LinedMove}
 use Rattle.nc_outside.specs.Lined.{lined}
-use Rattle.run_records.specs.declared.entry.Entry.{Entry}
+use Rattle.run_records.specs.Entries.{Entry}
 use Rattle.two_path.specs.declared.turn.Turn.{Turn}
-use Rattle.two_path.specs.declared.turn.Turn.TheVariants.{Read, Did, Arrived, Met, Ended, Waiting, Finished, Alarm, Halted}
+use Rattle.two_path.specs.declared.turn.Turn.TheVariants.{Read, Did, Arrived, Met, Ended, Waiting, Finished, Alarm, Halted, Edited}
 use Rattle.two_path.specs.Machine.{MachineView}
 use Rattle.two_path.specs.Turns.{Tapes}
 use Rattle.two_path.specs.Histories.{behind_entry, is_same}
@@ -24,6 +24,7 @@ moves_of_turn (Waiting code) = []
 moves_of_turn Finished = []
 moves_of_turn (Alarm alarm) = []
 moves_of_turn (Halted alarm) = []
+moves_of_turn Edited = []
 
 -- the same, each with the line of its block
 abbrev pub made_in : Turn → List LinedMove
@@ -36,6 +37,7 @@ made_in (Waiting code) = []
 made_in Finished = []
 made_in (Alarm alarm) = []
 made_in (Halted alarm) = []
+made_in Edited = []
 
 -- a turn, and whose it was
 pub record PathTurn : Type 0 where

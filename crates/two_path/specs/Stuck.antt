@@ -7,7 +7,7 @@ use Rattle.nc_number.specs.Causes.{cause_number}
 use Rattle.nc_moves.specs.declared.alarm.Alarm.{Alarm}
 use Rattle.block_order.specs.declared.program.ControlProgram.{ControlProgram}
 use Rattle.block_order.specs.Labels.{list, start, IsUnforked}
-use Rattle.run_records.specs.declared.entry.Entry.{Entry}
+use Rattle.run_records.specs.Entries.{Entry}
 use Rattle.tape_flow.specs.declared.flow.Flow.{Flow}
 use Rattle.path_state.specs.View.{PathView}
 use Rattle.path_state.specs.Effect.{AtWait}

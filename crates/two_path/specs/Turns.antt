@@ -12,7 +12,7 @@ use Rattle.common_vars.specs.declared.links.Write.{Write}
 use Rattle.common_vars.specs.Writes.{value_after}
 use Rattle.block_order.specs.declared.frame.Frame.{Frame}
 use Rattle.block_order.specs.Steps.{passed}
-use Rattle.run_records.specs.declared.entry.Entry.{Entry}
+use Rattle.run_records.specs.Entries.{Entry}
 use Rattle.run_records.specs.declared.entry.EntryKind.{EntryKind}
 use Rattle.run_records.specs.declared.entry.EntryKind.TheVariants as kind
 use Rattle.tape_flow.specs.declared.flow.Flow.{Flow}
@@ -172,6 +172,7 @@ kind_of (turn.Waiting code) = None
 kind_of turn.Finished = None
 kind_of (turn.Alarm alarm) = Some kind.Alarmed
 kind_of (turn.Halted alarm) = None
+kind_of turn.Edited = None
 
 abbrev pub entry_with : Path → List ℕ → Option EntryKind → Option Entry
 entry_with path stamps None = None

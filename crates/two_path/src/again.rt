@@ -1,6 +1,7 @@
 //! A record that is done again, over the path's own part, the other's, and what both have in common.
-ghost use Rattle.std.specs.Prelude.{◌≡◌, ◌≤◌, ◌<◌, ◌||◌, is_some, OnOk, OnErr, IfOk};
+ghost use Rattle.std.specs.Prelude.{◌≡◌, ◌≤◌, ◌<◌, ◌||◌, Some, None, is_some, IsTrue, OnOk, OnErr, IfOk};
 ghost use Rattle.motion_track.specs.Within.{AreMovesWithin};
+ghost use Rattle.run_records.specs.Entries.{edit_of};
 ghost use Rattle.path_state.specs.View.{PathView};
 ghost use Rattle.path_state.specs.Effect.{effect_of};
 ghost use Rattle.path_state.specs.Decisions.{decided};
@@ -105,6 +106,17 @@ fn kind_due(decision: &Decision, other: &Part) -> Option<EntryKind>
     }
 }
 
+/// Whether the record that is due is a step of this kind.
+fn is_due(due: Option<EntryKind>, kind: &EntryKind) -> bool
+    ensures due { IsTrue result → due ≡ Some kind.now }
+    ensures other { due ≡ Some kind.now → edit_of kind.now ≡ None → IsTrue result }
+{
+    match due {
+        Some(due) => due.is_same_step(kind),
+        None => false,
+    }
+}
+
 /// Whether a turn of the path would do nothing.
 fn is_still(me: &Part, joint: &Joint) -> bool
     ensures { result ≡ (is_some joint.now.alarm || is_idle me.now) }
@@ -122,6 +134,7 @@ fn fits(
 ) -> Result<Decision, Illegal>
     requires shared { AreShared me.old joint.now }
     requires no_reads { part_without_reads me.old ≡ me.old }
+    requires step { edit_of entry.now.kind ≡ None }
     ensures decided { IfOk result (IsDecided (blocks_of flow.now) me.new) }
     ensures fit { OnOk result (IsFit (blocks_of flow.now) entry.now other.now joint.now me.old me.new) }
     ensures refused { OnErr result (IsUnfit (blocks_of flow.now) entry.now other.now joint.now me.old me.new) }
@@ -131,14 +144,14 @@ fn fits(
     }
     read_all_again(me, joint, flow, entry.stamps.as_slice())?;
     let decision = me.decide(flow);
-    if kind_due(&decision, other) == Some(entry.kind) {
+    if is_due(kind_due(&decision, other), &entry.kind) {
         Ok(decision)
     } else {
         Err(Illegal)
     }
 }
 
-/// Does the record again: the path's block reads what its stamps stand for, is decided once, and is done.
+/// Does the record of a step again: the path's block reads what its stamps stand for, is decided once, and is done.
 pub(crate) fn do_again(
     me: &mut Part,
     other: &mut Part,
@@ -150,6 +163,7 @@ pub(crate) fn do_again(
     requires room { 0 < joint.old.shared.room }
     requires few { joint.old.count ≤ 4000000 }
     requires ready { AreReady flow.now.order other_flow.now.order me.old other.old joint.old }
+    requires step { edit_of entry.now.kind ≡ None }
     ensures done { IfOk result (λ turn. IsStepDone (blocks_of flow.now) entry.now.path entry.now.kind entry.now.stamps
         (machine_of me.old other.old joint.old) (machine_of me.new other.new joint.new) turn) }
     ensures refused { OnErr result (IsStepRefused (blocks_of flow.now) entry.now.path entry.now.kind entry.now.stamps

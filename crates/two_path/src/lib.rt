@@ -7,6 +7,7 @@
 #![tactic(auto)]
 
 mod again;
+mod editing;
 mod joint;
 mod laws;
 mod machine;

@@ -1,16 +1,20 @@
 //! The machine of two paths.
-ghost use Rattle.std.specs.Prelude.{◌≡◌, ◌≤◌, ◌<◌, ◌+◌, ◌↔◌, IsTrue, Some, None, IfOk, OnOk, OnErr};
+ghost use Rattle.std.specs.Prelude.{◌≡◌, ◌≤◌, ◌<◌, ◌+◌, ◌↔◌, IsTrue, List, Some, None, IfOk, OnOk, OnErr};
 ghost use Rattle.nc_number.specs.declared.path.Path.TheVariants as Path;
 ghost use Rattle.common_vars.specs.Writes.{IsShared, value_after};
+ghost use Rattle.block_order.specs.declared.program.ControlProgram.{ControlProgram};
 ghost use Rattle.motion_track.specs.Within.{AreMovesWithin};
 ghost use Rattle.path_state.specs.Opening.{opening_path};
 ghost use Rattle.two_path.specs.Machine.{opening, own_first, without_reads};
-ghost use Rattle.two_path.specs.Turns.{tapes_of, turn_of, entry_of};
+ghost use Rattle.two_path.specs.Turns.{Tapes, tapes_of, turn_of, entry_of};
+ghost use Rattle.run_records.specs.Entries.{edit_of};
+ghost use Rattle.two_path.specs.Edits.{behind_edit_of, edit_entry};
 ghost use Rattle.two_path.specs.Joined.{AreAtTheirWaits};
 ghost use Rattle.two_path.specs.Again.{IsDoneAgain, IsRefused};
 ghost use Rattle.two_path.specs.Made.{moves_of_turn};
 
 use crate::again::{Illegal, do_again};
+use crate::editing::set;
 use crate::joint::Joint;
 use crate::part::Part;
 use crate::turn::{Turn, Turned};
@@ -20,7 +24,7 @@ use motion_track::LONGEST;
 use nc_moves::Alarm;
 use nc_number::{NoMemory, Path, Var};
 use path_state::{PathState, control_goes_as_the_flow_orders};
-use run_records::Entry;
+use run_records::{Edit, Entry};
 use std::alloc::Global;
 use std::marker::Model;
 use tape_flow::Flow;
@@ -112,12 +116,91 @@ impl Machine {
         }
     }
 
-    /// Does the record again, and answers what its turn answered. It takes no memory.
+    /// An operator's edit of the path, which sets an offset or a common variable, and its record. It takes
+    /// no memory. Both paths' blocks read anew, what is there after it.
+    ///
+    /// It asks for room for a record, for fewer than 4,000,000 records, and that no alarm has stopped both
+    /// paths.
+    pub fn edit(&mut self, path: Path, what: &Edit) -> Entry
+        requires room { 0 < self.old.room }
+        requires few { self.old.machine.count < 4000000 }
+        requires calm { self.old.machine.alarm ≡ None }
+        ensures machine { self.new.machine ≡ behind_edit_of path what.now self.old.machine }
+        ensures entry { result ≡ edit_entry path what.now }
+        ensures room { self.old.machine.count + self.old.room ≤ self.new.machine.count + self.new.room }
+        ensures waits { (left right : List ControlProgram) → AreAtTheirWaits left right self.old.machine
+            → AreAtTheirWaits left right self.new.machine }
+    {
+        self.set(path, what);
+        Entry::of_edit(path, what)
+    }
+
+    /// Sets what the edit sets, by one record more.
+    fn set(&mut self, path: Path, what: &Edit)
+        requires room { 0 < self.old.room }
+        requires few { self.old.machine.count ≤ 4000000 }
+        ensures machine { self.new.machine ≡ behind_edit_of path what.now self.old.machine }
+        ensures room { self.old.machine.count + self.old.room ≤ self.new.machine.count + self.new.room }
+        ensures no_reads { without_reads self.new.machine ≡ self.new.machine }
+        ensures waits { (left right : List ControlProgram) → AreAtTheirWaits left right self.old.machine
+            → AreAtTheirWaits left right self.new.machine }
+    {
+        match path {
+            Path::One => set(&mut self.first, &mut self.second, &mut self.joint, what),
+            Path::Two => set(&mut self.second, &mut self.first, &mut self.joint, what),
+        }
+    }
+
+    /// Does the record again, and answers what its turn answered, or that it was an edit. It takes no
+    /// memory.
     ///
     /// It asks for room for a record, for at most 4,000,000 records, and for a machine whose blocks have
     /// read nothing. A record that can't follow those before it is illegal, and nothing changes. The moves
     /// are as far as those of a turn.
     pub fn apply(&mut self, left: &Flow, right: &Flow, entry: &Entry) -> Result<Turn, Illegal>
+        requires room { 0 < self.old.room }
+        requires few { self.old.machine.count ≤ 4000000 }
+        requires no_reads { without_reads self.old.machine ≡ self.old.machine }
+        requires waits { AreAtTheirWaits left.now.order right.now.order self.old.machine }
+        ensures done { IfOk result (λ turn. IsDoneAgain (tapes_of left.now right.now) entry.now
+            self.old.machine self.new.machine turn) }
+        ensures refused { OnErr result (IsRefused (tapes_of left.now right.now) entry.now
+            self.old.machine self.new.machine) }
+        ensures room { self.old.machine.count + self.old.room ≤ self.new.machine.count + self.new.room }
+        ensures no_reads { without_reads self.new.machine ≡ self.new.machine }
+        ensures waits { AreAtTheirWaits left.now.order right.now.order self.new.machine }
+        ensures moves { IfOk result (λ turn. AreMovesWithin LONGEST (moves_of_turn turn)) }
+    {
+        match entry.kind.edit() {
+            Some(what) => self.edit_again(entry, what),
+            None => self.step_again(left, right, entry),
+        }
+    }
+
+    /// Does the record of an edit again. It is illegal where an alarm has stopped both paths.
+    fn edit_again(&mut self, entry: &Entry, what: &Edit) -> Result<Turn, Illegal>
+        requires edit { edit_of entry.now.kind ≡ Some what.now }
+        requires room { 0 < self.old.room }
+        requires few { self.old.machine.count ≤ 4000000 }
+        ensures done { (tapes : Tapes) → IfOk result (λ turn. IsDoneAgain tapes entry.now self.old.machine self.new.machine turn) }
+        ensures refused { (tapes : Tapes) → OnErr result (IsRefused tapes entry.now self.old.machine self.new.machine) }
+        ensures room { self.old.machine.count + self.old.room ≤ self.new.machine.count + self.new.room }
+        ensures no_reads { without_reads self.old.machine ≡ self.old.machine
+            → without_reads self.new.machine ≡ self.new.machine }
+        ensures waits { (left right : List ControlProgram) → AreAtTheirWaits left right self.old.machine
+            → AreAtTheirWaits left right self.new.machine }
+        ensures moves { IfOk result (λ turn. AreMovesWithin LONGEST (moves_of_turn turn)) }
+    {
+        if self.joint.alarm().is_some() {
+            return Err(Illegal);
+        }
+        self.set(entry.path, what);
+        Ok(Turn::Edited)
+    }
+
+    /// Does the record of a path's step again.
+    fn step_again(&mut self, left: &Flow, right: &Flow, entry: &Entry) -> Result<Turn, Illegal>
+        requires step { edit_of entry.now.kind ≡ None }
         requires room { 0 < self.old.room }
         requires few { self.old.machine.count ≤ 4000000 }
         requires no_reads { without_reads self.old.machine ≡ self.old.machine }

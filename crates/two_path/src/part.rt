@@ -3,8 +3,10 @@ ghost use Rattle.std.specs.Prelude.{◌≡◌, ◌<◌, ℕ, [], ◌∷◌, ◌+
 ghost use Rattle.block_order.specs.declared.control.Control.TheVariants.{Wait};
 ghost use Rattle.block_order.specs.Steps.{standing};
 ghost use Rattle.path_state.specs.Decisions.{decided, MayTake};
+ghost use Rattle.path_state.specs.Edits.{edited};
 ghost use Rattle.path_state.specs.Effect.{effect_of};
 ghost use Rattle.path_state.specs.Fits.{HasFitWords};
+ghost use Rattle.run_records.specs.Entries.{edit_of};
 ghost use Rattle.two_path.specs.Machine.{opening_part, part_without_reads};
 ghost use Rattle.two_path.specs.Turns.{blocks_of, part_at, part_behind_wait};
 ghost use Rattle.two_path.specs.Joined.{IsDecided, HasTaken};
@@ -12,7 +14,7 @@ ghost use Rattle.two_path.specs.Joined.{IsDecided, HasTaken};
 use arrayvec::ArrayVec;
 use nc_number::{Path, Var};
 use path_state::{Advance, Decision, PathState};
-use run_records::{Entry, EntryKind, StampList};
+use run_records::{Edit, Entry, EntryKind, StampList};
 use std::marker::Model;
 use std::mem;
 use tape_flow::Flow;
@@ -85,7 +87,8 @@ impl Part {
         self.finished
     }
 
-    /// How many records there were just after the one by which it came to its block.
+    /// How many records there were just after the one by which it came to its block, or just after a
+    /// later edit.
     pub(crate) fn since(&self) -> u32
         ensures { result ≡ self.now.since }
     {
@@ -140,14 +143,11 @@ impl Part {
 
     /// The record of what its block did, with the stamps of its reads, which it forgets.
     pub(crate) fn entry(&mut self, path: Path, kind: EntryKind) -> Entry
+        requires step { edit_of kind ≡ None }
         ensures entry { result ≡ record { path = path; kind = kind; stamps = self.old.stamps } }
         ensures path { self.new ≡ part_without_reads self.old }
     {
-        Entry {
-            path,
-            kind,
-            stamps: self.forget(),
-        }
+        Entry::of_step(path, kind, self.forget())
     }
 
     /// It has come to its block by the last of so many records.
@@ -177,9 +177,24 @@ impl Part {
         ensures { self.new ≡ part_behind_wait since self.old }
     {
         self.path.pass_wait(flow);
+        self.read_anew(since);
+        self.waiting = None;
+    }
+
+    /// An operator's edit of the path, the last of so many records. Its block reads anew.
+    pub(crate) fn edit(&mut self, what: &Edit, since: u32)
+        ensures { self.new ≡ part_at (edited what.now self.old.path) since self.old }
+    {
+        self.path.edit(what);
+        self.read_anew(since);
+    }
+
+    /// Its block reads anew, from the last of so many records on.
+    pub(crate) fn read_anew(&mut self, since: u32)
+        ensures { self.new ≡ part_at self.old.path since self.old }
+    {
         self.values.clear();
         self.stamps = StampList::empty();
-        self.waiting = None;
         self.since = since;
     }
 }

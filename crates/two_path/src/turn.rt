@@ -23,6 +23,8 @@ pub enum Turn {
     Alarm { alarm: Alarm },
     /// An alarm has stopped both paths. Nothing happens.
     Halted { alarm: Alarm },
+    /// No turn of a block: an operator's edit was done again.
+    Edited,
 }
 
 /// A turn, and its record if it makes one.

@@ -1,4 +1,6 @@
-use Rattle.two_path.specs.Turns.{blocks_of}
+use Rattle.std.proofs.Common.{ap, ◌∙◌}
+use Rattle.run_records.specs.Entries.{Entry}
+use Rattle.two_path.specs.Turns.{blocks_of, block_turn}
 use Rattle.two_path.specs.Joined.{machine_of}
 use Rattle.two_path.proofs.Redone.{done, fit_shared, ready_behind}
 use Rattle.two_path.proofs.again.do_again.Goals as goal
@@ -11,14 +13,22 @@ returns-in-Ok-clause-ready c =
     c.args.joint.now c.settle.new.joint c.settle.result.turn
     (done (blocks_of c.args.flow.now) c.args.entry.now c.args.me.now c.fits.new.me c.args.other.now c.args.joint.now
     (machine_of c.settle.new.me c.settle.new.other c.settle.new.joint) c.settle.result.turn
-    c.in-Ok.ensures.fit c.requires.ready.other_reads (c.settle.ensures.machine c.fits.new.me c.take-answer.ensures) (c.settle.ensures.turn c.fits.new.me c.take-answer.ensures))
+    c.in-Ok.ensures.fit c.requires.ready.other_reads
+    (c.settle.ensures.machine c.fits.new.me c.take-answer.ensures
+    ∙ ap (λ (e : Entry). (block_turn (blocks_of c.args.flow.now) e.path (machine_of c.fits.new.me c.args.other.now c.args.joint.now)).machine) c.entry.view_is)
+    (c.settle.ensures.turn c.fits.new.me c.take-answer.ensures
+    ∙ ap (λ (e : Entry). (block_turn (blocks_of c.args.flow.now) e.path (machine_of c.fits.new.me c.args.other.now c.args.joint.now)).turn) c.entry.view_is))
     c.settle.ensures.lasting c.requires.ready
 
 pub returns-in-Ok-clause-done : goal.returns-in-Ok-clause-done
 returns-in-Ok-clause-done c =
     done (blocks_of c.args.flow.now) c.args.entry.now c.args.me.now c.fits.new.me c.args.other.now c.args.joint.now
     (machine_of c.settle.new.me c.settle.new.other c.settle.new.joint) c.settle.result.turn
-    c.in-Ok.ensures.fit c.requires.ready.other_reads (c.settle.ensures.machine c.fits.new.me c.take-answer.ensures) (c.settle.ensures.turn c.fits.new.me c.take-answer.ensures)
+    c.in-Ok.ensures.fit c.requires.ready.other_reads
+    (c.settle.ensures.machine c.fits.new.me c.take-answer.ensures
+    ∙ ap (λ (e : Entry). (block_turn (blocks_of c.args.flow.now) e.path (machine_of c.fits.new.me c.args.other.now c.args.joint.now)).machine) c.entry.view_is)
+    (c.settle.ensures.turn c.fits.new.me c.take-answer.ensures
+    ∙ ap (λ (e : Entry). (block_turn (blocks_of c.args.flow.now) e.path (machine_of c.fits.new.me c.args.other.now c.args.joint.now)).turn) c.entry.view_is)
 
 pub take-answer-requires : goal.take-answer-requires
 take-answer-requires c = c.in-Ok.ensures.decided

@@ -1,0 +1,33 @@
+-- An operator's edit of a path, and its record.
+use Rattle.std.specs.Prelude.{◌+◌, List, [], ◌∷◌, Option, Some, None}
+use Rattle.nc_number.specs.declared.path.Path.{Path}
+use Rattle.nc_moves.specs.declared.alarm.Alarm.{Alarm}
+use Rattle.run_records.specs.Entries.{Entry}
+use Rattle.run_records.specs.declared.edit.Edit.{Edit}
+use Rattle.run_records.specs.declared.entry.EntryKind.TheVariants as kind
+use Rattle.path_state.specs.Edits.{edited, shared_write}
+use Rattle.two_path.specs.Machine.{MachineView, own_first}
+use Rattle.two_path.specs.Turns.{part_at, with_write}
+
+-- Behind an edit of the first path: an offset or a variable of its own is set, or one that both paths share. What blocks had read
+-- is forgotten, and they read again, what is there after this record.
+abbrev pub behind_edit : Edit → MachineView → MachineView
+behind_edit edit m = record m {
+  first = part_at (edited edit m.first.path) (m.count + 1) m.first;
+  second = part_at m.second.path (m.count + 1) m.second;
+  writes = with_write (m.count + 1) (shared_write m.first.path.fixed edit) m.writes;
+  count = m.count + 1;
+}
+
+-- the same of either path
+abbrev pub behind_edit_of : Path → Edit → MachineView → MachineView
+behind_edit_of path edit m = own_first path (behind_edit edit (own_first path m))
+
+-- its record, which has no reads
+abbrev pub edit_entry : Path → Edit → Entry
+edit_entry path edit = record { path = path; kind = kind.Edited edit; stamps = [] }
+
+-- nothing happens once there is an alarm
+abbrev pub unless_alarm : {A : Type 0} → Option Alarm → A → A → A
+unless_alarm (Some alarm) still rest = still
+unless_alarm None still rest = rest
