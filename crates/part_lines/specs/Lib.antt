@@ -2,3 +2,4 @@ pub mod Least
 pub mod PartLines
 pub mod Lines
 pub mod Pieces
+pub mod Index

@@ -4,6 +4,8 @@
 //! What is looked for, a [`BlockLines`] tells: this crate knows of no variable.
 #![tactic(auto)]
 
+mod callers;
+mod index;
 mod known;
 mod least;
 mod lines;

@@ -1,51 +1,27 @@
 //! The least lines of a path: each program's once, joined by the calls.
 ghost use Rattle.std.specs.Prelude.{◌≡◌, ℕ, [], Some, None, Option, IfOk, IfSome, IfNone, OnOk};
-ghost use Rattle.std.specs.Option.{option_copied};
 ghost use Rattle.block_order.specs.declared.control.Control.TheVariants as Control;
 ghost use Rattle.block_order.specs.Labels.{IsUnforked};
-ghost use Rattle.block_order.specs.Order.{blocks, program_of};
 ghost use Rattle.part_lines.specs.PartLines.{AreLeastLines};
 ghost use Rattle.part_lines.specs.Pieces.{closed, quiet_known, AreKnown, IsReady, IsShort, IsShortCall, IsPiece, IsCallOf, IsTaken};
 
+use crate::index::TapeIndex;
 use crate::known::KnownPieces;
 use crate::least::earlier;
 use crate::lines::BlockLines;
 use crate::piece::{Ending, Piece, PieceLines};
 use crate::quiet::{QuietLines, quiet_lines};
-use block_order::{
-    BlockOrder, Control, ControlBlock, ControlProgram, MOST_CALLS,
-    a_tape_without_faults_is_unforked,
-};
+use block_order::{BlockOrder, Control, MOST_CALLS, a_tape_without_faults_is_unforked};
 use nc_number::NoMemory;
 use std::alloc::Global;
 
-fn program_of(programs: &[ControlProgram], number: u16) -> Option<&ControlProgram>
-    ensures { option_copied result ≡ program_of programs.now number }
-{
-    for program in programs {
-        if program.number == number {
-            return Some(program);
-        }
-    }
-    None
-}
-
-pub(crate) fn blocks_of(order: &BlockOrder, number: u16) -> &[ControlBlock]
-    ensures { result.now ≡ blocks order.now number }
-{
-    match program_of(order.as_slice(), number) {
-        Some(program) => program.blocks.as_slice(),
-        None => &[],
-    }
-}
-
 /// The loud program that a block calls at least once.
-fn loud_call(order: &BlockOrder, control: &Control) -> Option<u16>
-    ensures some { IfSome result (IsCallOf order.now control.now) }
-    ensures none { IfNone result ((program : ℕ) → IsCallOf order.now control.now program → ⊥) }
+fn loud_call(tape: &TapeIndex, control: &Control) -> Option<u16>
+    ensures some { IfSome result (IsCallOf tape.now control.now) }
+    ensures none { IfNone result ((program : ℕ) → IsCallOf tape.now control.now program → ⊥) }
 {
     match *control {
-        Control::Call { program, repeats } => if repeats > 0 && order.is_loud(program) {
+        Control::Call { program, repeats } => if repeats > 0 && tape.is_loud(program) {
             Some(program)
         } else {
             None
@@ -55,11 +31,11 @@ fn loud_call(order: &BlockOrder, control: &Control) -> Option<u16>
 }
 
 /// The same where the lines of that program are still to be made.
-fn unknown_call(order: &BlockOrder, known: &KnownPieces, control: &Control) -> Option<u16>
-    ensures some { IfSome result (IsCallOf order.now control.now) }
-    ensures none { IfNone result (IsReady order.now known.now control.now) }
+fn unknown_call(tape: &TapeIndex, known: &KnownPieces, control: &Control) -> Option<u16>
+    ensures some { IfSome result (IsCallOf tape.now control.now) }
+    ensures none { IfNone result (IsReady tape.now known.now control.now) }
 {
-    match loud_call(order, control) {
+    match loud_call(tape, control) {
         Some(program) => match known.get(program) {
             Some(_) => None,
             None => Some(program),
@@ -70,7 +46,7 @@ fn unknown_call(order: &BlockOrder, known: &KnownPieces, control: &Control) -> O
 
 /// Adds the lines of a call; how the calling program ends there, if it does.
 fn take_call<L: BlockLines>(
-    order: &BlockOrder,
+    tape: &TapeIndex,
     lines: &L,
     quiet: &QuietLines,
     known: &KnownPieces,
@@ -78,11 +54,11 @@ fn take_call<L: BlockLines>(
     program: u16,
     repeats: u16,
 ) -> Result<Option<Ending>, NoMemory>
-    requires known { AreKnown order.now (L.line lines.now) (quiet_known quiet.now) known.now }
-    requires ready { IsReady order.now known.now (Control.Call program repeats) }
-    ensures { IfOk result (IsTaken order.now (L.line lines.now) (quiet_known quiet.now) (Control.Call program repeats) own.old own.new) }
+    requires known { AreKnown tape.now (L.line lines.now) (quiet_known quiet.now) known.now }
+    requires ready { IsReady tape.now known.now (Control.Call program repeats) }
+    ensures { IfOk result (IsTaken tape.now (L.line lines.now) (quiet_known quiet.now) (Control.Call program repeats) own.old own.new) }
 {
-    if repeats == 0 || !order.is_loud(program) {
+    if repeats == 0 || !tape.is_loud(program) {
         return Ok(None);
     }
     match known.get(program) {
@@ -96,16 +72,16 @@ fn take_call<L: BlockLines>(
 
 /// Adds what comes behind a block to the lines of its program; how the program ends there, if it does.
 fn take_block<L: BlockLines>(
-    order: &BlockOrder,
+    tape: &TapeIndex,
     lines: &L,
     quiet: &QuietLines,
     known: &KnownPieces,
     own: &mut PieceLines,
     control: &Control,
 ) -> Result<Option<Ending>, NoMemory>
-    requires known { AreKnown order.now (L.line lines.now) (quiet_known quiet.now) known.now }
-    requires ready { IsReady order.now known.now control.now }
-    ensures { IfOk result (IsTaken order.now (L.line lines.now) (quiet_known quiet.now) control.now own.old own.new) }
+    requires known { AreKnown tape.now (L.line lines.now) (quiet_known quiet.now) known.now }
+    requires ready { IsReady tape.now known.now control.now }
+    ensures { IfOk result (IsTaken tape.now (L.line lines.now) (quiet_known quiet.now) control.now own.old own.new) }
 {
     match *control {
         Control::Wait(_) => {
@@ -115,7 +91,7 @@ fn take_block<L: BlockLines>(
         Control::End => Ok(Some(Ending::Stops)),
         Control::Back => Ok(Some(Ending::Returns)),
         Control::Call { program, repeats } => take_call(
-            order, lines, quiet, known, own, program, repeats,
+            tape, lines, quiet, known, own, program, repeats,
         ),
         _ => Ok(None),
     }
@@ -125,22 +101,22 @@ fn take_block<L: BlockLines>(
 #[cycle(calls)]
 fn learn_call<L: BlockLines>(
     alloc: Global,
-    order: &BlockOrder,
+    tape: &TapeIndex,
     lines: &L,
     quiet: &QuietLines,
     known: &mut KnownPieces,
     control: &Control,
     left: u8,
 ) -> Result<(), NoMemory>
-    requires known { AreKnown order.now (L.line lines.now) (quiet_known quiet.now) known.old }
-    requires short { IsShortCall order.now left control.now }
-    ensures known { OnOk result (AreKnown order.now (L.line lines.now) (quiet_known quiet.now) known.new) }
-    ensures ready { OnOk result (IsReady order.now known.new control.now) }
+    requires known { AreKnown tape.now (L.line lines.now) (quiet_known quiet.now) known.old }
+    requires short { IsShortCall tape.now left control.now }
+    ensures known { OnOk result (AreKnown tape.now (L.line lines.now) (quiet_known quiet.now) known.new) }
+    ensures ready { OnOk result (IsReady tape.now known.new control.now) }
 {
-    let Some(program) = unknown_call(order, known, control) else {
+    let Some(program) = unknown_call(tape, known, control) else {
         return Ok(());
     };
-    let piece = piece_of(alloc, order, lines, quiet, known, program, left)?;
+    let piece = piece_of(alloc, tape, lines, quiet, known, program, left)?;
     known.keep(program, piece)
 }
 
@@ -148,25 +124,25 @@ fn learn_call<L: BlockLines>(
 #[cycle(calls)]
 fn piece_of<L: BlockLines>(
     alloc: Global,
-    order: &BlockOrder,
+    tape: &TapeIndex,
     lines: &L,
     quiet: &QuietLines,
     known: &mut KnownPieces,
     number: u16,
     left: u8,
 ) -> Result<Piece, NoMemory>
-    requires known { AreKnown order.now (L.line lines.now) (quiet_known quiet.now) known.old }
-    requires short { IsShort order.now left number }
-    ensures known { OnOk result (AreKnown order.now (L.line lines.now) (quiet_known quiet.now) known.new) }
-    ensures piece { IfOk result (λ piece. IsPiece order.now (L.line lines.now) (quiet_known quiet.now) number piece.lines piece.ending) }
+    requires known { AreKnown tape.now (L.line lines.now) (quiet_known quiet.now) known.old }
+    requires short { IsShort tape.now left number }
+    ensures known { OnOk result (AreKnown tape.now (L.line lines.now) (quiet_known quiet.now) known.new) }
+    ensures piece { IfOk result (λ piece. IsPiece tape.now (L.line lines.now) (quiet_known quiet.now) number piece.lines piece.ending) }
 {
     let mut own = PieceLines::new(alloc);
-    let blocks = blocks_of(order, number);
+    let blocks = tape.blocks_of(number);
     for place in 0..blocks.len() {
         let block = &blocks[place];
-        learn_call(alloc, order, lines, quiet, known, &block.control, left - 1)?;
-        own.see(quiet.seen(order, lines.line(number, place), &block.control));
-        match take_block(order, lines, quiet, known, &mut own, &block.control)? {
+        learn_call(alloc, tape, lines, quiet, known, &block.control, left - 1)?;
+        own.see(quiet.seen(tape, lines.line(number, place), &block.control));
+        match take_block(tape, lines, quiet, known, &mut own, &block.control)? {
             Some(ending) => return Ok(Piece { lines: own, ending }),
             None => {}
         }
@@ -210,12 +186,13 @@ pub fn least_lines<L: BlockLines>(
     ensures { IfOk result (λ found. AreLeastLines order.now (L.line lines.now) found.items) }
 {
     is_unforked(order);
-    let quiet = quiet_lines(alloc, order, lines)?;
+    let tape = TapeIndex::of(alloc, order)?;
+    let quiet = quiet_lines(alloc, &tape, lines)?;
     let mut known = KnownPieces::new(alloc);
     let main = order.main();
     let piece = piece_of(
         alloc,
-        order,
+        &tape,
         lines,
         &quiet,
         &mut known,

@@ -10,10 +10,11 @@ ghost use Rattle.part_lines.specs.Least.{earlier};
 ghost use Rattle.part_lines.specs.Lines.{called_line, seen_line, LineFrom};
 ghost use Rattle.part_lines.specs.Pieces.{quiet_known, AreFound, AreQuietLines, IsBelow, IsClosed, IsClosedAt};
 
+use crate::callers::Callers;
+use crate::index::TapeIndex;
 use crate::least::earlier;
 use crate::lines::BlockLines;
-use crate::listing::blocks_of;
-use block_order::{BlockOrder, Control, ControlBlock};
+use block_order::Control;
 use indexmap::IndexMap;
 use nc_number::NoMemory;
 use std::alloc::Global;
@@ -49,16 +50,11 @@ impl QuietLines {
     }
 
     /// The line of a block, or of the quiet program that it calls.
-    pub(crate) fn seen(
-        &self,
-        order: &BlockOrder,
-        own: Option<u32>,
-        control: &Control,
-    ) -> Option<u32>
-        ensures { result ≡ seen_line (loud order.now) (quiet_known self.now) own control.now }
+    pub(crate) fn seen(&self, tape: &TapeIndex, own: Option<u32>, control: &Control) -> Option<u32>
+        ensures { result ≡ seen_line (loud tape.now) (quiet_known self.now) own control.now }
     {
         match *control {
-            Control::Call { program, .. } if !order.is_loud(program) => earlier(
+            Control::Call { program, .. } if !tape.is_loud(program) => earlier(
                 own,
                 self.get(program),
             ),
@@ -80,18 +76,18 @@ fn is_below(found: Option<u32>, line: Option<u32>) -> bool
 
 /// Whether no block of a program has or calls a line that is less than what was found.
 fn is_closed_at<L: BlockLines>(
-    order: &BlockOrder,
+    tape: &TapeIndex,
     lines: &L,
     found: &QuietLines,
     program: u16,
 ) -> bool
-    ensures { IsTrue result → IsClosedAt order.now (L.line lines.now) (quiet_known found.now) program }
+    ensures { IsTrue result → IsClosedAt tape.now (L.line lines.now) (quiet_known found.now) program }
 {
     let least = found.get(program);
-    let blocks = blocks_of(order, program);
+    let blocks = tape.blocks_of(program);
     for place in 0..blocks.len() {
         let block = &blocks[place];
-        let seen = found.seen(order, lines.line(program, place), &block.control);
+        let seen = found.seen(tape, lines.line(program, place), &block.control);
         if !is_below(least, seen) {
             return false;
         }
@@ -100,11 +96,11 @@ fn is_closed_at<L: BlockLines>(
 }
 
 /// Whether no line is less than what was found.
-fn is_closed<L: BlockLines>(order: &BlockOrder, lines: &L, found: &QuietLines) -> bool
-    ensures { IsTrue result → IsClosed order.now (L.line lines.now) (quiet_known found.now) }
+fn is_closed<L: BlockLines>(tape: &TapeIndex, lines: &L, found: &QuietLines) -> bool
+    ensures { IsTrue result → IsClosed tape.now (L.line lines.now) (quiet_known found.now) }
 {
-    for program in order.as_slice() {
-        if !is_closed_at(order, lines, found, program.number) {
+    for program in tape.programs() {
+        if !is_closed_at(tape, lines, found, program.number) {
             return false;
         }
     }
@@ -113,21 +109,21 @@ fn is_closed<L: BlockLines>(order: &BlockOrder, lines: &L, found: &QuietLines) -
 
 /// Lowers what was found of a program to the least line of its blocks and of what they call.
 fn lower<L: BlockLines>(
-    order: &BlockOrder,
+    tape: &TapeIndex,
     lines: &L,
     found: &mut QuietLines,
     program: u16,
 ) -> Result<(), NoMemory>
-    requires { AreFound order.now (L.line lines.now) (quiet_known found.old) }
-    ensures { OnOk result (AreFound order.now (L.line lines.now) (quiet_known found.new)) }
+    requires { AreFound tape.now (L.line lines.now) (quiet_known found.old) }
+    ensures { OnOk result (AreFound tape.now (L.line lines.now) (quiet_known found.new)) }
 {
     let mut least = found.get(program);
-    let blocks = blocks_of(order, program);
+    let blocks = tape.blocks_of(program);
     for place in 0..blocks.len() {
         let block = &blocks[place];
         least = earlier(
             least,
-            found.seen(order, lines.line(program, place), &block.control),
+            found.seen(tape, lines.line(program, place), &block.control),
         );
     }
     match least {
@@ -138,36 +134,112 @@ fn lower<L: BlockLines>(
 
 /// Lowers what was found of every program, from the last one to the first.
 fn lower_all<L: BlockLines>(
-    order: &BlockOrder,
+    tape: &TapeIndex,
     lines: &L,
     found: &mut QuietLines,
 ) -> Result<(), NoMemory>
-    requires { AreFound order.now (L.line lines.now) (quiet_known found.old) }
-    ensures { OnOk result (AreFound order.now (L.line lines.now) (quiet_known found.new)) }
+    requires { AreFound tape.now (L.line lines.now) (quiet_known found.old) }
+    ensures { OnOk result (AreFound tape.now (L.line lines.now) (quiet_known found.new)) }
 {
-    for program in order.as_slice().iter().rev() {
-        lower(order, lines, found, program.number)?;
+    for program in tape.programs().iter().rev() {
+        lower(tape, lines, found, program.number)?;
     }
     Ok(())
 }
 
-/// The least line of each program and of the quiet ones that are called from there.
-///
-/// Each round brings the lines a call further up, so there are no more rounds than programs. A round more
-/// would be refused as if memory ran out; none is needed.
-pub(crate) fn quiet_lines<L: BlockLines>(
+/// Lowers a program of which nothing was found so far. Whether something is found of it now.
+fn find<L: BlockLines>(
+    tape: &TapeIndex,
+    lines: &L,
+    found: &mut QuietLines,
+    program: u16,
+) -> Result<bool, NoMemory>
+    requires { AreFound tape.now (L.line lines.now) (quiet_known found.old) }
+    ensures { OnOk result (AreFound tape.now (L.line lines.now) (quiet_known found.new)) }
+{
+    if found.get(program).is_some() {
+        return Ok(false);
+    }
+    lower(tape, lines, found, program)?;
+    Ok(found.get(program).is_some())
+}
+
+/// The same of each of these programs. Those of which something is found only now are put behind the others.
+fn find_each<L: BlockLines>(
+    tape: &TapeIndex,
+    lines: &L,
+    found: &mut QuietLines,
+    these: &[u16],
+    fresh: &mut Vec<u16>,
+) -> Result<(), NoMemory>
+    requires { AreFound tape.now (L.line lines.now) (quiet_known found.old) }
+    ensures { OnOk result (AreFound tape.now (L.line lines.now) (quiet_known found.new)) }
+{
+    for program in these {
+        if find(tape, lines, found, *program)? {
+            fresh.push(*program)?;
+        }
+    }
+    Ok(())
+}
+
+/// Goes from the programs of which something was found last to those that call them, and so on.
+fn find_callers<L: BlockLines>(
+    tape: &TapeIndex,
+    lines: &L,
+    callers: &Callers,
+    found: &mut QuietLines,
+    fresh: &mut Vec<u16>,
+) -> Result<(), NoMemory>
+    requires { AreFound tape.now (L.line lines.now) (quiet_known found.old) }
+    ensures { OnOk result (AreFound tape.now (L.line lines.now) (quiet_known found.new)) }
+{
+    for _program in tape.programs() {
+        let Some(program) = fresh.pop() else {
+            return Ok(());
+        };
+        find_each(tape, lines, found, callers.of_program(program), fresh)?;
+    }
+    Ok(())
+}
+
+/// What is found program by program, as they stand in the text: of each all that call it are found before the
+/// next one. Where the lines rise along the text, the line by which a program is found is its least.
+fn found_in_order<L: BlockLines>(
     alloc: Global,
-    order: &BlockOrder,
+    tape: &TapeIndex,
     lines: &L,
 ) -> Result<QuietLines, NoMemory>
-    ensures { IfOk result (λ found. AreQuietLines order.now (L.line lines.now) (quiet_known found)) }
+    ensures { IfOk result (λ found. AreFound tape.now (L.line lines.now) (quiet_known found)) }
 {
+    let callers = Callers::of(alloc, tape)?;
     let mut found = QuietLines::new(alloc);
-    for _program in order.as_slice() {
-        lower_all(order, lines, &mut found)?;
-        if is_closed(order, lines, &found) {
+    let mut fresh: Vec<u16> = Vec::new(alloc);
+    for program in tape.programs() {
+        let number = program.number;
+        find_each(tape, lines, &mut found, &[number], &mut fresh)?;
+        find_callers(tape, lines, &callers, &mut found, &mut fresh)?;
+    }
+    Ok(found)
+}
+
+/// The least line of each program and of the quiet ones that are called from there.
+///
+/// What is found in the order of the text mostly is it. Else each round brings the lines a call further up, so
+/// there are fewer rounds than programs. A round more would be refused as if memory ran out; none is needed.
+pub(crate) fn quiet_lines<L: BlockLines>(
+    alloc: Global,
+    tape: &TapeIndex,
+    lines: &L,
+) -> Result<QuietLines, NoMemory>
+    ensures { IfOk result (λ found. AreQuietLines tape.now (L.line lines.now) (quiet_known found)) }
+{
+    let mut found = found_in_order(alloc, tape, lines)?;
+    for _program in tape.programs() {
+        if is_closed(tape, lines, &found) {
             return Ok(found);
         }
+        lower_all(tape, lines, &mut found)?;
     }
     Err(NoMemory)
 }

@@ -9,20 +9,20 @@ use Rattle.part_lines.proofs.listing.+calls.Goals as goal
 pub learn_call-returns-clause-ready : goal.learn_call-returns-clause-ready
 learn_call-returns-clause-ready g t c =
     on_ok _ _ c.keep.result
-    (λ kept. ready_by c.args.order.now c.keep.new.self c.args.control.now c.in-Some.program c.in_ok-piece.piece c.in-Some.ensures.some kept)
+    (λ kept. ready_by c.args.tape.now c.keep.new.self c.args.control.now c.in-Some.program c.in_ok-piece.piece c.in-Some.ensures.some kept)
     c.keep.ensures.kept
 
 pub piece_of-loop-place-init : goal.piece_of-loop-place-init
 piece_of-loop-place-init g t c = record {
   known = c.requires.known;
   so_far = rw (c.blocks_of-blocks.ensures)
-      (so_far_start c.args.order.now (g.L.BlockLines.line c.args.lines.now) (quiet_known c.args.quiet.now) c.args.number
+      (so_far_start c.args.tape.now (g.L.BlockLines.line c.args.lines.now) (quiet_known c.args.quiet.now) c.args.number
       c.new-own.result c.new-own.ensures);
 }
 
 pub piece_of-learn_call-requires : goal.piece_of-learn_call-requires
 piece_of-learn_call-requires g t c κs lives =
-    let order = c.args.order.now in
+    let order = c.args.tape.now in
     let line = g.L.BlockLines.line c.args.lines.now in
     let quiet = quiet_known c.args.quiet.now in
     let items = c.blocks_of-blocks.result.now in
@@ -43,7 +43,7 @@ piece_of-learn_call-requires g t c κs lives =
 
 pub piece_of-returns-in-Some-clause-piece : goal.piece_of-returns-in-Some-clause-piece
 piece_of-returns-in-Some-clause-piece g t c =
-    let order = c.args.order.now in
+    let order = c.args.tape.now in
     let line = g.L.BlockLines.line c.args.lines.now in
     let quiet = quiet_known c.args.quiet.now in
     let items = c.blocks_of-blocks.result.now in
@@ -59,7 +59,7 @@ piece_of-returns-in-Some-clause-piece g t c =
 
 pub piece_of-loop-place-preserved : goal.piece_of-loop-place-preserved
 piece_of-loop-place-preserved g t c =
-    let order = c.args.order.now in
+    let order = c.args.tape.now in
     let line = g.L.BlockLines.line c.args.lines.now in
     let quiet = quiet_known c.args.quiet.now in
     let items = c.blocks_of-blocks.result.now in
@@ -80,7 +80,7 @@ piece_of-loop-place-preserved g t c =
 
 pub piece_of-returns-clause-piece : goal.piece_of-returns-clause-piece
 piece_of-returns-clause-piece g t c =
-    let order = c.args.order.now in
+    let order = c.args.tape.now in
     let line = g.L.BlockLines.line c.args.lines.now in
     let quiet = quiet_known c.args.quiet.now in
     let items = c.blocks_of-blocks.result.now in

@@ -4,7 +4,7 @@ use Rattle.part_lines.proofs.listing.unknown_call.Goals as goal
 
 pub returns-in-Some-get-clause-none : goal.returns-in-Some-get-clause-none
 returns-in-Some-get-clause-none c =
-    ready_by c.args.order.now c.args.known.now c.args.control.now c.in-Some.program c.in-Some-get.field-0.now
+    ready_by c.args.tape.now c.args.known.now c.args.control.now c.in-Some.program c.in-Some-get.field-0.now
     c.in-Some.ensures.some (sym c.in-Some-get.ensures)
 
 pub returns-in-None-clause-none : goal.returns-in-None-clause-none

@@ -8,7 +8,7 @@ use Rattle.part_lines.proofs.quiet.is_closed_at.Goals as goal
 
 pub loop-place-preserved : goal.loop-place-preserved
 loop-place-preserved g c =
-    let order = c.args.order.now in
+    let order = c.args.tape.now in
     let quiet = quiet_known c.args.found.now in
     let items = c.blocks_of-blocks.result.now in
     let i = c.loop-place.place in
@@ -22,7 +22,7 @@ loop-place-preserved g c =
 
 pub returns : goal.returns
 returns g c is_true =
-    let order = c.args.order.now in
+    let order = c.args.tape.now in
     let quiet = quiet_known c.args.found.now in
     let items = c.blocks_of-blocks.result.now in
     let i = c.loop-place.place in

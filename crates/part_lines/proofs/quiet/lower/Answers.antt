@@ -9,7 +9,7 @@ use Rattle.part_lines.proofs.quiet.lower.Goals as goal
 
 pub loop-place-preserved : goal.loop-place-preserved
 loop-place-preserved g c k is =
-    let order = c.args.order.now in
+    let order = c.args.tape.now in
     let found = quiet_known c.args.found.now in
     let items = c.blocks_of-blocks.result.now in
     let i = c.loop-place.place in
@@ -24,7 +24,7 @@ loop-place-preserved g c k is =
     (λ e. seen_from order line found c.requires program i (get_or items i no_block).control here k (sym seen ∙ e))
   where
     go : (c.loop-place.least ≡ Some k) ⊎ (c.seen.result ≡ Some k)
-        → (c.seen.result ≡ Some k → LineFrom c.args.order.now (g.L.BlockLines.line c.args.lines.now) c.args.program k)
-        → LineFrom c.args.order.now (g.L.BlockLines.line c.args.lines.now) c.args.program k
+        → (c.seen.result ≡ Some k → LineFrom c.args.tape.now (g.L.BlockLines.line c.args.lines.now) c.args.program k)
+        → LineFrom c.args.tape.now (g.L.BlockLines.line c.args.lines.now) c.args.program k
     go (inl e) other = c.loop-place.invariant k e
     go (inr e) other = other e
