@@ -4,7 +4,8 @@ use Rattle.nc_number.specs.declared.path.Path.{Path}
 use Rattle.nc_number.specs.declared.path.Path.TheVariants.{One, Two}
 use Rattle.nc_number.specs.declared.value.Var.{Var}
 use Rattle.nc_moves.specs.declared.alarm.Alarm.{Alarm}
-use Rattle.run_records.specs.declared.entry.Entry.{Entry}
+use Rattle.run_records.specs.Entries.{Entry, edit_of}
+use Rattle.run_records.specs.declared.edit.Edit.{Edit}
 use Rattle.cell_settings.specs.declared.settings.Settings.{Settings}
 use Rattle.tape_flow.specs.declared.flow.Flow.{Flow}
 use Rattle.path_state.specs.View.{PathView}
@@ -13,7 +14,7 @@ use Rattle.path_state.specs.Effect as effect
 use Rattle.path_state.specs.Controlled.{KeepsFixed}
 use Rattle.two_path.specs.Machine.{MachineView, own_first}
 use Rattle.two_path.specs.Turns.{Blocks, Tapes, TurnResult, tape_of, tapes_of, result_by, result_at_wait, unless_idle, own_turn}
-use Rattle.two_path.specs.Histories.{with_reads, behind_step, behind_entry, fold}
+use Rattle.two_path.specs.Histories.{with_reads, behind_step, behind_own, behind_entry, fold}
 use Rattle.move_list.specs.Report.{machine_at_start}
 use Rattle.move_list.specs.State.{IsMachineOf, SharesAs}
 
@@ -61,19 +62,26 @@ step_keeps blocks path stamps m keep =
     let k = turn_keeps blocks path (with_reads blocks stamps m) keep in
     record { first = k.first; second = k.second }
 
-entry_keeps : (tapes : Tapes) (path : Path) (stamps : List ℕ) (m : MachineView) → KeepFixed tapes.first → KeepFixed tapes.second
+path_keeps : (tapes : Tapes) (path : Path) (stamps : List ℕ) (m : MachineView) → KeepFixed tapes.first → KeepFixed tapes.second
     → AreFixedAs (own_first path (behind_step (tape_of tapes path) path stamps (own_first path m))) m
-entry_keeps tapes One stamps m one two = step_keeps tapes.first One stamps m one
-entry_keeps tapes Two stamps m one two =
+path_keeps tapes One stamps m one two = step_keeps tapes.first One stamps m one
+path_keeps tapes Two stamps m one two =
     let k = step_keeps tapes.second Two stamps (own_first Two m) two in
     record { first = k.second; second = k.first }
+
+-- a record, which is an edit or has these stamps
+entry_keeps : (tapes : Tapes) (path : Path) (edit : Option Edit) (stamps : List ℕ) (m : MachineView) → KeepFixed tapes.first → KeepFixed tapes.second
+    → AreFixedAs (own_first path (behind_own (tape_of tapes path) path edit stamps (own_first path m))) m
+entry_keeps tapes path None stamps m one two = path_keeps tapes path stamps m one two
+entry_keeps tapes One (Some edit) stamps m one two = record { first = refl; second = refl }
+entry_keeps tapes Two (Some edit) stamps m one two = record { first = refl; second = refl }
 
 fold_keeps : (tapes : Tapes) (m : MachineView) (entries : List Entry) → KeepFixed tapes.first → KeepFixed tapes.second
     → AreFixedAs (fold tapes m entries) m
 fold_keeps tapes m [] one two = record { first = refl; second = refl }
 fold_keeps tapes m (e ∷ entries) one two =
     let rest = fold_keeps tapes (behind_entry tapes e m) entries one two in
-    let this = entry_keeps tapes e.path e.stamps m one two in
+    let this = entry_keeps tapes e.path (edit_of e.kind) e.stamps m one two in
     record { first = rest.first ∙ this.first; second = rest.second ∙ this.second }
 
 pub first_shares : (left right : Flow) (settings : Settings) (m : MachineView)

@@ -4,7 +4,7 @@ use Rattle.nc_number.specs.declared.path.Path.TheVariants.{One, Two}
 use Rattle.nc_outside.specs.declared.sink.PutFault.{PutFault}
 use Rattle.nc_outside.specs.Written.{SinkState}
 use Rattle.nc_verify.specs.Printed.{IsPut}
-use Rattle.run_records.specs.declared.entry.Entry.{Entry}
+use Rattle.run_records.specs.Entries.{Entry}
 use Rattle.two_path.specs.Machine.{MachineView}
 use Rattle.two_path.specs.Turns.{Tapes}
 use Rattle.nc_outside.specs.declared.lined_move.LinedMove.{LinedMove}

@@ -7,7 +7,7 @@ use Rattle.nc_outside.specs.declared.got.Got.TheVariants.{Placed, Moved}
 use Rattle.nc_outside.specs.declared.lined_move.LinedMove.{LinedMove}
 use Rattle.move_text.specs.MoveText.{placed_text}
 use Rattle.turret_lines.specs.Stream.{got_text, stream_of}
-use Rattle.run_records.specs.declared.entry.Entry.{Entry}
+use Rattle.run_records.specs.Entries.{Entry}
 use Rattle.two_path.specs.Histories.{behind_entry, fold}
 use Rattle.two_path.specs.Machine.{MachineView}
 use Rattle.two_path.specs.Turns.{Tapes}

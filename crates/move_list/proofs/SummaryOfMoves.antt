@@ -7,7 +7,7 @@ use Rattle.nc_outside.specs.Written.{SinkState}
 use Rattle.nc_verify.specs.Printed.{IsPut}
 use Rattle.cell_settings.specs.declared.settings.Settings.{Settings}
 use Rattle.tape_flow.specs.declared.flow.Flow.{Flow}
-use Rattle.run_records.specs.declared.entry.Entry.{Entry}
+use Rattle.run_records.specs.Entries.{Entry}
 use Rattle.two_path.specs.Machine.{MachineView}
 use Rattle.two_path.specs.Turns.{tapes_of}
 use Rattle.two_path.specs.Histories.{fold}

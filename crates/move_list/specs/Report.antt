@@ -8,7 +8,7 @@ use Rattle.move_text.specs.MoveText.{line_text}
 use Rattle.move_text.specs.Pieces.{path_name}
 use Rattle.cell_settings.specs.declared.settings.Settings.{Settings}
 use Rattle.tape_flow.specs.declared.flow.Flow.{Flow}
-use Rattle.run_records.specs.declared.entry.Entry.{Entry}
+use Rattle.run_records.specs.Entries.{Entry}
 use Rattle.path_state.specs.Opening.{opening_path}
 use Rattle.two_path.specs.Machine.{MachineView, opening}
 use Rattle.two_path.specs.Turns.{Tapes}

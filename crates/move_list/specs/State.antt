@@ -1,5 +1,5 @@
 -- The text of a machine: of each path where it stands and what it holds, then what both share.
-use Rattle.std.specs.Prelude.{◌≡◌, ℕ, ◌+◌, ◌-◌, ◌≤◌, ◌<◌, ◌==◌, Bool, ◌&&◌, if◌then◌else◌, List, [], ◌∷◌, ◌++◌, length, Option, Some, None, unwrap_or, unsigned_abs, codes, decimal}
+use Rattle.std.specs.Prelude.{◌≡◌, ℕ, ◌+◌, ◌-◌, ◌≤◌, ◌<◌, ◌==◌, Bool, ◌&&◌, if◌then◌else◌, List, [], ◌∷◌, ◌++◌, length, Option, Some, None, unsigned_abs, codes, decimal}
 use Rattle.std.specs.List.{flat_map}
 use Rattle.nc_number.specs.declared.path.Path.{Path}
 use Rattle.nc_number.specs.declared.path.Path.TheVariants.{One, Two}
@@ -8,13 +8,13 @@ use Rattle.nc_number.specs.declared.value.Var.{Var}
 use Rattle.nc_number.specs.declared.value.Var.TheVariants.{Vacant, Is}
 use Rattle.nc_number.specs.Printed.{value_text, last_digits}
 use Rattle.nc_moves.specs.declared.alarm.Alarm.{Alarm}
-use Rattle.code_tables.specs.declared.group.TheConstants.{MOTION_GROUP, SPINDLE_GROUP, FEED_GROUP, UNIT_GROUP, NOSE_GROUP, WORK_GROUP}
+use Rattle.code_tables.specs.declared.group.TheConstants.{MOTION_GROUP, SPINDLE_GROUP, ABSOLUTE_GROUP, FEED_GROUP, UNIT_GROUP, NOSE_GROUP, WORK_GROUP}
 use Rattle.common_vars.specs.Common.{value_of}
 use Rattle.common_vars.specs.Writes.{value_after}
 use Rattle.local_levels.specs.Stack.{local}
 use Rattle.modal_state.specs.Modal.{ModalView, code_of}
 use Rattle.offset_store.specs.Table.{offset_at}
-use Rattle.run_records.specs.declared.entry.Entry.{Entry}
+use Rattle.run_records.specs.Entries.{Entry}
 use Rattle.cell_settings.specs.declared.settings.Settings.{Settings}
 use Rattle.path_state.specs.View.{Fixed, PathView}
 use Rattle.path_state.specs.Looks.{is_shared}
@@ -62,15 +62,21 @@ unfoldable pub var_text : Var → List ℕ
 var_text Vacant = codes "vacant"
 var_text (Is value) = value_text value
 
--- the code in force of a modal group
-unfoldable pub group_text : ModalView → ℕ → List ℕ
-group_text modal group = codes " G" ++ code_text (unwrap_or (code_of modal group) 0)
+-- a code in force; a group that the system lacks has none
+unfoldable pub in_force_text : Option ℕ → List ℕ
+in_force_text None = []
+in_force_text (Some code) = codes " G" ++ code_text code
 
--- the codes in force of all modal groups
+-- the code in force of a modal group
+abbrev pub group_text : ModalView → ℕ → List ℕ
+group_text modal group = in_force_text (code_of modal group)
+
+-- the codes in force of all modal groups; system A has none of absolute and incremental words
 unfoldable pub groups_text : ModalView → List ℕ
 groups_text modal =
-    group_text modal MOTION_GROUP ++ group_text modal SPINDLE_GROUP ++ group_text modal FEED_GROUP
-    ++ group_text modal UNIT_GROUP ++ group_text modal NOSE_GROUP ++ group_text modal WORK_GROUP
+    group_text modal MOTION_GROUP ++ group_text modal SPINDLE_GROUP ++ group_text modal ABSOLUTE_GROUP
+    ++ group_text modal FEED_GROUP ++ group_text modal UNIT_GROUP ++ group_text modal NOSE_GROUP
+    ++ group_text modal WORK_GROUP
 
 unfoldable pub modal_text : ModalView → List ℕ
 modal_text modal = codes "modal" ++ groups_text modal ++ codes "\n"

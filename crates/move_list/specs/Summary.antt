@@ -8,9 +8,9 @@ use Rattle.nc_number.specs.Path.{number_of}
 use Rattle.cell_settings.specs.declared.settings.Settings.{Settings}
 use Rattle.tape_flow.specs.declared.flow.Flow.{Flow}
 use Rattle.tape_flow.specs.declared.program.FlowProgram.{FlowProgram}
-use Rattle.run_records.specs.declared.entry.Entry.{Entry}
+use Rattle.run_records.specs.Entries.{Entry}
 use Rattle.run_records.specs.declared.entry.EntryKind.{EntryKind}
-use Rattle.run_records.specs.declared.entry.EntryKind.TheVariants.{Did, Arrived, Met, Ended, Alarmed}
+use Rattle.run_records.specs.declared.entry.EntryKind.TheVariants.{Did, Arrived, Met, Ended, Alarmed, Edited}
 use Rattle.two_path.specs.Machine.{MachineView}
 use Rattle.two_path.specs.Turns.{Tapes, tapes_of}
 use Rattle.two_path.specs.Histories.{fold}
@@ -30,6 +30,7 @@ is_meeting Arrived = false
 is_meeting Met = true
 is_meeting Ended = false
 is_meeting Alarmed = false
+is_meeting (Edited edit) = false
 
 -- the records of meetings
 abbrev pub meetings_in : List Entry → List Entry

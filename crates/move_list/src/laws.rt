@@ -6,7 +6,7 @@ ghost use Rattle.nc_outside.specs.declared.got.Got.TheVariants.{Placed, Moved};
 ghost use Rattle.nc_outside.specs.declared.lined_move.LinedMove.{LinedMove};
 ghost use Rattle.move_text.specs.MoveText.{placed_text};
 ghost use Rattle.turret_lines.specs.Stream.{stream_of};
-ghost use Rattle.run_records.specs.declared.entry.Entry.{Entry};
+ghost use Rattle.run_records.specs.Entries.{Entry};
 ghost use Rattle.two_path.specs.Histories.{fold};
 ghost use Rattle.two_path.specs.Machine.{MachineView};
 ghost use Rattle.two_path.specs.Turns.{Tapes};

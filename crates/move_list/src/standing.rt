@@ -2,10 +2,12 @@
 //! many calls are open.
 ghost use Rattle.std.specs.Prelude.{◌≡◌, ◌+◌, ◌-◌, ◌≤◌, [], ◌++◌, length};
 ghost use Rattle.two_path.specs.Turns.{blocks_of};
-ghost use Rattle.move_list.specs.State.{depth_text, group_text, groups_text, modal_text, place_text, position_text, standing_of, var_text, words_text};
+ghost use Rattle.move_list.specs.State.{depth_text, group_text, groups_text, in_force_text, modal_text, place_text, position_text, standing_of, var_text, words_text};
 
 use crate::condition::{Condition, add_condition, condition_of};
-use code_tables::{FEED_GROUP, MOTION_GROUP, NOSE_GROUP, SPINDLE_GROUP, UNIT_GROUP, WORK_GROUP};
+use code_tables::{
+    ABSOLUTE_GROUP, FEED_GROUP, MOTION_GROUP, NOSE_GROUP, SPINDLE_GROUP, UNIT_GROUP, WORK_GROUP,
+};
 use modal_state::Modal;
 use move_text::Piece;
 use nc_number::{Path, Point, Var};
@@ -52,26 +54,41 @@ fn add_position(piece: &mut Piece, at: Point)
     piece.add(b"\n");
 }
 
+/// A code in force; a group that the system lacks has none.
+#[tactic(auto, unfolding(crate::specs::State::in_force_text))]
+fn add_in_force(piece: &mut Piece, code: Option<u16>)
+    requires { length piece.old + 23 ≤ 512 }
+    ensures text { piece.new ≡ piece.old ++ in_force_text code }
+    ensures size { length piece.new ≤ length piece.old + 23 }
+{
+    match code {
+        Some(code) => {
+            piece.add(b" G");
+            piece.add_code(code);
+        }
+        None => {}
+    }
+}
+
 /// The code in force of a modal group.
-#[tactic(auto, unfolding(crate::specs::State::group_text))]
 fn add_group(piece: &mut Piece, modal: &Modal, group: u8)
     requires { length piece.old + 23 ≤ 512 }
     ensures text { piece.new ≡ piece.old ++ group_text modal.now group }
     ensures size { length piece.new ≤ length piece.old + 23 }
 {
-    piece.add(b" G");
-    piece.add_code(modal.code(group).unwrap_or(0));
+    add_in_force(piece, modal.code(group));
 }
 
 /// The codes in force of all modal groups.
 #[tactic(auto, unfolding(crate::specs::State::groups_text))]
 fn add_groups(piece: &mut Piece, modal: &Modal)
-    requires { length piece.old + 138 ≤ 512 }
+    requires { length piece.old + 161 ≤ 512 }
     ensures text { piece.new ≡ piece.old ++ groups_text modal.now }
-    ensures size { length piece.new ≤ length piece.old + 138 }
+    ensures size { length piece.new ≤ length piece.old + 161 }
 {
     add_group(piece, modal, MOTION_GROUP);
     add_group(piece, modal, SPINDLE_GROUP);
+    add_group(piece, modal, ABSOLUTE_GROUP);
     add_group(piece, modal, FEED_GROUP);
     add_group(piece, modal, UNIT_GROUP);
     add_group(piece, modal, NOSE_GROUP);
@@ -81,9 +98,9 @@ fn add_groups(piece: &mut Piece, modal: &Modal)
 /// The line of what is in force.
 #[tactic(auto, unfolding(crate::specs::State::modal_text))]
 fn add_modal(piece: &mut Piece, modal: &Modal)
-    requires { length piece.old + 144 ≤ 512 }
+    requires { length piece.old + 167 ≤ 512 }
     ensures text { piece.new ≡ piece.old ++ modal_text modal.now }
-    ensures size { length piece.new ≤ length piece.old + 144 }
+    ensures size { length piece.new ≤ length piece.old + 167 }
 {
     piece.add(b"modal");
     add_groups(piece, modal);

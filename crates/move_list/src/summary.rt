@@ -38,6 +38,7 @@ fn is_meeting(entry: &Entry) -> bool
     match entry.kind {
         EntryKind::Met => true,
         EntryKind::Did | EntryKind::Arrived | EntryKind::Ended | EntryKind::Alarmed => false,
+        EntryKind::Edited(_) => false,
     }
 }
 

@@ -3,7 +3,7 @@ use Rattle.std.proofs.Common.{List, refl, sym, ap, subst, ◌∙◌}
 use Rattle.nc_number.specs.declared.path.Path.TheVariants.{One, Two}
 use Rattle.block_order.specs.Labels.{IsUnforked, list}
 use Rattle.tape_flow.specs.declared.flow.Flow.{Flow}
-use Rattle.run_records.specs.declared.entry.Entry.{Entry}
+use Rattle.run_records.specs.Entries.{Entry}
 use Rattle.path_state.specs.Controlled.{IsControlled}
 use Rattle.path_state.specs.Opening.{opening_path}
 use Rattle.two_path.specs.Histories.{Event, run}

@@ -1,18 +1,18 @@
 -- Over any stops and restarts the records are one history.
 use Rattle.std.proofs.Common.{◌≡◌, ℕ, zero, suc, ◌≤◌, List, [], ◌∷◌, ◌++◌, length, take, refl, sym, ap, subst, ◌∙◌, arith, append_assoc, append-nil}
-use Rattle.run_records.specs.declared.entry.Entry.{Entry}
+use Rattle.run_records.specs.Entries.{Entry}
 use Rattle.run_records.specs.declared.header.Header.{Header}
 use Rattle.run_journal.specs.Meaning.{a_run, StandsFor}
 use Rattle.two_path.specs.Machine.{MachineView, without_reads}
 use Rattle.two_path.specs.Turns.{Tapes}
 use Rattle.two_path.specs.Histories.{Event, behind_event, records_of, behind_entry, history, fold, IsLegal, IsNext, IsKept, Keeps, HistoriesAreRuns}
+use Rattle.two_path.proofs.Edited.{entry_bare}
 use Rattle.nc_verify.specs.declared.verified.Verified.{Verified}
 use Rattle.nc_restart.specs.Pair.{texts_of, tapes_in, opening_of, machine_behind}
 use Rattle.nc_restart.specs.History.{IsHistory}
 use Rattle.nc_restart.specs.Meaning.{HasHistory, StandsForRun}
 use Rattle.nc_restart.specs.Lives.{IsLife, LeaveEach, AreOneHistory}
 use Rattle.nc_restart.proofs.SamePair.{same_pair}
-use Rattle.nc_restart.proofs.Replays.{entry_bare}
 use Rattle.nc_restart.proofs.OneRun.{Below, history_same, one_run, header_of, entries_of}
 
 -- what is kept stays so over records that are done again, and over events

@@ -2,9 +2,9 @@
 use Rattle.std.proofs.Common.{◌≡◌, ◌⊎◌, inl, inr, ℕ, zero, suc, ◌≤◌, ◌<◌, List, [], ◌∷◌, ◌++◌, length, map, drop, get_or, refl, sym, ap, subst, ◌∙◌, arith, length-append}
 use Rattle.gate_file.specs.Chain.{Spells}
 use Rattle.run_records.specs.declared.bad_record.BadRecord.{BadRecord}
-use Rattle.run_records.specs.declared.entry.Entry.{Entry}
+use Rattle.run_records.specs.Entries.{Entry}
 use Rattle.run_records.specs.declared.header.Header.{Header}
-use Rattle.run_journal.specs.Batches.{bodies_of, IsRun}
+use Rattle.run_journal.specs.Batches.{Piece, bodies_of, IsRun}
 use Rattle.run_journal.specs.Meaning.{Meaning, no_run, cut_at, bad_at, a_run, StandsFor}
 use Rattle.cell_settings.specs.Cell.{Cell}
 use Rattle.cell_settings.specs.View.{view}
@@ -18,7 +18,7 @@ use Rattle.nc_verify.specs.Verdict.{Texts, AreAccepted, IsRefusalOf}
 use Rattle.nc_restart.specs.Pair.{texts_of, IsPairOf, tapes_in, opening_of, IsSamePair}
 use Rattle.nc_restart.specs.History.{IsHistory, MayFollow, IsOutOfPlace, illegal, beyond, IsOutOfPlaceAt}
 use Rattle.nc_restart.specs.Meaning.{HasHistory, places_in, IsBadReading, refused, out_of_place, IsBadRunAt, unread, misread, StandsForRun}
-use Rattle.nc_restart.proofs.Parted.{parted_before, parted_alike, first_alike, batches_alike}
+use Rattle.nc_restart.proofs.Parted.{parted_before, parted_alike, first_alike, pieces_alike}
 use Rattle.nc_restart.proofs.SamePair.{same_pair}
 
 -- a record of a legal history is the machine's step behind those before it
@@ -168,7 +168,7 @@ module _ (below : Below) where
       neither : (bad_at offset cause ≡ no_run) ⊎ ((o : ℕ) × (bad_at offset cause ≡ cut_at o)) → ⊥
       neither (inl e) = cc
       neither (inr e) = let same : bad_at offset cause ≡ cut_at e.0 = e.1 in cc
-  read_as offset cause image (misread header batches entries run spells bad) = (a_run header entries, (batches, run, spells), neither)
+  read_as offset cause image (misread header pieces entries run spells bad) = (a_run header entries, (pieces, run, spells), neither)
     where
       neither : (a_run header entries ≡ no_run) ⊎ ((o : ℕ) × (a_run header entries ≡ cut_at o)) → ⊥
       neither (inl e) = cc
@@ -189,36 +189,36 @@ module _ (below : Below) where
       let same : bad_at offset cause ≡ a_run header entries = below.one image (bad_at offset cause) (a_run header entries) bad run in
       cc
 
-  one_misreading : (image : List ℕ) (offset other : ℕ) (cause cause' : BadRecord) (header header' : Header) (batches batches' : List (List Entry))
-      (entries entries' : List Entry) → IsRun header batches entries → Spells (bodies_of header batches) image
-      → IsBadReading header entries (places_in header batches) offset cause → IsRun header' batches' entries'
-      → Spells (bodies_of header' batches') image → IsBadReading header' entries' (places_in header' batches') other cause'
+  one_misreading : (image : List ℕ) (offset other : ℕ) (cause cause' : BadRecord) (header header' : Header) (pieces pieces' : List Piece)
+      (entries entries' : List Entry) → IsRun header pieces entries → Spells (bodies_of header pieces) image
+      → IsBadReading header entries (places_in header pieces) offset cause → IsRun header' pieces' entries'
+      → Spells (bodies_of header' pieces') image → IsBadReading header' entries' (places_in header' pieces') other cause'
       → (offset ≡ other) × (cause ≡ cause')
-  one_misreading image offset other cause cause' header header' batches batches' entries entries' run spells bad run' spells' bad' =
-      let same = stands_one image header header' entries entries' (batches, run, spells) (batches', run', spells') in
-      let bytes = below.bodies image (bodies_of header batches) (bodies_of header' batches') spells spells' in
+  one_misreading image offset other cause cause' header header' pieces pieces' entries entries' run spells bad run' spells' bad' =
+      let same = stands_one image header header' entries entries' (pieces, run, spells) (pieces', run', spells') in
+      let bytes = below.bodies image (bodies_of header pieces) (bodies_of header' pieces') spells spells' in
       let records = sym run.joins ∙ same.1 ∙ run'.joins in
-      let alike = batches_alike batches batches' (ap (drop 1) bytes) records in
-      one_reading header' entries' (places_in header' batches') offset other cause cause'
-      (subst (λ (bs : List (List Entry)). IsBadReading header' entries' (places_in header' bs) offset cause) alike
-      (subst (λ (es : List Entry). IsBadReading header' es (places_in header' batches) offset cause) same.1
-      (subst (λ (h : Header). IsBadReading h entries (places_in h batches) offset cause) same.0 bad)))
+      let alike = pieces_alike header.version header'.version pieces pieces' run.are run'.are (ap (drop 1) bytes) records in
+      one_reading header' entries' (places_in header' pieces') offset other cause cause'
+      (subst (λ (ps : List Piece). IsBadReading header' entries' (places_in header' ps) offset cause) alike
+      (subst (λ (es : List Entry). IsBadReading header' es (places_in header' pieces) offset cause) same.1
+      (subst (λ (h : Header). IsBadReading h entries (places_in h pieces) offset cause) same.0 bad)))
       bad'
 
   one_bad : (image : List ℕ) (offset other : ℕ) (cause cause' : BadRecord) → IsBadRunAt offset cause image → IsBadRunAt other cause' image → bad_at offset cause ≡ bad_at other cause'
   one_bad image offset other cause cause' (unread bad) (unread bad') = below.one image (bad_at offset cause) (bad_at other cause') bad bad'
-  one_bad image offset other cause cause' (unread bad) (misread header batches entries run spells out) = absurd (unlike offset cause header entries image bad (batches, run, spells))
-  one_bad image offset other cause cause' (misread header batches entries run spells out) (unread bad) = absurd (unlike other cause' header entries image bad (batches, run, spells))
-  one_bad image offset other cause cause' (misread header batches entries run spells out) (misread header' batches' entries' run' spells' out') =
-      let both = one_misreading image offset other cause cause' header header' batches batches' entries entries' run spells out run' spells' out' in
+  one_bad image offset other cause cause' (unread bad) (misread header pieces entries run spells out) = absurd (unlike offset cause header entries image bad (pieces, run, spells))
+  one_bad image offset other cause cause' (misread header pieces entries run spells out) (unread bad) = absurd (unlike other cause' header entries image bad (pieces, run, spells))
+  one_bad image offset other cause cause' (misread header pieces entries run spells out) (misread header' pieces' entries' run' spells' out') =
+      let both = one_misreading image offset other cause cause' header header' pieces pieces' entries entries' run spells out run' spells' out' in
       λ i. bad_at (both.0 i) (both.1 i)
 
   run_not_bad : (image : List ℕ) (offset : ℕ) (cause : BadRecord) (header : Header) (entries : List Entry) → IsBadRunAt offset cause image
       → StandsForRun (a_run header entries) image → ⊥
   run_not_bad image offset cause header entries (unread bad) is = unlike offset cause header entries image bad is.0
-  run_not_bad image offset cause header entries (misread header' batches entries' run spells out) is =
-      let same = stands_one image header header' entries entries' is.0 (batches, run, spells) in
-      history_not_bad header' entries' (places_in header' batches) offset cause
+  run_not_bad image offset cause header entries (misread header' pieces entries' run spells out) is =
+      let same = stands_one image header header' entries entries' is.0 (pieces, run, spells) in
+      history_not_bad header' entries' (places_in header' pieces) offset cause
       (subst (λ (es : List Entry). HasHistory header' es) same.1 (subst (λ (h : Header). HasHistory h entries) same.0 is.1)) out
 
   pub one_run : (image : List ℕ) (a b : Meaning) → StandsForRun a image → StandsForRun b image → a ≡ b

@@ -1,7 +1,8 @@
--- Lists that are parted at a place: at an earlier one, at the same, in batches.
+-- Lists that are parted at a place: at an earlier one, at the same, in pieces.
 use Rattle.std.proofs.Common.{◌≡◌, ◌<◌, List, [], ◌∷◌, ◌++◌, length, map, drop, get_or, refl, sym, ap, arith}
-use Rattle.run_records.specs.declared.entry.Entry.{Entry}
-use Rattle.run_journal.specs.Batches.{batch_bytes, records_of}
+use Rattle.run_records.specs.declared.version.Version.{Version}
+use Rattle.run_records.specs.declared.version.Version.TheVariants.{Two}
+use Rattle.run_journal.specs.Batches.{Piece, a_batch, the_mark, batch_bytes, raising_mark, piece_bytes, records_of, ArePieces}
 
 same_first : {X : Type 0} (x y : X) (xs ys : List X) → x ∷ xs ≡ y ∷ ys → x ≡ y
 same_first x y xs ys same = ap (λ l. get_or l 0 x) same
@@ -29,15 +30,25 @@ parted_alike (w ∷ before) (z ∷ other) after rest same size =
 pub first_alike : {X : Type 0} (x y : X) (xs ys : List X) → x ∷ xs ≡ y ∷ ys → x ≡ y
 first_alike x y xs ys same = same_first x y xs ys same
 
--- batches with the same counts and the same records
-pub batches_alike : (batches others : List (List Entry)) → map batch_bytes batches ≡ map batch_bytes others
-    → records_of batches ≡ records_of others → batches ≡ others
-batches_alike [] [] bytes records = refl
-batches_alike [] (other ∷ others) bytes records = absurd (omega (arith, ap length bytes))
-batches_alike (batch ∷ batches) [] bytes records = absurd (omega (arith, ap length bytes))
-batches_alike (batch ∷ batches) (other ∷ others) bytes records =
-    let head : batch_bytes batch ≡ batch_bytes other = same_first (batch_bytes batch) (batch_bytes other) (map batch_bytes batches) (map batch_bytes others) bytes in
-    let count : length batch ≡ length other = ap (λ l. get_or l 0 0) head in
-    let parts = parted_alike batch other (records_of batches) (records_of others) records count in
-    let later = batches_alike batches others (ap (drop 1) bytes) parts.1 in
-    λ i. parts.0 i ∷ later i
+-- pieces with the same bytes and the same records: the count of a batch is no mark
+pub pieces_alike : (version other : Version) (pieces others : List Piece) → ArePieces version pieces → ArePieces other others
+    → map piece_bytes pieces ≡ map piece_bytes others → records_of pieces ≡ records_of others → pieces ≡ others
+pieces_alike version other [] [] are also bytes records = refl
+pieces_alike version other [] (q ∷ others) are also bytes records = absurd (omega (arith, ap length bytes))
+pieces_alike version other (p ∷ pieces) [] are also bytes records = absurd (omega (arith, ap length bytes))
+pieces_alike version other (a_batch batch ∷ pieces) (a_batch more ∷ others) are also bytes records =
+    let head : batch_bytes batch ≡ batch_bytes more = same_first (batch_bytes batch) (batch_bytes more) (map piece_bytes pieces) (map piece_bytes others) bytes in
+    let count : length batch ≡ length more = ap (λ l. get_or l 0 0) head in
+    let parts = parted_alike batch more (records_of pieces) (records_of others) records count in
+    let later = pieces_alike version other pieces others are.1 also.1 (ap (drop 1) bytes) parts.1 in
+    λ i. a_batch (parts.0 i) ∷ later i
+pieces_alike version other (a_batch batch ∷ pieces) (the_mark ∷ others) are also bytes records =
+    let head : batch_bytes batch ≡ raising_mark = same_first (batch_bytes batch) raising_mark (map piece_bytes pieces) (map piece_bytes others) bytes in
+    let count : length batch ≡ 255 = ap (λ l. get_or l 0 0) head in
+    absurd (omega (arith, count, are.0.few))
+pieces_alike version other (the_mark ∷ pieces) (a_batch more ∷ others) are also bytes records =
+    let head : raising_mark ≡ batch_bytes more = same_first raising_mark (batch_bytes more) (map piece_bytes pieces) (map piece_bytes others) bytes in
+    let count : 255 ≡ length more = ap (λ l. get_or l 0 0) head in
+    absurd (omega (arith, count, also.0.few))
+pieces_alike version other (the_mark ∷ pieces) (the_mark ∷ others) are also bytes records =
+    ap (λ l. the_mark ∷ l) (pieces_alike Two Two pieces others are.1 also.1 (ap (drop 1) bytes) records)

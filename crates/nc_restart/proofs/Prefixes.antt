@@ -1,7 +1,7 @@
 -- The first so many records of a history are one.
 use Rattle.std.proofs.Common.{ℕ, List, take, arith}
 use Rattle.std.proofs.lemmas.List.{length-take}
-use Rattle.run_records.specs.declared.entry.Entry.{Entry}
+use Rattle.run_records.specs.Entries.{Entry}
 use Rattle.run_records.specs.declared.header.Header.{Header}
 use Rattle.two_path.specs.Histories.{HistoriesAreRuns}
 use Rattle.nc_verify.specs.declared.verified.Verified.{Verified}

@@ -3,10 +3,11 @@ use Rattle.std.proofs.Common.{◌≡◌, ℕ, ◌+◌, ◌*◌, ◌≤◌, List,
 use Rattle.disk_model.specs.Device.{DiskState, Reads, Only, IsSettled}
 use Rattle.disk_model.specs.Moments.{Uses}
 use Rattle.gate_file.specs.Gate.{Keeps}
-use Rattle.run_records.specs.declared.entry.Entry.{Entry}
+use Rattle.run_records.specs.declared.version.Version.{Version}
+use Rattle.run_records.specs.declared.version.Version.TheVariants.{One, Two}
 use Rattle.run_journal.specs.declared.fault.JournalFault.{JournalFault}
 use Rattle.run_journal.specs.declared.fault.JournalFault.TheVariants as journal
-use Rattle.run_journal.specs.Batches.{bodies_of, records_of, AreBatches}
+use Rattle.run_journal.specs.Batches.{Piece, a_batch, the_mark, bodies_of, records_of, ArePieces}
 use Rattle.run_journal.specs.Stands.{Holds}
 use Rattle.run_journal.specs.Opening.{RefusesRun, Found, FindsRun}
 use Rattle.nc_verify.specs.declared.verified.Verified.{Verified}
@@ -18,11 +19,18 @@ use Rattle.nc_restart.specs.Meaning.{IsBadReading, unread, misread}
 use Rattle.nc_restart.specs.Reading.{RefusesReading}
 use Rattle.nc_restart.specs.Recovered.{fault_of, RefusesRecovery, Recovers}
 
--- each batch has a record
-few_batches : (batches : List (List Entry)) → AreBatches batches → length batches ≤ length (records_of batches)
-few_batches [] are = omega arith
-few_batches (batch ∷ batches) are =
-    omega (arith, few_batches batches are.1, are.0.some, length-append batch (records_of batches))
+-- each piece has a record, but for the one mark
+few_marked : (pieces : List Piece) → ArePieces Two pieces → length pieces ≤ length (records_of pieces)
+few_marked [] are = omega arith
+few_marked (a_batch batch ∷ pieces) are =
+    omega (arith, few_marked pieces are.1, are.0.some, length-append batch (records_of pieces))
+few_marked (the_mark ∷ pieces) are = absurd (let clash : Two ≡ One = are.0 in cc)
+
+few_pieces : (version : Version) (pieces : List Piece) → ArePieces version pieces → length pieces ≤ length (records_of pieces) + 1
+few_pieces version [] are = omega arith
+few_pieces version (a_batch batch ∷ pieces) are =
+    omega (arith, few_pieces version pieces are.1, are.0.some, length-append batch (records_of pieces))
+few_pieces version (the_mark ∷ pieces) are = omega (arith, few_marked pieces are.1)
 
 uses_more : (count more : ℕ) (old new : DiskState) → count ≤ more → Uses count 0 old new → Uses more 0 old new
 uses_more count more old new less uses = record {
@@ -86,21 +94,21 @@ module _ (old new : DiskState) (found : Found) (finds : FindsRun old new (Ok fou
   }
 
   -- where the disk tells its content now it did so before
-  pub held : (bytes : List ℕ) → Reads new bytes → Holds found.header found.entries new found.end
+  pub held : (bytes : List ℕ) → Reads new bytes → Holds found.header found.version found.entries new found.end
   held bytes reads =
       let is = finds.found in
-      (is.0, is.1.run, (is.1.file bytes (sym finds.unwritten.same ∙ reads)).1)
+      (is.0, is.1.run, is.1.version, (is.1.file bytes (sym finds.unwritten.same ∙ reads)).1)
 
   pub rebuilt : (pair : Verified) → IsPairOf (texts_of found.header) pair → IsHistory pair found.entries
       → Recovers old new (Ok (record { header = found.header; entries = found.entries }))
   rebuilt pair accepted history =
       let is = finds.found in
       let joined : length found.entries ≡ length (records_of is.0) = ap length is.1.run.joins in
-      let batches = few_batches is.0 is.1.run.are in
+      let pieces = few_pieces found.header.version is.0 is.1.run.are in
       record {
         found = record {
           means = λ bytes reads. ((is.0, is.1.run, (is.1.file bytes reads).0), record { pair = pair; accepted = accepted; history = history });
-          uses = uses_more (4 * (length is.0 + 2) + 4) (4 * length found.entries + 12) old new (omega (arith, joined, batches)) is.1.uses;
+          uses = uses_more (4 * (length is.0 + 2) + 4) (4 * length found.entries + 16) old new (omega (arith, joined, pieces)) is.1.uses;
         };
         refused = tt;
         later = finds.later;

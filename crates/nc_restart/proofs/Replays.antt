@@ -4,15 +4,14 @@ use Rattle.std.proofs.lemmas.List.{take_more, take_all, length-take-le, take-app
 use Rattle.std.proofs.Math.Seq.{drop-cons}
 use Rattle.run_records.specs.declared.bad_record.BadRecord.{BadRecord}
 use Rattle.run_records.specs.declared.bad_record.BadRecord.TheVariants.{NotLegal, TooManyRecords}
-use Rattle.run_records.specs.declared.entry.Entry.{Entry}
-use Rattle.nc_number.specs.declared.path.Path.{Path}
-use Rattle.nc_number.specs.declared.path.Path.TheVariants.{One, Two}
+use Rattle.run_records.specs.Entries.{Entry}
 use Rattle.two_path.specs.declared.turn.Turn.{Turn}
-use Rattle.two_path.specs.Machine.{MachineView, own_first, without_reads}
-use Rattle.two_path.specs.Turns.{Tapes, tape_of, own_turn}
-use Rattle.two_path.specs.Histories.{with_reads, behind_entry, fold, IsLegal, IsNext, Counts}
+use Rattle.two_path.specs.Machine.{MachineView, without_reads}
+use Rattle.two_path.specs.Turns.{Tapes}
+use Rattle.two_path.specs.Histories.{behind_entry, fold, IsLegal, IsNext, Counts}
 use Rattle.two_path.specs.Joined.{RoomyMachine, AreAtTheirWaits}
 use Rattle.two_path.specs.Again.{IsDoneAgain, IsRefused}
+use Rattle.two_path.proofs.Edited.{entry_bare}
 use Rattle.nc_verify.specs.declared.verified.Verified.{Verified}
 use Rattle.nc_restart.specs.Pair.{tapes_in, opening_of, machine_behind}
 use Rattle.nc_restart.specs.History.{IsBehind, IsOutOfPlace, illegal, beyond, IsOutOfPlaceAt}
@@ -26,16 +25,6 @@ legal_push : (tapes : Tapes) (m : MachineView) (entries : List Entry) (e : Entry
     → IsLegal tapes m (entries ++ e ∷ [])
 legal_push tapes m [] e legal next = (next, tt)
 legal_push tapes m (r ∷ entries) e legal next = (legal.0, legal_push tapes (behind_entry tapes r m) entries e legal.1 next)
-
--- behind a record no block has read anything
-bare_behind : (path : Path) (m : MachineView) → without_reads (own_first path (without_reads m)) ≡ own_first path (without_reads m)
-bare_behind One m = refl
-bare_behind Two m = refl
-
-pub entry_bare : (tapes : Tapes) (e : Entry) (m : MachineView) → without_reads (behind_entry tapes e m) ≡ behind_entry tapes e m
-entry_bare tapes e m =
-    let blocks = tape_of tapes e.path in
-    bare_behind e.path (own_turn blocks e.path (with_reads blocks e.stamps (own_first e.path m))).machine
 
 module _ (pair : Verified) (before : List Entry) (e : Entry) (m n : MachineView) (is : IsBehind pair before m) where
   pub next_illegal : IsRefused (tapes_in pair) e m n → IsOutOfPlace pair before e NotLegal

@@ -16,7 +16,7 @@ use Rattle.path_state.specs.View.{PathView}
 use Rattle.path_state.specs.Opening.{with_presets, point_of}
 use Rattle.two_path.specs.Machine.{opening}
 use Rattle.nc_verify.specs.declared.verified.Verified.{Verified}
-use Rattle.nc_verify.specs.Verdict.{Texts, IsFlowOf, AreAccepted, waits_in}
+use Rattle.nc_verify.specs.Verdict.{Texts, IsFlowOf, AreAccepted, dialect_in}
 use Rattle.nc_restart.specs.Pair.{IsPairOf, IsSamePair}
 use Rattle.nc_restart.proofs.Forms.{blocks_by, blocks_same}
 
@@ -27,7 +27,7 @@ opening_by order cell path = record {
   calls = [];
   levels = base_level ∷ [];
   own = none_written;
-  modal = opening_modal;
+  modal = opening_modal cell.system;
   offsets = with_presets path cell.presets no_offsets;
   position = point_of path cell.place;
   fixed = record { home = point_of path cell.home; shared100 = cell.shared100; shared500 = cell.shared500 };
@@ -38,7 +38,7 @@ one_tape : (cell : Cell) (path : Path) (text : List ℕ) (programs others : List
 one_tape cell path text programs others is also =
     let both : Ok is.tape ≡ Ok also.tape = sym is.reads ∙ also.reads in
     let tape : is.tape ≡ also.tape = cc in
-    let read : programs_read (waits_in cell) also.tape ≡ Ok programs = subst (λ t. programs_read (waits_in cell) t ≡ Ok programs) tape is.accepted.reads in
+    let read : programs_read (dialect_in cell) also.tape ≡ Ok programs = subst (λ t. programs_read (dialect_in cell) t ≡ Ok programs) tape is.accepted.reads in
     let twice : Ok programs ≡ Ok others = sym read ∙ also.accepted.reads in
     cc
 

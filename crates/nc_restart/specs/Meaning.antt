@@ -3,11 +3,11 @@ use Rattle.std.specs.Prelude.{ℕ, ◌+◌, List, length, get_or}
 use Rattle.gate_file.specs.Chain.{Spells, IsNoRun, IsCutAt}
 use Rattle.run_records.specs.declared.bad_record.BadRecord.{BadRecord}
 use Rattle.run_records.specs.declared.bad_record.BadRecord.TheVariants.{RefusedTapes}
-use Rattle.run_records.specs.declared.entry.Entry.{Entry}
+use Rattle.run_records.specs.Entries.{Entry}
 use Rattle.run_records.specs.declared.header.Header.{Header}
 use Rattle.run_records.specs.Headers.{header_bytes}
 use Rattle.run_journal.specs.Bad.{IsBadAt}
-use Rattle.run_journal.specs.Batches.{bodies_of, IsRun}
+use Rattle.run_journal.specs.Batches.{Piece, bodies_of, IsRun}
 use Rattle.run_journal.specs.Meaning.{Meaning, no_run, cut_at, bad_at, a_run}
 use Rattle.run_journal.specs.Places.{places}
 use Rattle.run_journal.specs.Stands.{Stands}
@@ -23,9 +23,9 @@ pub record HasHistory (header : Header) (entries : List Entry) : Type 0 where
   pub accepted : IsPairOf (texts_of header) pair
   pub history : IsHistory pair entries
 
--- where the records of these batches begin
-abbrev pub places_in : Header → List (List Entry) → List ℕ
-places_in header batches = places (5 + length (header_bytes header)) batches
+-- where the records of these pieces begin
+abbrev pub places_in : Header → List Piece → List ℕ
+places_in header pieces = places (5 + length (header_bytes header)) pieces
 
 -- Records of a header that were read are no run all the same: its texts are refused, or one of the records may not stand where it
 -- stands. The places are those where the records begin.
@@ -34,11 +34,11 @@ pub data IsBadReading (header : Header) (entries : List Entry) (begins : List �
   out_of_place : (pair : Verified) (index : ℕ) (cause : BadRecord) → IsPairOf (texts_of header) pair
       → IsOutOfPlaceAt pair entries index cause → IsBadReading header entries begins (get_or begins index 0) cause
 
--- The image stands for no run, for this cause at this offset: what it spells is no header and batches, or it is, and they are bad.
+-- The image stands for no run, for this cause at this offset: what it spells is no header and pieces, or it is, and they are bad.
 pub data IsBadRunAt (offset : ℕ) (cause : BadRecord) (image : List ℕ) : Type 0 where
   unread : IsBadAt offset cause image → IsBadRunAt offset cause image
-  misread : (header : Header) (batches : List (List Entry)) (entries : List Entry) → IsRun header batches entries
-      → Spells (bodies_of header batches) image → IsBadReading header entries (places_in header batches) offset cause
+  misread : (header : Header) (pieces : List Piece) (entries : List Entry) → IsRun header pieces entries
+      → Spells (bodies_of header pieces) image → IsBadReading header entries (places_in header pieces) offset cause
       → IsBadRunAt offset cause image
 
 -- what an image stands for, where the pair and its machine count too

@@ -1,7 +1,7 @@
 -- The pair of tapes that a run is made with, and its machine.
 use Rattle.std.specs.Prelude.{◌≡◌, List, map}
 use Rattle.nc_number.specs.declared.path.Path.TheVariants.{One, Two}
-use Rattle.run_records.specs.declared.entry.Entry.{Entry}
+use Rattle.run_records.specs.Entries.{Entry}
 use Rattle.run_records.specs.declared.header.Header.{Header}
 use Rattle.cell_settings.specs.View.{view}
 use Rattle.tape_flow.specs.Forms.{program_form}

@@ -1,6 +1,6 @@
 -- How the records that were read are done again.
 use Rattle.std.specs.Prelude.{ℕ, ◌+◌, ◌≤◌, List, length, take}
-use Rattle.run_records.specs.declared.entry.Entry.{Entry}
+use Rattle.run_records.specs.Entries.{Entry}
 use Rattle.run_records.specs.declared.header.Header.{Header}
 use Rattle.two_path.specs.Joined.{RoomyMachine}
 use Rattle.nc_verify.specs.declared.verified.Verified.{Verified}

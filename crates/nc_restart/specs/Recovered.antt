@@ -3,7 +3,7 @@ use Rattle.std.specs.Prelude.{◌≡◌, ℕ, ◌+◌, ◌*◌, ◌≤◌, List,
 use Rattle.disk_model.specs.Device.{DiskState, Reads, Rose, IsSettled}
 use Rattle.disk_model.specs.Moments.{Unwritten, Uses}
 use Rattle.gate_file.specs.Gate.{OpeningUses}
-use Rattle.run_records.specs.declared.entry.Entry.{Entry}
+use Rattle.run_records.specs.Entries.{Entry}
 use Rattle.run_records.specs.declared.header.Header.{Header}
 use Rattle.run_journal.specs.declared.fault.JournalFault.{JournalFault}
 use Rattle.run_journal.specs.declared.fault.JournalFault.TheVariants as journal
@@ -21,12 +21,13 @@ use Rattle.nc_restart.specs.Meaning.{StandsForRun}
 
 -- The parts of one recovery: the texts of the header are accepted, and this is their pair; the machine stands behind the records, which
 -- are a history of it; the journal may be written, has as many records, and none of them is to be written; and where the disk tells
--- its content, it holds them all.
+-- its content, it holds them all, in a journal of the version that it has by now.
 pub record IsRecovered {D : Type 0} (state : D → DiskState) (header : Header) (pair : Verified) (machine : MachineView) (entries : List Entry) (log : Log D) : Type 0 where
   pub accepted : IsPairOf (texts_of header) pair
   pub behind : IsBehind pair entries machine
   pub fresh : IsFresh (length entries) log
-  pub holds : (bytes : List ℕ) → Reads (state log.file.disk) bytes → Holds header entries (state log.file.disk) log.file.end
+  pub holds : (bytes : List ℕ) → Reads (state log.file.disk) bytes
+      → Holds header log.version entries (state log.file.disk) log.file.end
 
 -- a recovery is refused as the opening of its journal is
 abbrev pub fault_of : JournalFault → RestartFault
@@ -53,10 +54,10 @@ pub record FoundRun : Type 0 where
   pub header : Header
   pub entries : List Entry
 
--- the file stands for what was found
+-- The file stands for what was found. It is read body by body: the header, the records, and the mark where the journal was raised.
 pub record IsFoundRun (old new : DiskState) (found : FoundRun) : Type 0 where
   pub means : (bytes : List ℕ) → Reads old bytes → StandsForRun (a_run found.header found.entries) bytes
-  pub uses : Uses (4 * length found.entries + 12) 0 old new
+  pub uses : Uses (4 * length found.entries + 16) 0 old new
 
 -- the answer is a fault of the disk
 abbrev pub IsDiskFault : {A : Type 0} → Result A RestartFault → Type 0

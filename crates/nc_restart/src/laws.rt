@@ -1,6 +1,6 @@
 //! What holds of every run, for the crates above: who calls the function has the law.
 ghost use Rattle.std.specs.Prelude.{◌≡◌, List, ℕ, take};
-ghost use Rattle.run_records.specs.declared.entry.Entry.{Entry};
+ghost use Rattle.run_records.specs.Entries.{Entry};
 ghost use Rattle.run_records.specs.declared.header.Header.{Header};
 ghost use Rattle.run_journal.specs.Meaning.{Meaning, a_run};
 ghost use Rattle.run_journal.specs.Stands.{Stands};

@@ -1,6 +1,6 @@
 //! The pair of a run, from the texts in its header.
 ghost use Rattle.std.specs.Prelude.{List, ℕ, IfOk, IfErr};
-ghost use Rattle.run_records.specs.declared.entry.Entry.{Entry};
+ghost use Rattle.run_records.specs.Entries.{Entry};
 ghost use Rattle.run_records.specs.Headers.{IsShort};
 ghost use Rattle.nc_restart.specs.Pair.{texts_of, IsPairOf};
 ghost use Rattle.nc_restart.specs.Reading.{RefusesReading};

@@ -1,6 +1,6 @@
 //! How the records of a run are done again.
 ghost use Rattle.std.specs.Prelude.{◌≡◌, ◌≤◌, ◌<◌, ◌+◌, ◌++◌, [], ◌∷◌, List, length, OnOk, IfErr};
-ghost use Rattle.run_records.specs.declared.entry.Entry.{Entry};
+ghost use Rattle.run_records.specs.Entries.{Entry};
 ghost use Rattle.two_path.specs.Joined.{AreAtTheirWaits};
 ghost use Rattle.two_path.specs.Machine.{without_reads};
 ghost use Rattle.nc_restart.specs.Pair.{opening_of};

@@ -1,34 +1,69 @@
-//! A journal in batches of one record and of three, stopped behind each call of its disk: what is recovered.
+//! A journal in batches of one record and of three, with an edit, stopped behind each call of its disk: what is recovered.
+ghost use Rattle.std.specs.Prelude.{◌≡◌, None};
+ghost use Rattle.run_records.specs.Entries.{edit_of};
 ghost use Rattle.run_records.specs.Headers.{IsShort};
 
 use crate::run::recovered;
 use crate::step_rows::header_of_blocks;
+use common_vars::CommonNumber;
 use disk_model::{Crash, Disk, FuseDisk, MemoryDisk};
-use nc_number::Path;
+use nc_number::{Path, Value, Var};
 use run_journal::Journal;
-use run_records::{Entry, EntryKind, Header, StampList};
+use run_records::{Edit, Entry, EntryKind, Header, StampList, Version};
 use std::alloc::Global;
 use std::test::Fail;
 
-/// Behind how many calls the disk stops, and what is recovered behind a crash that keeps what was written, one that loses it, and one
-/// that fills it. The beginning makes 8 calls, and each flush 4: a write, a sync, a write of the gate, and a sync.
+/// The version of the journal, behind how many calls the disk stops, and what is recovered behind a crash that keeps what was written,
+/// one that loses it, and one that fills it. The beginning makes 8 calls, and each flush 4: a write, a sync, a write of the gate, and
+/// a sync. So does the mark that raises version 1, which changes no history.
 const ROWS: &str = "\
-0|no run|no run|no run
-7||no run|
-10|||
-11|1 did 0||1 did 0
-13|1 did 0|1 did 0|1 did 0
-15|1 did 0, 2 did 1, 1 ended, 2 ended|1 did 0|1 did 0, 2 did 1, 1 ended, 2 ended
-16|1 did 0, 2 did 1, 1 ended, 2 ended|1 did 0, 2 did 1, 1 ended, 2 ended|1 did 0, 2 did 1, 1 ended, 2 ended";
+2 0|no run|no run|no run
+2 7||no run|
+2 10|||
+2 11|1 did 0||1 did 0
+2 13|1 did 0|1 did 0|1 did 0
+2 15|1 did 0, 1 edits #500 7000000|1 did 0|1 did 0, 1 edits #500 7000000
+2 17|1 did 0, 1 edits #500 7000000|1 did 0, 1 edits #500 7000000|1 did 0, 1 edits #500 7000000
+2 19|1 did 0, 1 edits #500 7000000, 2 did 2, 1 ended, 2 ended|1 did 0, 1 edits #500 7000000|1 did 0, 1 edits #500 7000000, 2 did 2, 1 ended, 2 ended
+2 20|1 did 0, 1 edits #500 7000000, 2 did 2, 1 ended, 2 ended|1 did 0, 1 edits #500 7000000, 2 did 2, 1 ended, 2 ended|1 did 0, 1 edits #500 7000000, 2 did 2, 1 ended, 2 ended
+1 7||no run|
+1 11|1 did 0||1 did 0
+1 14|1 did 0|1 did 0|1 did 0
+1 15|1 did 0|1 did 0|1 did 0
+1 17|1 did 0|1 did 0|1 did 0
+1 19|1 did 0, 1 edits #500 7000000|1 did 0|1 did 0, 1 edits #500 7000000
+1 20|1 did 0, 1 edits #500 7000000|1 did 0, 1 edits #500 7000000|1 did 0, 1 edits #500 7000000
+1 23|1 did 0, 1 edits #500 7000000, 2 did 2, 1 ended, 2 ended|1 did 0, 1 edits #500 7000000|1 did 0, 1 edits #500 7000000, 2 did 2, 1 ended, 2 ended
+1 24|1 did 0, 1 edits #500 7000000, 2 did 2, 1 ended, 2 ended|1 did 0, 1 edits #500 7000000, 2 did 2, 1 ended, 2 ended|1 did 0, 1 edits #500 7000000, 2 did 2, 1 ended, 2 ended";
 
-/// One record more is to be written.
-fn add<D: Disk>(journal: &mut Journal<D>, path: Path, kind: EntryKind, stamp: Option<u32>) {
+/// One step more is to be written.
+fn add<D: Disk>(journal: &mut Journal<D>, path: Path, kind: EntryKind, stamp: Option<u32>)
+    requires { edit_of kind ≡ None }
+{
     let mut stamps = StampList::empty();
     if let Some(stamp) = stamp {
         stamps.push(stamp);
     }
     if journal.is_live() && journal.pending() < 64 {
-        let _full = journal.add(&Entry { path, kind, stamps });
+        let _full = journal.add(&Entry::of_step(path, kind, stamps));
+    }
+}
+
+/// One edit more is to be written: #500 of path 1 gets 7.
+fn add_edit<D: Disk>(journal: &mut Journal<D>) {
+    if journal.is_live() && journal.pending() < 64 && journal.version() == Version::Two {
+        let edit = Edit::Common {
+            variable: CommonNumber::new(500),
+            to: Value::of_units(7).map_or(Var::Vacant, |value| Var::Is(value)),
+        };
+        let _full = journal.add(&Entry::of_edit(Path::One, &edit));
+    }
+}
+
+/// Raises a journal of version 1, as far as the disk lets it.
+fn raise<D: Disk>(journal: &mut Journal<D>) {
+    if journal.is_live() && journal.pending() == 0 && journal.version() == Version::One {
+        let _failed = journal.raise();
     }
 }
 
@@ -39,11 +74,14 @@ fn flush<D: Disk>(journal: &mut Journal<D>) {
     }
 }
 
-/// Writes the run of both tapes, as far as the disk lets it.
+/// Writes the run of both tapes, which is edited behind its first record, as far as the disk lets it.
 fn put_run<D: Disk>(journal: &mut Journal<D>) {
     add(journal, Path::One, EntryKind::Did, Some(0));
     flush(journal);
-    add(journal, Path::Two, EntryKind::Did, Some(1));
+    raise(journal);
+    add_edit(journal);
+    flush(journal);
+    add(journal, Path::Two, EntryKind::Did, Some(2));
     add(journal, Path::One, EntryKind::Ended, None);
     add(journal, Path::Two, EntryKind::Ended, None);
     flush(journal);
@@ -73,23 +111,36 @@ fn history_left(alloc: Global, header: &Header, passes: u64, pick: Crash) -> Res
 }
 
 /// What is recovered behind each of the crashes.
-fn row_found(alloc: Global, header: &Header, passes: u64) -> Result<String, Fail>
+fn row_found(alloc: Global, header: &Header, start: &str) -> Result<String, Fail>
     requires { IsShort header.now }
 {
+    let (_, passes) = start.split_once(' ').ok_or("a version and calls")?;
+    let passes = passes.parse::<u64>()?;
     let kept = history_left(alloc, header, passes, Crash::Kept)?;
     let lost = history_left(alloc, header, passes, Crash::Lost)?;
     let filled = history_left(alloc, header, passes, Crash::Fill(7))?;
-    Ok(format!(in alloc; "{passes}|{kept}|{lost}|{filled}")?)
+    Ok(format!(in alloc; "{start}|{kept}|{lost}|{filled}")?)
+}
+
+/// What is recovered of a row's journals, behind what the row begins with.
+fn found(alloc: Global, row: &str) -> Result<String, Fail> {
+    let version = if row.starts_with('1') {
+        Version::One
+    } else {
+        Version::Two
+    };
+    let (start, _) = row.split_once('|').unwrap_or((row, ""));
+    match header_of_blocks(alloc, version, "", "#500=#500+1~M30", "#500=#500+1~M30") {
+        Ok(header) => row_found(alloc, &header, start),
+        Err(fail) => Err(fail),
+    }
 }
 
 #[test]
 fn a_stop_leaves_a_run_that_is_recovered(rt: HostRuntime) -> Result<(), Fail> {
     let alloc = rt.alloc();
-    let header = header_of_blocks(alloc, "", "#500=#500+1~M30", "#500=#500+1~M30")?;
     for row in ROWS.lines() {
-        let (passes, _) = row.split_once('|').unwrap_or((row, ""));
-        let found = row_found(alloc, &header, passes.parse::<u64>()?)?;
-        assert_eq!(&rt; found.as_str(), row);
+        assert_eq!(&rt; found(alloc, row)?.as_str(), row);
     }
     Ok(())
 }

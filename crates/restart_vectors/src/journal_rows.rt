@@ -5,12 +5,13 @@ ghost use Rattle.run_records.specs.Headers.{IsShort};
 
 use crate::run::recovered;
 use crate::step_rows::header_of_blocks;
-use run_records::{Header, put_header};
+use run_records::{Header, Version, put_header};
 use std::alloc::Global;
 use std::test::Fail;
 
 /// `pair SETTINGS|LEFT|RIGHT` gives the settings and the blocks of both tapes. Each line behind it is a journal of them and what is
-/// found: its bodies, parted by commas, of hexadecimal digits, where `H` is the header and `3x01` is 01 three times. Of the first
+/// found: its bodies, parted by commas, of hexadecimal digits, where `H` is the header of version 2 and `h` that of version 1, `3x01`
+/// is 01 three times, `SEVEN` edits #500 of path 1, and `G54` a work offset of path 2. Of the first
 /// pair the header has 64 bytes, so the first batch stands at 74; there path 1 does 01010100000000, path 2 does 02010100000001, and
 /// they end with 010400 and 020400. A text that begins with a `%` is a whole tape. Of a journal that is `cut 63` so many bytes are left, and
 /// behind `raw` stand the bytes of a file.
@@ -28,10 +29,10 @@ H,01 01010100000000,01 02010100000001,01 010400,01 ff0400|bad record at 110: no 
 H,01 03|bad record at 75: no path
 H,01 030100|bad record at 75: no path
 H,04 01000100000000 02010100000001 010400 020400|bad record at 75: no kind
-H,04 01010100000000 02060100000001 010400 020400|bad record at 82: no kind
-H,04 01010100000000 02010100000001 010400 020600|bad record at 92: no kind
+H,04 01010100000000 02070100000001 010400 020400|bad record at 82: no kind
+H,04 01010100000000 02010100000001 010400 020700|bad record at 92: no kind
 H,01 01010100000000,01 02010100000001,01 010400,01 02ff00|bad record at 110: no kind
-H,01 0106|bad record at 75: no kind
+H,01 0107|bad record at 75: no kind
 H,01 010121 132x00|bad record at 75: too many stamps
 H,02 01010100000000 020121 132x00|bad record at 82: too many stamps
 H,01 01010100000000,01 02010100000001,01 010400,01 020421|bad record at 110: too many stamps
@@ -60,8 +61,45 @@ H,04 01010100000000 02010100000001 010400 020100|bad record at 92: not legal
 H,05 01010100000000 02010100000001 010400 020400 020400|bad record at 95: not legal
 H,01 01010100000000,01 02010100000002,00|bad record at 100: wrong count
 H 00,01 03|bad record at 5: no header
-5457494e0002,00|bad record at 5: no header
+5457494e0003,00|bad record at 5: no header
 ,01 03|bad record at 5: no header
+H,01 SEVEN|1 edits #500 7000000
+H,03 SEVEN 01060401f4 16x00 G54|1 edits #500 7000000, 1 edits #500 vacant, 2 edits work 1 -1000 5000
+H,02 SEVEN 01010100000001|1 edits #500 7000000, 1 did 1
+H,02 SEVEN 02010100000001|1 edits #500 7000000, 2 did 1
+H,02 SEVEN 01010100000000|bad record at 96: not legal
+H,02 SEVEN 02010100000000|bad record at 96: not legal
+H,03 02010100000000 SEVEN 01010100000002|2 did 0, 1 edits #500 7000000, 1 did 2
+H,03 02010100000000 SEVEN 01010100000001|bad record at 103: not legal
+H,04 01010100000000 010400 SEVEN 02010100000003|1 did 0, 1 ended, 1 edits #500 7000000, 2 did 3
+H,05 01010100000000 02010100000001 010400 020400 G54|1 did 0, 2 did 1, 1 ended, 2 ended, 2 edits work 1 -1000 5000
+H,01 0106|bad record at 75: wrong length
+H,02 01010100000000 01060401f4 15x00|bad record at 82: wrong length
+H,01 01060501f4 16x00|bad record at 75: bad edit
+H,01 01060400c8 16x00|bad record at 75: bad edit
+H,01 0106010007 16x00|bad record at 75: bad edit
+H,01 0106020000 16x00|bad record at 75: bad edit
+H,01 0106010001 7f 15x00|bad record at 75: bad edit
+H,01 01060401f4 7x00 02 8x00|bad record at 75: bad edit
+H,01 01060401f4 15x00 01|bad record at 75: bad edit
+H,01 01060401f4 7x00 01 7f 7x00|bad record at 75: bad edit
+H,02 SEVEN 01060501f4 16x00|bad record at 96: bad edit
+H,ff0002|bad record at 74: wrong count
+h,01 01010100000000|1 did 0
+h,01 SEVEN|bad record at 75: no kind
+h,01 0106|bad record at 75: no kind
+h,01 01060501f4 16x00|bad record at 75: no kind
+h,02 01010100000000 SEVEN|bad record at 82: no kind
+h,01 0306|bad record at 75: no path
+h,ff0002|
+h,ff0002,01 SEVEN|1 edits #500 7000000
+h,ff0002,01 01060501f4 16x00|bad record at 83: bad edit
+h,01 01010100000000,ff0002,02 SEVEN 02010100000002|1 did 0, 1 edits #500 7000000, 2 did 2
+h,01 01010100000000,ff0002,02 SEVEN 02010100000001|bad record at 117: not legal
+h,ff0002,ff0002|bad record at 82: wrong count
+h,ff0003|bad record at 74: wrong count
+h,ff000200|bad record at 74: wrong count
+h,ff0002 cut 76|cut short at 69
 pair records 4~|#500=#500+1~M30|#500=#500+1~M30
 H,04 01010100000000 02010100000001 010400 020400|1 did 0, 2 did 1, 1 ended, 2 ended
 pair records 3~|#500=#500+1~M30|#500=#500+1~M30
@@ -73,13 +111,15 @@ H,02 01010100000000 02010100000001|1 did 0, 2 did 1
 pair records 1~|#500=#500+1~M30|#500=#500+1~M30
 H,02 01010100000000 02010100000001|bad record at 92: too many records
 H,02 01010100000000 02010100000002|bad record at 92: not legal
+H,02 SEVEN 01010100000001|bad record at 106: too many records
+H,02 01010100000000 SEVEN|bad record at 92: too many records
 H,04 01010100000000 02010100000001 010400 020400|bad record at 92: too many records
 H,01 01010100000000,01 02010100000000|bad record at 98: too many records
 pair records 0~|#500=#500+1~M30|#500=#500+1~M30
 H,02 01010100000000 02010100000001|bad record at 5: refused tapes
 pair |%~O1~M30~|#500=#500+1~M30
 H,01 01010100000001|bad record at 5: refused tapes
-H,01 010600|bad record at 61: no kind
+H,01 010700|bad record at 61: no kind
 H,02 01010100000000 02010100000001 cut 63|cut short at 55
 H cut 0|no run
 raw 00|no run
@@ -87,10 +127,24 @@ raw 00ffff|no run
 pair |M101~M102~M30|M102~M101~M30
 H|bad record at 5: refused tapes
 H,01 010100|bad record at 5: refused tapes
-H,01 010600|bad record at 71: no kind
+H,01 010700|bad record at 71: no kind
 pair |#3000=1~M30|M30
 H,02 020400 010500|2 ended, 1 alarmed
-H,02 010500 020400|bad record at 62: not legal";
+H,02 010500 020400|bad record at 62: not legal
+H,02 010500 SEVEN|bad record at 62: not legal
+H,02 SEVEN 010500|1 edits #500 7000000, 1 alarmed";
+
+/// Two edits: #500 of path 1 gets 7, and the work offset 1 of path 2, that of G54, gets X-1. Z5.
+const SEVEN: &str = "01060401f4000000000000000100000000006acfc0";
+
+const G54: &str = "0206010001fffffffffffffc180000000000001388";
+
+/// The headers of a pair, in both versions.
+#[derive(Drop)]
+pub(crate) struct Headers {
+    one: Vec<u8>,
+    two: Vec<u8>,
+}
 
 /// The value of a hexadecimal digit.
 fn digit(byte: u8) -> u8 {
@@ -113,17 +167,24 @@ fn put_digits(out: &mut Vec<u8>, digits: &str) -> Result<(), Fail> {
     Ok(())
 }
 
-/// A part of a body: the header's bytes, or digits, as often as the number before the `x` says.
-fn put_part(out: &mut Vec<u8>, header: &[u8], part: &str) -> Result<(), Fail> {
-    if part == "H" {
-        out.extend_from_slice(header)?;
-        return Ok(());
-    }
+/// Digits, as often as the number before the `x` says.
+fn put_times(out: &mut Vec<u8>, part: &str) -> Result<(), Fail> {
     let (times, digits) = part.split_once('x').unwrap_or(("1", part));
     for _time in 0..times.parse::<u32>()? {
         put_digits(out, digits)?;
     }
     Ok(())
+}
+
+/// A part of a body: the bytes of a header, an edit, or digits.
+fn put_part(out: &mut Vec<u8>, headers: &Headers, part: &str) -> Result<(), Fail> {
+    match part {
+        "H" => Ok(out.extend_from_slice(headers.two.as_slice())?),
+        "h" => Ok(out.extend_from_slice(headers.one.as_slice())?),
+        "SEVEN" => put_digits(out, SEVEN),
+        "G54" => put_digits(out, G54),
+        _ => put_times(out, part),
+    }
 }
 
 /// A body behind an open gate and its length.
@@ -137,12 +198,12 @@ fn put_body(out: &mut Vec<u8>, body: &[u8]) -> Result<(), Fail> {
     Ok(())
 }
 
-/// The bytes of a whole journal, whose header has these.
-fn put_bodies(out: &mut Vec<u8>, alloc: Global, header: &[u8], text: &str) -> Result<(), Fail> {
+/// The bytes of a whole journal of these headers.
+fn put_bodies(out: &mut Vec<u8>, alloc: Global, headers: &Headers, text: &str) -> Result<(), Fail> {
     for entry in text.split(',') {
         let mut body = Vec::new(alloc);
         for part in entry.split_whitespace() {
-            put_part(&mut body, header, part)?;
+            put_part(&mut body, headers, part)?;
         }
         put_body(out, body.as_slice())?;
     }
@@ -150,13 +211,13 @@ fn put_bodies(out: &mut Vec<u8>, alloc: Global, header: &[u8], text: &str) -> Re
     Ok(())
 }
 
-/// The bytes of a journal, whose header has these: whole, or cut, or those that stand there.
-fn journal_of(alloc: Global, header: &[u8], text: &str) -> Result<Vec<u8>, Fail> {
+/// The bytes of a journal of these headers: whole, or cut, or those that stand there.
+pub(crate) fn journal_of(alloc: Global, headers: &Headers, text: &str) -> Result<Vec<u8>, Fail> {
     let (whole, size) = text.split_once(" cut ").unwrap_or((text, ""));
     let mut out = Vec::new(alloc);
     match whole.strip_prefix("raw ") {
         Some(digits) => put_digits(&mut out, digits)?,
-        None => put_bodies(&mut out, alloc, header, whole)?,
+        None => put_bodies(&mut out, alloc, headers, whole)?,
     }
     out.truncate(size.parse::<usize>().unwrap_or(usize::MAX));
     Ok(out)
@@ -169,20 +230,27 @@ fn bytes_of(alloc: Global, header: &Header) -> Result<Vec<u8>, Fail>
     Ok(put_header(alloc, header)?)
 }
 
-/// The bytes of the header of a pair.
-fn header_bytes(alloc: Global, pair: &str) -> Result<Vec<u8>, Fail> {
+/// The bytes of the header of a pair, in this version.
+fn header_bytes(alloc: Global, version: Version, pair: &str) -> Result<Vec<u8>, Fail> {
     let (settings, tapes) = pair.split_once('|').ok_or("settings")?;
     let (left, right) = tapes.split_once('|').ok_or("both tapes")?;
-    match header_of_blocks(alloc, settings, left, right) {
+    match header_of_blocks(alloc, version, settings, left, right) {
         Ok(header) => bytes_of(alloc, &header),
         Err(fail) => Err(fail),
     }
 }
 
+/// The headers of a pair.
+pub(crate) fn headers_of(alloc: Global, pair: &str) -> Result<Headers, Fail> {
+    let one = header_bytes(alloc, Version::One, pair)?;
+    let two = header_bytes(alloc, Version::Two, pair)?;
+    Ok(Headers { one, two })
+}
+
 /// What is found in a journal where it is not what is wanted.
-fn failure_of(alloc: Global, header: &[u8], row: &str) -> Result<String, Fail> {
+fn failure_of(alloc: Global, headers: &Headers, row: &str) -> Result<String, Fail> {
     let (text, wanted) = row.split_once('|').ok_or("a journal and what is found")?;
-    let journal = journal_of(alloc, header, text)?;
+    let journal = journal_of(alloc, headers, text)?;
     let got = recovered(alloc, journal.as_slice())?;
     let mut failure = String::new(alloc);
     if got.as_str() != wanted {
@@ -194,12 +262,12 @@ fn failure_of(alloc: Global, header: &[u8], row: &str) -> Result<String, Fail> {
 #[test]
 fn what_is_found_in_a_journal(rt: HostRuntime) -> Result<(), Fail> {
     let alloc = rt.alloc();
-    let mut header = Vec::new(alloc);
+    let mut headers = headers_of(alloc, "|M30|M30")?;
     for row in ROWS.lines() {
         if let Some(pair) = row.strip_prefix("pair ") {
-            header = header_bytes(alloc, pair)?;
+            headers = headers_of(alloc, pair)?;
         } else {
-            let failure = failure_of(alloc, header.as_slice(), row)?;
+            let failure = failure_of(alloc, &headers, row)?;
             assert_eq!(&rt; failure.as_str(), "");
         }
     }

@@ -1,23 +1,58 @@
 //! Records as text, so that a table of tests has a history written out by hand.
-use nc_number::Path;
-use run_records::{Entry, EntryKind, EntryList};
+use nc_number::{Path, Point, Var};
+use offset_store::Slot;
+use run_records::{Edit, Entry, EntryKind, EntryList};
 use std::alloc::{AllocError, Global};
 
-fn kind_word(kind: EntryKind) -> &'static str {
-    match kind {
-        EntryKind::Did => "did",
-        EntryKind::Arrived => "arrived",
-        EntryKind::Met => "met",
-        EntryKind::Ended => "ended",
-        EntryKind::Alarmed => "alarmed",
+fn put_slot(out: &mut String, slot: &Slot) -> Result<(), AllocError> {
+    match slot {
+        Slot::Work(n) => write!(out, "work {}", n.get()),
+        Slot::Geometry(n) => write!(out, "tool {}", n.get()),
+        Slot::Wear(n) => write!(out, "wear {}", n.get()),
     }
 }
 
-/// The number of the path, what it did, and its stamps.
+fn put_value(out: &mut String, to: &Var) -> Result<(), AllocError> {
+    match to {
+        Var::Vacant => out.push_str("vacant"),
+        Var::Is(value) => write!(out, "{}", value.micro()),
+    }
+}
+
+/// What is set, and what it gets: X and Z in 0.001 mm, or a value in millionths.
+fn put_edit(out: &mut String, edit: &Edit) -> Result<(), AllocError> {
+    match edit {
+        Edit::Offset { slot, to } => {
+            put_slot(out, slot)?;
+            let Point { x, z } = to.get();
+            write!(out, " {x} {z}")
+        }
+        Edit::Common { variable, to } => {
+            write!(out, "#{} ", variable.get())?;
+            put_value(out, to)
+        }
+    }
+}
+
+fn put_kind(out: &mut String, kind: &EntryKind) -> Result<(), AllocError> {
+    match kind {
+        EntryKind::Did => out.push_str("did"),
+        EntryKind::Arrived => out.push_str("arrived"),
+        EntryKind::Met => out.push_str("met"),
+        EntryKind::Ended => out.push_str("ended"),
+        EntryKind::Alarmed => out.push_str("alarmed"),
+        EntryKind::Edited(edit) => {
+            out.push_str("edits ")?;
+            put_edit(out, edit)
+        }
+    }
+}
+
+/// The number of the path, what it did or what was edited of it, and its stamps.
 fn put_record(out: &mut String, entry: &Entry) -> Result<(), AllocError> {
     let number = entry.path.number();
     write!(out, "{number} ")?;
-    out.push_str(kind_word(entry.kind))?;
+    put_kind(out, &entry.kind)?;
     for stamp in entry.stamps.as_slice() {
         write!(out, " {stamp}")?;
     }

@@ -7,7 +7,7 @@ use crate::step_text::put_answer;
 use crate::texts::header_of;
 use disk_model::{Disk, MemoryDisk};
 use nc_number::Path;
-use run_records::Header;
+use run_records::{Header, Version};
 use run_table::Table;
 use std::alloc::{AllocError, Global};
 use std::test::Fail;
@@ -46,6 +46,7 @@ fn tape_text(alloc: Global, blocks: &str) -> Result<String, AllocError> {
 /// The header of these settings, and of two tapes whose blocks these are.
 pub(crate) fn header_of_blocks(
     alloc: Global,
+    version: Version,
     settings: &str,
     left: &str,
     right: &str,
@@ -54,7 +55,7 @@ pub(crate) fn header_of_blocks(
 {
     let left = tape_text(alloc, left)?;
     let right = tape_text(alloc, right)?;
-    header_of(alloc, left.as_str(), right.as_str(), settings)
+    header_of(alloc, version, left.as_str(), right.as_str(), settings)
 }
 
 /// The last of so many steps of a path.
@@ -177,7 +178,7 @@ fn failure_of(alloc: Global, row: &str) -> Result<String, Fail> {
     let (budget, rest) = rest.split_once('|').ok_or("a budget")?;
     let (failing, rest) = rest.split_once('|').ok_or("a failing call")?;
     let (words, wanted) = rest.split_once('|').ok_or("steps and answers")?;
-    let header = header_of_blocks(alloc, settings, left, right)?;
+    let header = header_of_blocks(alloc, Version::Two, settings, left, right)?;
     let (budget, failing) = (budget.parse::<u32>()?, failing.parse::<u64>()?);
     let got = told(alloc, &header, budget, failing, words)?;
     let mut failure = String::new(alloc);

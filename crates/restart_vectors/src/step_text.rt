@@ -16,6 +16,7 @@ fn put_turn(out: &mut String, turn: &Turn) -> Result<(), AllocError> {
         Turn::Finished => out.push_str("has ended"),
         Turn::Alarm { alarm } => write!(out, "alarm {}", alarm.cause),
         Turn::Halted { alarm } => write!(out, "halted by alarm {}", alarm.cause),
+        Turn::Edited => out.push_str("edited"),
     }
 }
 

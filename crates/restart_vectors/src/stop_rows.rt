@@ -4,7 +4,7 @@ ghost use Rattle.run_records.specs.Headers.{IsShort};
 use crate::run::{Left, recovered, restarted, run_to_stop};
 use crate::texts::header_of;
 use disk_model::Crash;
-use run_records::Header;
+use run_records::{Header, Version};
 use std::alloc::Global;
 use std::test::Fail;
 
@@ -100,7 +100,7 @@ fn failure_of(alloc: Global, row: &str) -> Result<String, Fail> {
     let (left, rest) = rest.split_once('|').ok_or("a left tape")?;
     let (right, rest) = rest.split_once('|').ok_or("a right tape")?;
     let (stops, wanted) = rest.split_once('|').ok_or("stops and a history")?;
-    let header = header_of(alloc, left, right, settings)?;
+    let header = header_of(alloc, Version::Two, left, right, settings)?;
     let got = stops_of(alloc, &header, wanted)?;
     let mut failure = String::new(alloc);
     if got.as_str() != stops {

@@ -5,7 +5,7 @@ ghost use Rattle.run_table.specs.Kept.{IsVerdictOf};
 
 use nc_number::Failing;
 use nc_verify::{Verified, verdict};
-use run_records::{ByteList, Header};
+use run_records::{ByteList, Header, Version};
 use std::alloc::{AllocError, Global};
 use std::test::Fail;
 
@@ -19,11 +19,13 @@ fn lines_of(alloc: Global, text: &str) -> Result<Vec<u8>, AllocError> {
 /// Texts in which `~` stands for the end of a line, as a header.
 fn header_of_any(
     alloc: Global,
+    version: Version,
     left: &str,
     right: &str,
     settings: &str,
 ) -> Result<Header, AllocError> {
     Ok(Header {
+        version,
         settings: ByteList::of(lines_of(alloc, settings)?),
         left: ByteList::of(lines_of(alloc, left)?),
         right: ByteList::of(lines_of(alloc, right)?),
@@ -33,13 +35,14 @@ fn header_of_any(
 /// Such a header, whose texts have fewer than ten thousand bytes.
 pub(crate) fn header_of(
     alloc: Global,
+    version: Version,
     left: &str,
     right: &str,
     settings: &str,
 ) -> Result<Header, Fail>
     ensures { IfOk result IsShort }
 {
-    let header = header_of_any(alloc, left, right, settings)?;
+    let header = header_of_any(alloc, version, left, right, settings)?;
     if header.settings.as_slice().len() < 10_000
         && header.left.as_slice().len() < 10_000
         && header.right.as_slice().len() < 10_000

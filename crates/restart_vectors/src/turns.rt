@@ -49,6 +49,7 @@ fn said_of_turn(turn: &Turn) -> Said {
             Said::Shown
         }
         Turn::Waiting { .. } | Turn::Finished | Turn::Halted { .. } => Said::Idle,
+        Turn::Edited => Said::Silent,
     }
 }
 

@@ -1,15 +1,19 @@
 -- The alarm of a machine behind a turn, and what the turn shows.
 use Rattle.std.proofs.Common.{◌≡◌, ℕ, ◌==◌, Bool, true, false, List, length, refl, Option, Some, None}
+use Rattle.std.specs.Prelude.{IfSome}
 use Rattle.nc_number.specs.declared.path.Path.{Path}
 use Rattle.nc_number.specs.declared.path.Path.TheVariants.{One, Two}
 use Rattle.nc_moves.specs.declared.alarm.Alarm.{Alarm}
 use Rattle.path_state.specs.Effect.{Effect, Need, Done, AtWait, AtEnd}
 use Rattle.path_state.specs.Effect as effect
+use Rattle.run_records.specs.Entries.{edit_of}
+use Rattle.run_records.specs.declared.entry.EntryKind.{EntryKind}
 use Rattle.two_path.specs.declared.turn.Turn.{Turn}
 use Rattle.two_path.specs.declared.turn.Turn.TheVariants as turn
 use Rattle.two_path.specs.Machine.{MachineView, own_first}
 use Rattle.two_path.specs.Turns.{Blocks, Tapes, TurnResult, result_at_wait, result_by, unless_idle, block_turn, own_turn, turn_of, kind_of, entry_with}
 use Rattle.two_path.specs.Histories.{list_of}
+use Rattle.two_path.proofs.Edited.{no_edit}
 use Rattle.run_table.specs.Stepping.{is_shown}
 
 -- the alarm that a turn answers, or the one from before
@@ -23,6 +27,7 @@ alarm_behind before (turn.Ended moves) = before
 alarm_behind before (turn.Waiting code) = before
 alarm_behind before turn.Finished = before
 alarm_behind before (turn.Halted alarm) = before
+alarm_behind before turn.Edited = before
 
 wait_alarm : (path : Path) (line : ℕ) (m : MachineView) (code : ℕ) (o : Option ℕ)
     → (result_at_wait path line m code o).machine.alarm ≡ alarm_behind m.alarm (result_at_wait path line m code o).turn
@@ -68,3 +73,12 @@ shown_made path stamps (turn.Waiting code) shown = absurd cc
 shown_made path stamps turn.Finished shown = absurd cc
 shown_made path stamps (turn.Alarm alarm) shown = refl
 shown_made path stamps (turn.Halted alarm) shown = absurd cc
+shown_made path stamps turn.Edited shown = absurd cc
+
+-- and its record is of a step
+pub made_step : (path : Path) (stamps : List ℕ) (t : Turn) → IfSome (entry_with path stamps (kind_of t)) (λ e. edit_of e.kind ≡ None)
+made_step path stamps t = go (kind_of t) refl
+  where
+    go : (k : Option EntryKind) → kind_of t ≡ k → IfSome (entry_with path stamps k) (λ e. edit_of e.kind ≡ None)
+    go None is = tt
+    go (Some k) is = no_edit t k is

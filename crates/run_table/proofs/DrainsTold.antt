@@ -49,6 +49,7 @@ turn_asks (turn.Waiting code) e = cc
 turn_asks turn.Finished e = cc
 turn_asks (turn.Alarm alarm) e = cc
 turn_asks (turn.Halted alarm) e = cc
+turn_asks turn.Edited e = cc
 
 disk_asks : next_of DiskFault ≢ Some next.Drain
 disk_asks e = cc

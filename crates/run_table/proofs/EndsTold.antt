@@ -12,7 +12,7 @@ use Rattle.seat_table.specs.Turning.{moves_in}
 use Rattle.two_path.specs.Machine.{MachineView}
 use Rattle.two_path.specs.Joined.{RoomyMachine}
 use Rattle.two_path.specs.Histories.{IsKept}
-use Rattle.run_records.specs.declared.entry.Entry.{Entry}
+use Rattle.run_records.specs.Entries.{Entry}
 use Rattle.run_table.specs.declared.running.RunEnd.{RunEnd}
 use Rattle.run_table.specs.declared.running.RunEnd.TheVariants as run
 use Rattle.run_table.specs.declared.draining.Owed.{Owed}

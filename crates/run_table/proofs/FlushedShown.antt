@@ -12,7 +12,7 @@ use Rattle.nc_outside.specs.declared.halt.Halt.TheVariants as halt
 use Rattle.nc_outside.specs.declared.lined_move.LinedMove.{LinedMove}
 use Rattle.nc_moves.specs.declared.motion.Moves.{Moves}
 use Rattle.nc_verify.specs.declared.verified.Verified.{Verified}
-use Rattle.run_records.specs.declared.entry.Entry.{Entry}
+use Rattle.run_records.specs.Entries.{Entry}
 use Rattle.seat_table.specs.Turning.{moves_in, MayRecord, Answers as Adds}
 use Rattle.two_path.specs.declared.turn.Turn.{Turn}
 use Rattle.two_path.specs.declared.turn.Turn.TheVariants as turn
@@ -55,6 +55,7 @@ module _ {H : Type 0} (old new : H) (before after : List (List LinedMove)) (same
   quiet_turn turn.Finished quiet adds = ap moves_in adds
   quiet_turn (turn.Alarm alarm) quiet adds = absurd cc
   quiet_turn (turn.Halted alarm) quiet adds = may_same before after adds
+  quiet_turn turn.Edited quiet adds = may_same before after adds
 
 -- each path is the one that stepped, or the other
 by_path : (path p : Path) {before after : Path → List (List LinedMove)} → moves_in (after path) ≡ moves_in (before path) → ((q : Path) → q ≢ path → after q ≡ before q)

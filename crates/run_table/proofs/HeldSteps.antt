@@ -9,7 +9,7 @@ use Rattle.nc_outside.specs.declared.halt.Halt.TheVariants as halt
 use Rattle.nc_outside.specs.declared.halt.Next.TheVariants as next
 use Rattle.nc_outside.specs.declared.lined_move.LinedMove.{LinedMove}
 use Rattle.nc_verify.specs.declared.verified.Verified.{Verified}
-use Rattle.run_records.specs.declared.entry.Entry.{Entry}
+use Rattle.run_records.specs.Entries.{Entry, edit_of}
 use Rattle.run_records.specs.declared.entry.EntryKind.{EntryKind}
 use Rattle.two_path.specs.declared.turn.Turn.{Turn}
 use Rattle.two_path.specs.declared.turn.Turn.TheVariants as turn
@@ -17,6 +17,7 @@ use Rattle.two_path.specs.Machine.{MachineView, own_first, without_reads}
 use Rattle.two_path.specs.Turns.{Tapes, turn_of, kind_of, entry_with, entry_of}
 use Rattle.two_path.specs.Histories.{list_of, fold, IsKept}
 use Rattle.two_path.specs.Again.{turn_of_entry}
+use Rattle.two_path.proofs.Edited.{no_edit}
 use Rattle.seat_table.specs.Turning.{Answers as Adds}
 use Rattle.run_table.specs.declared.answer.TableStep.{TableStep}
 use Rattle.run_table.specs.declared.answer.TableStep.TheVariants.{Turned, Drain, DiskFault, Halted}
@@ -120,18 +121,18 @@ module _ {D : Type 0} (state : D → DiskState) (path : Path) (start t t' : Tabl
     kept : IsKept tapes (opening_of start.verified) t.recording.history t.machine
     kept = subst (λ (v : Verified). IsKept (tapes_in v) (opening_of v) t.recording.history t.machine) since.verified table.kept
 
-    same_moves : (k : EntryKind) → made_in (turn_of_entry tapes (entry k) (fold tapes first since.made)) ≡ made_in the_turn
-    same_moves k =
+    same_moves : (k : EntryKind) → edit_of k ≡ None → made_in (turn_of_entry tapes (entry k) (fold tapes first since.made)) ≡ made_in the_turn
+    same_moves k plain =
         let there : fold tapes first since.made ≡ without_reads t.machine =
         sym (fold_parts tapes (opening_of start.verified) start.recording.history since.made) ∙ ap (fold tapes (opening_of start.verified)) (sym since.recording.history) ∙ kept.folds in
         ap (λ (m : MachineView). made_in (turn_of_entry tapes (entry k) m)) there
-        ∙ ap made_in (redone tapes path t.machine k kept.lawful)
+        ∙ ap made_in (redone tapes path t.machine k plain kept.lawful)
         ∙ ap (λ (v : Verified). made_in (turn_of (tapes_in v) path t.machine).turn) (sym since.verified)
 
     -- a record, and its answer
     module _ (k : EntryKind) (grown : t'.recording.history ≡ t.recording.history ++ entry k ∷ []) where
-      pub shown_grown : (is_lost result (length t.recording.history) (length t'.recording.history) ≡ false) → GrowsBy path (made_in the_turn) before after
-      shown_grown kept_it =
+      pub shown_grown : edit_of k ≡ None → (is_lost result (length t.recording.history) (length t'.recording.history) ≡ false) → GrowsBy path (made_in the_turn) before after
+      shown_grown plain kept_it =
           let now : shown' ≡ true = shown_is ∙ ap (λ (b : Bool). shown && not b) kept_it ∙ still shown ∙ shown_before in
           subst (λ (b : Bool). GrowsBy path (made_in the_turn) (λ p. answered_from tapes first p b (drop (length start.recording.history) t.recording.history)) after) (sym shown_before)
           (subst (λ (b : Bool). GrowsBy path (made_in the_turn) (λ p. answered_from tapes first p true (drop (length start.recording.history) t.recording.history))
@@ -139,7 +140,7 @@ module _ {D : Type 0} (state : D → DiskState) (path : Path) (start t t' : Tabl
           (subst (λ (l : List Entry). GrowsBy path (made_in the_turn) (λ p. answered_from tapes first p true l)
           (λ p. answered_from tapes first p true (drop (length start.recording.history) t'.recording.history))) (sym behind)
           (subst (λ (l : List Entry). GrowsBy path (made_in the_turn) (λ p. answered_from tapes first p true since.made) (λ p. answered_from tapes first p true l)) (sym (behind' (entry k ∷ []) grown))
-          (shown_grows tapes first path since.made (entry k) refl (made_in the_turn) (same_moves k)))))
+          (shown_grows tapes first path since.made (entry k) refl (made_in the_turn) (same_moves k plain)))))
 
       pub lost_grown : (is_lost result (length t.recording.history) (length t'.recording.history) ≡ true) → GrowsBy path [] before after
       lost_grown lost_it =
@@ -203,7 +204,7 @@ module _ {D : Type 0} (state : D → DiskState) (path : Path) (start t t' : Tabl
         λ p differ. stays (history_by None is) p,
       )
       shown_result (Some k) is same =
-          let grows = shown_grown k (history_by (Some k) is) (ap (λ (r : TableStep). is_lost r (length t.recording.history) (length t'.recording.history)) same) in
+          let grows = shown_grown k (history_by (Some k) is) (no_edit the_turn k is) (ap (λ (r : TableStep). is_lost r (length t.recording.history) (length t'.recording.history)) same) in
           (turn_adds (held_of t shown) (held_of t' shown') (before path) (after path) the_turn k is grows.own, grows.others)
 
       failed_result : (k : Option EntryKind) → kind_of the_turn ≡ k → result ≡ DiskFault → Comes DiskFault

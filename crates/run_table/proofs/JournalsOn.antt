@@ -6,8 +6,9 @@ use Rattle.disk_model.specs.Device.{DiskState, IsCoherent, Reads}
 use Rattle.disk_model.specs.Moments.{LeavesOnly, Uses}
 use Rattle.disk_model.proofs.Runs.{widened, image_now, told_before}
 use Rattle.gate_file.specs.Gate.{Gate}
-use Rattle.run_records.specs.declared.entry.Entry.{Entry}
+use Rattle.run_records.specs.Entries.{Entry}
 use Rattle.run_records.specs.declared.header.Header.{Header}
+use Rattle.run_records.specs.declared.version.Version.{Version}
 use Rattle.run_journal.specs.Batches.{batch_bytes}
 use Rattle.run_journal.specs.Kept.{Log, pending_in}
 use Rattle.run_journal.specs.Stands.{Pends, Stands, Holds, StandsEither}
@@ -15,8 +16,8 @@ use Rattle.run_table.specs.Recording.{StandsForPrefix, IsJournaled, KeepsJournal
 use Rattle.run_table.proofs.RecordingsFollow.{sends_flushed, sends_failed}
 
 -- a batch counts what pends
-pub counts : (pending : List Entry) (batch : List ℕ) → Pends pending batch → pending_in batch ≡ length pending
-counts pending batch pends = ap pending_in pends.bytes
+pub counts : (version : Version) (pending : List Entry) (batch : List ℕ) → Pends version pending batch → pending_in batch ≡ length pending
+counts version pending batch pends = ap pending_in pends.bytes
 
 module _ (before after : List Entry) (flushed : ℕ) (e : Entry) (within : flushed ≤ length before) (is : after ≡ before ++ e ∷ []) where
   pub drop_after : drop flushed after ≡ drop flushed before ++ e ∷ []
@@ -32,32 +33,33 @@ module _ (before after : List Entry) (flushed : ℕ) (e : Entry) (within : flush
   prefix_after header c stands =
       (stands.0, stands.1, omega (arith, longer, stands.2), subst (λ (l : List Entry). Stands header l c) (sym (take_after stands.0 stands.2)) stands.3)
 
-  pub holds_after : (header : Header) (disk : DiskState) (end : ℕ) → Holds header (take flushed before) disk end → Holds header (take flushed after) disk end
-  holds_after header disk end holds = subst (λ (l : List Entry). Holds header l disk end) (sym (take_after flushed within)) holds
+  pub holds_after : (header : Header) (version : Version) (disk : DiskState) (end : ℕ) → Holds header version (take flushed before) disk end → Holds header version (take flushed after) disk end
+  holds_after header version disk end holds = subst (λ (l : List Entry). Holds header version l disk end) (sym (take_after flushed within)) holds
 
--- of the same file
-abbrev AreHeld : {D : Type 0} → (D → DiskState) → Header → ℕ → List Entry → Gate D → Type 0
-AreHeld state header flushed history file =
-    ((bytes : List ℕ) → Reads (state file.disk) bytes → IsTrue file.live → Holds header (take flushed history) (state file.disk) file.end)
+-- of the same file, in a journal of the same version
+abbrev AreHeld : {D : Type 0} → (D → DiskState) → Header → Version → ℕ → List Entry → Gate D → Type 0
+AreHeld state header version flushed history file =
+    ((bytes : List ℕ) → Reads (state file.disk) bytes → IsTrue file.live → Holds header version (take flushed history) (state file.disk) file.end)
     × ((bytes : List ℕ) → Reads (state file.disk) bytes → (c : List ℕ) → (state file.disk).image c → StandsForPrefix header flushed history c)
 
 pub noted : {D : Type 0} (state : D → DiskState) (header : Header) (before after : List Entry) (flushed room room' : ℕ) (e : Entry) (log log' : Log D)
-    → flushed ≤ length before → after ≡ before ++ e ∷ [] → log'.file ≡ log.file
+    → flushed ≤ length before → after ≡ before ++ e ∷ [] → log'.file ≡ log.file → log'.version ≡ log.version
     → IsJournaled state header (record { history = before; room = room; flushed = flushed; log = log })
     → IsJournaled state header (record { history = after; room = room'; flushed = flushed; log = log' })
-noted state header before after flushed room room' e log log' within is same j =
-    let at : AreHeld state header flushed after log.file = (
-      λ bytes reads live. holds_after before after flushed e within is header (state log.file.disk) log.file.end (j.held bytes reads live),
+noted state header before after flushed room room' e log log' within is same version j =
+    let at : AreHeld state header log.version flushed after log.file = (
+      λ bytes reads live. holds_after before after flushed e within is header log.version (state log.file.disk) log.file.end (j.held bytes reads live),
       λ bytes reads c image. prefix_after before after flushed e within is header c (j.left bytes reads c image),
     ) in
-    let there : AreHeld state header flushed after log'.file = subst (AreHeld state header flushed after) (sym same) at in
+    let there : AreHeld state header log'.version flushed after log'.file =
+    subst (λ (v : Version). AreHeld state header v flushed after log'.file) (sym version) (subst (AreHeld state header log.version flushed after) (sym same) at) in
     record { held = there.0; left = there.1 }
 
 -- a flush of all that pends
 module _ {D : Type 0} (state : D → DiskState) (header : Header) (history : List Entry) (room flushed : ℕ) (log log' : Log D)
-    (within : flushed ≤ length history) (pends : Pends (drop flushed history) log.batch) (live : IsTrue log.file.live)
+    (within : flushed ≤ length history) (pends : Pends log.version (drop flushed history) log.batch) (live : IsTrue log.file.live)
     (j : IsJournaled state header (record { history = history; room = room; flushed = flushed; log = log }))
-    (any_moment : (header : Header) (entries pending : List Entry) → Pends pending log.batch → Holds header entries (state log.file.disk) log.file.end
+    (any_moment : (header : Header) (entries pending : List Entry) → Pends log.version pending log.batch → Holds header log.version entries (state log.file.disk) log.file.end
     → LeavesOnly (StandsEither header entries pending) (state log.file.disk) (state log'.file.disk))
     (m end : ℕ) (uses : Uses m end (state log.file.disk) (state log'.file.disk)) where
   all_flushed : take flushed history ++ drop flushed history ≡ history
@@ -74,21 +76,21 @@ module _ {D : Type 0} (state : D → DiskState) (header : Header) (history : Lis
       (any_moment header (take flushed history) (drop flushed history) pends (j.held bytes reads live)) either
 
   pub flush_done : (room' now : ℕ) → now ≡ length history
-      → ((disk : D) (header : Header) (entries : List Entry) (end : ℕ) → Holds header entries (state disk) end → (c : List ℕ) → (state disk).image c → Stands header entries c)
-      → ((header : Header) (entries pending : List Entry) → Pends pending log.batch → Holds header entries (state log.file.disk) log.file.end
-      → Holds header (entries ++ pending) (state log'.file.disk) log'.file.end)
+      → ((disk : D) (header : Header) (version : Version) (entries : List Entry) (end : ℕ) → Holds header version entries (state disk) end → (c : List ℕ) → (state disk).image c → Stands header entries c)
+      → ((header : Header) (entries pending : List Entry) → Pends log.version pending log.batch → Holds header log.version entries (state log.file.disk) log.file.end
+      → Holds header log'.version (entries ++ pending) (state log'.file.disk) log'.file.end)
       → KeepsJournal state header (record { history = history; room = room; flushed = flushed; log = log }) (record { history = history; room = room'; flushed = now; log = log' })
   flush_done room' now all law acknowledged =
-      let held : (bytes : List ℕ) → Reads (state log'.file.disk) bytes → Holds header (take now history) (state log'.file.disk) log'.file.end =
+      let held : (bytes : List ℕ) → Reads (state log'.file.disk) bytes → Holds header log'.version (take now history) (state log'.file.disk) log'.file.end =
       λ bytes reads.
       let told = told_before m end (state log.file.disk) (state log'.file.disk) uses bytes reads in
       let holds = acknowledged header (take flushed history) (drop flushed history) pends (j.held told.0 told.1 live) in
-      subst (λ (l : List Entry). Holds header l (state log'.file.disk) log'.file.end) (all_flushed ∙ sym (take_all now history (omega (arith, all)))) holds in
+      subst (λ (l : List Entry). Holds header log'.version l (state log'.file.disk) log'.file.end) (all_flushed ∙ sym (take_all now history (omega (arith, all)))) holds in
       record {
         journaled = record {
           held = λ bytes reads still. held bytes reads;
           left = λ bytes reads c image.
-              (now, omega arith, omega (arith, all), law log'.file.disk header (take now history) log'.file.end (held bytes reads) c image);
+              (now, omega arith, omega (arith, all), law log'.file.disk header log'.version (take now history) log'.file.end (held bytes reads) c image);
         };
         any_moment = moments;
       }
@@ -107,18 +109,19 @@ module _ {D : Type 0} (state : D → DiskState) (header : Header) (history : Lis
 
 -- a flush as one call
 module _ {D : Type 0} (state : D → DiskState) (history : List Entry) (room flushed : ℕ) (log log' : Log D)
-    (within : flushed ≤ length history) (pends : Pends (drop flushed history) log.batch) (live : IsTrue log.file.live)
-    (any_moment : (header : Header) (entries pending : List Entry) → Pends pending log.batch → Holds header entries (state log.file.disk) log.file.end
+    (within : flushed ≤ length history) (pends : Pends log.version (drop flushed history) log.batch) (live : IsTrue log.file.live)
+    (any_moment : (header : Header) (entries pending : List Entry) → Pends log.version pending log.batch → Holds header log.version entries (state log.file.disk) log.file.end
     → LeavesOnly (StandsEither header entries pending) (state log.file.disk) (state log'.file.disk))
     (uses : Uses 4 (log.file.end + length log.batch + 6) (state log.file.disk) (state log'.file.disk))
     (later : (state log.file.disk).faults ≤ (state log'.file.disk).faults)
+    (version : log'.version ≡ log.version)
     (idle : pending_in log.batch ≡ 0 → log' ≡ log) where
   reaches : Uses 4 (log.file.end + length (batch_bytes (drop flushed history)) + 6) (state log.file.disk) (state log'.file.disk)
   reaches = subst (λ (l : List ℕ). Uses 4 (log.file.end + length l + 6) (state log.file.disk) (state log'.file.disk)) pends.bytes uses
 
   none_pends : flushed ≡ length history → log'.file ≡ log.file
   none_pends all =
-      let none : pending_in log.batch ≡ 0 = counts (drop flushed history) log.batch pends ∙ ap length (drop_all flushed history (omega (arith, all))) in
+      let none : pending_in log.batch ≡ 0 = counts log.version (drop flushed history) log.batch pends ∙ ap length (drop_all flushed history (omega (arith, all))) in
       ap (λ (l : Log D). l.file) (idle none)
 
   lasts : log.file.live ≡ false → log'.file ≡ log.file
@@ -127,17 +130,18 @@ module _ {D : Type 0} (state : D → DiskState) (history : List Entry) (room flu
   pub done : (now : ℕ) → now ≡ length history → log'.file.live ≡ true
       → (state log'.file.disk).faults ≡ (state log.file.disk).faults
       → (1 ≤ pending_in log.batch → log'.file.end ≡ log.file.end + 5 + length log.batch)
-      → ((disk : D) (header : Header) (entries : List Entry) (end : ℕ) → Holds header entries (state disk) end → (c : List ℕ) → (state disk).image c → Stands header entries c)
-      → ((header : Header) (entries pending : List Entry) → Pends pending log.batch → Holds header entries (state log.file.disk) log.file.end
-      → Holds header (entries ++ pending) (state log'.file.disk) log'.file.end)
+      → ((disk : D) (header : Header) (version : Version) (entries : List Entry) (end : ℕ) → Holds header version entries (state disk) end → (c : List ℕ) → (state disk).image c → Stands header entries c)
+      → ((header : Header) (entries pending : List Entry) → Pends log.version pending log.batch → Holds header log.version entries (state log.file.disk) log.file.end
+      → Holds header log'.version (entries ++ pending) (state log'.file.disk) log'.file.end)
       → Records state [] (record { history = history; room = room; flushed = flushed; log = log }) (record { history = history; room = room; flushed = now; log = log' })
   done now all still calm moved law acknowledged = record {
     follows = record {
       history = sym (append-nil history);
       flushed = omega (arith, all, within);
+      version = version;
       journal = λ header j. flush_done state header history room flushed log log' within pends live j any_moment 4 (log.file.end + length log.batch + 6) uses room now all law acknowledged;
       sends = λ inside. sends_flushed state history room flushed now log log' within pends.bytes live none_pends uses all still
-          (λ some. moved (omega (arith, some, counts (drop flushed history) log.batch pends, length-drop flushed history)));
+          (λ some. moved (omega (arith, some, counts log.version (drop flushed history) log.batch pends, length-drop flushed history)));
       told = uses.told;
       rests = lasts;
       later = later;
@@ -153,6 +157,7 @@ module _ {D : Type 0} (state : D → DiskState) (history : List Entry) (room flu
     follows = record {
       history = sym (append-nil history);
       flushed = omega arith;
+      version = version;
       journal = λ header j. flush_failed state header history room flushed log log' within pends live j any_moment 4 (log.file.end + length log.batch + 6) uses room dead coherent;
       sends = λ inside. sends_failed state history room flushed flushed log log' within pends.bytes live none_pends uses refl dead;
       told = uses.told;

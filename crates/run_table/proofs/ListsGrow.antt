@@ -8,7 +8,7 @@ use Rattle.nc_outside.specs.declared.halt.Next.TheVariants as next
 use Rattle.nc_outside.specs.declared.lined_move.LinedMove.{LinedMove}
 use Rattle.nc_outside.specs.Lined.{lined, lined_move}
 use Rattle.nc_moves.specs.declared.motion.Moves.{Moves}
-use Rattle.run_records.specs.declared.entry.Entry.{Entry}
+use Rattle.run_records.specs.Entries.{Entry}
 use Rattle.run_records.specs.declared.entry.EntryKind.{EntryKind}
 use Rattle.run_records.specs.declared.entry.EntryKind.TheVariants as kind
 use Rattle.two_path.specs.declared.turn.Turn.{Turn}
@@ -106,6 +106,7 @@ module _ {H : Type 0} (old new : H) (before after : List (List LinedMove)) where
   turn_adds turn.Finished k is more = absurd (let clash : None ≡ Some k = is in cc)
   turn_adds (turn.Alarm alarm) k is more = inr more
   turn_adds (turn.Halted alarm) k is more = absurd (let clash : None ≡ Some k = is in cc)
+  turn_adds turn.Edited k is more = absurd (let clash : None ≡ Some k = is in cc)
 
   -- and one without
   pub turn_stays : (t : Turn) → kind_of t ≡ None → after ≡ before → ((code : ℕ) → t ≡ turn.Waiting code → new ≡ old)
@@ -119,3 +120,4 @@ module _ {H : Type 0} (old new : H) (before after : List (List LinedMove)) where
   turn_stays turn.Finished is same waits = same
   turn_stays (turn.Alarm alarm) is same waits = absurd (let clash : Some kind.Alarmed ≡ None = is in cc)
   turn_stays (turn.Halted alarm) is same waits = inl same
+  turn_stays turn.Edited is same waits = inl same

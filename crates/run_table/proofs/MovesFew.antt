@@ -19,6 +19,7 @@ use Rattle.nc_moves.specs.declared.motion.Move.TheVariants as move
 use Rattle.nc_verify.specs.declared.verified.Verified.{Verified}
 use Rattle.code_tables.specs.declared.kind.CodeKind.{CodeKind}
 use Rattle.code_tables.specs.declared.kind.CodeKind.TheVariants as kind
+use Rattle.code_tables.specs.declared.system.System.{System}
 use Rattle.modal_state.specs.View.{ModalView}
 use Rattle.motion_track.specs.declared.block.BlockMotion.{BlockMotion}
 use Rattle.motion_track.specs.declared.fault.MotionFault.{MotionFault}
@@ -47,17 +48,18 @@ use Rattle.path_state.specs.View.{Fixed, PathView}
 use Rattle.path_state.specs.Outcomes.{Outcome, Gives, Needs, Alarms}
 use Rattle.path_state.specs.Values.{Values, nothing_said, sense_of, words_taken}
 use Rattle.path_state.specs.Moves.{speed_moves, tool_moves, is_auxiliary, auxiliary_moves, all_moves}
-use Rattle.path_state.specs.Motion.{Motion, motion_number, offset_number, setting_of, set_motion, passed_motion, tracked, cut_motion, block_motion, motion_of}
+use Rattle.path_state.specs.Motion.{Motion, motion_number, offset_number, setting_of, set_motion, passed_motion, tracked, cut_motion, block_motion, turret_motion, unless_incremental, motion_of}
 use Rattle.path_state.specs.Places.{Standing, goes_on}
 use Rattle.path_state.specs.Statements.{After, standing_of}
 use Rattle.path_state.specs.Effect.{Effect, Need, Done, AtWait, AtEnd, Moved, moved_by, after_motion, motion_with, modal_after, acted, done_by, controlled, of_moved, of_values, of_arguments, of_purpose, block_of_words, of_after, effect_of_body, effect_of_block, block_at, effect_of}
 use Rattle.path_state.specs.Effect as effect
-use Rattle.run_records.specs.declared.entry.Entry.{Entry}
+use Rattle.run_records.specs.Entries.{Entry, edit_of}
+use Rattle.run_records.specs.declared.edit.Edit.{Edit}
 use Rattle.seat_table.specs.Turning.{moves_in}
 use Rattle.two_path.specs.Machine.{MachineView, own_first}
 use Rattle.two_path.specs.Turns.{TurnResult, blocks_of, tapes_of, tape_of, result_at_wait, result_by, unless_idle, block_turn, own_turn}
 use Rattle.two_path.specs.Histories.{is_same, with_reads, behind_entry, fold}
-use Rattle.two_path.specs.Again.{turn_of_entry}
+use Rattle.two_path.specs.Again.{turn_by, turn_of_entry}
 use Rattle.run_table.specs.Kept.{tapes_in, opening_of}
 use Rattle.two_path.specs.Made.{made_in}
 use Rattle.run_table.specs.Made.{shown_from, moves_made}
@@ -148,10 +150,18 @@ numbered_few : (r : Result Motion MotionFault) → FewMotion r → FewMotion (mo
 numbered_few (Ok motion) few = few
 numbered_few (Err fault) few = tt
 
+turret_few : (fixed : Fixed) (path : PathView) (modal : ModalView) (k : CodeKind) (values : Values) → FewMotion (turret_motion fixed path modal k values)
+turret_few fixed path modal k values = numbered_few _ (cut_few (cycle_kind_of k) k modal.cycle (block_motion fixed path modal values))
+
+incremental_few : (incremental : Bool) (motion : Result Motion ℕ) → FewMotion motion → FewMotion (unless_incremental incremental motion)
+incremental_few true motion few = tt
+incremental_few false motion few = few
+
 motion_few : (fixed : Fixed) (path : PathView) (modal : ModalView) (k : CodeKind) (has_l : Bool) (values : Values) → FewMotion (motion_of fixed path modal k has_l values)
 motion_few fixed path modal kind.Dwell has_l values = omega arith
-motion_few fixed path modal kind.Setting has_l values = set_few modal.cycle (setting_of path.offsets has_l values)
-motion_few fixed path modal k has_l values = numbered_few _ (cut_few (cycle_kind_of k) k modal.cycle (block_motion fixed path modal values))
+motion_few fixed path modal kind.Setting has_l values = set_few modal.cycle (setting_of path.offsets modal has_l values)
+motion_few fixed path modal kind.Machine has_l values = incremental_few modal.incremental _ (turret_few fixed path modal kind.Machine values)
+motion_few fixed path modal k has_l values = turret_few fixed path modal k values
 
 -- beside the motion there are three at most
 speed_few : (limits : Bool) (modal : ModalView) (speed : Var) → length (speed_moves limits modal speed) ≤ 1
@@ -198,14 +208,14 @@ FewMoves (Done after write moves) = length moves ≤ 7
 FewMoves (AtEnd after moves) = length moves ≤ 7
 FewMoves _ = Unit {0}
 
-after_few : (path : PathView) (modal : ModalView) (words : List FlowWord) (values : Values) (motion : Result Motion ℕ) → FewMotion motion
-    → FewMoved (after_motion path modal words values motion)
-after_few path modal words values (Ok motion) few = all_few (gives is_limit words) modal values motion.moves (m_code words) few
-after_few path modal words values (Err number) few = tt
+after_few : (path : PathView) (modal : ModalView) (system : System) (words : List FlowWord) (values : Values) (motion : Result Motion ℕ) → FewMotion motion
+    → FewMoved (after_motion path modal system words values motion)
+after_few path modal system words values (Ok motion) few = all_few (gives system is_limit words) modal values motion.moves (m_code words) few
+after_few path modal system words values (Err number) few = tt
 
-with_few : (fixed : Fixed) (path : PathView) (words : List FlowWord) (values : Values) (modal : Result ModalView ℕ) → FewMoved (motion_with fixed path words values modal)
-with_few fixed path words values (Ok modal) = after_few path modal words values _ (motion_few fixed path modal _ _ values)
-with_few fixed path words values (Err number) = tt
+with_few : (fixed : Fixed) (path : PathView) (system : System) (words : List FlowWord) (values : Values) (modal : Result ModalView ℕ) → FewMoved (motion_with fixed path system words values modal)
+with_few fixed path system words values (Ok modal) = after_few path modal system words values _ (motion_few fixed path modal _ _ values)
+with_few fixed path system words values (Err number) = tt
 
 module _ (tape : List ControlProgram) (fixed : Fixed) (path : PathView) where
   done_few : (moved : Moved) (to : Result Standing Cause) → length moved.moves ≤ 7 → FewMoves (done_by moved to)
@@ -220,10 +230,10 @@ module _ (tape : List ControlProgram) (fixed : Fixed) (path : PathView) where
   moved_few c (Ok moved) few = controlled_few moved None c few
   moved_few c (Err number) few = tt
 
-  values_few : (words : List FlowWord) (c : Control) (values : Outcome Values) → FewMoves (of_values tape fixed path words c values)
-  values_few words c (Gives values left) = moved_few c (acted fixed path words values) (with_few fixed path words values (modal_after path.modal words values))
-  values_few words c (Needs variable) = tt
-  values_few words c (Alarms number value) = tt
+  values_few : (system : System) (words : List FlowWord) (c : Control) (values : Outcome Values) → FewMoves (of_values tape fixed path system words c values)
+  values_few system words c (Gives values left) = moved_few c (acted fixed path system words values) (with_few fixed path system words values (modal_after path.modal system words values))
+  values_few system words c (Needs variable) = tt
+  values_few system words c (Alarms number value) = tt
 
   arguments_few : (c : Control) (arguments : Outcome (List Var)) → FewMoves (of_arguments tape path c arguments)
   arguments_few c (Gives arguments left) = controlled_few (record { path = path; moves = [] }) (Some arguments) c (omega arith)
@@ -235,16 +245,16 @@ module _ (tape : List ControlProgram) (fixed : Fixed) (path : PathView) where
   statement_few (Needs variable) = tt
   statement_few (Alarms number value) = tt
 
-  purpose_few : (purpose : Purpose) (words : List FlowWord) (c : Control) (reads : List Var) → FewMoves (of_purpose tape fixed path purpose words c reads)
-  purpose_few MacroCall words c reads = arguments_few c _
-  purpose_few purpose words c reads = values_few words c (words_taken fixed path (sense_of path purpose words) words nothing_said reads)
+  purpose_few : (purpose : Purpose) (system : System) (words : List FlowWord) (c : Control) (reads : List Var) → FewMoves (of_purpose tape fixed path purpose system words c reads)
+  purpose_few MacroCall system words c reads = arguments_few c _
+  purpose_few purpose system words c reads = values_few system words c (words_taken fixed path (sense_of path purpose system words) words nothing_said reads)
 
-  words_few : (purpose : Purpose) (words : List FlowWord) (c : Control) (reads : List Var) → FewMoves (block_of_words tape fixed path purpose words c reads)
-  words_few purpose words (control.Wait code) reads = tt
-  words_few purpose words c reads = purpose_few purpose words c reads
+  words_few : (purpose : Purpose) (system : System) (words : List FlowWord) (c : Control) (reads : List Var) → FewMoves (block_of_words tape fixed path purpose system words c reads)
+  words_few purpose system words (control.Wait code) reads = tt
+  words_few purpose system words c reads = purpose_few purpose system words c reads
 
   body_few : (body : FlowBody) (c : Control) (reads : List Var) → FewMoves (effect_of_body tape fixed path body c reads)
-  body_few (Words words) c reads = words_few words.purpose words.words c reads
+  body_few (Words words) c reads = words_few words.purpose words.dialect.system words.words c reads
   body_few (Statement statement) c reads = statement_few _
 
 found_few : (tape : List ControlProgram) (path : PathView) (found : Option FlowBlock) (reads : List Var) → FewMoves (effect_of_block tape path found reads)
@@ -288,12 +298,18 @@ either_few : (left right : Flow) (path own : Path) (m : MachineView) → length 
 either_few left right One own m = turn_few left own m
 either_few left right Two own m = turn_few right own m
 
+-- what a record has, which is an edit or has these stamps
+again_few : (left right : Flow) (path : Path) (edit : Option Edit) (stamps : List ℕ) (m : MachineView)
+    → length (made_in (turn_by (tape_of (tapes_of left right) path) path edit stamps m)) ≤ 7
+again_few left right path None stamps m = either_few left right path path (with_reads (tape_of (tapes_of left right) path) stamps m)
+again_few left right path (Some edit) stamps m = omega arith
+
 -- what the records have
 records_few : (left right : Flow) (path : Path) (entries : List Entry) (m : MachineView) → length (moves_in (shown_from (tapes_of left right) m path entries)) ≤ 7 * length entries
 records_few left right path [] m = omega arith
 records_few left right path (e ∷ entries) m =
     go (is_same path e.path) (made_in (turn_of_entry (tapes_of left right) e m))
-    (either_few left right e.path e.path (with_reads (tape_of (tapes_of left right) e.path) e.stamps (own_first e.path m)))
+    (again_few left right e.path (edit_of e.kind) e.stamps (own_first e.path m))
     (records_few left right path entries (behind_entry (tapes_of left right) e m))
   where
     go : (b : Bool) (moves : List LinedMove) → length moves ≤ 7 → length (moves_in (shown_from (tapes_of left right) (behind_entry (tapes_of left right) e m) path entries)) ≤ 7 * length entries

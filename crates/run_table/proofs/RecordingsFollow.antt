@@ -7,7 +7,7 @@ use Rattle.disk_model.specs.Device.{DiskState}
 use Rattle.disk_model.specs.Moments.{LeavesOnly, Uses}
 use Rattle.disk_model.proofs.Runs.{joined, uses_add, uses_none, uses_widened}
 use Rattle.gate_file.specs.Gate.{Gate}
-use Rattle.run_records.specs.declared.entry.Entry.{Entry}
+use Rattle.run_records.specs.Entries.{Entry}
 use Rattle.run_records.specs.declared.header.Header.{Header}
 use Rattle.run_records.specs.Spelling.{entry_bytes}
 use Rattle.run_journal.specs.Batches.{records_bytes, batch_bytes}
@@ -146,6 +146,7 @@ pub follows_more : {D : Type 0} (state : D → DiskState) (first second : List E
 follows_more state first second a b c f s = record {
   history = s.history ∙ ap (λ (l : List Entry). l ++ second) f.history ∙ append_assoc a.history first second;
   flushed = omega (arith, f.flushed, s.flushed);
+  version = s.version ∙ f.version;
   journal = λ header j.
       let k = f.journal header j in
       let l = s.journal header k.journaled in

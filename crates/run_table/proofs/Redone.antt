@@ -6,11 +6,13 @@ use Rattle.nc_number.specs.declared.value.Var.{Var}
 use Rattle.nc_moves.specs.declared.alarm.Alarm.{Alarm}
 use Rattle.path_state.specs.Effect.{Effect, Need, Done, AtWait, AtEnd}
 use Rattle.path_state.specs.Effect as effect
+use Rattle.run_records.specs.Entries.{edit_of}
+use Rattle.run_records.specs.declared.edit.Edit.{Edit}
 use Rattle.run_records.specs.declared.entry.EntryKind.{EntryKind}
 use Rattle.two_path.specs.Machine.{MachineView, own_first, part_without_reads, without_reads}
-use Rattle.two_path.specs.Turns.{Blocks, Tapes, result_at_wait, result_by, unless_idle, block_turn, own_turn, turn_of}
+use Rattle.two_path.specs.Turns.{Blocks, Tapes, tape_of, result_at_wait, result_by, unless_idle, block_turn, own_turn, turn_of}
 use Rattle.two_path.specs.Histories.{with_values, with_reads, IsLawful, AreLawful}
-use Rattle.two_path.specs.Again.{turn_of_entry}
+use Rattle.two_path.specs.Again.{turn_by, turn_of_entry}
 
 -- what the second path's block has read is nothing to a turn of the first
 abbrev aside : MachineView → MachineView
@@ -48,7 +50,13 @@ own_redone : (blocks : Blocks) (path : Path) (m : MachineView) → IsLawful bloc
 own_redone blocks path m lawful =
     ap (λ (values : List Var). (own_turn blocks path (with_values values m.first.stamps (aside m))).turn) (sym lawful.values) ∙ own_aside blocks path m
 
-pub redone : (tapes : Tapes) (path : Path) (m : MachineView) (kind : EntryKind) → AreLawful tapes m
-    → turn_of_entry tapes (record { path = path; kind = kind; stamps = (own_first path m).first.stamps }) (without_reads m) ≡ (turn_of tapes path m).turn
-redone tapes One m kind lawful = own_redone tapes.first One m lawful.first
-redone tapes Two m kind lawful = own_redone tapes.second Two (own_first Two m) lawful.second
+step_redone : (tapes : Tapes) (path : Path) (m : MachineView) → AreLawful tapes m
+    → turn_by (tape_of tapes path) path None (own_first path m).first.stamps (own_first path (without_reads m)) ≡ (turn_of tapes path m).turn
+step_redone tapes One m lawful = own_redone tapes.first One m lawful.first
+step_redone tapes Two m lawful = own_redone tapes.second Two (own_first Two m) lawful.second
+
+pub redone : (tapes : Tapes) (path : Path) (m : MachineView) (k : EntryKind) → edit_of k ≡ None → AreLawful tapes m
+    → turn_of_entry tapes (record { path = path; kind = k; stamps = (own_first path m).first.stamps }) (without_reads m) ≡ (turn_of tapes path m).turn
+redone tapes path m k none lawful =
+    ap (λ (o : Option Edit). turn_by (tape_of tapes path) path o (own_first path m).first.stamps (own_first path (without_reads m))) none
+    ∙ step_redone tapes path m lawful

@@ -5,7 +5,7 @@ use Rattle.disk_model.specs.Device.{DiskState, IsCoherent, Reads, Rose}
 use Rattle.disk_model.specs.Moments.{LeavesOnly, Uses}
 use Rattle.disk_model.proofs.Runs.{no_call, uses_none}
 use Rattle.gate_file.specs.Gate.{Gate}
-use Rattle.run_records.specs.declared.entry.Entry.{Entry}
+use Rattle.run_records.specs.Entries.{Entry}
 use Rattle.run_journal.specs.Batches.{batch_bytes}
 use Rattle.nc_number.specs.declared.path.Path.{Path}
 use Rattle.nc_outside.specs.declared.halt.Halt.{Halt}
@@ -25,6 +25,7 @@ noted_only state made old new coherent noted = record {
   follows = record {
     history = noted.history;
     flushed = omega (arith, noted.flushed);
+    version = noted.version;
     journal = λ header j.
         let k = noted.journal header j in
         record {
@@ -51,7 +52,7 @@ noted_only state made old new coherent noted = record {
 -- nothing is done
 pub nothing : {D : Type 0} (state : D → DiskState) (r : RecordingView D) → ((disk : D) → IsCoherent (state disk)) → Records state [] r r
 nothing state r coherent =
-    noted_only state [] r r coherent (record { within = λ (some : 1 ≤ 0). absurd (omega (arith, some)); history = sym (append-nil r.history); file = refl; flushed = refl; room = refl; journal = λ header j. j })
+    noted_only state [] r r coherent (record { within = λ (some : 1 ≤ 0). absurd (omega (arith, some)); history = sym (append-nil r.history); file = refl; flushed = refl; version = refl; room = refl; journal = λ header j. j })
 
 abbrev IsUsed : {D : Type 0} → (D → DiskState) → RecordingView D → Gate D → ℕ → Type 0
 IsUsed state new file count =

@@ -6,23 +6,23 @@ use Rattle.disk_model.specs.Device.{DiskState, IsCoherent}
 use Rattle.disk_model.proofs.Runs.{no_call, told_before, unwritten_none, uses_none}
 use Rattle.gate_file.specs.declared.fault.GateFault.{GateFault}
 use Rattle.gate_file.specs.declared.fault.GateFault.TheVariants.{NoMemory}
-use Rattle.nc_number.specs.declared.path.Path.{Path}
-use Rattle.nc_number.specs.declared.path.Path.TheVariants.{One, Two}
 use Rattle.nc_moves.specs.declared.alarm.Alarm.{Alarm}
 use Rattle.nc_verify.specs.declared.verified.Verified.{Verified}
 use Rattle.block_order.specs.declared.program.ControlProgram.{ControlProgram}
-use Rattle.run_records.specs.declared.entry.Entry.{Entry}
+use Rattle.run_records.specs.Entries.{Entry}
 use Rattle.run_records.specs.declared.header.Header.{Header}
+use Rattle.run_records.specs.declared.version.Version.{Version}
 use Rattle.run_records.specs.Room.{Entries}
 use Rattle.run_records.specs.Headers.{header_bytes}
 use Rattle.run_journal.specs.Beginning.{BeginsRun, IsRunBeginning}
 use Rattle.run_journal.specs.Kept.{Log, IsFresh}
 use Rattle.run_journal.specs.Stands.{Stands, Holds}
 use Rattle.path_state.specs.View.{PathView}
-use Rattle.two_path.specs.Machine.{MachineView, own_first, without_reads, opening}
-use Rattle.two_path.specs.Turns.{Tapes, tape_of, own_turn}
+use Rattle.two_path.specs.Machine.{MachineView, without_reads, opening}
+use Rattle.two_path.specs.Turns.{Tapes}
 use Rattle.two_path.specs.Joined.{RoomyMachine, AreAtTheirWaits}
-use Rattle.two_path.specs.Histories.{behind_entry, with_reads, IsNext, IsLegal, IsKept, Keeps, fold}
+use Rattle.two_path.specs.Histories.{behind_entry, IsNext, IsLegal, IsKept, Keeps, fold}
+use Rattle.two_path.proofs.Edited.{entry_bare}
 use Rattle.run_table.specs.Recording.{RecordingView, IsJournaled}
 use Rattle.run_table.specs.Kept.{TableView, tapes_in, opening_of, IsVerdictOf, HasReason, IsTable}
 use Rattle.run_table.specs.declared.draining.Owed.{Owed}
@@ -30,15 +30,6 @@ use Rattle.run_table.specs.Draining.{none_owed}
 use Rattle.nc_outside.specs.declared.halt.Halt.{Halt}
 use Rattle.run_table.specs.Begun.{reason_in, recovered_table}
 use Rattle.run_table.specs.Recovered.{IsRecovered, HoldsAll}
-
--- a path behind a record has no block reads
-bare_first : (path : Path) (m : MachineView) → without_reads (own_first path (without_reads m)) ≡ own_first path (without_reads m)
-bare_first One m = refl
-bare_first Two m = refl
-
-bare_entry : (tapes : Tapes) (e : Entry) (m : MachineView) → without_reads (behind_entry tapes e m) ≡ behind_entry tapes e m
-bare_entry tapes e m =
-    bare_first e.path (own_turn (tape_of tapes e.path) e.path (with_reads (tape_of tapes e.path) e.stamps (own_first e.path m))).machine
 
 -- a legal history keeps its fold
 legal_kept : (tapes : Tapes) (start : MachineView) → Keeps tapes start → (after before : List Entry) (now : MachineView)
@@ -49,7 +40,7 @@ legal_kept tapes start keeps (e ∷ after) before now k bare legal =
     let then : IsKept tapes start (before ++ e ∷ []) (behind_entry tapes e now) =
     subst (λ (x : MachineView). IsKept tapes start (before ++ e ∷ []) (behind_entry tapes e x)) bare (keeps.entry before now e k next) in
     subst (λ (l : List Entry). IsKept tapes start l (fold tapes (behind_entry tapes e now) after)) (append_assoc before (e ∷ []) after)
-    (legal_kept tapes start keeps after (before ++ e ∷ []) (behind_entry tapes e now) then (bare_entry tapes e now) legal.1)
+    (legal_kept tapes start keeps after (before ++ e ∷ []) (behind_entry tapes e now) then (entry_bare tapes e now) legal.1)
 
 -- a table of these parts is that of the recovery
 pub recovered_parts : {D : Type 0} (verified : Verified) (m : RoomyMachine) (entries : Entries) (log : Log D) (r : RecordingView D) (h : Option Halt) (o : Owed)
@@ -62,17 +53,17 @@ recovered_parts verified m entries log r h o recorded reason owed =
 
 -- where the disk holds all records, the journal is that of the history
 pub all_held : {D : Type 0} (state : D → DiskState) (header : Header) (entries : List Entry) (room : ℕ) (log : Log D)
-    → ((disk : D) (header : Header) (entries : List Entry) (end : ℕ) → Holds header entries (state disk) end → (c : List ℕ) → (state disk).image c → Stands header entries c)
+    → ((disk : D) (header : Header) (version : Version) (entries : List Entry) (end : ℕ) → Holds header version entries (state disk) end → (c : List ℕ) → (state disk).image c → Stands header entries c)
     → HoldsAll state header entries log → IsJournaled state header (record { history = entries; room = room; flushed = length entries; log = log })
 all_held state header entries room log law holds =
     let all : entries ≡ take (length entries) entries = sym (take_all (length entries) entries (omega arith)) in
     record {
-      held = λ bytes reads live. subst (λ (l : List Entry). Holds header l (state log.file.disk) log.file.end) all (holds bytes reads);
+      held = λ bytes reads live. subst (λ (l : List Entry). Holds header log.version l (state log.file.disk) log.file.end) all (holds bytes reads);
       left = λ bytes reads c image. (
         length entries,
         omega arith,
         omega arith,
-        subst (λ (l : List Entry). Stands header l c) all (law log.file.disk header entries log.file.end (holds bytes reads) c image),
+        subst (λ (l : List Entry). Stands header l c) all (law log.file.disk header log.version entries log.file.end (holds bytes reads) c image),
       );
     }
 
@@ -99,7 +90,7 @@ begun_table state v m entries log kept waits few fresh journaled = record {
 }
 
 pub recovered_is : {D : Type 0} (state : D → DiskState) (v : Verified) (m : RoomyMachine) (entries : Entries) (log : Log D) → Keeps (tapes_in v) (opening_of v)
-    → ((disk : D) (header : Header) (entries : List Entry) (end : ℕ) → Holds header entries (state disk) end → (c : List ℕ) → (state disk).image c → Stands header entries c)
+    → ((disk : D) (header : Header) (version : Version) (entries : List Entry) (end : ℕ) → Holds header version entries (state disk) end → (c : List ℕ) → (state disk).image c → Stands header entries c)
     → IsRecovered state v m.machine entries.items log → IsTable state (recovered_table v m entries log)
 recovered_is state v m entries log keeps law found =
     let legal = legal_kept (tapes_in v) (opening_of v) keeps entries.items [] (opening_of v) keeps.opening refl found.legal in
@@ -151,7 +142,9 @@ untouched header disk coherent = record {
 
 -- the new journal holds its header and no record
 pub new_holds : {D A : Type 0} (state : D → DiskState) (header : Header) (old : DiskState) (a : A) (log : Log D)
-    → BeginsRun header old (state log.file.disk) (Ok a) → log.file.end ≡ 5 + length (header_bytes header) → HoldsAll state header [] log
-new_holds state header old a log call end bytes reads =
+    → BeginsRun header old (state log.file.disk) (Ok a) → log.version ≡ header.version → log.file.end ≡ 5 + length (header_bytes header)
+    → HoldsAll state header [] log
+new_holds state header old a log call version end bytes reads =
     let told = told_before 12 _ old (state log.file.disk) call.uses bytes reads in
-    subst (λ (n : ℕ). Holds header [] (state log.file.disk) n) (sym end) (call.held told.0 told.1)
+    subst (λ (v : Version). Holds header v [] (state log.file.disk) log.file.end) (sym version)
+    (subst (λ (n : ℕ). Holds header header.version [] (state log.file.disk) n) (sym end) (call.held told.0 told.1))

@@ -7,7 +7,7 @@ use Rattle.nc_number.specs.declared.path.Path.{Path}
 use Rattle.nc_outside.specs.declared.halt.Halt.{Halt}
 use Rattle.nc_outside.specs.declared.halt.Halt.TheVariants as halt
 use Rattle.nc_verify.specs.declared.verified.Verified.{Verified}
-use Rattle.run_records.specs.declared.entry.Entry.{Entry}
+use Rattle.run_records.specs.Entries.{Entry}
 use Rattle.run_records.specs.declared.header.Header.{Header}
 use Rattle.two_path.specs.declared.turn.Turn.{Turn}
 use Rattle.two_path.specs.declared.turn.Turn.TheVariants as turn
@@ -45,6 +45,7 @@ turned_reason m r (turn.Waiting code) is live few = record { calm = is; live = l
 turned_reason m r turn.Finished is live few = record { calm = is; live = live; few = few }
 turned_reason m r (turn.Alarm alarm) is live few = (is, live)
 turned_reason m r (turn.Halted alarm) is live few = record { calm = is; live = live; few = few }
+turned_reason m r turn.Edited is live few = record { calm = is; live = live; few = few }
 
 -- the answer to a turn
 reason_kept : {D : Type 0} (state : D → DiskState) (m : MachineView) (r r' : RecordingView D) (made : List Entry) (t : Turn) (answer : TableStep)

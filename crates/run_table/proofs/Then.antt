@@ -61,6 +61,7 @@ kept_fault (Turned (turn.Waiting code)) is = absurd cc
 kept_fault (Turned turn.Finished) is = absurd cc
 kept_fault (Turned (turn.Alarm alarm)) is = absurd cc
 kept_fault (Turned (turn.Halted alarm)) is = absurd cc
+kept_fault (Turned turn.Edited) is = absurd cc
 kept_fault Drain is = absurd cc
 kept_fault DiskFault is = refl
 kept_fault (Halted why) is = absurd cc

@@ -6,7 +6,7 @@ use Rattle.nc_number.specs.declared.path.Path.{Path}
 use Rattle.nc_number.specs.declared.path.Path.TheVariants.{One, Two}
 use Rattle.nc_outside.specs.declared.halt.Halt.{Halt}
 use Rattle.nc_moves.specs.declared.alarm.Alarm.{Alarm}
-use Rattle.run_records.specs.declared.entry.Entry.{Entry}
+use Rattle.run_records.specs.Entries.{Entry}
 use Rattle.run_records.specs.declared.entry.EntryKind.{EntryKind}
 use Rattle.two_path.specs.declared.turn.Turn.{Turn}
 use Rattle.two_path.specs.declared.turn.Turn.TheVariants as turn
@@ -38,6 +38,7 @@ block_tells (turn.Waiting code) Q R goes r = absurd (goes.waits code refl)
 block_tells turn.Finished Q R goes r = r
 block_tells (turn.Alarm alarm) Q R goes r = r
 block_tells (turn.Halted alarm) Q R goes r = r
+block_tells turn.Edited Q R goes r = r
 
 abbrev waits_by : Option Alarm → Bool → Option ℕ → Bool
 waits_by alarm finished waiting = (is_none alarm && not finished) && is_some waiting
@@ -71,6 +72,7 @@ come_tells (turn.Waiting code) Q R is tells = absurd (let clash : false ≡ true
 come_tells turn.Finished Q R is tells = tells
 come_tells (turn.Alarm alarm) Q R is tells = tells
 come_tells (turn.Halted alarm) Q R is tells = tells
+come_tells turn.Edited Q R is tells = tells
 
 other_tells : (t : Turn) (Q R : Type 0) → ((code : ℕ) → t ≡ turn.Waiting code → R) → Tells t Q R → R
 other_tells (turn.Read variable stamp) Q R waits tells = tells
@@ -82,6 +84,7 @@ other_tells (turn.Waiting code) Q R waits tells = waits code refl
 other_tells turn.Finished Q R waits tells = tells
 other_tells (turn.Alarm alarm) Q R waits tells = tells
 other_tells (turn.Halted alarm) Q R waits tells = tells
+other_tells turn.Edited Q R waits tells = tells
 
 and_right : (a b : Bool) → (a && b) ≡ true → b ≡ true
 and_right true b is = is

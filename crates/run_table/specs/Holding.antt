@@ -10,7 +10,7 @@ use Rattle.nc_outside.specs.declared.halt.Next.TheVariants as next
 use Rattle.nc_outside.specs.declared.lined_move.LinedMove.{LinedMove}
 use Rattle.nc_moves.specs.declared.motion.Moves.{Moves}
 use Rattle.nc_verify.specs.declared.verified.Verified.{Verified}
-use Rattle.run_records.specs.declared.entry.Entry.{Entry}
+use Rattle.run_records.specs.Entries.{Entry}
 use Rattle.seat_table.specs.Turning.{moves_in}
 use Rattle.two_path.specs.declared.turn.Turn.{Turn}
 use Rattle.two_path.specs.declared.turn.Turn.TheVariants as turn
@@ -121,6 +121,7 @@ next_of_turn (turn.Waiting code) = None
 next_of_turn turn.Finished = Some next.Finished
 next_of_turn (turn.Alarm alarm) = Some (next.Halted (halt.Alarm alarm))
 next_of_turn (turn.Halted alarm) = Some (next.Halted (halt.Alarm alarm))
+next_of_turn turn.Edited = Some next.Silent  -- an edit is no turn of a step
 
 -- a step as it is handed on to the worker of its path; None where the path waits
 abbrev pub next_of : TableStep → Option Next

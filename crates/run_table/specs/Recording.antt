@@ -2,7 +2,7 @@
 use Rattle.std.specs.Prelude.{◌≡◌, ℕ, ◌+◌, ◌-◌, ◌*◌, ◌≤◌, ◌<◌, ◌++◌, false, List, length, take, drop, IsTrue, Result, OnOk, OnErr, is_ok, if◌then◌else◌}
 use Rattle.disk_model.specs.Device.{DiskState, Reads}
 use Rattle.disk_model.specs.Moments.{LeavesOnly, Uses}
-use Rattle.run_records.specs.declared.entry.Entry.{Entry}
+use Rattle.run_records.specs.Entries.{Entry}
 use Rattle.run_records.specs.declared.header.Header.{Header}
 use Rattle.run_journal.specs.Batches.{records_bytes, batch_bytes}
 use Rattle.run_journal.specs.Kept.{Log}
@@ -19,7 +19,7 @@ pub record RecordingView (D : Type 0) : Type 0 where
 pub record IsGathered {D : Type 0} (r : RecordingView D) : Type 0 where
   pub within : r.flushed ≤ length r.history
   pub few : length r.history ≤ r.flushed + 64
-  pub pends : Pends (drop r.flushed r.history) r.log.batch
+  pub pends : Pends r.log.version (drop r.flushed r.history) r.log.batch
   pub counted : r.log.count ≡ length r.history
 
 -- the image stands for a beginning of the history, of so many records at least
@@ -27,11 +27,11 @@ abbrev pub StandsForPrefix : Header → ℕ → List Entry → List ℕ → Type
 StandsForPrefix header least history image =
     (n : ℕ) × (least ≤ n) × (n ≤ length history) × Stands header (take n history) image
 
--- The disk holds the header and the flushed part of the history, until it has failed. What a crash may leave of it stands, at any
+-- The disk holds the header and the flushed part of the history, in a journal of the version that it has by now, until it has failed. What a crash may leave of it stands, at any
 -- time, for a beginning of the history that has the flushed part.
 pub record IsJournaled {D : Type 0} (state : D → DiskState) (header : Header) (r : RecordingView D) : Type 0 where
   pub held : (bytes : List ℕ) → Reads (state r.log.file.disk) bytes → IsTrue r.log.file.live
-      → Holds header (take r.flushed r.history) (state r.log.file.disk) r.log.file.end
+      → Holds header r.log.version (take r.flushed r.history) (state r.log.file.disk) r.log.file.end
   pub left : (bytes : List ℕ) → Reads (state r.log.file.disk) bytes
       → (c : List ℕ) → (state r.log.file.disk).image c → StandsForPrefix header r.flushed r.history c
 
@@ -64,6 +64,8 @@ pub record Sends {D : Type 0} (state : D → DiskState) (old new : RecordingView
 pub record Follows {D : Type 0} (state : D → DiskState) (made : List Entry) (old new : RecordingView D) : Type 0 where
   pub history : new.history ≡ old.history ++ made
   pub flushed : old.flushed ≤ new.flushed
+  -- the journal is not raised
+  pub version : new.log.version ≡ old.log.version
   pub journal : (header : Header) → IsJournaled state header old → KeepsJournal state header old new
   pub sends : old.flushed ≤ length old.history → Sends state old new
   pub told : (bytes : List ℕ) → Reads (state old.log.file.disk) bytes → (c : List ℕ) × Reads (state new.log.file.disk) c
@@ -87,6 +89,7 @@ pub record IsNoted {D : Type 0} (state : D → DiskState) (made : List Entry) (o
   pub history : new.history ≡ old.history ++ made
   pub file : new.log.file ≡ old.log.file
   pub flushed : new.flushed ≡ old.flushed
+  pub version : new.log.version ≡ old.log.version
   pub room : new.room ≡ old.room
   pub journal : (header : Header) → IsJournaled state header old → IsJournaled state header new
 

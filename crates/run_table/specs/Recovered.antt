@@ -1,7 +1,7 @@
 -- What a recovery finds.
 use Rattle.std.specs.Prelude.{◌≡◌, ℕ, ◌≤◌, List, length}
 use Rattle.disk_model.specs.Device.{DiskState, Reads}
-use Rattle.run_records.specs.declared.entry.Entry.{Entry}
+use Rattle.run_records.specs.Entries.{Entry}
 use Rattle.run_records.specs.declared.header.Header.{Header}
 use Rattle.run_journal.specs.Kept.{Log, IsFresh}
 use Rattle.run_journal.specs.Stands.{Holds}
@@ -11,10 +11,11 @@ use Rattle.two_path.specs.Joined.{AreAtTheirWaits}
 use Rattle.two_path.specs.Histories.{IsLegal, fold}
 use Rattle.run_table.specs.Kept.{tapes_in, opening_of, IsVerdictOf}
 
--- where the disk tells its content it holds this header and these records, which the journal has written
+-- where the disk tells its content it holds this header and these records, which the journal has written in the version that it has
 abbrev pub HoldsAll : {D : Type 0} → (D → DiskState) → Header → List Entry → Log D → Type 0
 HoldsAll state header entries log =
-    (bytes : List ℕ) → Reads (state log.file.disk) bytes → Holds header entries (state log.file.disk) log.file.end
+    (bytes : List ℕ) → Reads (state log.file.disk) bytes
+    → Holds header log.version entries (state log.file.disk) log.file.end
 
 -- The parts of one recovery: the records are a legal history of the pair, of as many records as the pair allows at most. The
 -- machine is its fold, without block reads. The journal may be written, has just as many records and none that pends, and stands

@@ -2,7 +2,7 @@
 use Rattle.std.specs.Prelude.{◌≡◌, ◌⊎◌, ◌+◌, List, length, Some}
 use Rattle.disk_model.specs.Device.{DiskState, Rose}
 use Rattle.nc_outside.specs.declared.halt.Halt.TheVariants.{Disk}
-use Rattle.run_records.specs.declared.entry.Entry.{Entry}
+use Rattle.run_records.specs.Entries.{Entry}
 use Rattle.run_table.specs.Recording.{Follows}
 use Rattle.run_table.specs.Kept.{TableView}
 

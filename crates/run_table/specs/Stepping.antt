@@ -4,7 +4,7 @@ use Rattle.disk_model.specs.Device.{DiskState, Rose}
 use Rattle.nc_number.specs.declared.path.Path.{Path}
 use Rattle.nc_outside.specs.declared.halt.Halt.{Halt}
 use Rattle.nc_outside.specs.declared.halt.Halt.TheVariants as halt
-use Rattle.run_records.specs.declared.entry.Entry.{Entry}
+use Rattle.run_records.specs.Entries.{Entry}
 use Rattle.two_path.specs.declared.turn.Turn.{Turn}
 use Rattle.two_path.specs.declared.turn.Turn.TheVariants as turn
 use Rattle.two_path.specs.Machine.{MachineView, own_first}
@@ -27,6 +27,7 @@ is_shown (turn.Waiting code) = false
 is_shown turn.Finished = false
 is_shown (turn.Alarm alarm) = true
 is_shown (turn.Halted alarm) = false
+is_shown turn.Edited = false
 
 -- why no turn comes though nothing stopped the table: it has as many records as it may have, or no budget is left
 abbrev pub bound_by : ℕ → ℕ → ℕ → Option Halt

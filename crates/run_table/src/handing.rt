@@ -30,6 +30,7 @@ fn next_of_turn(turn: Turn) -> Option<Next>
         Turn::Finished => Some(Next::Finished),
         Turn::Alarm { alarm } => Some(Next::Halted(Halt::Alarm(alarm))),
         Turn::Halted { alarm } => Some(Next::Halted(Halt::Alarm(alarm))),
+        Turn::Edited => Some(Next::Silent),
     }
 }
 

@@ -3,7 +3,7 @@ ghost use Rattle.std.specs.Prelude.{◌≡◌, ◌≢◌, ℕ, ◌-◌, ◌*◌,
 ghost use Rattle.nc_number.specs.declared.path.Path.{Path};
 ghost use Rattle.nc_number.specs.Path.{other_of};
 ghost use Rattle.nc_verify.specs.declared.verified.Verified.{Verified};
-ghost use Rattle.run_records.specs.declared.entry.Entry.{Entry};
+ghost use Rattle.run_records.specs.Entries.{Entry};
 ghost use Rattle.two_path.specs.declared.turn.Turn.TheVariants.{Waiting};
 ghost use Rattle.two_path.specs.Machine.{MachineView, without_reads};
 ghost use Rattle.two_path.specs.Stuck.{IsStuck};

@@ -1,6 +1,7 @@
 //! The history of a run, and the journal that holds a beginning of it.
-ghost use Rattle.std.specs.Prelude.{◌≡◌, ◌+◌, ◌≤◌, [], ◌∷◌, length, IsTrue, IsErr, OnOk};
+ghost use Rattle.std.specs.Prelude.{◌≡◌, ◌+◌, ◌≤◌, [], ◌∷◌, length, None, IsTrue, IsErr, OnOk};
 ghost use Rattle.disk_model.specs.Device.{Rose};
+ghost use Rattle.run_records.specs.Entries.{edit_of};
 ghost use Rattle.run_journal.specs.Kept.{IsFresh};
 ghost use Rattle.run_table.specs.Recording.{MayNote, IsNoted, Records, IsFlush};
 
@@ -89,9 +90,10 @@ impl<D: Disk> Recording<D> {
         self.history.len() - self.flushed
     }
 
-    /// One record more, which pends. It takes no memory.
+    /// One record more, which is of a step and pends. It takes no memory.
     pub(crate) fn note(&mut self, entry: Entry)
-        requires { MayNote self.old }
+        requires may { MayNote self.old }
+        requires step { edit_of entry.kind ≡ None }
         ensures { IsNoted D.state (entry ∷ []) self.old self.new }
     {
         self.journal.add(&entry).unwrap();

@@ -1,5 +1,6 @@
 //! The parts of a step.
-ghost use Rattle.std.specs.Prelude.{◌≡◌, ◌+◌, ◌<◌, [], true, length, nat_lt, IsTrue};
+ghost use Rattle.std.specs.Prelude.{◌≡◌, ◌+◌, ◌<◌, [], true, length, nat_lt, None, IsTrue, IfSome};
+ghost use Rattle.run_records.specs.Entries.{edit_of};
 ghost use Rattle.two_path.specs.Histories.{list_of};
 ghost use Rattle.run_table.specs.declared.answer.TableStep.TheVariants.{Turned as Shown};
 ghost use Rattle.run_table.specs.Recording.{MayNote, IsNoted, Records};
@@ -21,6 +22,7 @@ pub(crate) fn is_shown(turn: &Turn) -> bool
         Turn::Did { moves } => !moves.list.as_slice().is_empty(),
         Turn::Arrived { .. } | Turn::Met { .. } | Turn::Ended { .. } | Turn::Alarm { .. } => true,
         Turn::Read { .. } | Turn::Waiting { .. } | Turn::Finished | Turn::Halted { .. } => false,
+        Turn::Edited => false,
     }
 }
 
@@ -45,6 +47,7 @@ pub(crate) fn reason_of(answer: &TableStep) -> Option<Halt>
 /// Notes the record of a turn, if it has one, and counts it.
 pub(crate) fn note<D: Disk>(recording: &mut Recording<D>, budget: &mut u32, entry: Option<Entry>)
     requires note { MayNote recording.old }
+    requires step { IfSome entry (λ e. edit_of e.kind ≡ None) }
     requires budget { 0 < budget.old }
     ensures noted { IsNoted D.state (list_of entry) recording.old recording.new }
     ensures budget { budget.new + length (list_of entry) ≡ budget.old }
@@ -76,6 +79,7 @@ pub(crate) fn take<D: Disk>(
     turned: Turned,
 ) -> TableStep
     requires note { MayNote recording.old }
+    requires step { IfSome turned.entry (λ e. edit_of e.kind ≡ None) }
     requires budget { 0 < budget.old }
     requires made { is_shown turned.turn ≡ true → length (list_of turned.entry) ≡ 1 }
     ensures answer { Answers D.state (is_due recording.old (list_of turned.entry) turned.turn) (Shown turned.turn)

@@ -19,7 +19,8 @@ use Rattle.block_order.specs.declared.label.Label.TheVariants as label
 use Rattle.block_order.specs.declared.program.ControlProgram.{ControlProgram}
 use Rattle.block_order.specs.Labels.{ahead, list, start}
 use Rattle.block_order.specs.Steps.{Step, IsPlace, standing, passed, Kept, KeepsLabels}
-use Rattle.run_records.specs.declared.entry.Entry.{Entry}
+use Rattle.run_records.specs.Entries.{Entry, edit_of}
+use Rattle.run_records.specs.declared.edit.Edit.{Edit}
 use Rattle.run_records.specs.declared.entry.EntryKind.{EntryKind}
 use Rattle.path_state.specs.View.{PathView}
 use Rattle.path_state.specs.Effect.{Effect, Need, Done, AtWait, AtEnd}
@@ -30,8 +31,9 @@ use Rattle.two_path.specs.declared.turn.Turn.{Turn}
 use Rattle.two_path.specs.declared.turn.Turn.TheVariants as turn
 use Rattle.two_path.specs.Machine.{Part, MachineView, own_first, opening}
 use Rattle.two_path.specs.Turns.{Blocks, Tapes, TurnResult, block_turn, kind_of, own_turn, result_at_wait, result_by, tape_of, tapes_of, unless_idle}
-use Rattle.two_path.specs.Histories.{IsLegal, IsStep, behind_entry, behind_step, is_same, with_reads}
-use Rattle.two_path.specs.Again.{turn_of_entry}
+use Rattle.two_path.specs.Histories.{IsLegal, IsStep, behind_entry, behind_own, behind_step, is_same, with_reads}
+use Rattle.two_path.specs.Again.{turn_by, turn_of_entry}
+use Rattle.two_path.proofs.Edited.{step_of_next}
 use Rattle.two_path.specs.Stuck.{AreAtStart, IsPair}
 use Rattle.trace_list.specs.declared.looking.Look.{Look}
 use Rattle.trace_list.specs.declared.looking.Standing.{Standing}
@@ -91,6 +93,7 @@ turn_stops path of met before after (turn.Waiting code) = sym (chosen_none (is_s
 turn_stops path of met before after turn.Finished = sym (chosen_none (is_same path of))
 turn_stops path of met before after (turn.Alarm alarm) = sym (chosen_none (is_same path of))
 turn_stops path of met before after (turn.Halted alarm) = sym (chosen_none (is_same path of))
+turn_stops path of met before after turn.Edited = sym (chosen_none (is_same path of))
 
 -- the labels that are not told: the first of those ahead is, if the path waits or has ended
 abbrev left_of : Bool → List Label → List Label
@@ -285,18 +288,34 @@ turn_after tapes path stamps m = (own_turn (tape_of tapes path) path (with_reads
 abbrev machine_after : Tapes → Path → List ℕ → MachineView → MachineView
 machine_after tapes path stamps m = own_first path (behind_step (tape_of tapes path) path stamps (own_first path m))
 
--- a record of either path, as one path sees it
-entry_passes : (path of : Path) (tapes : Tapes) (tape : List ControlProgram) (kind : EntryKind) (stamps : List ℕ) (m : MachineView) → KeepsLabels tape
+-- a step of either path, as one path sees it
+step_passes : (path of : Path) (tapes : Tapes) (tape : List ControlProgram) (kind : EntryKind) (stamps : List ℕ) (m : MachineView) → KeepsLabels tape
     → AreLed tape (tape_of tapes path) → SideOf tape (part_of path m) → IsStep (tape_of tapes of) of (own_first of m) kind stamps
     → Passes tape (part_of path m) (part_of path (machine_after tapes of stamps m)) (chosen (is_same path of) (own_stops (turn_after tapes of stamps m)))
-entry_passes One One tapes tape kind stamps m law led side step =
+step_passes One One tapes tape kind stamps m law led side step =
     let p = own_passes tape tapes.first One kind stamps m law led side step in record { side = p.side; follows = p.follows }
-entry_passes One Two tapes tape kind stamps m law led side step =
+step_passes One Two tapes tape kind stamps m law led side step =
     let p = other_passes tape tapes.second Two kind stamps (own_first Two m) law side step in record { side = p.side; follows = p.follows }
-entry_passes Two One tapes tape kind stamps m law led side step =
+step_passes Two One tapes tape kind stamps m law led side step =
     let p = other_passes tape tapes.first One kind stamps m law side step in record { side = p.side; follows = p.follows }
-entry_passes Two Two tapes tape kind stamps m law led side step =
+step_passes Two Two tapes tape kind stamps m law led side step =
     let p = own_passes tape tapes.second Two kind stamps (own_first Two m) law led side step in record { side = p.side; follows = p.follows }
+
+-- and a record, which is an edit or has these stamps: an edit leaves each path where it is
+entry_passes : (path of : Path) (tapes : Tapes) (tape : List ControlProgram) (kind : EntryKind) (edit : Option Edit) (stamps : List ℕ) (m : MachineView)
+    → KeepsLabels tape → AreLed tape (tape_of tapes path) → SideOf tape (part_of path m)
+    → (edit ≡ None → IsStep (tape_of tapes of) of (own_first of m) kind stamps)
+    → Passes tape (part_of path m) (part_of path (own_first of (behind_own (tape_of tapes of) of edit stamps (own_first of m))))
+    (chosen (is_same path of) (own_stops (turn_by (tape_of tapes of) of edit stamps (own_first of m))))
+entry_passes path of tapes tape kind None stamps m law led side step = step_passes path of tapes tape kind stamps m law led side (step refl)
+entry_passes One One tapes tape kind (Some edit) stamps m law led side step =
+    record { side = record { place = side.place; waits = side.waits }; follows = λ rest f. f }
+entry_passes One Two tapes tape kind (Some edit) stamps m law led side step =
+    record { side = record { place = side.place; waits = side.waits }; follows = λ rest f. f }
+entry_passes Two One tapes tape kind (Some edit) stamps m law led side step =
+    record { side = record { place = side.place; waits = side.waits }; follows = λ rest f. f }
+entry_passes Two Two tapes tape kind (Some edit) stamps m law led side step =
+    record { side = record { place = side.place; waits = side.waits }; follows = λ rest f. f }
 
 -- from any machine on
 follows_from : (path : Path) (tapes : Tapes) (tape : List ControlProgram) → KeepsLabels tape → AreLed tape (tape_of tapes path) → (met : ℕ) (m : MachineView)
@@ -309,7 +328,7 @@ follows_from path tapes tape law led met m (e ∷ entries) side legal =
     let after = behind_entry tapes e m in
     let lines = lines_of tapes met m e in
     let rest = traced tapes (met_after met t) after entries in
-    let passes = entry_passes path e.path tapes tape e.kind e.stamps m law led side legal.0 in
+    let passes = entry_passes path e.path tapes tape e.kind (edit_of e.kind) e.stamps m law led side (λ step. step_of_next tapes m e step legal.0) in
     subst (λ stops. Follows (list tape) (due tape (part_of path m)) stops)
     (ap (λ (stops : List Label). stops ++ stops_of path rest) (sym (turn_stops path e.path met (standing_of tapes e.path m) (look_of (path_in e.path after)) t))
     ∙ sym (flat_map-append (stop_of path) lines rest))

@@ -7,7 +7,8 @@ use Rattle.nc_number.specs.declared.point.Point.{Point}
 use Rattle.nc_moves.specs.declared.alarm.Alarm.{Alarm}
 use Rattle.nc_moves.specs.declared.motion.Move.{Move}
 use Rattle.nc_moves.specs.declared.motion.Moves.{Moves}
-use Rattle.run_records.specs.declared.entry.Entry.{Entry}
+use Rattle.run_records.specs.Entries.{Entry, edit_of}
+use Rattle.run_records.specs.declared.edit.Edit.{Edit}
 use Rattle.run_records.specs.declared.entry.EntryKind.{EntryKind}
 use Rattle.path_state.specs.View.{PathView}
 use Rattle.path_state.specs.Effect.{Effect, Need, Done, AtWait, AtEnd}
@@ -16,8 +17,9 @@ use Rattle.two_path.specs.declared.turn.Turn.{Turn}
 use Rattle.two_path.specs.declared.turn.Turn.TheVariants as turn
 use Rattle.two_path.specs.Machine.{MachineView, own_first, opening, without_reads}
 use Rattle.two_path.specs.Turns.{Blocks, Tapes, TurnResult, alarm_at, block_turn, kind_of, own_turn, result_at_wait, result_by, tape_of, unless_idle}
-use Rattle.two_path.specs.Histories.{IsLegal, IsNext, IsStep, behind_entry, behind_step, with_reads}
-use Rattle.two_path.specs.Again.{turn_of_entry}
+use Rattle.two_path.specs.Histories.{IsLegal, IsStep, behind_entry, behind_own, with_reads}
+use Rattle.two_path.specs.Again.{turn_by, turn_of_entry}
+use Rattle.two_path.proofs.Edited.{step_of_next}
 use Rattle.trace_list.specs.declared.looking.Look.{Look}
 use Rattle.trace_list.specs.declared.looking.Standing.{Standing}
 use Rattle.trace_list.specs.Meetings.{ArePaired, Goes, OpenWait, open_wait}
@@ -185,21 +187,25 @@ step_on blocks other path kind stamps met m before after rest here there step p 
 abbrev open_in : Tapes → Path → MachineView → Option OpenWait
 open_in tapes path m = waits (tape_of tapes path) (path_in path m) (own_first path m).first.waiting
 
-abbrev turn_after : Tapes → Path → List ℕ → MachineView → Turn
-turn_after tapes path stamps m = (own_turn (tape_of tapes path) path (with_reads (tape_of tapes path) stamps (own_first path m))).turn
+-- behind a record, which is an edit or has these stamps
+abbrev turn_after : Tapes → Path → Option Edit → List ℕ → MachineView → Turn
+turn_after tapes path edit stamps m = turn_by (tape_of tapes path) path edit stamps (own_first path m)
 
-abbrev machine_after : Tapes → Path → List ℕ → MachineView → MachineView
-machine_after tapes path stamps m = own_first path (behind_step (tape_of tapes path) path stamps (own_first path m))
+abbrev machine_after : Tapes → Path → Option Edit → List ℕ → MachineView → MachineView
+machine_after tapes path edit stamps m = own_first path (behind_own (tape_of tapes path) path edit stamps (own_first path m))
 
-entry_on : (tapes : Tapes) (path : Path) (kind : EntryKind) (stamps : List ℕ) (met : ℕ) (m : MachineView) (after : Look) (rest : List TraceLine)
-    → IsStep (tape_of tapes path) path (own_first path m) kind stamps
-    → ArePaired (open_in tapes One (machine_after tapes path stamps m)) (open_in tapes Two (machine_after tapes path stamps m))
-    (met_after met (turn_after tapes path stamps m)) rest
-    → ArePaired (open_in tapes One m) (open_in tapes Two m) met (turn_lines path met (standing_of tapes path m) after (turn_after tapes path stamps m) ++ rest)
-entry_on tapes One kind stamps met m after rest step p =
-    step_on tapes.first tapes.second One kind stamps met m (standing_of tapes One m) after rest refl refl step p
-entry_on tapes Two kind stamps met m after rest step p =
-    step_on tapes.second tapes.first Two kind stamps met (own_first Two m) (standing_of tapes Two m) after rest refl refl step p
+-- an edit has no line, and leaves each path where it is
+entry_on : (tapes : Tapes) (path : Path) (kind : EntryKind) (edit : Option Edit) (stamps : List ℕ) (met : ℕ) (m : MachineView) (after : Look) (rest : List TraceLine)
+    → (edit ≡ None → IsStep (tape_of tapes path) path (own_first path m) kind stamps)
+    → ArePaired (open_in tapes One (machine_after tapes path edit stamps m)) (open_in tapes Two (machine_after tapes path edit stamps m))
+    (met_after met (turn_after tapes path edit stamps m)) rest
+    → ArePaired (open_in tapes One m) (open_in tapes Two m) met (turn_lines path met (standing_of tapes path m) after (turn_after tapes path edit stamps m) ++ rest)
+entry_on tapes One kind None stamps met m after rest step p =
+    step_on tapes.first tapes.second One kind stamps met m (standing_of tapes One m) after rest refl refl (step refl) p
+entry_on tapes Two kind None stamps met m after rest step p =
+    step_on tapes.second tapes.first Two kind stamps met (own_first Two m) (standing_of tapes Two m) after rest refl refl (step refl) p
+entry_on tapes One kind (Some edit) stamps met m after rest step p = p
+entry_on tapes Two kind (Some edit) stamps met m after rest step p = p
 
 -- from any machine on
 paired_from : (tapes : Tapes) (met : ℕ) (m : MachineView) (entries : List Entry) → IsLegal tapes m entries
@@ -207,8 +213,8 @@ paired_from : (tapes : Tapes) (met : ℕ) (m : MachineView) (entries : List Entr
 unfolding traced
 paired_from tapes met m [] legal = tt
 paired_from tapes met m (e ∷ entries) legal =
-    entry_on tapes e.path e.kind e.stamps met m (look_of (path_in e.path (behind_entry tapes e m)))
-    (traced tapes (met_after met (turn_of_entry tapes e m)) (behind_entry tapes e m) entries) legal.0
+    entry_on tapes e.path e.kind (edit_of e.kind) e.stamps met m (look_of (path_in e.path (behind_entry tapes e m)))
+    (traced tapes (met_after met (turn_of_entry tapes e m)) (behind_entry tapes e m) entries) (λ step. step_of_next tapes m e step legal.0)
     (paired_from tapes (met_after met (turn_of_entry tapes e m)) (behind_entry tapes e m) entries legal.1)
 
 pub paired : (tapes : Tapes) (first second : PathView) (entries : List Entry) → IsLegal tapes (opening first second) entries

@@ -9,7 +9,7 @@ use Rattle.nc_moves.specs.declared.motion.Move.{Move}
 use Rattle.nc_moves.specs.declared.motion.Moves.{Moves}
 use Rattle.nc_outside.specs.declared.lined_move.LinedMove.{LinedMove}
 use Rattle.nc_outside.specs.Lined.{lined, lined_move}
-use Rattle.run_records.specs.declared.entry.Entry.{Entry}
+use Rattle.run_records.specs.Entries.{Entry}
 use Rattle.two_path.specs.declared.turn.Turn.{Turn}
 use Rattle.two_path.specs.declared.turn.Turn.TheVariants as turn
 use Rattle.two_path.specs.Machine.{MachineView}
@@ -73,6 +73,7 @@ turn_moves path of met before after (turn.Waiting code) = sym (chosen_none (is_s
 turn_moves path of met before after turn.Finished = sym (chosen_none (is_same path of))
 turn_moves path of met before after (turn.Alarm alarm) = sym (chosen_none (is_same path of))
 turn_moves path of met before after (turn.Halted alarm) = sym (chosen_none (is_same path of))
+turn_moves path of met before after turn.Edited = sym (chosen_none (is_same path of))
 
 pub same_moves : (tapes : Tapes) (met : ℕ) (m : MachineView) (path : Path) (entries : List Entry)
     → moves_traced path (traced tapes met m entries) ≡ moves_of tapes m path entries

@@ -6,7 +6,7 @@ use Rattle.nc_number.specs.declared.path.Path.TheVariants.{One, Two}
 use Rattle.nc_number.specs.declared.point.Point.{Point}
 use Rattle.cell_settings.specs.declared.settings.Settings.{Settings}
 use Rattle.tape_flow.specs.declared.flow.Flow.{Flow}
-use Rattle.run_records.specs.declared.entry.Entry.{Entry}
+use Rattle.run_records.specs.Entries.{Entry}
 use Rattle.path_state.specs.Opening.{point_of}
 use Rattle.two_path.specs.declared.turn.Turn.{Turn}
 use Rattle.two_path.specs.declared.turn.Turn.TheVariants as turn
@@ -79,3 +79,4 @@ met_few met n (turn.Waiting code) le = omega (arith, le)
 met_few met n turn.Finished le = omega (arith, le)
 met_few met n (turn.Alarm alarm) le = omega (arith, le)
 met_few met n (turn.Halted alarm) le = omega (arith, le)
+met_few met n turn.Edited le = omega (arith, le)

@@ -9,7 +9,7 @@ use Rattle.nc_moves.specs.declared.motion.Move.{Move}
 use Rattle.nc_moves.specs.declared.motion.Move.TheVariants as move
 use Rattle.nc_moves.specs.declared.motion.Moves.{Moves}
 use Rattle.nc_outside.specs.Lined.{lined_move}
-use Rattle.run_records.specs.declared.entry.Entry.{Entry}
+use Rattle.run_records.specs.Entries.{Entry}
 use Rattle.path_state.specs.View.{PathView}
 use Rattle.path_state.specs.Looks.{shift_now}
 use Rattle.two_path.specs.declared.turn.Turn.{Turn}
@@ -91,6 +91,7 @@ turn_lines path met before after (turn.Waiting code) = []
 turn_lines path met before after turn.Finished = []
 turn_lines path met before after (turn.Alarm alarm) = Raised alarm ∷ []
 turn_lines path met before after (turn.Halted alarm) = []
+turn_lines path met before after turn.Edited = []
 
 -- how many meetings there were after a turn
 abbrev pub met_after : ℕ → Turn → ℕ

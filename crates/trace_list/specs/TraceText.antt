@@ -63,6 +63,6 @@ trace_line_text (Ended path line) = event_text path line ++ codes " end\n"
 abbrev pub lines_text : List TraceLine → List ℕ
 lines_text lines = flat_map trace_line_text lines
 
--- the first line of a trace
+-- the first line of a trace: the number of its form
 unfoldable pub head_text : List ℕ
-head_text = codes "trace 1\n"
+head_text = codes "trace 2\n"

@@ -5,7 +5,7 @@ ghost use Rattle.nc_number.specs.declared.path.Path.TheVariants.{One, Two};
 ghost use Rattle.tape_flow.specs.declared.flow.Flow.{Flow};
 ghost use Rattle.two_path.specs.Stuck.{AreAtStart, IsPair};
 ghost use Rattle.nc_number.specs.declared.path.Path.{Path};
-ghost use Rattle.run_records.specs.declared.entry.Entry.{Entry};
+ghost use Rattle.run_records.specs.Entries.{Entry};
 ghost use Rattle.path_state.specs.View.{PathView};
 ghost use Rattle.two_path.specs.Histories.{IsLegal};
 ghost use Rattle.two_path.specs.Machine.{MachineView, opening};

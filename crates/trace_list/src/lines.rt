@@ -170,6 +170,6 @@ pub(crate) fn head_line() -> Piece
     ensures { result ≡ head_text }
 {
     let mut piece = Piece::empty();
-    piece.add(b"trace 1\n");
+    piece.add(b"trace 2\n");
     piece
 }

@@ -29,7 +29,7 @@ module _ (D : RattleType) (g : disk.Ghosts D.Denot) (d : IsSend D) where
   gate_sent = view_send _ _ _ _ _ (declared_send (gated.the_type D g) (search (sendable, d) depth 20, (search sendable depth 20, (search sendable depth 20, (search (sendable, crosses) depth 20, tt)))))
 
   journal_sent : IsSend (journal.the_row D g)
-  journal_sent = view_send _ _ _ _ _ (declared_send (journaled.the_type D g) (gate_sent, (batch_sent, (search sendable depth 20, tt))))
+  journal_sent = view_send _ _ _ _ _ (declared_send (journaled.the_type D g) (gate_sent, (batch_sent, (search sendable depth 20, (search sendable depth 20, tt)))))
 
   recording_sent : IsSend entries.the_row → IsSend (recording.the_row D g)
   recording_sent list = view_send _ _ _ _ _ (declared_send (recorded.the_type D g) (list, (journal_sent, (search sendable depth 20, tt))))

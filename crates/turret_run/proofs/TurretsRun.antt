@@ -13,7 +13,8 @@ use Rattle.nc_outside.specs.declared.got.Got.{Got}
 use Rattle.nc_outside.specs.declared.got.Got.TheVariants.{Moved}
 use Rattle.nc_outside.specs.Received.{TurretState}
 use Rattle.nc_verify.specs.declared.verified.Verified.{Verified}
-use Rattle.run_records.specs.declared.entry.Entry.{Entry}
+use Rattle.run_records.specs.Entries.{Entry}
+use Rattle.run_records.specs.declared.version.Version.{Version}
 use Rattle.two_path.specs.Machine.{MachineView}
 use Rattle.two_path.specs.Histories.{fold}
 use Rattle.drive_line.specs.Driving.{DrivenState, has_failed, Serves}
@@ -34,15 +35,17 @@ use Rattle.turret_run.specs.Runs.{Turrets, turret_for, place_of, due, GetsAt, Ge
 use Rattle.turret_run.specs.Rests.{ArePlaced, FailsAtPlace, first_failed, HasCause}
 use Rattle.turret_run.proofs.TurretsGet.{GotBy, served, all_of, fails_of, some_of, misses_of, either_of}
 
--- a recording with these records, so many of which are flushed, and with this file
-abbrev with_file : {D : Type 0} → RecordingView D → List Entry → ℕ → Gate D → RecordingView D
-with_file r history flushed file = record { history = history; room = r.room; flushed = flushed; log = record r.log { file = file } }
+-- a recording with these records, so many of which are flushed, and with this file of this version
+abbrev with_file : {D : Type 0} → RecordingView D → List Entry → ℕ → Gate D → Version → RecordingView D
+with_file r history flushed file version =
+    record { history = history; room = r.room; flushed = flushed; log = record r.log { file = file; version = version } }
 
 follows_with : {D : Type 0} (state : D → DiskState) (made : List Entry) (a b new : RecordingView D)
-    → Follows state made (with_file b a.history a.flushed a.log.file) new → Follows state made a new
+    → Follows state made (with_file b a.history a.flushed a.log.file a.log.version) new → Follows state made a new
 follows_with state made a b new p = record {
   history = p.history;
   flushed = p.flushed;
+  version = p.version;
   journal = λ header j.
       let k = p.journal header (record { held = j.held; left = j.left }) in
       record { journaled = k.journaled; any_moment = k.any_moment };
@@ -53,13 +56,14 @@ follows_with state made a b new p = record {
   calm = p.calm;
 }
 
--- What comes of a recording follows any other with the same records, as many of them flushed, and the same file.
+-- What comes of a recording follows any other with the same records, as many of them flushed, and the same file of the same version.
 follows_as : {D : Type 0} (state : D → DiskState) (made : List Entry) (a b new : RecordingView D) → b.history ≡ a.history → b.flushed ≡ a.flushed
-    → b.log.file ≡ a.log.file → Follows state made b new → Follows state made a new
-follows_as state made a b new history flushed file p = follows_with state made a b new
-    (subst (λ x. Follows state made (with_file b a.history a.flushed x) new) file
-    (subst (λ n. Follows state made (with_file b a.history n b.log.file) new) flushed
-    (subst (λ l. Follows state made (with_file b l b.flushed b.log.file) new) history p)))
+    → b.log.file ≡ a.log.file → b.log.version ≡ a.log.version → Follows state made b new → Follows state made a new
+follows_as state made a b new history flushed file version p = follows_with state made a b new
+    (subst (λ v. Follows state made (with_file b a.history a.flushed a.log.file v) new) version
+    (subst (λ x. Follows state made (with_file b a.history a.flushed x b.log.version) new) file
+    (subst (λ n. Follows state made (with_file b a.history n b.log.file b.log.version) new) flushed
+    (subst (λ l. Follows state made (with_file b l b.flushed b.log.file b.log.version) new) history p))))
 
 module _ {D : Type 0} (state : D → DiskState) (limit : ℕ) (old ready : TableView D) (stays : Stays old ready) (leave : ready.budget ≡ limit) where
   -- what comes of a table that was made ready is what comes of it before, with that leave
@@ -67,7 +71,7 @@ module _ {D : Type 0} (state : D → DiskState) (limit : ℕ) (old ready : Table
   since_ready new since = record {
     verified = since.verified ∙ stays.verified;
     made = since.made;
-    recording = follows_as state since.made old.recording ready.recording new.recording stays.history stays.flushed stays.file since.recording;
+    recording = follows_as state since.made old.recording ready.recording new.recording stays.history stays.flushed stays.file stays.version since.recording;
     budget = since.budget ∙ leave;
     cause = λ is. ⊎_elim (λ before. inl (sym stays.halt ∙ before))
         (λ rose. inr (subst (λ (file : Gate D). Rose (state file.disk).faults (state new.recording.log.file.disk).faults) stays.file rose)) (since.cause is);
@@ -93,6 +97,7 @@ module _ {D : Type 0} (state : D → DiskState) (limit : ℕ) (old ready : Table
     history = same.history ∙ stays.history;
     flushed = same.flushed ∙ stays.flushed;
     file = same.file ∙ stays.file;
+    version = same.version ∙ stays.version;
     halt = same.halt ∙ stays.halt;
   }
 

@@ -76,6 +76,7 @@ pub record Stays {D : Type 0} (old new : TableView D) : Type 0 where
   pub history : new.recording.history ≡ old.recording.history
   pub flushed : new.recording.flushed ≡ old.recording.flushed
   pub file : new.recording.log.file ≡ old.recording.log.file
+  pub version : new.recording.log.version ≡ old.recording.log.version
   pub halt : new.halt ≡ old.halt
 
 module _ {D : Type 0} (state : D → DiskState) (limit : ℕ) (old new : TableView D) (before after : Turrets) (missed : Missed) where

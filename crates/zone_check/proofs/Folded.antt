@@ -6,9 +6,9 @@ use Rattle.nc_number.specs.declared.path.Path.TheVariants.{One, Two}
 use Rattle.nc_moves.specs.declared.motion.Move.{Move}
 use Rattle.nc_outside.specs.declared.lined_move.LinedMove.{LinedMove}
 use Rattle.nc_outside.specs.Lined.{lined_move}
-use Rattle.run_records.specs.declared.entry.Entry.{Entry}
+use Rattle.run_records.specs.Entries.{Entry}
 use Rattle.two_path.specs.declared.turn.Turn.{Turn}
-use Rattle.two_path.specs.declared.turn.Turn.TheVariants.{Read, Did, Arrived, Met, Ended, Waiting, Finished, Alarm, Halted}
+use Rattle.two_path.specs.declared.turn.Turn.TheVariants.{Read, Did, Arrived, Met, Ended, Waiting, Finished, Alarm, Halted, Edited}
 use Rattle.two_path.specs.Machine.{MachineView}
 use Rattle.two_path.specs.Turns.{Tapes}
 use Rattle.two_path.specs.Histories.{behind_entry, fold}
@@ -37,6 +37,7 @@ what_made (Waiting code) = refl
 what_made Finished = refl
 what_made (Alarm alarm) = refl
 what_made (Halted alarm) = refl
+what_made Edited = refl
 
 pub what_by : (path of : Path) (turn : Turn) → map (λ (made : LinedMove). made.what) (made_by path (record { path = of; turn = turn })) ≡ moves_by path of turn
 what_by One One turn = what_made turn

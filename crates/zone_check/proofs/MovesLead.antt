@@ -5,6 +5,7 @@ use Rattle.nc_number.specs.declared.point.Point.{Point}
 use Rattle.nc_number.specs.declared.value.Var.{Var}
 use Rattle.common_vars.specs.declared.variable.Variable.{Variable}
 use Rattle.common_vars.specs.declared.variable.Variable.TheVariants as variable
+use Rattle.code_tables.specs.declared.system.System.{System}
 use Rattle.local_levels.specs.Stack.{all_vacant}
 use Rattle.modal_state.specs.View.{ModalView}
 use Rattle.offset_store.specs.declared.fault.OffsetFault.{OffsetFault}
@@ -119,15 +120,15 @@ abbrev AreMovedFrom : Point → Result Moved ℕ → Type 0
 AreMovedFrom at (Ok moved) = IsMovedFrom at moved
 AreMovedFrom at (Err number) = Unit {0}
 
-motion_leads : (path : PathView) (modal : ModalView) (words : List FlowWord) (values : Values) (motion : Result Motion ℕ)
-    → AreMovedFrom path.position (after_motion path modal words values motion)
-motion_leads path modal words values (Ok motion) = refl
-motion_leads path modal words values (Err number) = tt
+motion_leads : (path : PathView) (modal : ModalView) (system : System) (words : List FlowWord) (values : Values) (motion : Result Motion ℕ)
+    → AreMovedFrom path.position (after_motion path modal system words values motion)
+motion_leads path modal system words values (Ok motion) = refl
+motion_leads path modal system words values (Err number) = tt
 
-modal_leads : (fixed : Fixed) (path : PathView) (words : List FlowWord) (values : Values) (modal : Result ModalView ℕ)
-    → AreMovedFrom path.position (motion_with fixed path words values modal)
-modal_leads fixed path words values (Ok modal) = motion_leads path modal words values _
-modal_leads fixed path words values (Err number) = tt
+modal_leads : (fixed : Fixed) (path : PathView) (system : System) (words : List FlowWord) (values : Values) (modal : Result ModalView ℕ)
+    → AreMovedFrom path.position (motion_with fixed path system words values modal)
+modal_leads fixed path system words values (Ok modal) = motion_leads path modal system words values _
+modal_leads fixed path system words values (Err number) = tt
 
 done_leads : (at : Point) (moved : Moved) (to : Result Standing Cause) → IsMovedFrom at moved → LeadsOn at (done_by moved to)
 done_leads at moved (Ok standing) is = is
@@ -143,28 +144,28 @@ module _ (tape : List ControlProgram) where
   moved_leads at c (Ok moved) is = controlled_leads at moved None c is
   moved_leads at c (Err number) is = tt
 
-  values_lead : (fixed : Fixed) (path : PathView) (words : List FlowWord) (c : Control) (values : Outcome Values)
-      → LeadsOn path.position (of_values tape fixed path words c values)
-  values_lead fixed path words c (Gives values left) =
-      moved_leads path.position c (acted fixed path words values) (modal_leads fixed path words values (modal_after path.modal words values))
-  values_lead fixed path words c (Needs variable) = tt
-  values_lead fixed path words c (Alarms number value) = tt
+  values_lead : (fixed : Fixed) (path : PathView) (system : System) (words : List FlowWord) (c : Control) (values : Outcome Values)
+      → LeadsOn path.position (of_values tape fixed path system words c values)
+  values_lead fixed path system words c (Gives values left) =
+      moved_leads path.position c (acted fixed path system words values) (modal_leads fixed path system words values (modal_after path.modal system words values))
+  values_lead fixed path system words c (Needs variable) = tt
+  values_lead fixed path system words c (Alarms number value) = tt
 
   arguments_lead : (path : PathView) (c : Control) (arguments : Outcome (List Var)) → LeadsOn path.position (of_arguments tape path c arguments)
   arguments_lead path c (Gives arguments left) = controlled_leads path.position (record { path = path; moves = [] }) (Some arguments) c refl
   arguments_lead path c (Needs variable) = tt
   arguments_lead path c (Alarms number value) = tt
 
-  purpose_leads : (fixed : Fixed) (path : PathView) (purpose : Purpose) (words : List FlowWord) (c : Control) (reads : List Var)
-      → LeadsOn path.position (of_purpose tape fixed path purpose words c reads)
-  purpose_leads fixed path MacroCall words c reads = arguments_lead path c (arguments_taken fixed path words all_vacant reads)
-  purpose_leads fixed path purpose words c reads =
-      values_lead fixed path words c (words_taken fixed path (sense_of path purpose words) words nothing_said reads)
+  purpose_leads : (fixed : Fixed) (path : PathView) (purpose : Purpose) (system : System) (words : List FlowWord) (c : Control) (reads : List Var)
+      → LeadsOn path.position (of_purpose tape fixed path purpose system words c reads)
+  purpose_leads fixed path MacroCall system words c reads = arguments_lead path c (arguments_taken fixed path words all_vacant reads)
+  purpose_leads fixed path purpose system words c reads =
+      values_lead fixed path system words c (words_taken fixed path (sense_of path purpose system words) words nothing_said reads)
 
-  words_lead : (fixed : Fixed) (path : PathView) (purpose : Purpose) (words : List FlowWord) (c : Control) (reads : List Var)
-      → LeadsOn path.position (block_of_words tape fixed path purpose words c reads)
-  words_lead fixed path purpose words (control.Wait code) reads = tt
-  words_lead fixed path purpose words c reads = purpose_leads fixed path purpose words c reads
+  words_lead : (fixed : Fixed) (path : PathView) (purpose : Purpose) (system : System) (words : List FlowWord) (c : Control) (reads : List Var)
+      → LeadsOn path.position (block_of_words tape fixed path purpose system words c reads)
+  words_lead fixed path purpose system words (control.Wait code) reads = tt
+  words_lead fixed path purpose system words c reads = purpose_leads fixed path purpose system words c reads
 
   after_leads : (path : PathView) (after : Outcome After) → StaysAt path after → LeadsOn path.position (of_after after)
   after_leads path (Gives after left) stays = stays
@@ -173,7 +174,7 @@ module _ (tape : List ControlProgram) where
 
   body_leads : (fixed : Fixed) (path : PathView) (body : FlowBody) (c : Control) (reads : List Var)
       → LeadsOn path.position (effect_of_body tape fixed path body c reads)
-  body_leads fixed path (Words words) c reads = words_lead fixed path words.purpose words.words c reads
+  body_leads fixed path (Words words) c reads = words_lead fixed path words.purpose words.dialect.system words.words c reads
   body_leads fixed path (Statement statement) c reads =
       after_leads path (statement_effect tape fixed path (sentence_of statement.statement) reads)
       (statement_stays fixed path tape (sentence_of statement.statement) reads)

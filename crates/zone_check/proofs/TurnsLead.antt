@@ -8,7 +8,8 @@ use Rattle.nc_moves.specs.declared.motion.Move.{Move}
 use Rattle.nc_moves.specs.declared.alarm.Alarm.{Alarm}
 use Rattle.nc_moves.specs.Motion.{end_of}
 use Rattle.nc_outside.specs.declared.lined_move.LinedMove.{LinedMove}
-use Rattle.run_records.specs.declared.entry.Entry.{Entry}
+use Rattle.run_records.specs.Entries.{Entry, edit_of}
+use Rattle.run_records.specs.declared.edit.Edit.{Edit}
 use Rattle.tape_flow.specs.declared.flow.Flow.{Flow}
 use Rattle.path_state.specs.Moves.{last_end}
 use Rattle.path_state.specs.Effect.{Effect}
@@ -16,8 +17,8 @@ use Rattle.path_state.specs.Effect as effect
 use Rattle.two_path.specs.Machine.{MachineView, own_first}
 use Rattle.two_path.specs.Turns.{TurnResult, Tapes, blocks_of, tapes_of, tape_of, result_at_wait, result_by, unless_idle, block_turn, own_turn, result, behind_meeting, crossed_waits, alarm_result}
 use Rattle.two_path.specs.declared.turn.Turn.TheVariants as turn
-use Rattle.two_path.specs.Histories.{with_reads, behind_step, behind_entry, fold}
-use Rattle.two_path.specs.Again.{turn_of_entry}
+use Rattle.two_path.specs.Histories.{with_reads, behind_step, behind_own, behind_entry, fold}
+use Rattle.two_path.specs.Again.{turn_by, turn_of_entry}
 use Rattle.two_path.specs.Made.{moves_of_turn, made_by, moves_in, turns_from, moves_of}
 use Rattle.two_path.proofs.Replays.{turn_at}
 use Rattle.zone_check.specs.Segments.{path_moves}
@@ -68,6 +69,16 @@ step_leads left right One Two stamps m = (own_leads left One (with_reads (blocks
 step_leads left right Two One stamps m = (own_leads right Two (with_reads (blocks_of right) stamps (own_first Two m))).1
 step_leads left right Two Two stamps m = (own_leads right Two (with_reads (blocks_of right) stamps (own_first Two m))).0
 
+-- a record, which is an edit or has these stamps, and where a path stands behind it
+entry_leads : (left right : Flow) (of path : Path) (edit : Option Edit) (stamps : List ℕ) (m : MachineView)
+    → position_of path (own_first of (behind_own (tape_of (tapes_of left right) of) of edit stamps (own_first of m)))
+    ≡ last_end (position_of path m) (moves_by path of (turn_by (tape_of (tapes_of left right) of) of edit stamps (own_first of m)))
+entry_leads left right of path None stamps m = step_leads left right of path stamps m
+entry_leads left right One One (Some edit) stamps m = refl
+entry_leads left right One Two (Some edit) stamps m = refl
+entry_leads left right Two One (Some edit) stamps m = refl
+entry_leads left right Two Two (Some edit) stamps m = refl
+
 last_end_on : (at : Point) (front back : List Move) → last_end at (front ++ back) ≡ last_end (last_end at front) back
 last_end_on at [] back = refl
 last_end_on at (move ∷ front) back = last_end_on (unwrap_or (end_of move) at) front back
@@ -90,6 +101,6 @@ positions_lead left right m path (e ∷ entries) =
     let next = behind_entry tapes e m in
     let moves = moves_by path e.path (turn_of_entry tapes e m) in
     positions_lead left right next path entries
-    ∙ ap (λ (at : Point). last_end at (path_moves tapes next path entries)) (step_leads left right e.path path e.stamps m)
+    ∙ ap (λ (at : Point). last_end at (path_moves tapes next path entries)) (entry_leads left right e.path path (edit_of e.kind) e.stamps m)
     ∙ sym (last_end_on (position_of path m) moves (path_moves tapes next path entries))
     ∙ ap (last_end (position_of path m)) (sym (path_first tapes m path e entries))

@@ -4,7 +4,7 @@ use Rattle.std.specs.Prelude.{List, [], ◌∷◌, ◌++◌, if◌then◌else◌
 use Rattle.nc_number.specs.declared.path.Path.{Path}
 use Rattle.nc_number.specs.declared.path.Path.TheVariants.{One, Two}
 use Rattle.nc_moves.specs.declared.motion.Move.{Move}
-use Rattle.run_records.specs.declared.entry.Entry.{Entry}
+use Rattle.run_records.specs.Entries.{Entry}
 use Rattle.two_path.specs.declared.turn.Turn.{Turn}
 use Rattle.two_path.specs.Machine.{MachineView}
 use Rattle.two_path.specs.Turns.{Tapes}

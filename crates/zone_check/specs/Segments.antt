@@ -5,7 +5,7 @@ use Rattle.nc_number.specs.declared.path.Path.TheVariants.{One, Two}
 use Rattle.nc_number.specs.declared.point.Point.{Point}
 use Rattle.nc_moves.specs.declared.motion.Move.{Move}
 use Rattle.nc_outside.specs.declared.lined_move.LinedMove.{LinedMove}
-use Rattle.run_records.specs.declared.entry.Entry.{Entry}
+use Rattle.run_records.specs.Entries.{Entry}
 use Rattle.run_records.specs.declared.entry.EntryKind.{EntryKind}
 use Rattle.run_records.specs.declared.entry.EntryKind.TheVariants as kind
 use Rattle.path_state.specs.Opening.{opening_path}
@@ -49,6 +49,7 @@ is_meeting_kind kind.Arrived = false
 is_meeting_kind kind.Met = true
 is_meeting_kind kind.Ended = false
 is_meeting_kind kind.Alarmed = false
+is_meeting_kind (kind.Edited edit) = false
 
 -- by the record both paths met
 abbrev pub is_meeting : Entry → Bool

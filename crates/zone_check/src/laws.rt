@@ -4,7 +4,7 @@ ghost use Rattle.nc_number.specs.declared.point.Point.{Point};
 ghost use Rattle.zone_area.specs.Passing.{MayPassSome, IsInside, AreApart, point_in_cell};
 ghost use Rattle.zone_cell.specs.Zones.{ZonesView};
 ghost use Rattle.nc_number.specs.declared.path.Path.{Path};
-ghost use Rattle.run_records.specs.declared.entry.Entry.{Entry};
+ghost use Rattle.run_records.specs.Entries.{Entry};
 ghost use Rattle.tape_flow.specs.declared.flow.Flow.{Flow};
 ghost use Rattle.path_state.specs.Moves.{last_end};
 ghost use Rattle.two_path.specs.Machine.{MachineView, own_first};

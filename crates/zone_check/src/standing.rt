@@ -98,6 +98,7 @@ fn is_meeting(entry: &Entry) -> bool
         EntryKind::Met => true,
         EntryKind::Ended => false,
         EntryKind::Alarmed => false,
+        EntryKind::Edited(_) => false,
     }
 }
 

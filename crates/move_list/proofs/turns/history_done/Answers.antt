@@ -1,4 +1,4 @@
-use Rattle.std.proofs.Common.{◌≡◌, ◌+◌, ◌≤◌, ◌<◌, length, take, drop, refl, sym, subst, ◌∙◌, ap, arith}
+use Rattle.std.proofs.Common.{◌≡◌, ◌+◌, ◌≤◌, ◌<◌, ◌++◌, length, take, drop, refl, sym, subst, ◌∙◌, ap, arith}
 use Rattle.std.proofs.lemmas.List.{take_all}
 use Rattle.nc_number.specs.declared.path.Path.TheVariants.{One, Two}
 use Rattle.path_state.specs.Opening.{opening_path}
@@ -6,6 +6,8 @@ use Rattle.two_path.specs.Machine.{MachineView, without_reads}
 use Rattle.two_path.specs.Turns.{tapes_of}
 use Rattle.two_path.specs.Histories.{IsLegal, fold}
 use Rattle.two_path.specs.Joined.{AreAtTheirWaits}
+use Rattle.two_path.specs.Made.{made_by}
+use Rattle.run_records.specs.Entries.{Entry}
 use Rattle.move_list.specs.Report.{machine_at_start}
 use Rattle.two_path.proofs.Replays.{records_from, records_to, moves_on, moves_at_end, next_is_legal, fold_more, counted, none_waits}
 use Rattle.move_list.proofs.turns.history_done.Goals as goal
@@ -44,8 +46,8 @@ loop-index-preserved c =
       no_reads = c.done_again-turn.ensures.no_reads;
       waits = c.done_again-turn.ensures.waits;
       room = omega (arith, c.done_again-turn.ensures.room, c.loop-index.invariant.room);
-      one = moves_on tapes One m _ c.loop-index.made.one.items _ _ (drop i entries) (drop (i + 1) entries) e c.done_again-turn.result from done.machine done.answer c.in_ok-add.ensures.one c.loop-index.invariant.one;
-      two = moves_on tapes Two m _ c.loop-index.made.two.items _ _ (drop i entries) (drop (i + 1) entries) e c.done_again-turn.result from done.machine done.answer c.in_ok-add.ensures.two c.loop-index.invariant.two;
+      one = moves_on tapes One m _ c.loop-index.made.one.items _ _ (drop i entries) (drop (i + 1) entries) e c.done_again-turn.result from done.machine done.answer (c.in_ok-add.ensures.one ∙ ap (λ (x : Entry). c.loop-index.made.one.items ++ made_by One (record { path = x.path; turn = c.done_again-turn.result })) c.entry.view_is) c.loop-index.invariant.one;
+      two = moves_on tapes Two m _ c.loop-index.made.two.items _ _ (drop i entries) (drop (i + 1) entries) e c.done_again-turn.result from done.machine done.answer (c.in_ok-add.ensures.two ∙ ap (λ (x : Entry). c.loop-index.made.two.items ++ made_by Two (record { path = x.path; turn = c.done_again-turn.result })) c.entry.view_is) c.loop-index.invariant.two;
     }
 
 pub done_again-turn-requires-clause-legal : goal.done_again-turn-requires-clause-legal

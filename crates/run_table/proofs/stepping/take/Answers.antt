@@ -1,6 +1,6 @@
 use Rattle.std.proofs.Common.{◌≡◌, true, List, length, sym, ◌∙◌}
 use Rattle.std.specs.Prelude.{nat_lt}
-use Rattle.run_records.specs.declared.entry.Entry.{Entry}
+use Rattle.run_records.specs.Entries.{Entry}
 use Rattle.two_path.specs.Histories.{list_of}
 use Rattle.run_table.specs.declared.answer.TableStep.TheVariants.{Turned as Shown}
 use Rattle.run_table.specs.Stepping.{is_due}

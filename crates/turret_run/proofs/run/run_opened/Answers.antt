@@ -39,6 +39,8 @@ returns-in-Err g c =
     let t = c.args.table in
     let left = c.in-Err.ensures.err in
     let held = left.0 ∙ c.new.ensures in
+    let since = taken_since g.D.Disk.state g.O.Opening.opened t c.into_table-in-Err.result c.in-Err.unrun.table c.requires.opening
+    c.into_table-in-Err.ensures.of c.into_table-in-Err.ensures.shown in
     let taken = c.into_table-in-Err.ensures.taken in
     let unrun = c.in-Err.unrun in
     record {
@@ -49,6 +51,7 @@ returns-in-Err g c =
           history = taken.history ∙ ap (λ h. h.history) held;
           flushed = taken.flushed ∙ ap (λ h. h.flushed) held;
           file = taken.file ∙ ap (λ h. h.file) held;
+          version = since.recording.version;
           halt = taken.halt ∙ ap (λ h. without_turret h.halt) held ∙ calm_stays t.halt c.requires.halt;
         };
         turrets = placed_only t.machine start (record { left = turret c.args.left; right = turret c.args.right })

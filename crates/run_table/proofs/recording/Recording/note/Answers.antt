@@ -13,8 +13,9 @@ returns g c =
       history = c.push.ensures.items;
       file = c.add.ensures.file;
       flushed = refl;
+      version = c.add.ensures.version;
       room = c.push.ensures.room;
       journal = λ header j.
           noted d header i.history.items c.push.new.self.items i.flushed i.history.room c.push.new.self.room c.args.entry i.journal c.add.new.self
-          c.self.invariant.within c.push.ensures.items c.add.ensures.file j;
+          c.self.invariant.within c.push.ensures.items c.add.ensures.file c.add.ensures.version j;
     })

@@ -1,9 +1,10 @@
 use Rattle.std.proofs.Common.{◌≡◌, length, true, false, None, Some, sym, ap, subst, ◌∙◌, Option}
+use Rattle.std.specs.Prelude.{IfSome}
 use Rattle.nc_number.specs.declared.path.Path.TheVariants.{One, Two}
 use Rattle.nc_number.specs.Path.{other_of}
 use Rattle.nc_outside.specs.declared.halt.Halt.{Halt}
 use Rattle.path_state.specs.Opening.{opening_path}
-use Rattle.run_records.specs.declared.entry.Entry.{Entry}
+use Rattle.run_records.specs.Entries.{Entry, edit_of}
 use Rattle.tape_flow.specs.declared.flow.Flow.{Flow}
 use Rattle.two_path.specs.declared.turn.Turn.{Turn}
 use Rattle.two_path.specs.Machine.{MachineView, own_first}
@@ -14,9 +15,9 @@ use Rattle.run_table.specs.declared.answer.TableStep.TheVariants.{Halted}
 use Rattle.run_table.specs.Kept.{TableView, tapes_in, IsTable}
 use Rattle.run_table.specs.Since.{Since}
 use Rattle.run_table.specs.Stepping.{is_shown, is_due, bound_of, drains, step_of, IsStep, GoesOn}
-use Rattle.run_table.proofs.AlarmsKept.{shown_made}
+use Rattle.run_table.proofs.AlarmsKept.{shown_made, made_step}
 use Rattle.run_table.proofs.OtherGoesOn.{waits_still}
-use Rattle.run_table.proofs.StepsTaken.{kept_step}
+use Rattle.run_table.proofs.StepsTaken.{kept_step, drain_step}
 use Rattle.run_table.proofs.TablesKept.{table_of, turn_comes, few_turns, turn_table, turn_step_is, answer_waits, may_note}
 use Rattle.run_table.proofs.Then.{since_none}
 use Rattle.run_table.proofs.table.Table.step.Goals as goal
@@ -27,6 +28,12 @@ returns-in-Some-clause-step g c =
     let i = c.self.inside in
     subst (λ (t : TableView g.row.D.Denot). IsStep d (step_of t c.args.path) t t (Halted c.in-Some.why)) c.self.view_is
     (kept_step d (table_of i.verified i.machine i.recording i.halt i.budget i.owed) c.args.path c.in-Some.why (c.in-Some.is ∙ ap Some (sym c.in-Some.why-is)) g.met.D.Disk.coherent)
+
+pub returns-then-drains-clause-step : goal.returns-then-drains-clause-step
+returns-then-drains-clause-step g c =
+    let kept = subst (λ (t : TableView g.row.D.Denot). t.halt ≡ None) c.self.view_is c.in_default.is in
+    drain_step g.D.Disk.state c.args.self.now c.args.path kept (sym c.bound.ensures ∙ c.in_default-bound.is) (sym c.drains.ensures ∙ c.if-drains.true)
+    g.met.D.Disk.coherent
 
 pub turn-turned-requires-clause-few : goal.turn-turned-requires-clause-few
 turn-turned-requires-clause-few g c =
@@ -131,3 +138,10 @@ take-answer-requires-clause-budget g c =
     let bound : bound_of (table_of i.verified i.machine i.recording i.halt i.budget i.owed) ≡ None =
     subst (λ (t : TableView g.row.D.Denot). bound_of t ≡ None) (sym c.self.view_is) (sym c.bound.ensures ∙ c.in_default-bound.is) in
     (turn_comes (table_of i.verified i.machine i.recording i.halt i.budget i.owed) bound).1
+
+pub take-answer-requires-clause-step : goal.take-answer-requires-clause-step
+take-answer-requires-clause-step g c =
+    let m : MachineView = c.self.inside.machine.machine in
+    let tapes : Tapes = tapes_of c.left.result.now c.right.result.now in
+    subst (λ (e : Option Entry). IfSome e (λ r. edit_of r.kind ≡ None)) (sym c.turn-turned.ensures.entry)
+    (made_step c.args.path (own_first c.args.path m).first.stamps (turn_of tapes c.args.path m).turn)
