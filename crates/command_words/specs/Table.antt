@@ -5,7 +5,7 @@ use Rattle.command_words.specs.declared.table.Journal.{Journal}
 use Rattle.command_words.specs.declared.table.Journal.TheVariants as journal
 use Rattle.command_words.specs.declared.table.Row.{Row}
 use Rattle.command_words.specs.declared.table.Task.{Task}
-use Rattle.command_words.specs.declared.table.Task.TheVariants.{Verify, Waits, Races, Trace, Run, Resume, Moves, State, Zones, Make, Expand}
+use Rattle.command_words.specs.declared.table.Task.TheVariants.{Verify, Waits, Races, Trace, Run, Resume, Edit, Moves, State, Zones, Make, Expand}
 
 -- The commands of the program.
 
@@ -54,6 +54,7 @@ listings =
     ∷ listing (codes "trace") pair_words block_options journal.None Trace
     ∷ listing (codes "run") pair_words run_options journal.Write Run
     ∷ listing (codes "resume") [] run_options journal.Write Resume
+    ∷ listing (codes "edit") (codes "edits" ∷ []) [] journal.Write Edit
     ∷ listing (codes "moves") [] [] journal.Look Moves
     ∷ listing (codes "state") [] [] journal.Look State
     ∷ listing (codes "zones") (codes "zones" ∷ []) [] journal.Look Zones

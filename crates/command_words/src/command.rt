@@ -66,6 +66,8 @@ pub enum Command {
     Run(Name, Name, Name, u32, TurretFiles),
     /// Go on with the run in the journal, for at most this many blocks.
     Resume(u32, TurretFiles),
+    /// Make these edits of offsets and variables in the run in the journal.
+    Edit(Name),
     /// Print the moves of the run in the journal.
     Moves,
     /// Print the state of the run in the journal.
@@ -93,6 +95,7 @@ impl Command {
             Command::Waits(_, _, _, _) => None,
             Command::Races(_, _, _) => None,
             Command::Trace(_, _, _, _) => None,
+            Command::Edit(_) => None,
             Command::Moves => None,
             Command::State => None,
             Command::Zones(_) => None,

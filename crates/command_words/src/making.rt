@@ -193,6 +193,10 @@ fn command_with(
             [] => Ok(Command::Resume(limits.blocks, files)),
             _ => Err(WordsFault::Usage),
         },
+        Task::Edit => match words {
+            [edits] => Ok(Command::Edit(Name::new(alloc, edits)?)),
+            _ => Err(WordsFault::Usage),
+        },
         Task::Moves => match words {
             [] => Ok(Command::Moves),
             _ => Err(WordsFault::Usage),

@@ -12,6 +12,7 @@ pub enum Task {
     Trace,
     Run,
     Resume,
+    Edit,
     Moves,
     State,
     Zones,
@@ -58,13 +59,14 @@ macro_rules! command_rows {
 }
 
 /// The commands of the program.
-const ROWS: [Row; 11] = command_rows! {
+const ROWS: [Row; 12] = command_rows! {
     "verify" ["left", "right", "settings"] [] None Verify;
     "waits" ["left", "right", "settings"] ["outside"] None Waits;
     "races" ["left", "right", "settings"] [] None Races;
     "trace" ["left", "right", "settings"] ["blocks"] None Trace;
     "run" ["left", "right", "settings"] ["blocks", "turret1", "turret2"] Write Run;
     "resume" [] ["blocks", "turret1", "turret2"] Write Resume;
+    "edit" ["edits"] [] Write Edit;
     "moves" [] [] Look Moves;
     "state" [] [] Look State;
     "zones" ["zones"] [] Look Zones;

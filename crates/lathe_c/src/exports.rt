@@ -52,7 +52,7 @@ pub extern "C" fn lathe_run(
     told(answer(alloc, &texts, Question::Run(limit), room), len)
 }
 
-/// The trace of that run.
+/// The trace of that run, and behind it the races of the pair.
 #[unsafe(no_mangle)]
 pub extern "C" fn lathe_trace(
     alloc: Global,

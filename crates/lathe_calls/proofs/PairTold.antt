@@ -6,7 +6,7 @@ use Rattle.block_order.specs.Answers.{IfFault}
 use Rattle.nc_verify.specs.declared.refusal.Refusal.{Refusal}
 use Rattle.nc_verify.specs.declared.verified.Verified.{Verified}
 use Rattle.nc_verify.specs.Verdict.{Texts, IsRefusalOf}
-use Rattle.run_records.specs.declared.entry.Entry.{Entry}
+use Rattle.run_records.specs.Entries.{Entry}
 use Rattle.turn_order.specs.declared.ending.TurnsEnd.{TurnsEnd}
 use Rattle.lathe_calls.specs.Answers.{Answer, tells, IsJust}
 use Rattle.lathe_calls.specs.Judged.{IsRefusing}

@@ -8,11 +8,13 @@ use Rattle.nc_restart.specs.Pair.{opening_of, tapes_in}
 use Rattle.nc_verify.specs.declared.refusal.Refusal.{Refusal}
 use Rattle.nc_verify.specs.declared.verified.Verified.{Verified}
 use Rattle.nc_verify.specs.Verdict.{Texts, IsRefusalOf}
-use Rattle.run_records.specs.declared.entry.Entry.{Entry}
+use Rattle.race_report.specs.declared.race.Race.{Race}
+use Rattle.run_records.specs.Entries.{Entry}
 use Rattle.turn_order.specs.declared.ending.TurnsEnd.{TurnsEnd}
 use Rattle.turn_order.specs.InTurn.{IsInTurn}
 use Rattle.lathe_calls.specs.Answers.{Answer, tells}
 use Rattle.lathe_calls.specs.Judged.{IsRefusing}
+use Rattle.lathe_calls.specs.Races.{AreRaces}
 use Rattle.lathe_calls.specs.Traced.{IsTraceOf, IsTraced, end_of, end_status, ran, refused, trace_of, untraced}
 
 -- a refusal of the texts is answered by itself
@@ -22,8 +24,8 @@ traced_refused limit {texts} (Fault refusal) of_texts answer is = subst (IsTrace
 traced_refused limit {texts} NoMemory of_texts answer is = subst (IsTraced limit texts) (sym is) untraced
 
 -- the trace of a run whose paths took turns, which ended so
-pub ran_so : (limit : ℕ) (pair : Verified) (entries : List Entry) (end : TurnsEnd)
-    → IsInTurn (tapes_in pair) (opening_of pair) (min limit pair.settings.records) entries → end ≡ end_of pair entries
-    → IsTraceOf limit pair (tells (end_status end) (trace_of pair entries end))
-ran_so limit pair entries end run is =
-    subst (λ e. IsTraceOf limit pair (tells (end_status e) (trace_of pair entries e))) (sym is) (ran entries run)
+pub ran_so : (limit : ℕ) (pair : Verified) (entries : List Entry) (end : TurnsEnd) (races : List Race)
+    → IsInTurn (tapes_in pair) (opening_of pair) (min limit pair.settings.records) entries → end ≡ end_of pair entries → AreRaces pair races
+    → IsTraceOf limit pair (tells (end_status end) (trace_of pair entries end races))
+ran_so limit pair entries end races run is are =
+    subst (λ e. IsTraceOf limit pair (tells (end_status e) (trace_of pair entries e races))) (sym is) (ran entries races run are)

@@ -116,6 +116,7 @@ turn_events at (turn.Waiting code) = []
 turn_events at turn.Finished = []
 turn_events at (turn.Alarm alarm) = alarm_event at alarm ∷ []
 turn_events at (turn.Halted alarm) = []
+turn_events at turn.Edited = []
 
 -- how many records there are behind a path's turn, and the line at which it stood
 abbrev pub stamp_of : Tapes → Path → MachineView → Stamp

@@ -4,9 +4,9 @@ pub mod Answers
 pub mod Texts
 pub mod Judged
 pub mod Reported
+pub mod Races
 pub mod Traced
 pub mod Waited
-pub mod Races
 pub mod Due
 pub mod Said
 pub mod Events

@@ -7,8 +7,11 @@ use Rattle.race_report.specs.Texts.{list_text}
 use Rattle.lathe_calls.specs.Answers.{Answer, tells, nothing}
 use Rattle.lathe_calls.specs.Statuses as exit
 
+-- the races of a pair for the variables that its settings share
+abbrev pub AreRaces : Verified → List Race → Type 0
+AreRaces pair races = IsRaceList (shared_by pair.settings) pair.left pair.right races
+
 -- 0 and the list of the races of a pair; nothing for want of memory
 pub data AreRacesOf (pair : Verified) : Answer → Type 0 where
-  listed : (races : List Race) → IsRaceList (shared_by pair.settings) pair.left pair.right races
-      → AreRacesOf pair (tells exit.done (list_text races))
+  listed : (races : List Race) → AreRaces pair races → AreRacesOf pair (tells exit.done (list_text races))
   unlisted : AreRacesOf pair nothing

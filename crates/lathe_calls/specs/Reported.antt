@@ -4,7 +4,7 @@ use Rattle.move_list.specs.declared.end_line.Reason.{Reason}
 use Rattle.move_list.specs.Report.{report_text}
 use Rattle.move_list.specs.State.{state_text}
 use Rattle.nc_verify.specs.declared.verified.Verified.{Verified}
-use Rattle.run_records.specs.declared.entry.Entry.{Entry}
+use Rattle.run_records.specs.Entries.{Entry}
 use Rattle.nc_restart.specs.Pair.{tapes_in, opening_of, machine_behind}
 
 -- the report of a history of a pair

@@ -1,18 +1,21 @@
 -- The trace that is due to three texts.
-use Rattle.std.specs.Prelude.{ℕ, min, List, Some}
+use Rattle.std.specs.Prelude.{ℕ, min, List, ◌++◌, Some}
 use Rattle.move_list.specs.declared.end_line.Reason.{Reason}
 use Rattle.nc_restart.specs.Pair.{IsPairOf, tapes_in, opening_of}
 use Rattle.nc_verify.specs.declared.refusal.Refusal.{Refusal}
 use Rattle.nc_verify.specs.declared.verified.Verified.{Verified}
 use Rattle.nc_verify.specs.Verdict.{Texts, IsRefusalOf}
 use Rattle.nc_verify.specs.Printed.{IsVerdictText}
-use Rattle.run_records.specs.declared.entry.Entry.{Entry}
+use Rattle.race_report.specs.declared.race.Race.{Race}
+use Rattle.race_report.specs.Texts.{list_text}
+use Rattle.run_records.specs.Entries.{Entry}
 use Rattle.trace_list.specs.Trace.{trace_text}
 use Rattle.turn_order.specs.declared.ending.TurnsEnd.{TurnsEnd}
 use Rattle.turn_order.specs.declared.ending.TurnsEnd.TheVariants as ends
 use Rattle.turn_order.specs.Ending.{end_told}
 use Rattle.turn_order.specs.InTurn.{IsInTurn}
 use Rattle.lathe_calls.specs.Answers.{Answer, tells, nothing}
+use Rattle.lathe_calls.specs.Races.{AreRaces}
 use Rattle.lathe_calls.specs.Statuses as exit
 
 -- how the run of a trace ended, as a report says it, and the status of that
@@ -28,19 +31,20 @@ end_status (ends.Alarm alarm) = exit.alarm
 end_status ends.Full = exit.full
 end_status ends.Stopped = exit.stopped
 
--- the trace of a history of a pair
-abbrev pub trace_of : Verified → List Entry → TurnsEnd → List ℕ
-trace_of pair entries end = trace_text (tapes_in pair) (opening_of pair) entries (end_reason end)
+-- the trace of a history of a pair, and behind it the races of the pair, as `races` prints them
+abbrev pub trace_of : Verified → List Entry → TurnsEnd → List Race → List ℕ
+trace_of pair entries end races = trace_text (tapes_in pair) (opening_of pair) entries (end_reason end) ++ list_text races
 
 -- how the run of a pair with these records ended
 abbrev pub end_of : Verified → List Entry → TurnsEnd
 end_of pair entries = end_told (tapes_in pair) (opening_of pair) pair.settings.records entries
 
--- a trace of a pair: that of its run whose paths take turns, of so many records at most and of no more than the settings allow; or
--- nothing for want of memory
+-- a trace of a pair: that of its run whose paths take turns, of so many records at most and of no more than the settings allow, with
+-- all races of the pair; or nothing for want of memory
 pub data IsTraceOf (limit : ℕ) (pair : Verified) : Answer → Type 0 where
-  ran : (entries : List Entry) → IsInTurn (tapes_in pair) (opening_of pair) (min limit pair.settings.records) entries
-      → IsTraceOf limit pair (tells (end_status (end_of pair entries)) (trace_of pair entries (end_of pair entries)))
+  ran : (entries : List Entry) (races : List Race) → IsInTurn (tapes_in pair) (opening_of pair) (min limit pair.settings.records) entries
+      → AreRaces pair races
+      → IsTraceOf limit pair (tells (end_status (end_of pair entries)) (trace_of pair entries (end_of pair entries) races))
   unran : IsTraceOf limit pair nothing
 
 -- the trace of the accepted pair; 1 where the texts are refused, with the line of that; nothing for want of memory

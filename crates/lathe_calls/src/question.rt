@@ -7,7 +7,7 @@ pub enum Question {
     Verify,
     /// The report of the run whose paths take turns, of so many records at most.
     Run(u32),
-    /// The trace of that run.
+    /// The trace of that run, with the races of the pair.
     Trace(u32),
     /// The state of the machine behind the records of that run.
     State(u32),

@@ -1,11 +1,13 @@
 //! The texts of the run of a pair whose paths take turns.
 ghost use Rattle.std.specs.Prelude.{◌≡◌, ◌≤◌, ◌<◌, ◌^◌, length};
 ghost use Rattle.nc_restart.specs.Pair.{opening_of, tapes_in};
+ghost use Rattle.nc_verify.specs.Printed.{IsPut};
 ghost use Rattle.two_path.specs.Histories.{IsLegal};
 ghost use Rattle.lathe_calls.specs.Answers.{Ends, IsJust, tells};
+ghost use Rattle.lathe_calls.specs.Races.{AreRaces};
 ghost use Rattle.lathe_calls.specs.Reported.{state_of};
 ghost use Rattle.lathe_calls.specs.Statuses as exit;
-ghost use Rattle.lathe_calls.specs.Traced.{IsTraceOf, IsTraced, end_reason, end_status};
+ghost use Rattle.lathe_calls.specs.Traced.{IsTraceOf, IsTraced, end_reason, end_status, trace_of};
 ghost use Rattle.lathe_calls.specs.Due.{IsOfPair, IsReportOf, IsStateOf};
 ghost use Rattle.lathe_calls.specs.Texts.{texts_of};
 
@@ -14,8 +16,9 @@ use crate::judging::refuse;
 use crate::machine::machine_behind;
 use crate::pair_texts::PairTexts;
 use move_list::{Reason, write_report, write_state};
-use nc_outside::Sink;
+use nc_outside::{PutFault, Sink};
 use nc_verify::{Verified, verdict};
+use race_report::{RaceList, races, write_races};
 use run_records::EntryList;
 use std::alloc::Global;
 use trace_list::write_trace;
@@ -58,15 +61,51 @@ fn report_pair<K: Sink>(alloc: Global, pair: &Verified, limit: u32, out: &mut K)
     }
 }
 
-/// Writes the trace of a pair, and gives its status.
-fn trace_pair<K: Sink>(alloc: Global, pair: &Verified, limit: u32, out: &mut K) -> u8
+/// Writes the trace of a history of a pair, and behind it the races of the pair.
+fn write_traced<K: Sink>(
+    alloc: Global,
+    pair: &Verified,
+    entries: &EntryList,
+    end: &TurnsEnd,
+    races: &RaceList,
+    out: &mut K,
+) -> Result<(), PutFault>
+    requires legal { IsLegal (tapes_in pair.now) (opening_of pair.now) entries.now.items }
+    requires few { length entries.now.items ≤ 4000000 }
+    ensures { IsPut (K.state out.old) (K.state out.new) (trace_of pair.now entries.now.items end.now races.now) result }
+{
+    match write_trace(alloc, pair, entries, end_reason(end), out) {
+        Ok(()) => write_races(races, out),
+        Err(fault) => Err(fault),
+    }
+}
+
+/// Writes the trace of a pair that has these races, and gives its status.
+fn trace_with<K: Sink>(
+    alloc: Global,
+    pair: &Verified,
+    limit: u32,
+    races: &RaceList,
+    out: &mut K,
+) -> u8
+    requires { AreRaces pair.now races.now }
     ensures { Ends (IsTraceOf limit pair.now) (K.state out.old) (K.state out.new) result }
 {
     match records_in_turn(alloc, pair, limit) {
         Ok(run) => {
-            let put = write_trace(alloc, pair, &run.entries, end_reason(&run.end), out);
+            let put = write_traced(alloc, pair, &run.entries, &run.end, races, out);
             status_behind(put, end_status(&run.end))
         }
+        Err(_) => Status::NoMemory as u8,
+    }
+}
+
+/// Writes the trace of a pair, and gives its status.
+fn trace_pair<K: Sink>(alloc: Global, pair: &Verified, limit: u32, out: &mut K) -> u8
+    ensures { Ends (IsTraceOf limit pair.now) (K.state out.old) (K.state out.new) result }
+{
+    match races(alloc, pair) {
+        Ok(list) => trace_with(alloc, pair, limit, &list, out),
         Err(_) => Status::NoMemory as u8,
     }
 }
@@ -105,7 +144,7 @@ pub(crate) fn report<K: Sink>(alloc: Global, texts: &PairTexts<'_>, limit: u32, 
     }
 }
 
-/// Writes the trace of the run of the texts, and gives its status.
+/// Writes the trace of the run of the texts with the races of their pair, and gives its status.
 pub(crate) fn trace<K: Sink>(alloc: Global, texts: &PairTexts<'_>, limit: u32, out: &mut K) -> u8
     requires { length texts.now.settings.now < 2 ^ 32 }
     ensures { Ends (IsTraced limit (texts_of texts.now)) (K.state out.old) (K.state out.new) result }

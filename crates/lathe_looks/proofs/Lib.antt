@@ -5,3 +5,4 @@ pub mod TextsShown
 pub mod ExpansionTold
 pub mod BadJournal
 pub mod ZonesTold
+mod EditsTold

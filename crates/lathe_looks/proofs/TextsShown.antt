@@ -4,7 +4,7 @@ use Rattle.move_list.specs.declared.end_line.Reason.{Reason}
 use Rattle.move_list.specs.State.{state_text}
 use Rattle.nc_restart.specs.Pair.{tapes_in, machine_behind}
 use Rattle.nc_verify.specs.declared.verified.Verified.{Verified}
-use Rattle.run_records.specs.declared.entry.Entry.{Entry}
+use Rattle.run_records.specs.Entries.{Entry}
 use Rattle.two_path.specs.Machine.{MachineView}
 use Rattle.lathe_calls.specs.Reported.{report_of, state_of}
 use Rattle.lathe_looks.specs.Standing.{reason_of, moves_text}

@@ -5,5 +5,6 @@ pub mod Standing
 pub mod Shown
 pub mod Expanded
 pub mod Zoned
+pub mod Edited
 -- Words of the inside.
 pub mod Texts

@@ -3,7 +3,7 @@ use Rattle.std.specs.Prelude.{ℕ, List, [], ◌∷◌}
 use Rattle.nc_verify.specs.Verdict.{Texts}
 use Rattle.lathe_calls.specs.Texts.{longest_settings, longest_tape}
 use Rattle.lathe_looks.specs.declared.files.CommandFile.{CommandFile}
-use Rattle.lathe_looks.specs.declared.files.CommandFile.TheVariants.{Left, Right, Settings, Tape, Zones}
+use Rattle.lathe_looks.specs.declared.files.CommandFile.TheVariants.{Left, Right, Settings, Tape, Zones, Edits}
 
 -- a file of a command: which of them it is, and its name
 pub record Named : Type 0 where
@@ -20,6 +20,7 @@ most_bytes Right = longest_tape
 most_bytes Settings = longest_settings
 most_bytes Tape = longest_tape
 most_bytes Zones = longest_settings
+most_bytes Edits = longest_settings
 
 -- the files of both tapes
 abbrev pub tapes_of : List ℕ → List ℕ → List Named
@@ -36,6 +37,10 @@ tape_named name = named Tape name ∷ []
 -- a text of zones by itself
 abbrev pub zones_named : List ℕ → List Named
 zones_named name = named Zones name ∷ []
+
+-- a text of edits by itself
+abbrev pub edits_named : List ℕ → List Named
+edits_named name = named Edits name ∷ []
 
 -- the texts of these files, in their order
 abbrev pub listed : Texts → List (List ℕ)

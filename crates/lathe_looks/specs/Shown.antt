@@ -7,7 +7,7 @@ use Rattle.nc_restart.specs.Pair.{texts_of, IsPairOf}
 use Rattle.nc_restart.specs.History.{IsHistory}
 use Rattle.nc_restart.specs.Recovered.{FoundRun, Recovers}
 use Rattle.nc_verify.specs.declared.verified.Verified.{Verified}
-use Rattle.run_records.specs.declared.entry.Entry.{Entry}
+use Rattle.run_records.specs.Entries.{Entry}
 use Rattle.lathe_looks.specs.declared.showing.Showing.{Showing}
 use Rattle.lathe_looks.specs.declared.showing.Showing.TheVariants.{Moves, State}
 use Rattle.lathe_calls.specs.Answers.{Answer, tells, nothing}

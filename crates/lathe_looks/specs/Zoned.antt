@@ -3,7 +3,7 @@ use Rattle.std.specs.Prelude.{◌≡◌, ℕ, List, ◌++◌, codes, decimal, Ok
 use Rattle.nc_outside.specs.Files.{ShelfState}
 use Rattle.nc_restart.specs.Pair.{opening_of, tapes_in}
 use Rattle.nc_verify.specs.declared.verified.Verified.{Verified}
-use Rattle.run_records.specs.declared.entry.Entry.{Entry}
+use Rattle.run_records.specs.Entries.{Entry}
 use Rattle.zone_cell.specs.Lines.{list_text}
 use Rattle.zone_cell.specs.Zones.{ZonesView, zones_of}
 use Rattle.zone_check.specs.Segments.{zones_of_history}

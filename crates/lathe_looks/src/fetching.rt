@@ -3,7 +3,7 @@ ghost use Rattle.std.specs.Prelude.{◌≡◌, ◌≤◌, ◌<◌, ◌^◌, [], 
 ghost use Rattle.block_order.specs.Answers.{IfFault};
 ghost use Rattle.nc_outside.specs.Files.{HoldsOn};
 ghost use Rattle.lathe_calls.specs.Answers.{Ends, IsJust, tells};
-ghost use Rattle.lathe_looks.specs.Named.{alone, listed, named, tape_named, tapes_of, zones_named};
+ghost use Rattle.lathe_looks.specs.Named.{alone, edits_named, listed, named, tape_named, tapes_of, zones_named};
 ghost use Rattle.lathe_looks.specs.Texts.{files_in, texts_of};
 ghost use Rattle.lathe_looks.specs.Fetched.{AreAsked, AreHad, FileCause, IsText, IsUnfetched, fault_status, fault_text, file_of, unfetched};
 
@@ -153,6 +153,22 @@ pub(crate) fn fetch_zones<'a, H: Shelf>(
     ensures not_had { IfErr result (IsUnfetched (H.state shelf.old) (H.state shelf.new) (zones_named name.now)) }
 {
     match fetch(alloc, shelf, CommandFile::Zones, name) {
+        Ok(text) => Ok(text),
+        Err(error) => Err(error),
+    }
+}
+
+/// The text of edits.
+pub(crate) fn fetch_edits<'a, H: Shelf>(
+    alloc: Global,
+    shelf: &mut H,
+    name: &'a str,
+) -> Result<Vec<u8>, Failing<Unfetched<'a>>>
+    ensures text { IfOk result (λ text. AreHad (H.state shelf.old) (H.state shelf.new) (edits_named name.now) (alone text.items)) }
+    ensures short { IfOk result (λ text. length text.items < 2 ^ 32) }
+    ensures not_had { IfErr result (IsUnfetched (H.state shelf.old) (H.state shelf.new) (edits_named name.now)) }
+{
+    match fetch(alloc, shelf, CommandFile::Edits, name) {
         Ok(text) => Ok(text),
         Err(error) => Err(error),
     }

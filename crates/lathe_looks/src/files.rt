@@ -17,6 +17,8 @@ pub enum CommandFile {
     Tape,
     /// How the paths lie in one cell.
     Zones,
+    /// What an operator corrects.
+    Edits,
 }
 
 impl CommandFile {
@@ -26,7 +28,7 @@ impl CommandFile {
     {
         match self {
             CommandFile::Left | CommandFile::Right | CommandFile::Tape => LONGEST_TAPE,
-            CommandFile::Settings | CommandFile::Zones => LONGEST_SETTINGS,
+            CommandFile::Settings | CommandFile::Zones | CommandFile::Edits => LONGEST_SETTINGS,
         }
     }
 }

@@ -8,6 +8,7 @@
 #![tactic(auto)]
 
 mod asking;
+mod editing;
 mod expanding;
 mod fetching;
 mod files;
@@ -19,6 +20,7 @@ mod standing;
 mod zoning;
 
 pub use asking::ask;
+pub use editing::edits_of_file;
 pub use expanding::expand;
 pub use fetching::{FileFault, Texts, Unfetched, fetch_texts, tell_unfetched};
 pub use files::{CommandFile, FileNames};

@@ -5,14 +5,17 @@ use Rattle.command_words.specs.declared.command.Command.TheVariants as command
 use Rattle.disk_model.specs.Device.{DiskState}
 use Rattle.nc_verify.specs.declared.verified.Verified.{Verified}
 use Rattle.nc_verify.specs.Verdict.{Texts}
-use Rattle.run_records.specs.declared.entry.Entry.{Entry}
+use Rattle.run_records.specs.Entries.{Entry}
 use Rattle.lathe_calls.specs.Answers.{Answer, whole, cut, unwritten, untold}
 use Rattle.lathe_looks.specs.Fetched.{IsOfFiles, not_had, unread, answers}
-use Rattle.lathe_looks.specs.Named.{Named, alone, listed, zones_named}
+use Rattle.lathe_looks.specs.Named.{Named, alone, edits_named, listed, zones_named}
+use Rattle.edit_texts.specs.declared.edit_list.PathEdit.{PathEdit}
 use Rattle.lathe_looks.specs.Shown.{IsShown, shown, unshown}
 use Rattle.lathe_top.specs.Done as done
 use Rattle.lathe_top.specs.Done.{Call, TopState, command_of, IsDone, IsDue, IsDueTo}
-use Rattle.lathe_top.specs.Kept.{Opening, anew, again, HasSession, IsOpened, Leaves, OnlyLooks, RestsWhole}
+use Rattle.lathe_top.specs.Edited as edit
+use Rattle.lathe_top.specs.Edited.{IsEdited, IsEditedRun, IsEditOf, IsOnlyFound}
+use Rattle.lathe_top.specs.Kept.{Editing, Opening, anew, again, HasEdits, HasSession, IsOpened, Leaves, OnlyLooks, RestsWhole}
 use Rattle.lathe_top.specs.Kinds as kind
 use Rattle.lathe_top.specs.Kinds.{Kind, begins, goes_on, kind_of}
 use Rattle.lathe_top.specs.Lathe.{LatheState, AreAtRest}
@@ -74,6 +77,40 @@ module _ {D : Type 0} (state : D → DiskState) where
   zones_left files old new answer (unread some rests) = record { disk = inl rests.disk; turrets = rests.turrets }
   zones_left files old new answer (answers text are is) = zoned_left text old.lathe new.lathe answer is
 
+  -- edits of a run that was found
+  looked_left : (e : Editing) (old new : LatheState) → IsOnlyFound e old.disk new.disk → AreAtRest old new → Leaves state kind.edits old new
+  looked_left e old new only rest = inl (record {
+    disk = inr (record { result = Ok (record { header = e.header; entries = e.found }); recovers = only.recovers });
+    turrets = rest;
+  })
+
+  found_left : (e : Editing) (old new : LatheState) (answer : Answer) → IsEditOf e old.disk new.disk answer → AreAtRest old new
+      → Leaves state kind.edits old new
+  found_left e old new answer (edit.alarmed is only) rest = looked_left e old new only rest
+  found_left e old new answer (edit.full none more only) rest = looked_left e old new only rest
+  found_left e old new answer (edit.unready only) rest = looked_left e old new only rest
+  found_left e old new answer (edit.none_asked none are only) rest = looked_left e old new only rest
+  found_left e old new answer (edit.made none some are) rest = inr (record { editing = e; writing = are.writing; turrets = rest })
+  found_left e old new answer (edit.failed none some writing rose) rest = inr (record { editing = e; writing = writing; turrets = rest })
+
+  edit_left : (edits : List PathEdit) (old new : LatheState) (answer : Answer) → IsEditedRun edits old.disk new.disk answer → AreAtRest old new
+      → Leaves state kind.edits old new
+  edit_left edits old new answer (edit.not_found fault recovers) rest =
+      inl (record { disk = inr (record { result = Err fault; recovers = recovers }); turrets = rest })
+  edit_left edits old new answer (edit.in_run e are is) rest = found_left e old new answer is rest
+
+  edited_left : (text : List ℕ) (old new : LatheState) (answer : Answer) → IsEdited old new text answer → Leaves state kind.edits old new
+  edited_left text old new answer (edit.bad_edits is rests) = inl (record { disk = inl rests.disk; turrets = rests.turrets })
+  edited_left text old new answer (edit.unread_edits rests) = inl (record { disk = inl rests.disk; turrets = rests.turrets })
+  edited_left text old new answer (edit.edited {edits} is told rest) = edit_left edits old new answer told rest
+
+  edits_left : (files : List Named) (old new : TopState) (answer : Answer)
+      → IsOfFiles alone files (RestsWhole old.lathe new.lathe) (IsEdited old.lathe new.lathe) old.shelf new.shelf answer
+      → Leaves state kind.edits old.lathe new.lathe
+  edits_left files old new answer (not_had missing rests) = inl (record { disk = inl rests.disk; turrets = rests.turrets })
+  edits_left files old new answer (unread some rests) = inl (record { disk = inl rests.disk; turrets = rests.turrets })
+  edits_left files old new answer (answers text are is) = edited_left text old.lathe new.lathe answer is
+
   resumed_left : (limit : ℕ) (old new : LatheState) (answer : Answer) → IsResumed state limit old new answer
       → Leaves state (goes_on limit) old new
   resumed_left limit old new answer (not_found fault recovers rest) =
@@ -88,6 +125,7 @@ module _ {D : Type 0} (state : D → DiskState) where
   due_left (command.Trace left right settings limit) old new answer due = due.1
   due_left (command.Run left right settings limit turrets) old new answer due = files_left limit _ _ old new answer due
   due_left (command.Resume limit turrets) old new answer due = resumed_left limit old.lathe new.lathe answer due.0
+  due_left (command.Edit name) old new answer due = edits_left (edits_named name) old new answer due
   due_left command.Moves old new answer due = look_left _ old.lathe new.lathe answer due.0 due.1
   due_left command.State old new answer due = look_left _ old.lathe new.lathe answer due.0 due.1
   due_left (command.Make number turrets) old new answer due = run_left _ _ _ old.lathe new.lathe answer due.0
@@ -98,6 +136,7 @@ module _ {D : Type 0} (state : D → DiskState) where
   rests_left : (asked : Kind) (old new : LatheState) → RestsWhole old new → Leaves state asked old new
   rests_left kind.rests old new calm = calm
   rests_left kind.looks old new calm = record { disk = inl calm.disk; turrets = calm.turrets }
+  rests_left kind.edits old new calm = inl (record { disk = inl calm.disk; turrets = calm.turrets })
   rests_left (kind.begins limit) old new calm = inl (record { disk = inl calm.disk; turrets = calm.turrets })
   rests_left (kind.goes_on limit) old new calm = inl (record { disk = inl calm.disk; turrets = calm.turrets })
 

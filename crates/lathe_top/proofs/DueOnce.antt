@@ -1,5 +1,5 @@
 -- Where the outside tells what it holds and did not fail, one status and one text are due.
-use Rattle.std.proofs.Common.{◌≡◌, ℕ, ◌+◌, ◌++◌, Option, Some, None, List, ◌∷◌, [], length, map, take, refl, sym, ap, subst, arith, ◌∙◌, Err}
+use Rattle.std.proofs.Common.{◌≡◌, ◌⊎◌, inl, inr, ⊎_elim, ℕ, ◌+◌, ◌++◌, Option, Some, None, List, ◌∷◌, [], length, map, take, refl, sym, ap, subst, arith, ◌∙◌, Err}
 use Rattle.std.specs.Prelude.{codes}
 use Rattle.std.proofs.Math.Seq.{take-length}
 use Rattle.std.specs.Prelude.{min}
@@ -26,7 +26,7 @@ use Rattle.nc_verify.specs.declared.refusal.Refusal.{Refusal}
 use Rattle.nc_verify.specs.declared.verified.Verified.{Verified}
 use Rattle.nc_verify.specs.Printed.{IsCauseOf, IsVerdictText, refused_text}
 use Rattle.nc_verify.specs.Verdict.{Texts, AreAccepted, IsRefusalOf}
-use Rattle.run_records.specs.declared.entry.Entry.{Entry}
+use Rattle.run_records.specs.Entries.{Entry}
 use Rattle.run_records.specs.declared.header.Header.{Header}
 use Rattle.run_journal.specs.Meaning.{Meaning, no_run, cut_at, bad_at, a_run, StandsFor}
 use Rattle.run_journal.specs.Stands.{Stands}
@@ -35,6 +35,7 @@ use Rattle.tape_flow.specs.Forms.{ProgramForm, program_form}
 use Rattle.tape_flow.specs.declared.program.FlowProgram.{FlowProgram}
 use Rattle.turret_run.specs.Runs.{turret_for}
 use Rattle.path_state.specs.View.{PathView}
+use Rattle.race_report.specs.Texts.{list_text}
 use Rattle.trace_list.specs.Trace.{trace_text}
 use Rattle.turn_order.specs.Ending.{end_told}
 use Rattle.turn_order.specs.InTurn.{IsInTurn}
@@ -56,7 +57,12 @@ use Rattle.lathe_looks.specs.Expanded.{IsExpanded, refusal_text}
 use Rattle.lathe_looks.specs.Fetched.{AreTexts, FileCause, IsOfFiles, not_had, unread, answers, fault_status, fault_text}
 use Rattle.lathe_calls.specs.Judged as judged
 use Rattle.lathe_calls.specs.Judged.{IsJudged}
-use Rattle.lathe_looks.specs.Named.{Named, alone, files_of, listed, tape_named, zones_named}
+use Rattle.lathe_looks.specs.Named.{Named, alone, edits_named, files_of, listed, tape_named, zones_named}
+use Rattle.edit_texts.specs.declared.edit_list.PathEdit.{PathEdit}
+use Rattle.lathe_looks.specs.Edited.{bad_edit_text}
+use Rattle.lathe_top.specs.Edited as edit
+use Rattle.lathe_top.specs.Edited.{IsEdited, IsEditedRun, IsEditOf}
+use Rattle.lathe_top.proofs.EditsDue.{agree_told, found_there, one_told, pair_there, same_told}
 use Rattle.lathe_looks.specs.Zoned.{bad_zone_text, zones_text}
 use Rattle.zone_cell.specs.Zones.{ZonesView}
 use Rattle.lathe_top.specs.Zoned.{IsZoned, bad_zones, unread_zones, zoned}
@@ -81,7 +87,7 @@ use Rattle.lathe_looks.proofs.NotHad.{all_had, fault_once, missing_once, texts_o
 use Rattle.lathe_top.specs.Lathe.{LatheState}
 use Rattle.lathe_top.specs.Made.{made_limit, made_text, made_texts}
 use Rattle.lathe_top.specs.Session.{Session, EndsBy, over, full, stopped, disk_failed, turret_failed, IsLeast, IsSession, reason_status}
-use Rattle.lathe_top.specs.Kept.{Opening, HadNoRun, IsRefusedBeginning, KeepsSession, RestsWhole}
+use Rattle.lathe_top.specs.Kept.{Editing, Opening, HadNoRun, IsRefusedBeginning, KeepsSession, RestsWhole}
 use Rattle.lathe_top.specs.Kinds.{kind_of, named_by}
 use Rattle.lathe_top.specs.Ran as run
 use Rattle.lathe_top.specs.Ran.{TextOf, IsRun, IsReported, reported, IsResumed, unbegun}
@@ -90,7 +96,7 @@ use Rattle.lathe_top.specs.Done.{Call, command_of, IsDue, IsDueTo, Serves, Serve
 use Rattle.lathe_top.proofs.Agreed.{Agree, agree_nothing}
 use Rattle.lathe_top.proofs.RunsFound.{least_is}
 use Rattle.lathe_top.proofs.OneMeeting.{one_text}
-use Rattle.lathe_top.proofs.OneRaces.{races_of_once}
+use Rattle.lathe_top.proofs.OneRaces.{races_of_once, same_races}
 
 -- no three texts are both accepted and refused
 abbrev pub NotBoth : Type 0
@@ -173,16 +179,18 @@ waits_once law one outside texts a b (waited.refused denied v) waited.unjudged =
 waits_once law one outside texts a b waited.unjudged other = tt
 
 trace_once : OneInTurn → (limit : ℕ) (pair other : Verified) (a b : Answer) → IsSamePair pair other → IsTraceOf limit pair a → IsTraceOf limit other b → Agree a b
-trace_once law limit pair other a b same (traced.ran entries run) (traced.ran others run') =
+trace_once law limit pair other a b same (traced.ran entries races run are) (traced.ran others races' run' also) =
     let there : IsInTurn (tapes_in other) (opening_of other) (min limit other.settings.records) entries =
     subst (λ n. IsInTurn (tapes_in other) (opening_of other) (min limit n) entries) same.records
     (subst (λ (m : MachineView). IsInTurn (tapes_in other) m (min limit pair.settings.records) entries) same.opening
     (subst (λ (t : Tapes). IsInTurn t (opening_of pair) (min limit pair.settings.records) entries) same.tapes run)) in
-    let one : entries ≡ others = law (tapes_in other) _ _ (min limit other.settings.records) entries others there run' in (
+    let one : entries ≡ others = law (tapes_in other) _ _ (min limit other.settings.records) entries others there run' in
+    let list : races ≡ races' = same_races pair other same races races' are also in (
       (λ i. end_status (end_told (same.tapes i) (same.opening i) (same.records i) (one i))),
-      (λ i. trace_text (same.tapes i) (same.opening i) (one i) (end_reason (end_told (same.tapes i) (same.opening i) (same.records i) (one i)))),
+      (λ i. trace_text (same.tapes i) (same.opening i) (one i) (end_reason (end_told (same.tapes i) (same.opening i) (same.records i) (one i)))
+          ++ list_text (list i)),
     )
-trace_once law limit pair other a b same (traced.ran entries run) traced.unran = tt
+trace_once law limit pair other a b same (traced.ran entries races run are) traced.unran = tt
 trace_once law limit pair other a b same traced.unran other_trace = tt
 
 traced_once : NotBoth → OneRefusal → OneMachine → OneInTurn → (limit : ℕ) (texts : Texts) (a b : Answer) → IsTraced limit texts a → IsTraced limit texts b → Agree a b
@@ -497,17 +505,17 @@ module _ {D : Type 0} (state : D → DiskState) (both : NotBoth) (one_refusal : 
       (refl, line_once refusal other text line (one_refusal texts refusal other is too) v w)
   run_once limit text_of hangs texts a b (run.refused is v rests) (run.unjudged rests') = tt
   run_once limit text_of hangs texts a b (run.refused {refusal} is v rests) (run.not_begun g two rest) =
-      absurd (never_refused texts (texts_of two.header) two.pair refusal two.accepted two.same is)
+      absurd (never_refused texts (texts_of two.header) two.pair refusal two.accepted two.fresh.same is)
   run_once limit text_of hangs texts a b (run.refused {refusal} is v rests) (run.ran x sound same had report) =
-      absurd (never_refused texts (texts_of x.header) x.pair refusal sound.accepted same is)
+      absurd (never_refused texts (texts_of x.header) x.pair refusal sound.accepted same.same is)
   run_once limit text_of hangs texts a b (run.not_begun f one rest) (run.refused {refusal} is v rests) =
-      absurd (never_refused texts (texts_of one.header) one.pair refusal one.accepted one.same is)
+      absurd (never_refused texts (texts_of one.header) one.pair refusal one.accepted one.fresh.same is)
   run_once limit text_of hangs texts a b (run.not_begun f one rest) (run.unjudged rests) = agree_nothing a
   run_once limit text_of hangs texts a b (run.not_begun f one rest) (run.not_begun g two rest') = unbegun_once texts f g one two
   run_once limit text_of hangs texts a b (run.not_begun f one rest) (run.ran x sound same had report) =
       subst (λ y. Agree y b) (sym (none_there texts f one had.1)) tt
   run_once limit text_of hangs texts a b (run.ran x sound same had report) (run.refused {refusal} is v rests) =
-      absurd (never_refused texts (texts_of x.header) x.pair refusal sound.accepted same is)
+      absurd (never_refused texts (texts_of x.header) x.pair refusal sound.accepted same.same is)
   run_once limit text_of hangs texts a b (run.ran x sound same had report) (run.unjudged rests) = agree_nothing a
   run_once limit text_of hangs texts a b (run.ran x sound same had report) (run.not_begun g two rest) =
       subst (Agree a) (sym (none_there texts g two had.1)) (agree_nothing a)
@@ -538,6 +546,44 @@ module _ (one_run : OneRun) (one_machine : OneMachine) (old new : LatheState) (b
   zoned_once text a b (zoned {zones} is told rest) (zoned {zones = other} too told' rest') =
       let same : zones ≡ other = cc in same_zones one_run one_machine old.disk new.disk bytes holds calm zones other a b same told told'
 
+-- and of edits
+module _ (one_run : OneRun) (one_machine : OneMachine) (old new : LatheState) (bytes : List ℕ) (holds : Reads old.disk bytes)
+    (calm : DiskRose old.disk.faults new.disk.faults → ⊥) where
+  edits_there : (f : RestartFault) (e : Editing) (b : Answer) → Recovers old.disk new.disk (Err f) → IsEditOf e old.disk new.disk b → unfound f ≡ nothing
+  edits_there f e b one is =
+      none_found one_run one_machine old.disk new.disk bytes holds calm f e.header e.found one (found_there e old.disk new.disk b is bytes holds)
+
+  in_one_run : (e e' : Editing) (a b : Answer) → e.edits ≡ e'.edits → IsEditOf e old.disk new.disk a → IsEditOf e' old.disk new.disk b → Agree a b
+  in_one_run e e' a b edits one two =
+      let same : a_run e.header e.found ≡ a_run e'.header e'.found =
+      one_run bytes (a_run e.header e.found) (a_run e'.header e'.found) (found_there e old.disk new.disk a one bytes holds)
+      (found_there e' old.disk new.disk b two bytes holds) in
+      let header : e.header ≡ e'.header = ap (header_in e.header) same in
+      let found : e.found ≡ e'.found = ap (entries_in e.found) same in
+      let pairs =
+      pairs_same one_machine e.header e'.header e.pair e'.pair header (pair_there e old.disk new.disk a one) (pair_there e' old.disk new.disk b two) in
+      let told = same_told e e' pairs found edits in
+      agree_told a b _ (⊎_elim (λ none. inl none) (λ is. inr (is ∙ told)) (one_told e old.disk new.disk calm a one)) (one_told e' old.disk new.disk calm b two)
+
+  edited_run_once : (edits : List PathEdit) (a b : Answer) → IsEditedRun edits old.disk new.disk a → IsEditedRun edits old.disk new.disk b → Agree a b
+  edited_run_once edits a b (edit.not_found f one) (edit.not_found g two) =
+      unfound_once one_run one_machine old.disk new.disk bytes holds calm f g one two
+  edited_run_once edits a b (edit.not_found f one) (edit.in_run e are is) = subst (λ x. Agree x b) (sym (edits_there f e b one is)) tt
+  edited_run_once edits a b (edit.in_run e are is) (edit.not_found g two) = subst (Agree a) (sym (edits_there g e a two is)) (agree_nothing a)
+  edited_run_once edits a b (edit.in_run e are is) (edit.in_run e' too is') = in_one_run e e' a b (are ∙ sym too) is is'
+
+  edited_once : (text : List ℕ) (a b : Answer) → IsEdited old new text a → IsEdited old new text b → Agree a b
+  edited_once text a b (edit.bad_edits {line} is rests) (edit.bad_edits {line = other} too rests') =
+      let same : line ≡ other = cc in (refl, ap bad_edit_text same)
+  edited_once text a b (edit.bad_edits is rests) (edit.unread_edits rests') = tt
+  edited_once text a b (edit.bad_edits is rests) (edit.edited too told rest) = absurd cc
+  edited_once text a b (edit.unread_edits rests) two = tt
+  edited_once text a b (edit.edited is told rest) (edit.bad_edits too rests) = absurd cc
+  edited_once text a b (edit.edited is told rest) (edit.unread_edits rests) = agree_nothing a
+  edited_once text a b (edit.edited {edits} is told rest) (edit.edited {edits = others} too told' rest') =
+      let same : edits ≡ others = cc in
+      edited_run_once others a b (subst (λ (l : List PathEdit). IsEditedRun l old.disk new.disk a) same told) told'
+
 -- one answer is due to a command, and to a call
 module _ {D : Type 0} (state : D → DiskState) (both : NotBoth) (one_refusal : OneRefusal) (one_run : OneRun) (one_journal : OneJournal)
     (one_machine : OneMachine) (in_turn : OneInTurn) (waits_apart : WaitsApart) (one_wait_refusal : OneWaitRefusal) (call : Call) (coherent : IsCoherent call.after.lathe.disk) where
@@ -563,6 +609,10 @@ module _ {D : Type 0} (state : D → DiskState) (both : NotBoth) (one_refusal : 
   due_to_once (command.Resume n turrets) a b files others one two =
       resumed_once state both one_refusal one_run one_journal one_machine call.before.lathe call.after.lathe coherent others.0.bytes others.0.tells others.0.calm
       others.1 n a b one.0 two.0
+  due_to_once (command.Edit name) a b files others one two =
+      files_once alone same_text files.0.0 (edits_named name) (RestsWhole call.before.lathe call.after.lathe) (IsEdited call.before.lathe call.after.lathe)
+      call.before.shelf call.after.shelf files.0.1 files.1
+      (edited_once one_run one_machine call.before.lathe call.after.lathe others.bytes others.tells others.calm) a b one two
   due_to_once command.Moves a b files others one two =
       shown_once one_run one_machine call.before.lathe.disk call.after.lathe.disk others.bytes others.tells others.calm Moves a b one.0 two.0
   due_to_once command.State a b files others one two =

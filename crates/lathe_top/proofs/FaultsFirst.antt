@@ -12,19 +12,22 @@ use Rattle.nc_outside.specs.Faults.{Rose}
 use Rattle.nc_outside.specs.Files.{ShelfState}
 use Rattle.nc_verify.specs.declared.verified.Verified.{Verified}
 use Rattle.nc_verify.specs.Verdict.{Texts}
-use Rattle.run_records.specs.declared.entry.Entry.{Entry}
+use Rattle.run_records.specs.Entries.{Entry}
 use Rattle.turret_run.specs.Runs.{Turrets, turret_for}
 use Rattle.nc_restart.specs.declared.fault.RestartFault.{RestartFault}
 use Rattle.nc_restart.specs.declared.fault.RestartFault.TheVariants as restart
 use Rattle.nc_restart.specs.Recovered.{Recovers}
 use Rattle.lathe_calls.specs.Answers.{Answer}
 use Rattle.lathe_looks.specs.Fetched.{IsOfFiles, not_had, unread, answers}
-use Rattle.lathe_looks.specs.Named.{Named, alone, listed, zones_named}
+use Rattle.lathe_looks.specs.Named.{Named, alone, edits_named, listed, zones_named}
+use Rattle.edit_texts.specs.declared.edit_list.PathEdit.{PathEdit}
 use Rattle.lathe_looks.specs.Shown.{IsShown, shown, unshown, unfound}
 use Rattle.lathe_calls.specs.Statuses as exit
 use Rattle.lathe_top.specs.Done as done
 use Rattle.lathe_top.specs.Done.{Call, TopState, IsDue, IsDueTo}
-use Rattle.lathe_top.specs.Kept.{Opening, IsRefusedBeginning, RestsWhole}
+use Rattle.lathe_top.specs.Edited as edit
+use Rattle.lathe_top.specs.Edited.{IsEdited, IsEditedRun, IsEditOf, IsOnlyFound}
+use Rattle.lathe_top.specs.Kept.{Editing, Opening, IsRefusedBeginning, RestsWhole}
 use Rattle.lathe_top.specs.Lathe.{LatheState, AreAtRest}
 use Rattle.lathe_top.specs.Ran as run
 use Rattle.lathe_top.specs.Ran.{TextOf, IsRun, IsReported, reported, unprepared, IsResumed, not_found, resumed, unbegun}
@@ -103,6 +106,32 @@ module _ {D : Type 0} (state : D → DiskState) (wanted : ℕ) (old new : LatheS
   zones_first files shelf shelf' a (unread all rests) = tt
   zones_first files shelf shelf' a (answers text are from) = zoned_first text a from
 
+  only_found : (e : Editing) → IsOnlyFound e old.disk new.disk → AreAtRest old new → ⊥
+  only_found e only rest = not_calm rest (only.recovers.calm (λ fault. fault))
+
+  edit_first : (e : Editing) (a : Answer) → IsEditOf e old.disk new.disk a → AreAtRest old new → HasStatus wanted a
+  edit_first e a (edit.alarmed is only) rest = absurd (only_found e only rest)
+  edit_first e a (edit.full none more only) rest = absurd (only_found e only rest)
+  edit_first e a (edit.unready only) rest = tt
+  edit_first e a (edit.none_asked none are only) rest = absurd (only_found e only rest)
+  edit_first e a (edit.made none some are) rest = absurd (not_calm rest are.calm)
+  edit_first e a (edit.failed none some writing rose) rest = of_disk rose
+
+  edit_run_first : (edits : List PathEdit) (a : Answer) → IsEditedRun edits old.disk new.disk a → AreAtRest old new → HasStatus wanted a
+  edit_run_first edits a (edit.not_found f r) rest = unfound_first f r rest
+  edit_run_first edits a (edit.in_run e are is) rest = edit_first e a is rest
+
+  edited_first : (text : List ℕ) (a : Answer) → IsEdited old new text a → HasStatus wanted a
+  edited_first text a (edit.bad_edits is rests) = absurd (not_rested rests)
+  edited_first text a (edit.unread_edits rests) = tt
+  edited_first text a (edit.edited {edits} is told rest) = edit_run_first edits a told rest
+
+  edits_first : (files : List Named) (shelf shelf' : ShelfState) (a : Answer)
+      → IsOfFiles alone files (RestsWhole old new) (IsEdited old new) shelf shelf' a → HasStatus wanted a
+  edits_first files shelf shelf' a (not_had missing rests) = absurd (not_rested rests)
+  edits_first files shelf shelf' a (unread all rests) = tt
+  edits_first files shelf shelf' a (answers text are from) = edited_first text a from
+
 -- and so of a command, and of a call
 module _ {D : Type 0} (state : D → DiskState) (wanted : ℕ) (call : Call) (some : NoneFailed call.before.lathe call.after.lathe → ⊥)
     (of_disk : DiskRose call.before.lathe.disk.faults call.after.lathe.disk.faults → exit.disk_fault ≡ wanted)
@@ -122,6 +151,8 @@ module _ {D : Type 0} (state : D → DiskState) (wanted : ℕ) (call : Call) (so
   command_first (command.Run l r c n turrets) a due =
       files_first state wanted old new some of_disk of_turret n _ _ call.before.shelf call.after.shelf a due
   command_first (command.Resume n turrets) a due = resumed_first state wanted old new some of_disk of_turret n a due.0
+  command_first (command.Edit name) a due =
+      edits_first state wanted old new some of_disk of_turret (edits_named name) call.before.shelf call.after.shelf a due
   command_first command.Moves a due = shown_first state wanted old new some of_disk of_turret _ a due.0 due.1
   command_first command.State a due = shown_first state wanted old new some of_disk of_turret _ a due.0 due.1
   command_first (command.Make n turrets) a due = run_first state wanted old new some of_disk of_turret _ _ _ a due.0

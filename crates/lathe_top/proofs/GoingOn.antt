@@ -13,8 +13,9 @@ use Rattle.nc_number.specs.Path.{other_of}
 use Rattle.nc_moves.specs.declared.alarm.Alarm.{Alarm}
 use Rattle.nc_outside.specs.declared.got.Got.{Got}
 use Rattle.nc_verify.specs.declared.verified.Verified.{Verified}
-use Rattle.run_records.specs.declared.entry.Entry.{Entry}
+use Rattle.run_records.specs.Entries.{Entry}
 use Rattle.run_records.specs.declared.header.Header.{Header}
+use Rattle.run_records.specs.declared.version.Version.{Version}
 use Rattle.run_records.specs.Headers.{header_bytes}
 use Rattle.run_records.specs.Spelling.{entry_bytes}
 use Rattle.run_journal.specs.Batches.{records_bytes}
@@ -42,8 +43,8 @@ use Rattle.lathe_top.specs.Texts.{run_reason}
 
 -- a journal of these records is small
 abbrev pub AreSmall : {D : Type 0} → (D → DiskState) → Type 0
-AreSmall {D} state = (disk : D) (header : Header) (entries : List Entry) (end : ℕ) → Holds header entries (state disk) end
-    → end ≤ 5 + length (header_bytes header) + length (records_bytes entries) + 6 * length entries
+AreSmall {D} state = (disk : D) (header : Header) (version : Version) (entries : List Entry) (end : ℕ) → Holds header version entries (state disk) end
+    → end ≤ 13 + length (header_bytes header) + length (records_bytes entries) + 6 * length entries
 
 -- the machine says how the run ended, or that it did not
 pub over_by : (alarm : Option Alarm) (finished : Bool) (e : RunEnd) → end_by alarm finished ≡ Some e
@@ -280,9 +281,9 @@ module _ {D : Type 0} (state : D → DiskState) (small : AreSmall state) (limit 
       omega (arith, same)
   reaches true is bytes reads =
       let live : IsTrue old.recording.log.file.live = is in
-      let holds : Holds header found d.disk old.recording.log.file.end =
-      subst (λ (l : List Entry). Holds header l d.disk old.recording.log.file.end) all_flushed (journaled.held bytes reads live) in
-      let end_is = small old.recording.log.file.disk header found old.recording.log.file.end holds in
+      let holds : Holds header old.recording.log.version found d.disk old.recording.log.file.end =
+      subst (λ (l : List Entry). Holds header old.recording.log.version l d.disk old.recording.log.file.end) all_flushed (journaled.held bytes reads live) in
+      let end_is = small old.recording.log.file.disk header old.recording.log.version found old.recording.log.file.end holds in
       let most : most_bytes (drop old.recording.flushed history) ≡ most_bytes made = ap most_bytes rest_is in
       omega (arith, end_is, most, bytes_are, longer, (since.recording.sends within).uses.reach bytes reads)
 

@@ -6,7 +6,7 @@ use Rattle.disk_model.proofs.Runs.{no_call, uses_none}
 use Rattle.gate_file.specs.Gate.{Gate}
 use Rattle.move_list.specs.declared.end_line.Reason.{Reason}
 use Rattle.nc_verify.specs.declared.verified.Verified.{Verified}
-use Rattle.run_records.specs.declared.entry.Entry.{Entry}
+use Rattle.run_records.specs.Entries.{Entry}
 use Rattle.run_records.specs.declared.header.Header.{Header}
 use Rattle.run_table.specs.Kept.{TableView}
 use Rattle.run_table.specs.Recording.{StandsForPrefix, IsJournaled}

@@ -7,6 +7,8 @@ pub mod Agreed
 pub mod OneMeeting
 mod OneRaces
 mod ZonesDue
+mod EditsDue
+mod EditsMade
 pub mod DueOnce
 pub mod FaultsFirst
 pub mod RowsSay

@@ -7,7 +7,7 @@ use Rattle.race_report.specs.RaceLists.{shared_by}
 use Rattle.race_report.specs.Texts.{list_text}
 use Rattle.race_report.proofs.SameForms.{same_list}
 use Rattle.lathe_calls.specs.Answers.{Answer}
-use Rattle.lathe_calls.specs.Races.{AreRacesOf, listed, unlisted}
+use Rattle.lathe_calls.specs.Races.{AreRaces, AreRacesOf, listed, unlisted}
 use Rattle.lathe_top.proofs.Agreed.{Agree}
 
 -- a pair that has the same machine shares the same variables
@@ -17,11 +17,15 @@ shares_same pair other same =
     let second : pair.settings.shared500 ≡ other.settings.shared500 = ap (λ m. m.first.path.fixed.shared500) same.opening in
     λ i v. (nat_le 100 v && nat_lt v (100 + first i)) || (nat_le 500 v && nat_lt v (500 + second i))
 
+-- and has the same races
+pub same_races : (pair other : Verified) → IsSamePair pair other → (races others : List Race) → AreRaces pair races → AreRaces other others
+    → races ≡ others
+same_races pair other same races others are also =
+    same_list (shared_by pair.settings) (shared_by other.settings) pair.left other.left pair.right other.right
+    (shares_same pair other same) same.left same.right races others are also
+
 pub races_of_once : (pair other : Verified) (a b : Answer) → IsSamePair pair other → AreRacesOf pair a → AreRacesOf other b → Agree a b
-races_of_once pair other a b same (listed races are) (listed others also) = (
-  refl,
-  ap list_text (same_list (shared_by pair.settings) (shared_by other.settings) pair.left other.left pair.right other.right
-      (shares_same pair other same) same.left same.right races others are also),
-)
+races_of_once pair other a b same (listed races are) (listed others also) =
+    (refl, ap list_text (same_races pair other same races others are also))
 races_of_once pair other a b same (listed races are) unlisted = tt
 races_of_once pair other a b same unlisted is = tt

@@ -8,7 +8,7 @@ use Rattle.move_list.specs.declared.end_line.Reason.{Reason}
 use Rattle.turret_run.specs.Runs.{Turrets, none_missed}
 use Rattle.nc_verify.specs.declared.verified.Verified.{Verified}
 use Rattle.nc_verify.specs.Verdict.{Texts}
-use Rattle.run_records.specs.declared.entry.Entry.{Entry}
+use Rattle.run_records.specs.Entries.{Entry}
 use Rattle.run_records.specs.declared.header.Header.{Header}
 use Rattle.run_records.specs.Headers.{header_bytes}
 use Rattle.run_journal.specs.Beginning.{BeginsRun}
@@ -100,9 +100,9 @@ pub found_keeps : {D : Type 0} (state : D → DiskState) (found : FoundRun) (a :
 found_keeps state found a begun c recovers pair history least begins keeps =
     let s : Session = record { header = found.header; pair = pair; found = found.entries; history = history } in
     let no_less = no_fewer found.entries history begins in
-    let more : 4 * length found.entries + 12 ≤ 20 + 4 * length found.entries = omega arith in
+    let more : 4 * length found.entries + 16 ≤ 20 + 4 * length found.entries = omega arith in
     let nothing_written : 0 ≤ end_of s = omega arith in
-    keeps_session state again s least (4 * length found.entries + 12) 0 a begun c recovers.found.uses (λ bytes reads. recovers.unwritten.moments)
+    keeps_session state again s least (4 * length found.entries + 16) 0 a begun c recovers.found.uses (λ bytes reads. recovers.unwritten.moments)
     recovers.later more nothing_written no_less keeps
 
 -- no call of the disk was made, and none of a turret

@@ -24,6 +24,7 @@ journal_by task.Waits = journal.None
 journal_by task.Races = journal.None
 journal_by task.Run = journal.Write
 journal_by task.Resume = journal.Write
+journal_by task.Edit = journal.Write
 journal_by task.Moves = journal.Look
 journal_by task.State = journal.Look
 journal_by task.Zones = journal.Look
@@ -80,6 +81,9 @@ does_as task.Moves [] blocks outside files asked is = let same : command.Moves �
 does_as task.Moves (a ∷ rest) blocks outside files asked is = absurd cc
 does_as task.State [] blocks outside files asked is = let same : command.State ≡ asked = cc in subst (λ x. Does x journal.Look) same refl
 does_as task.State (a ∷ rest) blocks outside files asked is = absurd cc
+does_as task.Edit [] blocks outside files asked is = absurd cc
+does_as task.Edit (a ∷ []) blocks outside files asked is = let same : command.Edit a ≡ asked = cc in subst (λ x. Does x journal.Write) same refl
+does_as task.Edit (a ∷ b ∷ rest) blocks outside files asked is = absurd cc
 does_as task.Zones [] blocks outside files asked is = absurd cc
 does_as task.Zones (a ∷ []) blocks outside files asked is = let same : command.Zones a ≡ asked = cc in subst (λ x. Does x journal.Look) same refl
 does_as task.Zones (a ∷ b ∷ rest) blocks outside files asked is = absurd cc
@@ -124,7 +128,7 @@ Say (row ∷ rows) = (row.journal ≡ journal_by row.task) × Say rows
 
 listings_say : Say listings
 unfolding listings
-listings_say = (refl, (refl, (refl, (refl, (refl, (refl, (refl, (refl, (refl, (refl, (refl, tt)))))))))))
+listings_say = (refl, (refl, (refl, (refl, (refl, (refl, (refl, (refl, (refl, (refl, (refl, (refl, tt))))))))))))
 
 found_says : (rows : List Listing) (name : Text) (row : Listing) → Say rows → row_in rows name ≡ Some row → row.journal ≡ journal_by row.task
 found_says [] name row say is = absurd cc

@@ -10,8 +10,9 @@ use Rattle.block_order.specs.Answers.{IfFault}
 use Rattle.nc_verify.specs.declared.refusal.Refusal.{Refusal}
 use Rattle.nc_verify.specs.declared.verified.Verified.{Verified}
 use Rattle.nc_verify.specs.Verdict.{Texts, IsRefusalOf}
-use Rattle.run_records.specs.declared.entry.Entry.{Entry}
+use Rattle.run_records.specs.Entries.{Entry}
 use Rattle.run_records.specs.declared.header.Header.{Header}
+use Rattle.run_records.specs.declared.version.Version.TheVariants.{Two}
 use Rattle.run_records.specs.Headers.{IsShort}
 use Rattle.run_journal.specs.Beginning.{BeginsRun}
 use Rattle.run_table.specs.Begun.{IsBegun}
@@ -57,27 +58,27 @@ of_begun Of header pair t begun there =
 
 module _ {A D : Type 0} (state : D → DiskState) (law : NoneIsStuck) (limit : ℕ) (header : Header) (pair : Verified) (a : DiskState) (begun : D)
     (before : Turrets) (c : LatheState) (answer : A) (begins : BeginsRun {A = A} header a (state begun) (Ok answer))
-    (accepted : IsPairOf (texts_of header) pair) where
+    (accepted : IsPairOf (texts_of header) pair) (version : header.version ≡ Two) where
   pub begun_run : (text_of : TextOf) (told : Answer)
       → IsReport limit text_of (standing header pair []) (record { disk = state begun; turrets = before; missed = none_missed }) c told
       → IsRun state limit text_of (texts_of header) (record { disk = a; turrets = before; missed = none_missed }) c told
   begun_run text_of told (report history {reason} least goes ends keeps) =
       let s : Session = record { header = header; pair = pair; found = []; history = history } in
-      ran s (is_session law (standing header pair []) history accepted goes) refl (refl, begins.vacant)
+      ran s (is_session law (standing header pair []) history accepted goes) (record { same = refl; version = version }) (refl, begins.vacant)
       (reported least (ending_since limit s a (state begun) before c reason least (begins.calm (λ fault. fault)) ends)
       (begun_keeps state header a begun c.disk answer begins pair history least keeps))
   begun_run text_of told (stayed history least goes none keeps) =
       let s : Session = record { header = header; pair = pair; found = []; history = history } in
-      ran s (is_session law (standing header pair []) history accepted goes) refl (refl, begins.vacant)
+      ran s (is_session law (standing header pair []) history accepted goes) (record { same = refl; version = version }) (refl, begins.vacant)
       (unprepared least (unprepared_since s a (state begun) before c least none)
       (begun_keeps state header a begun c.disk answer begins pair history least keeps))
 
 -- a journal that was not begun
 pub refused_beginning : {A : Type 0} (header : Header) (pair : Verified) (fault : GateFault) (a c : DiskState) → IsPairOf (texts_of header) pair
-    → BeginsRun {A = A} header a c (Err fault) → IsRefusedBeginning (texts_of header) fault a c
-refused_beginning header pair fault a c accepted begins = record {
+    → header.version ≡ Two → BeginsRun {A = A} header a c (Err fault) → IsRefusedBeginning (texts_of header) fault a c
+refused_beginning header pair fault a c accepted version begins = record {
   header = header;
-  same = refl;
+  fresh = record { same = refl; version = version };
   pair = pair;
   accepted = accepted;
   begins = record {

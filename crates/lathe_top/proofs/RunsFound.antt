@@ -6,8 +6,9 @@ use Rattle.disk_model.proofs.Runs.{no_call, uses_none}
 use Rattle.move_list.specs.declared.end_line.Reason.{Reason}
 use Rattle.nc_moves.specs.declared.alarm.Alarm.{Alarm}
 use Rattle.nc_verify.specs.declared.verified.Verified.{Verified}
-use Rattle.run_records.specs.declared.entry.Entry.{Entry}
+use Rattle.run_records.specs.Entries.{Entry}
 use Rattle.run_records.specs.declared.header.Header.{Header}
+use Rattle.run_records.specs.declared.version.Version.{Version}
 use Rattle.run_journal.specs.Kept.{Log}
 use Rattle.run_journal.specs.Stands.{Stands, Holds}
 use Rattle.run_table.specs.Begun.{reason_in}
@@ -64,7 +65,7 @@ none_or_alarm (Some alarm) = tt
 
 -- what a held journal leaves
 abbrev pub LeavesRecords : {D : Type 0} → (D → DiskState) → Type 0
-LeavesRecords {D} state = (disk : D) (header : Header) (entries : List Entry) (end : ℕ) → Holds header entries (state disk) end
+LeavesRecords {D} state = (disk : D) (header : Header) (version : Version) (entries : List Entry) (end : ℕ) → Holds header version entries (state disk) end
     → (c : List ℕ) → (state disk).image c → Stands header entries c
 
 -- a run that is over leaves all its records
@@ -101,7 +102,7 @@ module _ {D : Type 0} (state : D → DiskState) (coherent : (disk : D) → IsCoh
     omega arith,
     omega arith,
     subst (λ (l : List Entry). Stands header l c) (sym (take-length entries))
-        (leaves log.file.disk header entries log.file.end (is.holds bytes reads) c image),
+        (leaves log.file.disk header log.version entries log.file.end (is.holds bytes reads) c image),
   )
 
   pub keeps_there : KeepsGoing session (length entries) disk disk

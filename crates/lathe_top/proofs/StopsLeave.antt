@@ -6,7 +6,7 @@ use Rattle.disk_model.specs.Device.{DiskState, Reads, IsCoherent}
 use Rattle.disk_model.specs.Moments.{LeavesOnly, Unwritten}
 use Rattle.disk_model.proofs.Runs.{joined}
 use Rattle.gate_file.specs.Chain.{IsNoRun, IsRunThere}
-use Rattle.run_records.specs.declared.entry.Entry.{Entry}
+use Rattle.run_records.specs.Entries.{Entry}
 use Rattle.run_records.specs.declared.header.Header.{Header}
 use Rattle.run_journal.specs.Beginning.{IsRunBeginning}
 use Rattle.run_journal.specs.Meaning.{no_run, a_run}
@@ -20,7 +20,7 @@ use Rattle.lathe_top.specs.Session.{Session, IsSession}
 use Rattle.lathe_top.specs.Lathe.{LatheState}
 use Rattle.lathe_top.specs.Kinds as kind
 use Rattle.lathe_top.specs.Kinds.{Kind, kind_of}
-use Rattle.lathe_top.specs.Kept.{Opening, anew, again, HasSession, KeepsSession, Leaves, IsOfOpening, OnlyBegins, OnlyLooks, RestsWhole}
+use Rattle.lathe_top.specs.Kept.{Editing, HasAllOrNone, HasEdits, IsEditing, history_with, made_of, Opening, anew, again, HasSession, KeepsSession, Leaves, IsOfOpening, OnlyBegins, OnlyLooks, RestsWhole}
 use Rattle.lathe_top.specs.Stops.{GoesOnAs, IsNoneOrRun, lathe_before, lathe_behind, StoppedCall, AreStopped, images_of, BecomeOneHistory}
 use Rattle.lathe_top.proofs.DueOnce.{OneRun, header_in, entries_in}
 
@@ -71,6 +71,16 @@ session_leaves state opening s least old new bytes reads keeps =
     (λ c. IsOfOpening opening s old.image c ⊎ StandsForPrefix s.header (length s.found) s.history c) old (state keeps.begun) new
     (keeps.opens bytes reads) (keeps.goes bytes reads) (λ x is. inl is) (λ x is. inr is)
 
+-- what was found with all edits or none is a run, which begins with what was found
+edits_run : (e : Editing) → IsEditing e → (c : List ℕ) → HasAllOrNone e c
+    → (history : List Entry) × StandsForRun (a_run e.header history) c × (take (length e.found) history ≡ e.found)
+edits_run e is c (inl stands) =
+    let has : HasHistory e.header e.found = record { pair = e.pair; accepted = is.accepted; history = is.found_is } in
+    (e.found, (stands, has), take-length e.found)
+edits_run e is c (inr stands) =
+    let has : HasHistory e.header (history_with e) = record { pair = e.pair; accepted = is.accepted; history = is.history_is } in
+    (history_with e, (stands, has), take-append-le (length e.found) e.found (made_of e) (omega arith) ∙ take-length e.found)
+
 module _ (never_bad : NeverBad) where
   -- a beginning of a session's history
   prefix_run : (s : Session) → IsSession s → (least : ℕ) (c : List ℕ) → StandsForPrefix s.header least s.history c
@@ -112,11 +122,20 @@ module _ (never_bad : NeverBad) where
       (λ refused. beginning_none refused.2.header refused.2.pair refused.2.accepted old.disk.image held c
       ((refused.2.begins.any_moment bytes reads).each c since)) only.disk
 
+  edits_none : (old new : LatheState) (bytes : List ℕ) → Reads old.disk bytes → ((c : List ℕ) → old.disk.image c → IsNoneOrRun c)
+      → HasEdits old new → (c : List ℕ) → new.disk.image_since old.disk.clock c → IsNoneOrRun c
+  edits_none old new bytes reads held has c since =
+      let e = has.editing in
+      ⊎_elim (held c) (λ stands. let r = edits_run e has.writing.is c stands in inr (e.header, r.0, r.1))
+      ((has.writing.keeps.any_moment bytes reads).each c since)
+
   pub none_or_run : {D : Type 0} (state : D → DiskState) (asked : Kind) (old new : LatheState) (bytes : List ℕ) → Reads old.disk bytes
       → ((c : List ℕ) → old.disk.image c → IsNoneOrRun c) → Leaves state asked old new → (c : List ℕ)
       → new.disk.image_since old.disk.clock c → IsNoneOrRun c
   none_or_run state kind.rests old new bytes reads held leaves c since = of_rest IsNoneOrRun old new held leaves c since
   none_or_run state kind.looks old new bytes reads held leaves c since = of_looks IsNoneOrRun old new held leaves c since
+  none_or_run state kind.edits old new bytes reads held (inl only) c since = of_looks IsNoneOrRun old new held only c since
+  none_or_run state kind.edits old new bytes reads held (inr has) c since = edits_none old new bytes reads held has c since
   none_or_run state (kind.begins limit) old new bytes reads held (inl only) c since = begins_none old new bytes reads held only c since
   none_or_run state (kind.begins limit) old new bytes reads held (inr has) c since =
       session_none state anew limit old new bytes reads held has c since
@@ -151,12 +170,33 @@ module _ {D : Type 0} (state : D → DiskState) (one_run : OneRun) (never_bad : 
             front_kept base s.found (take p.0 s.history) first begins,
           )
 
+  edits_kept : (old new : LatheState) (bytes : List ℕ) → Reads old.disk bytes → ((c : List ℕ) → old.disk.image c → GoesOnAs header base c)
+      → GoesOnAs header base bytes → HasEdits old new → (c : List ℕ) → new.disk.image_since old.disk.clock c → GoesOnAs header base c
+  edits_kept old new bytes reads held goes has c since =
+      ⊎_elim (held c) (λ stands. part (edits_run has.editing has.writing.is c stands)) ((has.writing.keeps.any_moment bytes reads).each c since)
+    where
+      part : (history : List Entry) × StandsForRun (a_run has.editing.header history) c × (take (length has.editing.found) history ≡ has.editing.found)
+          → GoesOnAs header base c
+      part p =
+          let e = has.editing in
+          let same : a_run e.header e.found ≡ a_run header goes.0 =
+          one_run bytes (a_run e.header e.found) (a_run header goes.0) (has.writing.opened bytes reads) goes.1 in
+          let headers : e.header ≡ header = ap (header_in e.header) same in
+          let records : e.found ≡ goes.0 = ap (entries_in e.found) same in
+          let first : take (length base) e.found ≡ base = subst (λ (l : List Entry). take (length base) l ≡ base) (sym records) goes.2 in (
+            p.0,
+            subst (λ (h : Header). StandsForRun (a_run h p.0) c) headers p.1,
+            front_kept base e.found p.0 first p.2,
+          )
+
   -- a call whose disk reads as a run goes on with it, or leaves it alone
   kept_by : (asked : Kind) (old new : LatheState) (bytes : List ℕ) → Reads old.disk bytes
       → ((c : List ℕ) → old.disk.image c → GoesOnAs header base c) → GoesOnAs header base bytes → Leaves state asked old new → (c : List ℕ)
       → new.disk.image_since old.disk.clock c → GoesOnAs header base c
   kept_by kind.rests old new bytes reads held goes leaves c since = of_rest (GoesOnAs header base) old new held leaves c since
   kept_by kind.looks old new bytes reads held goes leaves c since = of_looks (GoesOnAs header base) old new held leaves c since
+  kept_by kind.edits old new bytes reads held goes (inl only) c since = of_looks (GoesOnAs header base) old new held only c since
+  kept_by kind.edits old new bytes reads held goes (inr has) c since = edits_kept old new bytes reads held goes has c since
   kept_by (kind.begins limit) old new bytes reads held goes (inl only) c since =
       ⊎_elim (λ untouched. of_unwritten (GoesOnAs header base) old.disk new.disk held untouched.unwritten c since)
       (λ refused. of_unwritten (GoesOnAs header base) old.disk new.disk held (refused.2.begins.spares bytes reads (goes_there bytes goes)) c since)

@@ -16,7 +16,7 @@ use Rattle.gate_file.specs.declared.fault.GateFault.TheVariants as gate
 use Rattle.nc_restart.specs.declared.fault.RestartFault.{RestartFault}
 use Rattle.nc_restart.specs.declared.fault.RestartFault.TheVariants as restart
 use Rattle.nc_verify.specs.Verdict.{Texts}
-use Rattle.run_records.specs.declared.entry.Entry.{Entry}
+use Rattle.run_records.specs.Entries.{Entry}
 use Rattle.seat_table.specs.Turning as seat
 use Rattle.two_path.specs.Again.{turn_of_entry}
 use Rattle.two_path.specs.Histories.{behind_entry, fold, is_same}
@@ -241,6 +241,7 @@ module _ {D : Type 0} (state : D → DiskState) (call : Call) where
   due_streams (command.Make number turrets) answer due makes uncut = run_streams _ _ _ answer due.0 uncut
   due_streams (command.Zones zones) answer due makes uncut = absurd makes
   due_streams (command.Expand tape) answer due makes uncut = absurd makes
+  due_streams (command.Edit edits) answer due makes uncut = absurd makes
 
   call_streams : (answer : Answer) → IsDue state call answer → MakesRecords (kind_of (command_of call)) → IsUncut (answer_status answer)
       → HasStreams state call (answer_status answer)

@@ -15,7 +15,7 @@ use Rattle.lathe_looks.specs.Expanded.{IsExpanded}
 use Rattle.lathe_looks.specs.Fetched.{IsOfFiles}
 use Rattle.lathe_calls.specs.Judged.{IsJudged}
 use Rattle.lathe_calls.specs.Due.{IsOfPair}
-use Rattle.lathe_looks.specs.Named.{Named, alone, files_of, listed, tape_named, zones_named}
+use Rattle.lathe_looks.specs.Named.{Named, alone, edits_named, files_of, listed, tape_named, zones_named}
 use Rattle.lathe_looks.specs.Shown.{IsShown, shown_text}
 use Rattle.lathe_calls.specs.Races.{AreRacesOf}
 use Rattle.lathe_calls.specs.Reported.{report_of}
@@ -23,10 +23,11 @@ use Rattle.lathe_calls.specs.Statuses as exit
 use Rattle.lathe_calls.specs.Traced.{IsTraced}
 use Rattle.lathe_calls.specs.Waited.{AreWaits}
 use Rattle.turret_run.specs.Runs.{turret_for}
-use Rattle.lathe_top.specs.Kinds.{Kind, rests, looks, begins, goes_on, kind_of, named_by}
+use Rattle.lathe_top.specs.Kinds.{Kind, rests, looks, edits, begins, goes_on, kind_of, named_by}
 use Rattle.lathe_top.specs.Lathe.{LatheState, AreAtRest}
 use Rattle.lathe_top.specs.Made.{made_limit, made_texts, made_text}
 use Rattle.lathe_top.specs.Outside.{outside_in}
+use Rattle.lathe_top.specs.Edited.{IsEdited}
 use Rattle.lathe_top.specs.Kept.{RestsWhole}
 use Rattle.lathe_top.specs.Ran.{IsRun, IsResumed}
 use Rattle.lathe_top.specs.Zoned.{IsZoned}
@@ -72,6 +73,8 @@ IsDueTo state (command.Run left right settings limit turrets) old new answer =
 IsDueTo state (command.Make number turrets) old new answer =
     IsRun state made_limit (made_text number) (made_texts number) old.lathe new.lathe answer × AsksNothing old new
 IsDueTo state (command.Resume limit turrets) old new answer = IsResumed state limit old.lathe new.lathe answer × AsksNothing old new
+IsDueTo state (command.Edit name) old new answer =
+    IsOfFiles alone (edits_named name) (RestsWhole old.lathe new.lathe) (IsEdited old.lathe new.lathe) old.shelf new.shelf answer
 IsDueTo state command.Moves old new answer =
     IsShown (shown_text showing.Moves) old.lathe.disk new.lathe.disk answer × AreAtRest old.lathe new.lathe × AsksNothing old new
 IsDueTo state command.State old new answer =
@@ -128,6 +131,7 @@ ServesTurrets call = (path : Path) → Rose (turret_for path call.before.lathe.t
 abbrev pub ServesKind : Kind → Call → Type 0
 ServesKind rests call = Unit {0}
 ServesKind looks call = ServesJournal call
+ServesKind edits call = ServesJournal call
 ServesKind (begins limit) call = ServesJournal call × ServesTurrets call
 ServesKind (goes_on limit) call = ServesJournal call × ServesTurrets call
 

@@ -4,7 +4,7 @@ use Rattle.disk_model.specs.Device.{DiskState, Reads}
 use Rattle.disk_model.specs.Moments.{LeavesOnly, Uses}
 use Rattle.move_list.specs.declared.end_line.Reason.{Reason}
 use Rattle.nc_verify.specs.declared.verified.Verified.{Verified}
-use Rattle.run_records.specs.declared.entry.Entry.{Entry}
+use Rattle.run_records.specs.Entries.{Entry}
 use Rattle.run_records.specs.declared.header.Header.{Header}
 use Rattle.run_table.specs.Recording.{StandsForPrefix}
 use Rattle.lathe_calls.specs.Answers.{Answer, tells, nothing}

@@ -1,22 +1,28 @@
 -- What a call does to the disk and to the turrets.
-use Rattle.std.specs.Prelude.{◌≡◌, ◌⊎◌, ℕ, ◌+◌, ◌*◌, ◌≤◌, List, [], length, Result, Err}
+use Rattle.std.specs.Prelude.{◌≡◌, ◌⊎◌, ℕ, ◌+◌, ◌*◌, ◌≤◌, List, [], ◌++◌, length, Result, Err}
 use Rattle.disk_model.specs.Device.{DiskState, Reads}
 use Rattle.disk_model.specs.Moments.{LeavesOnly, Unwritten, Uses}
 use Rattle.gate_file.specs.declared.fault.GateFault.{GateFault}
 use Rattle.gate_file.specs.Chain.{IsRunThere}
 use Rattle.nc_verify.specs.declared.verified.Verified.{Verified}
 use Rattle.nc_verify.specs.Verdict.{Texts}
+use Rattle.edit_texts.specs.declared.edit_list.PathEdit.{PathEdit}
+use Rattle.run_edits.specs.Made.{edits_end, records_of}
+use Rattle.run_records.specs.Entries.{Entry}
 use Rattle.run_records.specs.declared.header.Header.{Header}
+use Rattle.run_records.specs.declared.version.Version.TheVariants.{Two}
 use Rattle.run_records.specs.Headers.{header_bytes}
 use Rattle.run_journal.specs.Batches.{records_bytes}
 use Rattle.run_journal.specs.Beginning.{BeginsRun, IsRunBeginning}
 use Rattle.run_journal.specs.Meaning.{a_run}
+use Rattle.run_journal.specs.Stands.{StandsEither}
 use Rattle.run_table.specs.Recording.{StandsForPrefix}
 use Rattle.nc_restart.specs.declared.fault.RestartFault.{RestartFault}
 use Rattle.nc_restart.specs.Pair.{texts_of, IsPairOf}
+use Rattle.nc_restart.specs.History.{IsHistory}
 use Rattle.nc_restart.specs.Meaning.{StandsForRun}
 use Rattle.nc_restart.specs.Recovered.{FoundRun, Recovers}
-use Rattle.lathe_top.specs.Kinds.{Kind, rests, looks, begins, goes_on}
+use Rattle.lathe_top.specs.Kinds.{Kind, rests, looks, edits, begins, goes_on}
 use Rattle.lathe_top.specs.Lathe.{LatheState, AreAtRest}
 use Rattle.lathe_top.specs.Session.{Session, IsSession}
 use Rattle.lathe_top.specs.Turrets.{IsSessionEnd}
@@ -71,10 +77,15 @@ pub record IsLook (old new : DiskState) : Type 0 where
   pub result : Result FoundRun RestartFault
   pub recovers : Recovers old new result
 
+-- the header of a new journal of these texts: it has them, and version 2
+pub record IsNewHeader (texts : Texts) (header : Header) : Type 0 where
+  pub same : texts_of header ≡ texts
+  pub version : header.version ≡ Two
+
 -- a new journal for these texts, which are accepted, was refused
 pub record IsRefusedBeginning (texts : Texts) (fault : GateFault) (old new : DiskState) : Type 0 where
   pub header : Header
-  pub same : texts_of header ≡ texts
+  pub fresh : IsNewHeader texts header
   pub pair : Verified
   pub accepted : IsPairOf (texts_of header) pair
   pub begins : BeginsRun {A = Unit {0}} header old new (Err fault)
@@ -103,9 +114,55 @@ pub record HasSession {D : Type 0} (state : D → DiskState) (opening : Opening)
   pub ended : IsSessionEnd limit session least old new
   pub keeps : KeepsSession state opening session least old.disk new.disk
 
+-- An editing of a run: the header of its journal, the pair that its texts are, the records that were found, and the edits.
+pub record Editing : Type 0 where
+  pub header : Header
+  pub pair : Verified
+  pub found : List Entry
+  pub edits : List PathEdit
+
+-- the records of the edits
+abbrev pub made_of : Editing → List Entry
+made_of e = records_of e.edits
+
+-- the records that were found, and those of the edits in their order
+abbrev pub history_with : Editing → List Entry
+history_with e = e.found ++ made_of e
+
+-- The header's texts are accepted; what was found is a history of their pair, and so it is with the edits behind it.
+pub record IsEditing (e : Editing) : Type 0 where
+  pub accepted : IsPairOf (texts_of e.header) e.pair
+  pub found_is : IsHistory e.pair e.found
+  pub history_is : IsHistory e.pair (history_with e)
+
+-- the image stands for what was found, or for that and all edits
+abbrev pub HasAllOrNone : Editing → List ℕ → Type 0
+HasAllOrNone e image = StandsEither e.header e.found (made_of e) image
+
+-- What edits do to the disk. A crash at any moment leaves an image from before, or what was found, or that and all edits; now it leaves
+-- one of the last two. And how far the disk is used.
+pub record KeepsEdits (e : Editing) (old new : DiskState) : Type 0 where
+  pub any_moment : (bytes : List ℕ) → Reads old bytes → LeavesOnly (λ c. old.image c ⊎ HasAllOrNone e c) old new
+  pub left : (bytes : List ℕ) → Reads old bytes → (c : List ℕ) → new.image c → HasAllOrNone e c
+  pub uses : Uses (opening_calls again + 4 * length (history_with e)) (edits_end e.header (history_with e)) old new
+  pub later : old.faults ≤ new.faults
+
+-- the run was found on the disk, and its edits were written, or were to be
+pub record IsWriting (e : Editing) (old new : DiskState) : Type 0 where
+  pub is : IsEditing e
+  pub opened : (bytes : List ℕ) → Reads old bytes → StandsForRun (a_run e.header e.found) bytes
+  pub keeps : KeepsEdits e old new
+
+-- edits that were written, or were to be; no turret was called
+pub record HasEdits (old new : LatheState) : Type 0 where
+  pub editing : Editing
+  pub writing : IsWriting editing old.disk new.disk
+  pub turrets : AreAtRest old new
+
 -- What a command of a kind does to the disk and to the turrets. Only who goes on calls a turret.
 abbrev pub Leaves : {D : Type 0} → (D → DiskState) → Kind → LatheState → LatheState → Type 0
 Leaves state rests old new = RestsWhole old new
 Leaves state looks old new = OnlyLooks old new
+Leaves state edits old new = OnlyLooks old new ⊎ HasEdits old new
 Leaves state (begins limit) old new = OnlyBegins old new ⊎ HasSession state anew limit old new
 Leaves state (goes_on limit) old new = OnlyLooks old new ⊎ HasSession state again limit old new

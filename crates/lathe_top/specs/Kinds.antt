@@ -4,14 +4,15 @@ use Rattle.command_words.specs.declared.command.Command.{Command}
 use Rattle.command_words.specs.declared.command.Command.TheVariants as command
 use Rattle.command_words.specs.declared.table.Journal.{Journal}
 use Rattle.command_words.specs.declared.table.Journal.TheVariants as journal
-use Rattle.lathe_looks.specs.Named.{Named, files_of, tape_named, zones_named}
+use Rattle.lathe_looks.specs.Named.{Named, edits_named, files_of, tape_named, zones_named}
 use Rattle.lathe_top.specs.Made.{made_limit}
 
--- it calls neither the disk nor a turret; or it looks for a run on the disk; or it begins a journal and runs, for so many records at
--- most; or it looks for a run and goes on with it, for so many records more
+-- it calls neither the disk nor a turret; or it looks for a run on the disk; or it looks for a run and makes edits in it; or it begins
+-- a journal and runs, for so many records at most; or it looks for a run and goes on with it, for so many records more
 pub data Kind : Type 0 where
   rests : Kind
   looks : Kind
+  edits : Kind
   begins : (limit : ℕ) → Kind
   goes_on : (limit : ℕ) → Kind
 
@@ -24,6 +25,7 @@ kind_of (Some (command.Races left right settings)) = rests
 kind_of (Some (command.Trace left right settings limit)) = rests
 kind_of (Some (command.Run left right settings limit turrets)) = begins limit
 kind_of (Some (command.Resume limit turrets)) = goes_on limit
+kind_of (Some (command.Edit name)) = edits
 kind_of (Some command.Moves) = looks
 kind_of (Some command.State) = looks
 kind_of (Some (command.Zones zones)) = looks
@@ -39,11 +41,13 @@ named_by (Some (command.Trace left right settings limit)) = files_of left right 
 named_by (Some (command.Run left right settings limit turrets)) = files_of left right settings
 named_by (Some (command.Expand tape)) = tape_named tape
 named_by (Some (command.Zones zones)) = zones_named zones
+named_by (Some (command.Edit name)) = edits_named name
 named_by other = []
 
 -- what a kind of command does with the journal of a run
 abbrev pub journal_for : Kind → Journal
 journal_for rests = journal.None
 journal_for looks = journal.Look
+journal_for edits = journal.Write
 journal_for (begins limit) = journal.Write
 journal_for (goes_on limit) = journal.Write

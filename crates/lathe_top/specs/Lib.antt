@@ -7,6 +7,7 @@ pub mod Turrets
 pub mod Kept
 pub mod Ran
 pub mod Zoned
+pub mod Edited
 pub mod Made
 pub mod Outside
 pub mod Stops

@@ -6,7 +6,7 @@ use Rattle.move_list.specs.declared.end_line.Reason.{Reason}
 use Rattle.move_list.specs.Summary.{summary_text}
 use Rattle.nc_verify.specs.declared.verified.Verified.{Verified}
 use Rattle.nc_verify.specs.Verdict.{Texts}
-use Rattle.run_records.specs.declared.entry.Entry.{Entry}
+use Rattle.run_records.specs.Entries.{Entry}
 use Rattle.lathe_calls.specs.Reported.{report_of}
 
 -- both tapes of the number, and settings that say nothing

@@ -8,9 +8,8 @@ use Rattle.nc_verify.specs.declared.refusal.Refusal.{Refusal}
 use Rattle.nc_verify.specs.declared.verified.Verified.{Verified}
 use Rattle.nc_verify.specs.Printed.{IsVerdictText}
 use Rattle.nc_verify.specs.Verdict.{Texts, IsRefusalOf}
-use Rattle.run_records.specs.declared.entry.Entry.{Entry}
+use Rattle.run_records.specs.Entries.{Entry}
 use Rattle.nc_restart.specs.declared.fault.RestartFault.{RestartFault}
-use Rattle.nc_restart.specs.Pair.{texts_of}
 use Rattle.nc_restart.specs.Recovered.{Recovers}
 use Rattle.lathe_calls.specs.Answers.{Answer, tells, nothing}
 use Rattle.lathe_looks.specs.Shown.{unfound}
@@ -19,7 +18,7 @@ use Rattle.lathe_calls.specs.Statuses as exit
 use Rattle.lathe_top.specs.Lathe.{LatheState, AreAtRest}
 use Rattle.lathe_top.specs.Session.{Session, IsSession, reason_status}
 use Rattle.lathe_top.specs.Turrets.{IsEnding, IsUnprepared}
-use Rattle.lathe_top.specs.Kept.{Opening, anew, again, IsOpened, IsRefusedBeginning, KeepsSession, RestsWhole}
+use Rattle.lathe_top.specs.Kept.{Opening, anew, again, IsNewHeader, IsOpened, IsRefusedBeginning, KeepsSession, RestsWhole}
 
 -- a text of a history of a pair, by the reason for which its run ended
 abbrev pub TextOf : Type 0
@@ -42,14 +41,14 @@ unbegun (gate.Cut at) = nothing
 unbegun gate.NoMemory = nothing
 
 -- What is answered to run these texts: their refusal; or why no journal of them was begun; or what is told of the session that they
--- made. Only in a session a turret is called, and only for these texts a journal is begun.
+-- made. Only in a session a turret is called, and only for these texts a journal is begun, which has version 2.
 pub data IsRun {D : Type 0} (state : D → DiskState) (limit : ℕ) (text_of : TextOf) (texts : Texts) (old new : LatheState) : Answer → Type 0 where
   refused : {refusal : Refusal} {text : List ℕ} → IsRefusalOf texts refusal → IsVerdictText (Some refusal) text
       → RestsWhole old new → IsRun state limit text_of texts old new (tells exit.refused text)
   unjudged : RestsWhole old new → IsRun state limit text_of texts old new nothing
   not_begun : (fault : GateFault) → IsRefusedBeginning texts fault old.disk new.disk → AreAtRest old new
       → IsRun state limit text_of texts old new (unbegun fault)
-  ran : {answer : Answer} (s : Session) → IsSession s → texts_of s.header ≡ texts → IsOpened anew s old.disk
+  ran : {answer : Answer} (s : Session) → IsSession s → IsNewHeader texts s.header → IsOpened anew s old.disk
       → IsReported state anew limit text_of s old new answer → IsRun state limit text_of texts old new answer
 
 -- What `resume` answers: why nothing is found; or the report of the session that went on from what was found.

@@ -5,7 +5,7 @@ use Rattle.disk_model.specs.Device.{Rose}
 use Rattle.nc_outside.specs.Faults.{Rose as TurretRose}
 use Rattle.move_list.specs.declared.end_line.Reason.{Reason}
 use Rattle.nc_verify.specs.declared.verified.Verified.{Verified}
-use Rattle.run_records.specs.declared.entry.Entry.{Entry}
+use Rattle.run_records.specs.Entries.{Entry}
 use Rattle.run_records.specs.declared.header.Header.{Header}
 use Rattle.two_path.specs.Machine.{MachineView}
 use Rattle.two_path.specs.Stuck.{IsFree}

@@ -3,7 +3,7 @@ use Rattle.std.specs.Prelude.{◌≡◌, ◌⊎◌, ℕ, List, [], ◌∷◌, le
 use Rattle.command_words.specs.declared.command.Command.{Command}
 use Rattle.disk_model.specs.Device.{DiskState, Reads, IsSettled}
 use Rattle.gate_file.specs.Chain.{IsNoRun}
-use Rattle.run_records.specs.declared.entry.Entry.{Entry}
+use Rattle.run_records.specs.Entries.{Entry}
 use Rattle.run_records.specs.declared.header.Header.{Header}
 use Rattle.run_journal.specs.Meaning.{a_run}
 use Rattle.turret_run.specs.Runs.{Turrets, Missed, none_missed}

@@ -8,7 +8,7 @@ use Rattle.nc_outside.specs.Received.{Received, TurretState}
 use Rattle.move_text.specs.MoveText.{placed_text}
 use Rattle.turret_lines.specs.Stream.{HasStream, stream_of, told_state}
 use Rattle.nc_verify.specs.declared.verified.Verified.{Verified}
-use Rattle.run_records.specs.declared.entry.Entry.{Entry}
+use Rattle.run_records.specs.Entries.{Entry}
 use Rattle.move_list.specs.declared.end_line.Reason.{Reason}
 use Rattle.two_path.specs.Made.{moves_of}
 use Rattle.move_list.specs.Report.{lines_text}
@@ -18,14 +18,15 @@ use Rattle.lathe_looks.specs.Standing.{is_over}
 use Rattle.lathe_calls.specs.Statuses as exit
 use Rattle.lathe_top.specs.Done.{Call}
 use Rattle.lathe_top.specs.Kept.{IsOpened, KeepsSession, Opening}
-use Rattle.lathe_top.specs.Kinds.{Kind, rests, looks, begins, goes_on}
+use Rattle.lathe_top.specs.Kinds.{Kind, rests, looks, edits, begins, goes_on}
 use Rattle.lathe_top.specs.Lathe.{AreAtRest}
 use Rattle.lathe_top.specs.Session.{IsSession, Session, machine_found, reason_status}
 
--- the command makes records
+-- the command makes records of blocks
 abbrev pub MakesRecords : Kind → Type 0
 MakesRecords rests = ⊥
 MakesRecords looks = ⊥
+MakesRecords edits = ⊥
 MakesRecords (begins limit) = Unit {0}
 MakesRecords (goes_on limit) = Unit {0}
 

@@ -10,6 +10,7 @@ ghost use Rattle.lathe_top.specs.Lathe.{lathe_of, lathe_left};
 ghost use Rattle.lathe_top.specs.Ran.{IsRun};
 ghost use Rattle.lathe_top.specs.Texts.{text_by};
 ghost use Rattle.nc_restart.specs.Pair.{texts_of as texts_of_header, IsPairOf};
+ghost use Rattle.run_records.specs.declared.version.Version.{Version};
 ghost use Rattle.run_records.specs.Headers.{IsShort};
 
 use crate::going::go_on;
@@ -23,7 +24,7 @@ use nc_number::ByteList;
 use nc_outside::{Shelf, Sink, Turret};
 use nc_restart::no_history_is_stuck;
 use nc_verify::{Verified, verdict};
-use run_records::Header;
+use run_records::{Header, Version};
 use run_table::Table;
 use std::alloc::Global;
 use std::sync::Wait;
@@ -110,8 +111,9 @@ where
     }
 }
 
-/// The header of a journal over these texts.
+/// The header of a new journal over these texts.
 fn header_of(texts: Texts) -> Header
+    ensures version { result.version ≡ Version.Two }
     ensures settings { result.settings ≡ texts.settings.items }
     ensures left { result.left ≡ texts.left.items }
     ensures right { result.right ≡ texts.right.items }
@@ -122,6 +124,7 @@ fn header_of(texts: Texts) -> Header
         settings,
     } = texts;
     Header {
+        version: Version::Two,
         settings: ByteList::of(settings),
         left: ByteList::of(left),
         right: ByteList::of(right),
@@ -145,6 +148,7 @@ where
     K: Sink,
     requires accepted { IsPairOf (texts_of_header header) pair }
     requires short { IsShort header }
+    requires version { header.version ≡ Version.Two }
     ensures { Ends (IsRun D.state asked.limit (text_by asked.telling) (texts_of_header header)
         (lathe_of D.state T.state lathe) (lathe_left D.state T.state result))
         (K.state out.old) (K.state out.new) result.status }

@@ -9,6 +9,7 @@ ghost use Rattle.lathe_top.specs.Lathe.{lathe_of, lathe_left};
 ghost use Rattle.lathe_top.specs.Outside.{outside_in};
 
 use crate::beginning::run;
+use crate::editing::edit;
 use crate::looking::{answer_pair, look, show_zoned, write_out};
 use crate::making::make;
 use crate::outcome::{Lathe, Outcome};
@@ -32,12 +33,12 @@ use wait_verify::{accepted_pairs_are_not_refused, pairs_have_one_refusal};
 /// Does what the words say with the files of the shelf, the journal on the disk and the turrets of both paths,
 /// writes the answer to `out`, and gives the status, the disk and the turrets.
 ///
-/// 0: the tapes are accepted, both paths ran to their ends, or the text was written. 1: the tapes or the
-/// settings are refused. 2: the words are no command. 3: a path raised an alarm. 4: the shelf failed. 5: the
+/// 0: the tapes are accepted, both paths ran to their ends, the edits were made, or the text was written. 1: the tapes, the
+/// settings or the edits are refused. 2: the words are no command. 3: a path raised an alarm. 4: the shelf failed. 5: the
 /// sink failed. 6: the disk failed. 7: the turret of a path failed. 8: there is a run on the disk, or for all
 /// commands but `run` and `make` there is none. 9: the journal on the disk is bad. 10: as many blocks were
 /// recorded as the call allows. 12: out of memory. 13: a file is missing or too long. 14: the journal has as
-/// many records as it may have. Of 6, 7, 3, 0, 14 and 10 the first is answered that holds.
+/// many records as it may have. Of 6, 7, 3, 0, 14 and 10 the first is answered that holds of a run.
 ///
 /// `run`, `make` and `resume` run both paths at once, in four threads: it waits for them, and where none can be
 /// made it may not return.
@@ -161,6 +162,7 @@ where
             run(rt, alloc, &names, *blocks, shelf, lathe, out)
         }
         Command::Resume(blocks, _) => resume(rt, alloc, *blocks, lathe, out),
+        Command::Edit(edits) => edit(alloc, edits.as_str(), shelf, lathe, out),
         Command::Moves => look(alloc, Showing::Moves, lathe, out),
         Command::State => look(alloc, Showing::State, lathe, out),
         Command::Zones(zones) => show_zoned(alloc, zones.as_str(), shelf, lathe, out),

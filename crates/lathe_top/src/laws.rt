@@ -4,7 +4,7 @@ ghost use Rattle.command_words.specs.Listed.{listed_command};
 ghost use Rattle.nc_number.specs.declared.path.Path.{Path};
 ghost use Rattle.gate_file.specs.Chain.{IsNoRun};
 ghost use Rattle.run_journal.specs.Meaning.{a_run};
-ghost use Rattle.run_records.specs.declared.entry.Entry.{Entry};
+ghost use Rattle.run_records.specs.Entries.{Entry};
 ghost use Rattle.run_records.specs.declared.header.Header.{Header};
 ghost use Rattle.nc_restart.specs.Lives.{AreOneHistory};
 ghost use Rattle.nc_restart.specs.Meaning.{StandsForRun};

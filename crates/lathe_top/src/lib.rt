@@ -4,12 +4,13 @@
 //! [`top`] reads the words, does what they say, writes the answer and gives the status. `verify` is the
 //! verdict of crate `nc_verify`. `run` begins a journal on the disk and runs both paths at once, each with its
 //! turret, and `resume` goes on with the run that the journal holds; both end with the report of all its records.
-//! `make` runs a made pair, and ends with a summary. `moves` and `state` show what the journal holds, and write
-//! nothing to it. Each turret gets its place and then the moves of its path's records that the call made.
+//! `make` runs a made pair, and ends with a summary. `edit` makes an operator's edits in the run that the journal holds. `moves` and
+//! `state` show what it holds, and write nothing to it. Each turret gets its place and then the moves of its path's records that the call made.
 #![tactic(auto)]
 
 mod beginning;
 mod control;
+mod editing;
 mod going;
 mod laws;
 mod looking;

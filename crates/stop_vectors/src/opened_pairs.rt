@@ -7,7 +7,7 @@ ghost use Rattle.run_table.specs.Running.{MayRun, end_of};
 use crate::line_ends::lines_of;
 use disk_model::MemoryDisk;
 use nc_verify::{Verified, verdict};
-use run_records::{ByteList, Header};
+use run_records::{ByteList, Header, Version};
 use run_table::Table;
 use std::alloc::{AllocError, Global};
 use std::test::Fail;
@@ -20,6 +20,7 @@ fn tape(alloc: Global, blocks: &str) -> Result<ByteList, AllocError> {
 
 fn header_of_any(alloc: Global, left: &str, right: &str) -> Result<Header, AllocError> {
     Ok(Header {
+        version: Version::Two,
         settings: ByteList::of(Vec::new(alloc)),
         left: tape(alloc, left)?,
         right: tape(alloc, right)?,

@@ -9,13 +9,13 @@ use std::thread::Threads;
 
 /// What a stop leaves: what the command said, and the bytes of the disk behind the crash.
 #[derive(Drop)]
-struct Left {
-    said: String,
-    bytes: Vec<u8>,
+pub(crate) struct Left {
+    pub(crate) said: String,
+    pub(crate) bytes: Vec<u8>,
 }
 
 /// The crash of this number.
-fn crash(number: u64) -> Crash {
+pub(crate) fn crash(number: u64) -> Crash {
     match number % 3 {
         0 => Crash::Kept,
         1 => Crash::Lost,
@@ -29,7 +29,7 @@ fn crashed(alloc: Global, disk: MemoryDisk, pick: Crash) -> Result<Vec<u8>, Allo
 }
 
 /// A command over these bytes whose disk stops behind so many calls, and then crashes.
-fn stopped<R: Threads + Wait + Sync + Abort>(
+pub(crate) fn stopped<R: Threads + Wait + Sync + Abort>(
     rt: &R,
     alloc: Global,
     line: &str,
@@ -44,7 +44,7 @@ fn stopped<R: Threads + Wait + Sync + Abort>(
 }
 
 /// What an honest command says over these bytes.
-fn said_honestly<R: Threads + Wait + Sync + Abort>(
+pub(crate) fn said_honestly<R: Threads + Wait + Sync + Abort>(
     rt: &R,
     alloc: Global,
     line: &str,

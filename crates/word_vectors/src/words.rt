@@ -136,6 +136,14 @@ resume --blocks 50 -- -> resume 50
 resume -- --blocks 50 -> usage
 resume 50 -> usage
 resume --blocks 50 --blocks 50 -> usage
+edit q -> edit [q]
+edit -- --q -> edit [--q]
+edit -> usage
+edit q r -> usage
+edit q --blocks 7 -> usage
+edit q --turret1 a -> usage
+edit --q -> usage
+edits q -> usage
 moves -> moves
 moves x -> usage
 moves --blocks 5 -> usage
@@ -232,6 +240,10 @@ fn shown(alloc: Global, answer: Result<Command, WordsFault>) -> Result<String, A
             let files = files_shown(alloc, &files)?;
             let files = files.as_str();
             format!(in alloc; "resume {blocks}{files}")
+        }
+        Ok(Command::Edit(edits)) => {
+            let edits = edits.as_str();
+            format!(in alloc; "edit [{edits}]")
         }
         Ok(Command::Moves) => String::from_str(alloc, "moves"),
         Ok(Command::State) => String::from_str(alloc, "state"),

@@ -1,14 +1,6 @@
 use Rattle.lathe_calls.specs.Traced.{unran}
-use Rattle.lathe_calls.proofs.Ended.{ends_put, ends_untold}
-use Rattle.lathe_calls.proofs.TurnsTold.{ran_so}
+use Rattle.lathe_calls.proofs.Ended.{ends_untold}
 use Rattle.lathe_calls.proofs.running.trace_pair.Goals as goal
-
-pub returns-in-Ok : goal.returns-in-Ok
-returns-in-Ok g c =
-    let run = c.in-Ok.run' in
-    rw (c.status_behind.ensures, c.end_status.ensures)
-    (ends_put _ c.write_trace-put.result (ran_so c.args.limit c.args.pair.now run.entries.items run.end c.in-Ok.ensures.turns c.in-Ok.ensures.end)
-    (rw (c.end_reason.ensures) at c.write_trace-put.ensures))
 
 pub returns-in-Err : goal.returns-in-Err
 returns-in-Err g c = ends_untold _ unran

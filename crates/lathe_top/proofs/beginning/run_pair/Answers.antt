@@ -25,7 +25,7 @@ returns-in-Ok g c =
     let after : LatheState = lathe_left state turret c.go_on.result in
     ends_by _
     (begun_run state c.no_history_is_stuck.ensures c.args.asked.limit c.args.header c.args.pair (state c.args.lathe.disk)
-    table.recording.log.file.disk before after table c.in-Ok.ensures.begun c.requires.accepted text_of)
+    table.recording.log.file.disk before after table c.in-Ok.ensures.begun c.requires.accepted c.requires.version text_of)
     (of_begun
     (λ run. Ends (IsReport c.args.asked.limit text_of run (record { disk = state table.recording.log.file.disk; turrets = before; missed = none_missed }) after)
     (g.K.Sink.state c.args.out.now) (g.K.Sink.state c.go_on.new.out) c.go_on.result.status)
@@ -34,5 +34,5 @@ returns-in-Ok g c =
 pub returns : goal.returns
 returns g c =
     ends_just _ _
-    (not_begun c.in-Err.fault (refused_beginning c.args.header c.args.pair c.in-Err.fault _ _ c.requires.accepted c.in-Err.ensures.begun) (refl, refl))
+    (not_begun c.in-Err.fault (refused_beginning c.args.header c.args.pair c.in-Err.fault _ _ c.requires.accepted c.requires.version c.in-Err.ensures.begun) (refl, refl))
     c.tell_unbegun.ensures

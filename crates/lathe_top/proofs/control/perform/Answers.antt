@@ -4,12 +4,13 @@ use Rattle.lathe_looks.specs.Expanded.{IsExpanded}
 use Rattle.lathe_looks.specs.Fetched.{IsOfFiles}
 use Rattle.lathe_calls.specs.Due.{IsOfPair}
 use Rattle.lathe_calls.specs.Judged.{IsJudged}
-use Rattle.lathe_looks.specs.Named.{Named, alone, listed, tape_named, zones_named}
+use Rattle.lathe_looks.specs.Named.{Named, alone, edits_named, listed, tape_named, zones_named}
 use Rattle.lathe_calls.specs.Races.{AreRacesOf}
 use Rattle.lathe_calls.specs.Reported.{report_of}
 use Rattle.lathe_calls.specs.Traced.{IsTraced}
 use Rattle.lathe_calls.specs.Waited.{AreWaits}
 use Rattle.lathe_calls.proofs.Ended.{ends_by}
+use Rattle.lathe_top.specs.Edited.{IsEdited}
 use Rattle.lathe_top.specs.Kept.{RestsWhole}
 use Rattle.lathe_top.specs.Lathe.{lathe_of, lathe_left}
 use Rattle.lathe_top.specs.Outside.{outside_in}
@@ -82,6 +83,18 @@ returns-in-Run g c =
 pub returns-in-Resume : goal.returns-in-Resume
 returns-in-Resume g c = rw c.in-Resume.is (ends_by _ (λ answer due. (due, refl)) c.resume.ensures)
 
+pub returns-in-Edit : goal.returns-in-Edit
+returns-in-Edit g c =
+    let shelf = g.H.Shelf.state in
+    let sink = g.K.Sink.state in
+    let old = lathe_of g.D.Disk.state g.T.Turret.state c.args.lathe in
+    let new = lathe_left g.D.Disk.state g.T.Turret.state c.edit.result in
+    rw c.in-Edit.is
+    (subst
+    (λ (name : List ℕ). Ends (IsOfFiles alone (edits_named name) (RestsWhole old new) (IsEdited old new) (shelf c.args.shelf.now) (shelf c.edit.new.shelf))
+    (sink c.args.out.now) (sink c.edit.new.out) c.edit.result.status)
+    c.as_str.ensures c.edit.ensures)
+
 pub returns-in-Moves : goal.returns-in-Moves
 returns-in-Moves g c = rw c.in-Moves.is (ends_by _ (λ answer due. (due.0, due.1, refl)) c.look.ensures)
 
@@ -98,7 +111,7 @@ returns-in-Zones g c =
     (subst
     (λ (name : List ℕ). Ends (IsOfFiles alone (zones_named name) (RestsWhole old new) (IsZoned old new) (shelf c.args.shelf.now) (shelf c.show_zoned.new.shelf))
     (sink c.args.out.now) (sink c.show_zoned.new.out) c.show_zoned.result.status)
-    c.as_str.ensures c.show_zoned.ensures)
+    c.as_str-in-Zones.ensures c.show_zoned.ensures)
 
 pub returns-in-Make : goal.returns-in-Make
 returns-in-Make g c = rw c.in-Make.is (ends_by _ (λ answer due. (due, refl)) c.make.ensures)

@@ -1,6 +1,6 @@
 use Rattle.std.proofs.Common.{List, sym, subst}
 use Rattle.nc_verify.specs.declared.verified.Verified.{Verified}
-use Rattle.run_records.specs.declared.entry.Entry.{Entry}
+use Rattle.run_records.specs.Entries.{Entry}
 use Rattle.turret_run.specs.Runs.{Turrets, Missed, none_missed}
 use Rattle.two_path.specs.Histories.{IsLegal}
 use Rattle.nc_restart.specs.Pair.{tapes_in, opening_of}

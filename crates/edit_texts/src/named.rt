@@ -1,0 +1,126 @@
+ghost use Rattle.std.specs.Prelude.{◌≡◌, IfOk, IfSome};
+ghost use Rattle.field_lines.specs.Field.{texts};
+ghost use Rattle.cell_settings.specs.Preset.{IsPreset};
+ghost use Rattle.edit_texts.specs.Lines.{slot_of, edit_of_preset, number_of, value_of, var_of, variable_of, edit_of, fields_say, line_says};
+
+use crate::edit_list::PathEdit;
+use crate::entry::Entry;
+use cell_settings::{Preset, PresetKind, read_preset};
+use common_vars::CommonNumber;
+use field_lines::{line_fields, number_in, read_path};
+use nc_number::{Value, Var, is_literal, parse_word};
+use offset_store::{Offset, Slot, ToolNumber, WorkNumber};
+use run_records::Edit;
+use std::alloc::{AllocError, Global};
+
+/// The offset that has this kind and number.
+fn slot(preset: &Preset) -> Slot
+    requires { IsPreset preset.now }
+    ensures { result ≡ slot_of preset.now.kind preset.now.number }
+{
+    match preset.kind {
+        PresetKind::Work => Slot::Work(WorkNumber::new(preset.number)),
+        PresetKind::Geometry => Slot::Geometry(ToolNumber::new(preset.number)),
+        PresetKind::Wear => Slot::Wear(ToolNumber::new(preset.number)),
+    }
+}
+
+/// The edit that sets an offset.
+fn offset(preset: &Preset) -> PathEdit
+    requires { IsPreset preset.now }
+    ensures { result ≡ edit_of_preset preset.now }
+{
+    PathEdit {
+        path: preset.path,
+        edit: Edit::Offset {
+            slot: slot(preset),
+            to: Offset::new(preset.to),
+        },
+    }
+}
+
+/// The common variable of this number.
+#[tactic(auto, unfolding(crate::specs::Lines::number_of))]
+fn number(text: &[u8]) -> Option<CommonNumber>
+    ensures { result ≡ number_of text.now }
+{
+    CommonNumber::of(number_in(100, 999, text)?)
+}
+
+/// The number that a literal writes, in whole units.
+#[tactic(auto, unfolding(crate::specs::Lines::value_of))]
+fn value(text: &[u8]) -> Option<Value>
+    ensures { result ≡ value_of text.now }
+{
+    if !is_literal(text) {
+        return None;
+    }
+    match parse_word(text) {
+        Ok(literal) => Some(literal.value()),
+        Err(_) => None,
+    }
+}
+
+/// What a variable is to be: vacant, or the number that a literal writes.
+#[tactic(auto, unfolding(crate::specs::Lines::var_of))]
+fn content(text: &[u8]) -> Option<Var>
+    ensures { result ≡ var_of text.now }
+{
+    if text == b"vacant".as_slice() {
+        return Some(Var::Vacant);
+    }
+    Some(Var::Is(value(text)?))
+}
+
+/// The edit that sets a variable: its path, its number and what it is to be.
+#[tactic(auto, unfolding(crate::specs::Lines::variable_of))]
+fn variable(values: &[&[u8]]) -> Option<PathEdit>
+    ensures { result ≡ variable_of (texts values.now) }
+{
+    match values {
+        [path, number_text, content_text] => {
+            let path = read_path(path)?;
+            let variable = number(number_text)?;
+            let to = content(content_text)?;
+            Some(PathEdit {
+                path,
+                edit: Edit::Common { variable, to },
+            })
+        }
+        _ => None,
+    }
+}
+
+/// The edit that a name and its values say.
+#[tactic(auto, unfolding(crate::specs::Lines::edit_of))]
+fn edit(name: &[u8], values: &[&[u8]]) -> Option<PathEdit>
+    ensures { result ≡ edit_of name.now (texts values.now) }
+{
+    if name == b"var".as_slice() {
+        return variable(values);
+    }
+    let preset = read_preset(name, values)?;
+    Some(offset(&preset))
+}
+
+/// What the fields of a line say.
+#[tactic(auto, unfolding(crate::specs::Lines::fields_say))]
+fn read_fields(fields: &[&[u8]]) -> Option<Entry>
+    ensures { result ≡ fields_say (texts fields.now) }
+{
+    match fields {
+        [] => Some(Entry::Nothing),
+        [name, values @ ..] => Some(Entry::Edit(edit(name, values)?)),
+    }
+}
+
+/// What a line says, if it is allowed.
+#[tactic(auto, unfolding(crate::specs::Lines::line_says))]
+pub(crate) fn read_line(alloc: Global, line: &[u8]) -> Result<Option<Entry>, AllocError>
+    ensures { IfOk result (λ entry. entry ≡ line_says line.now) }
+{
+    match line_fields(alloc, line)? {
+        Some(fields) => Ok(read_fields(fields.as_slice())),
+        None => Ok(None),
+    }
+}

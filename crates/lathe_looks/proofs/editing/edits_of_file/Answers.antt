@@ -1,0 +1,19 @@
+use Rattle.std.proofs.Common.{subst, sym}
+use Rattle.lathe_calls.proofs.Ended.{ends_by, ends_just}
+use Rattle.lathe_looks.proofs.NotHad.{unfetched_due}
+use Rattle.lathe_looks.proofs.EditsTold.{edits_read, edits_unread}
+use Rattle.lathe_looks.proofs.editing.edits_of_file.Goals as goal
+
+pub edits_of_text-requires : goal.edits_of_text-requires
+edits_of_text-requires g c = rw (c.deref.ensures.value) c.in-Ok.ensures.short
+
+pub returns-in-Ok-clause-read : goal.returns-in-Ok-clause-read
+returns-in-Ok-clause-read g c =
+    edits_read _ _ _ c.in-Ok.text.items c.edits_of_text.result c.in-Ok.ensures.text (rw c.deref.ensures.value at c.edits_of_text.ensures.read)
+
+pub returns-in-Ok-clause-told : goal.returns-in-Ok-clause-told
+returns-in-Ok-clause-told g c =
+    edits_unread _ _ _ _ _ c.in-Ok.text.items c.edits_of_text.result c.in-Ok.ensures.text (rw c.deref.ensures.value at c.edits_of_text.ensures.told)
+
+pub returns-in-Err-clause-told : goal.returns-in-Err-clause-told
+returns-in-Err-clause-told g c = ends_just _ _ (unfetched_due _ _ _ c.in-Err.error c.in-Err.ensures.not_had tt) c.tell_unfetched.ensures

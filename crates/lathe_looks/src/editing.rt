@@ -1,0 +1,69 @@
+//! The text of the edits that an operator makes.
+ghost use Rattle.std.specs.Prelude.{◌≡◌, ◌<◌, ◌^◌, ◌++◌, Ok, length, OnOk, IfOk, IfErr};
+ghost use Rattle.edit_texts.specs.Edits.{edits_of};
+ghost use Rattle.lathe_calls.specs.Answers.{Ends, IsJust, tells};
+ghost use Rattle.lathe_calls.specs.Statuses as exit;
+ghost use Rattle.lathe_looks.specs.Edited.{AreEditsOf, IsUnedited, bad_edit_text};
+ghost use Rattle.lathe_looks.specs.Fetched.{IsOfFiles};
+ghost use Rattle.lathe_looks.specs.Named.{alone, edits_named};
+
+use crate::fetching::{fetch_edits, tell_unfetched};
+use crate::printing::{push_bytes, push_number};
+use edit_texts::{EditFault, EditList, read_edits};
+use lathe_calls::{Status, write_text};
+use nc_number::{Failing, NoMemory};
+use nc_outside::{Shelf, Sink};
+use std::alloc::Global;
+
+/// The edits of a file; or what is told of a file that is not had, or of its first bad line, and the status of that.
+pub fn edits_of_file<H: Shelf, K: Sink>(
+    alloc: Global,
+    name: &str,
+    shelf: &mut H,
+    out: &mut K,
+) -> Result<EditList, u8>
+    ensures read { IfOk result (λ edits. AreEditsOf (H.state shelf.old) (H.state shelf.new) name.now edits) }
+    ensures silent { IfOk result (λ edits. K.state out.new ≡ K.state out.old) }
+    ensures told { IfErr result (λ status. Ends (IsOfFiles alone (edits_named name.now) (Unit {0}) IsUnedited
+        (H.state shelf.old) (H.state shelf.new)) (K.state out.old) (K.state out.new) status) }
+{
+    match fetch_edits(alloc, shelf, name) {
+        Ok(text) => edits_of_text(alloc, &text, out),
+        Err(error) => Err(tell_unfetched(alloc, &error, out)),
+    }
+}
+
+/// The edits of a text; or what is told of its first bad line.
+fn edits_of_text<K: Sink>(alloc: Global, text: &[u8], out: &mut K) -> Result<EditList, u8>
+    requires { length text.now < 2 ^ 32 }
+    ensures read { IfOk result (λ edits. edits_of text.now ≡ Ok edits) }
+    ensures silent { IfOk result (λ edits. K.state out.new ≡ K.state out.old) }
+    ensures told { IfErr result (λ status. Ends (IsUnedited text.now) (K.state out.old) (K.state out.new) status) }
+{
+    match read_edits(alloc, text) {
+        Ok(edits) => Ok(edits),
+        Err(Failing::Fault(fault)) => Err(tell_bad_edit(alloc, fault, out)),
+        Err(Failing::NoMemory) => Err(Status::NoMemory as u8),
+    }
+}
+
+/// Writes the line of a text of edits that is refused, and gives its status.
+fn tell_bad_edit<K: Sink>(alloc: Global, fault: EditFault, out: &mut K) -> u8
+    ensures { Ends (IsJust (tells exit.refused (bad_edit_text fault.line))) (K.state out.old) (K.state out.new) result }
+{
+    let mut text = Vec::new(alloc);
+    if push_bad_edit(&mut text, fault.line).is_err() {
+        return Status::NoMemory as u8;
+    }
+    write_text(out, text.as_slice(), Status::Refused as u8)
+}
+
+/// Puts the line of a text of edits that is refused.
+fn push_bad_edit(text: &mut Vec<u8>, line: u32) -> Result<(), NoMemory>
+    ensures { OnOk result (text.new.items ≡ text.old.items ++ bad_edit_text line) }
+{
+    push_bytes(text, b"refused 91 ")?;
+    push_bytes(text, b"BadEdit line ")?;
+    push_number(text, u64::from(line))?;
+    push_bytes(text, b"\n")
+}

@@ -1,0 +1,121 @@
+-- What is due to `edit`: of a file that gives no edits, and that one answer is due to the edits of a run.
+use Rattle.std.proofs.Common.{◌≡◌, ◌⊎◌, inl, inr, ⊎_elim, ℕ, ◌+◌, ◌≤◌, ◌<◌, nat_lt, Bool, true, false, Option, Some, None, List, [], length, ◌++◌, Ok, Err, refl, sym, ap, subst, arith, ◌∙◌, length-append}
+use Rattle.std.specs.Prelude.{codes}
+use Rattle.std.proofs.lemmas.List.{length-map}
+use Rattle.nc_moves.specs.declared.alarm.Alarm.{Alarm}
+use Rattle.disk_model.specs.Device.{DiskState, Reads, Rose}
+use Rattle.edit_texts.specs.declared.edit_list.PathEdit.{PathEdit}
+use Rattle.edit_texts.specs.Edits.{edits_of}
+use Rattle.move_list.specs.declared.end_line.Reason.{Reason}
+use Rattle.move_list.specs.Report.{report_text}
+use Rattle.nc_outside.specs.Files.{ShelfState}
+use Rattle.run_edits.specs.Made.{record_of, records_of}
+use Rattle.run_records.specs.Entries.{Entry}
+use Rattle.run_journal.specs.Meaning.{a_run}
+use Rattle.two_path.specs.Histories.{fold}
+use Rattle.two_path.specs.Machine.{MachineView}
+use Rattle.two_path.specs.Turns.{Tapes}
+use Rattle.nc_restart.specs.Meaning.{StandsForRun}
+use Rattle.nc_restart.specs.Pair.{IsPairOf, IsSamePair, machine_behind, opening_of, tapes_in, texts_of}
+use Rattle.lathe_calls.specs.Answers.{Answer, tells, nothing}
+use Rattle.lathe_calls.specs.Statuses as exit
+use Rattle.lathe_looks.specs.Fetched.{IsOfFiles, not_had, unread, answers}
+use Rattle.lathe_looks.specs.Named.{alone, edits_named}
+use Rattle.lathe_looks.specs.Edited as looked
+use Rattle.lathe_looks.specs.Edited.{IsUnedited}
+use Rattle.lathe_top.specs.Edited.{IsEdited, bad_edits, unread_edits, IsEditOf, alarmed, full, unready, none_asked, made, failed, edited_text}
+use Rattle.lathe_top.specs.Kept.{Editing, RestsWhole}
+use Rattle.lathe_top.specs.Lathe.{LatheState}
+use Rattle.lathe_top.proofs.Agreed.{Agree, agree_nothing}
+
+unedited_text : (old new : LatheState) (text : List ℕ) (answer : Answer) → IsUnedited text answer → RestsWhole old new → IsEdited old new text answer
+unedited_text old new text answer (looked.bad_edits is) rests = bad_edits is rests
+unedited_text old new text answer looked.unread_edits rests = unread_edits rests
+
+pub unedited_due : (name : List ℕ) (shelf shelf' : ShelfState) (old new : LatheState) (answer : Answer)
+    → IsOfFiles alone (edits_named name) (Unit {0}) IsUnedited shelf shelf' answer → RestsWhole old new
+    → IsOfFiles alone (edits_named name) (RestsWhole old new) (IsEdited old new) shelf shelf' answer
+unedited_due name shelf shelf' old new answer (not_had missing none) rests = not_had missing rests
+unedited_due name shelf shelf' old new answer (unread some none) rests = unread some rests
+unedited_due name shelf shelf' old new answer (answers text had is) rests = answers text had (unedited_text old new text answer is rests)
+
+-- what is told by the alarm of a run, and by whether there would be too many records
+abbrev told_by : (Alarm → List ℕ) → ℕ → Option Alarm → Bool → Answer
+told_by report count (Some alarm) many = tells exit.alarm (report alarm)
+told_by report count None true = tells exit.full (codes "full\n")
+told_by report count None false = tells exit.done (edited_text count)
+
+-- what is told of edits in a run, unless the disk fails
+abbrev told_in : Tapes → MachineView → ℕ → List Entry → List PathEdit → Answer
+told_in tapes opening records found edits =
+    told_by (λ alarm. report_text tapes opening found (Reason.Alarm alarm)) (length edits) (fold tapes opening found).alarm
+    (nat_lt records (length found + length edits))
+
+abbrev told_of : Editing → Answer
+told_of e = told_in (tapes_in e.pair) (opening_of e.pair) e.pair.settings.records e.found e.edits
+
+by_alarm : (e : Editing) (alarm : Option Alarm) (many : Bool) → (machine_behind e.pair e.found).alarm ≡ alarm
+    → nat_lt e.pair.settings.records (length e.found + length e.edits) ≡ many
+    → told_of e ≡ told_by (λ a. report_text (tapes_in e.pair) (opening_of e.pair) e.found (Reason.Alarm a)) (length e.edits) alarm many
+by_alarm e alarm many is so =
+    λ i. told_by (λ a. report_text (tapes_in e.pair) (opening_of e.pair) e.found (Reason.Alarm a)) (length e.edits) (is i) (so i)
+
+is_less : (a b : ℕ) → a < b → nat_lt a b ≡ true
+is_less a b less = grind arith
+
+is_no_less : (a b : ℕ) → b ≤ a → nat_lt a b ≡ false
+is_no_less a b no_less = grind arith
+
+module _ (e : Editing) (old new : DiskState) where
+  -- one text is told, or nothing
+  pub one_told : (Rose old.faults new.faults → ⊥) → (a : Answer) → IsEditOf e old new a → (a ≡ nothing) ⊎ (a ≡ told_of e)
+  one_told calm a (alarmed {alarm} is only) = inr (sym (by_alarm e (Some alarm) _ is refl))
+  one_told calm a (full none more only) =
+      let many : nat_lt e.pair.settings.records (length e.found + length e.edits) ≡ true =
+      is_less e.pair.settings.records (length e.found + length e.edits) more in
+      inr (sym (by_alarm e None true none many))
+  one_told calm a (unready only) = inl refl
+  one_told calm a (none_asked none are only) =
+      let few = only.found_is.few in
+      let count : length e.edits ≡ 0 = ap length are in
+      let many : nat_lt e.pair.settings.records (length e.found + length e.edits) ≡ false =
+      is_no_less e.pair.settings.records (length e.found + length e.edits) (omega (arith, few, count)) in
+      inr (ap (λ n. tells exit.done (edited_text n)) (sym count) ∙ sym (by_alarm e None false none many))
+  one_told calm a (made none some are) =
+      let few = are.writing.is.history_is.few in
+      let counted = length-append e.found (records_of e.edits) in
+      let each = length-map e.edits record_of in
+      let many : nat_lt e.pair.settings.records (length e.found + length e.edits) ≡ false =
+      is_no_less e.pair.settings.records (length e.found + length e.edits) (omega (arith, few, counted, each)) in
+      inr (sym (by_alarm e None false none many))
+  one_told calm a (failed none some writing rose) = absurd (calm rose)
+
+  -- the run was found
+  pub found_there : (a : Answer) → IsEditOf e old new a → (bytes : List ℕ) → Reads old bytes → StandsForRun (a_run e.header e.found) bytes
+  found_there a (alarmed is only) bytes reads = only.recovers.found.means bytes reads
+  found_there a (full none more only) bytes reads = only.recovers.found.means bytes reads
+  found_there a (unready only) bytes reads = only.recovers.found.means bytes reads
+  found_there a (none_asked none are only) bytes reads = only.recovers.found.means bytes reads
+  found_there a (made none some are) bytes reads = are.writing.opened bytes reads
+  found_there a (failed none some writing rose) bytes reads = writing.opened bytes reads
+
+  pub pair_there : (a : Answer) → IsEditOf e old new a → IsPairOf (texts_of e.header) e.pair
+  pair_there a (alarmed is only) = only.accepted
+  pair_there a (full none more only) = only.accepted
+  pair_there a (unready only) = only.accepted
+  pair_there a (none_asked none are only) = only.accepted
+  pair_there a (made none some are) = are.writing.is.accepted
+  pair_there a (failed none some writing rose) = writing.is.accepted
+
+-- the same edits of one run
+pub same_told : (e e' : Editing) → IsSamePair e.pair e'.pair → e.found ≡ e'.found → e.edits ≡ e'.edits → told_of e ≡ told_of e'
+same_told e e' same found edits = λ i. told_in (same.tapes i) (same.opening i) (same.records i) (found i) (edits i)
+
+agree_same : (a : Answer) → Agree a a
+agree_same nothing = tt
+agree_same (tells status text) = (refl, refl)
+
+pub agree_told : (a b told : Answer) → (a ≡ nothing) ⊎ (a ≡ told) → (b ≡ nothing) ⊎ (b ≡ told) → Agree a b
+agree_told a b told (inl none) other = subst (λ x. Agree x b) (sym none) tt
+agree_told a b told (inr is) (inl none) = subst (Agree a) (sym none) (agree_nothing a)
+agree_told a b told (inr is) (inr too) = subst (Agree a) (is ∙ sym too) (agree_same a)

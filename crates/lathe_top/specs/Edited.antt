@@ -1,0 +1,79 @@
+-- What `edit` does over the text of its file.
+use Rattle.std.specs.Prelude.{◌≡◌, ℕ, ◌+◌, ◌≤◌, ◌<◌, List, [], ◌++◌, length, codes, decimal, Result, Ok, Err, Some, None}
+use Rattle.nc_moves.specs.declared.alarm.Alarm.{Alarm}
+use Rattle.disk_model.specs.Device.{DiskState, Reads, Rose}
+use Rattle.edit_texts.specs.declared.edit_list.PathEdit.{PathEdit}
+use Rattle.edit_texts.specs.Edits.{edits_of}
+use Rattle.gate_file.specs.declared.fault.DiskFault.{DiskFault}
+use Rattle.move_list.specs.declared.end_line.Reason.{Reason}
+use Rattle.nc_number.specs.declared.fault.Failing.{Failing}
+use Rattle.nc_number.specs.declared.fault.Failing.TheVariants.{Fault, NoMemory}
+use Rattle.run_journal.specs.Stands.{Stands}
+use Rattle.nc_restart.specs.declared.fault.RestartFault.{RestartFault}
+use Rattle.nc_restart.specs.History.{IsHistory}
+use Rattle.nc_restart.specs.Pair.{texts_of, IsPairOf, machine_behind}
+use Rattle.nc_restart.specs.Recovered.{Recovers}
+use Rattle.lathe_calls.specs.Answers.{Answer, tells, nothing}
+use Rattle.lathe_calls.specs.Reported.{report_of}
+use Rattle.lathe_calls.specs.Statuses as exit
+use Rattle.lathe_looks.specs.Edited.{bad_edit_text}
+use Rattle.lathe_looks.specs.Shown.{unfound}
+use Rattle.lathe_top.specs.Kept.{Editing, IsWriting, RestsWhole, history_with}
+use Rattle.lathe_top.specs.Lathe.{LatheState, AreAtRest}
+
+-- the line of so many edits that were made
+abbrev pub edited_text : ℕ → List ℕ
+edited_text count = codes "edited " ++ (decimal count ++ codes "\n")
+
+-- what is told where edits are not made: the disk failed; nothing for want of memory
+abbrev pub told_of_failure : Failing DiskFault → Answer
+told_of_failure (Fault fault) = tells exit.disk_fault (codes "disk fault\n")
+told_of_failure NoMemory = nothing
+
+-- what is told of so many edits that were written, or were to be
+abbrev pub told_of_writing : ℕ → Result (Unit {0}) (Failing DiskFault) → Answer
+told_of_writing count (Ok done) = tells exit.done (edited_text count)
+told_of_writing count (Err error) = told_of_failure error
+
+-- The run of the editing was found on the disk, and nothing was written.
+pub record IsOnlyFound (e : Editing) (old new : DiskState) : Type 0 where
+  pub accepted : IsPairOf (texts_of e.header) e.pair
+  pub found_is : IsHistory e.pair e.found
+  pub recovers : Recovers old new (Ok (record { header = e.header; entries = e.found }))
+
+-- no alarm stands behind the records that were found
+abbrev pub IsWithoutAlarm : Editing → Type 0
+IsWithoutAlarm e = (machine_behind e.pair e.found).alarm ≡ None
+
+-- The edits were written, and the disk stands for the records that were found and those of the edits behind them; no call of it failed.
+pub record AreMade (e : Editing) (old new : DiskState) : Type 0 where
+  pub writing : IsWriting e old new
+  pub whole : (bytes : List ℕ) → Reads old bytes → (c : List ℕ) → new.image c → Stands e.header (history_with e) c
+  pub calm : new.faults ≡ old.faults
+
+-- What is answered to the edits of a run that was found. Where it has an alarm that is its report; else, where the settings don't allow
+-- so many records, it is full; nothing for want of memory: in each case nothing was written. Else the edits are made, all at once,
+-- or the disk failed.
+pub data IsEditOf (e : Editing) (old new : DiskState) : Answer → Type 0 where
+  alarmed : {alarm : Alarm} → (machine_behind e.pair e.found).alarm ≡ Some alarm → IsOnlyFound e old new
+      → IsEditOf e old new (tells exit.alarm (report_of e.pair e.found (Reason.Alarm alarm)))
+  full : IsWithoutAlarm e → e.pair.settings.records < length e.found + length e.edits → IsOnlyFound e old new
+      → IsEditOf e old new (tells exit.full (codes "full\n"))
+  unready : IsOnlyFound e old new → IsEditOf e old new nothing
+  none_asked : IsWithoutAlarm e → e.edits ≡ [] → IsOnlyFound e old new → IsEditOf e old new (tells exit.done (edited_text 0))
+  made : IsWithoutAlarm e → 1 ≤ length e.edits → AreMade e old new → IsEditOf e old new (tells exit.done (edited_text (length e.edits)))
+  failed : IsWithoutAlarm e → 1 ≤ length e.edits → IsWriting e old new → Rose old.faults new.faults
+      → IsEditOf e old new (tells exit.disk_fault (codes "disk fault\n"))
+
+-- What is answered to edits: why no run is found on the disk, or what is answered to them in the run that is.
+pub data IsEditedRun (edits : List PathEdit) (old new : DiskState) : Answer → Type 0 where
+  not_found : (fault : RestartFault) → Recovers old new (Err fault) → IsEditedRun edits old new (unfound fault)
+  in_run : {answer : Answer} (e : Editing) → e.edits ≡ edits → IsEditOf e old new answer → IsEditedRun edits old new answer
+
+-- 1 and the first line that is not allowed, or nothing for want of memory, and the disk was not called; or what is answered to the edits
+-- of the text. No turret is called.
+pub data IsEdited (old new : LatheState) (text : List ℕ) : Answer → Type 0 where
+  bad_edits : {line : ℕ} → edits_of text ≡ Err line → RestsWhole old new → IsEdited old new text (tells exit.refused (bad_edit_text line))
+  unread_edits : RestsWhole old new → IsEdited old new text nothing
+  edited : {edits : List PathEdit} {answer : Answer} → edits_of text ≡ Ok edits → IsEditedRun edits old.disk new.disk answer
+      → AreAtRest old new → IsEdited old new text answer

@@ -1,0 +1,4 @@
+-- What callers read.
+pub mod Made
+-- Words of the inside.
+pub mod Writing
