@@ -44,7 +44,7 @@ uint8_t lathe_run(const uint8_t *left, size_t left_length, const uint8_t *right,
                   const uint8_t *settings, size_t settings_length, uint32_t limit,
                   uint8_t *room, size_t room_length, size_t *length);
 
-/* The trace of that run, as the program's `trace` with `--blocks limit`: 0, 1, 3, 10 or 14. */
+/* The trace of that run, and behind it the races of the pair, as the program's `trace` with `--blocks limit`: 0, 1, 3, 10 or 14. */
 uint8_t lathe_trace(const uint8_t *left, size_t left_length, const uint8_t *right, size_t right_length,
                     const uint8_t *settings, size_t settings_length, uint32_t limit,
                     uint8_t *room, size_t room_length, size_t *length);

@@ -9,6 +9,7 @@ const Look = (() => {
     shown: { 1: true, 2: true, rapid: true },
     time: 0,
     stretch: null,      // the stretch that is marked, if one is
+    race: null,         // the race that is marked, if one is
     focus: null,        // the segment under the hand
     ask,
     drawAsked,

@@ -90,15 +90,21 @@ const Moving = (() => {
     say(`path ${segment.path} line ${segment.line}: ${segment.words}`);
   }
 
-  /** Marks a stretch, or none; `isSought` brings it into sight. */
-  function choose(stretch, isSought) {
-    Look.stretch = stretch;
+  /** Marks a race with the stretch behind so many meetings, if this run came there; or none. */
+  function chooseRace(race) {
+    choose(race && race.after <= Look.trace.meetings.length ? race.after : null, true, race);
+  }
+
+  /** Marks a stretch, or none; `isSought` brings it into sight. A race stays marked only with its own. */
+  function choose(stretch, isSought, race = null) {
+    Object.assign(Look, { stretch, race });
     if (stretch !== null && isSought) {
       const span = Times.spanOf(Look.trace, stretch);
       if (Look.time < span[0] || Look.time >= span[1]) Look.time = span[0];
       TimeLine.seek(span);
     }
     Tables.markMeeting();
+    Races.mark();
     Tables.tellNow();
     Look.ask("plane", "times", "over");
   }
@@ -109,5 +115,5 @@ const Moving = (() => {
   /** Said to who hears the page. */
   function say(text) { $("said").textContent = text; }
 
-  return { goTo, play, byMove, byStretch, byLine, toLine, choose, toggle, get isPlaying() { return isPlaying; } };
+  return { goTo, play, byMove, byStretch, byLine, toLine, choose, chooseRace, toggle, get isPlaying() { return isPlaying; } };
 })();

@@ -40,7 +40,7 @@ const Page = (() => {
     }
     pending = [];
     Moving.play(false);
-    Object.assign(Look, { trace, name, stretch: null, focus: null, time: 0 });
+    Object.assign(Look, { trace, name, stretch: null, race: null, focus: null, time: 0 });
     show(tapes);
   }
 
@@ -56,6 +56,7 @@ const Page = (() => {
     Tables.tellHead();
     Tables.fillMeetings();
     $("meetings-box").scrollTop = 0;
+    Races.fill();
     Tables.fillLegend();
     TapeTexts.clear();
     if (tapes.length) TapeTexts.take(tapes);
@@ -88,7 +89,7 @@ const Page = (() => {
     dataset.state = state;
     if (!trace) return;
     Object.assign(dataset, { moves: PATHS.map(p => trace.paths[p].moves).join(" "), meetings: trace.meetings.length,
-                             records: trace.records, end: trace.end, total: trace.total.toFixed(1) });
+                             records: trace.records, end: trace.end, races: trace.races.length, total: trace.total.toFixed(1) });
   }
 
   // ---- drawing ----

@@ -36,18 +36,21 @@ const Reading = (() => {
   const WAIT = /^wait M(\d{2,4})$/;
   const ALARM = /^alarm \d+ \w+(?: -?\d+(?:\.\d+)?)?$/;
   const MET = /^met (\d+) M(\d{2,4}) path 1 line (\d+) path 2 line (\d+)$/;
+  const RACE = /^#(\d{1,8}) after (\d{1,7}) path ([12]) line (\d{1,7}) path ([12]) line (\d{1,7})$/;
 
   /**
-   * The trace: the segments of each path, the meetings between them, the number of records and why the run ended.
+   * The trace: the segments of each path, the meetings between them, the number of records, why the run ended, and the races of the pair.
    * Lengths are in mm, X is a diameter, and both are the machine's; work coordinates are those less the shift.
    */
   function readTrace(text) {
     const lines = linesOf(text);
     readHead(lines[0]);
-    const trace = { paths: { 1: newPath(1), 2: newPath(2) }, meetings: [], records: null, end: null };
+    const trace = { paths: { 1: newPath(1), 2: newPath(2) }, meetings: [], records: null, end: null, races: [], racesDue: null };
     for (let at = 1; at < lines.length; at++) readLine(trace, lines[at], at + 1);
     if (trace.end === null)
-      throw new BadTrace(lines.length, "The text breaks off: its last line does not say how the run ended.");
+      throw new BadTrace(lines.length, "The text breaks off: it does not say how the run ended.");
+    if (trace.races.length !== trace.racesDue)
+      throw new BadTrace(lines.length, "The text breaks off: it does not have all races of the pair.");
     return trace;
   }
 
@@ -58,8 +61,9 @@ const Reading = (() => {
   }
 
   function readHead(line = "") {
-    if (line === "trace 1") return;
-    if (/^trace \d+$/.test(line)) throw new BadTrace(1, `This page reads the form "trace 1", and the text says "${line}".`);
+    if (line === "trace 2") return;
+    if (/^trace \d+$/.test(line))
+      throw new BadTrace(1, `This page reads the form "trace 2", and the text says "${line}". Make the text anew, by the twin_lathe of this page.`);
     if (/^path 1 moves \d+$/.test(line))
       throw new BadTrace(1, "This is the report of run or moves. It has no waits and no start points: use the text of trace.");
     if (/^(refused \d+|no file|too long|usage$|shelf fault$)/.test(line))
@@ -74,7 +78,7 @@ const Reading = (() => {
 
   function readLine(trace, line, number) {
     const path = line[1] === " " ? trace.paths[line[0]] : undefined;
-    if (trace.end !== null) throw noLine(number, line);
+    if (trace.end !== null) readRaces(trace, line, number);
     else if (path && trace.records === null) readEvent(trace, path, line, number);
     else if (line.startsWith("met ")) readMeeting(trace, line, number);
     else if (/^records \d+$/.test(line)) trace.records = +line.slice(8);
@@ -184,6 +188,20 @@ const Reading = (() => {
                       last: { 1: last(1), 2: last(2) }, time: 0 };
     for (const p of [1, 2]) { waits[p].met = meeting; trace.paths[p].open = null; }
     trace.meetings.push(meeting);
+  }
+
+  /** What stands behind the end: how many races the pair has, and then a line for each. */
+  function readRaces(trace, line, number) {
+    if (trace.racesDue === null && /^races \d{1,4}$/.test(line)) trace.racesDue = +line.slice(6);
+    else if (!(trace.races.length < trace.racesDue && readRace(trace.races, line))) throw noLine(number, line);
+  }
+
+  /** A race: behind so many meetings its writer may write the variable, while the other path has it. Each variable comes once, in order. */
+  function readRace(races, line) {
+    const found = RACE.exec(line), last = races.length ? races[races.length - 1].variable : 0;
+    if (!found || found[3] === found[5] || +found[1] <= last) return false;
+    races.push({ variable: +found[1], after: +found[2], writer: +found[3], lines: { [found[3]]: +found[4], [found[5]]: +found[6] } });
+    return true;
   }
 
   return { readTrace, BadTrace, CUTS, MOTIONS };

@@ -10,7 +10,7 @@ const Tables = (() => {
   function tellHead() {
     const { trace } = Look, count = p => trace.paths[p].moves;
     const parts = [endBadge(trace), ["", countText(trace.records, "record")], ["", `${count(1)} + ${countText(count(2), "move")}`],
-                   ["", countText(trace.meetings.length, "meeting")], ["guess", `about ${secondsText(trace.total)} (a guess)`]];
+                   ["", countText(trace.meetings.length, "meeting")], racesBadge(trace.races.length), ["guess", `about ${secondsText(trace.total)} (a guess)`]];
     if (trace.unknown) parts.push(["guess", `${countText(trace.unknown, "cut")} without a speed, taken at ${Times.NO_SPEED} a minute`]);
     $("badges").replaceChildren(...parts.map(([kind, text]) => element("span", kind, text)));
   }
@@ -20,6 +20,8 @@ const Tables = (() => {
     if (end.startsWith("alarm")) return ["bad", end];
     return ["guess", end === "full" ? "the journal would be full here" : `stopped after ${countText(records, "record")}`];
   }
+
+  const racesBadge = count => (count ? ["bad", countText(count, "race")] : ["good", "no race"]);
 
   const countText = (count, noun) => `${count} ${noun}${count === 1 ? "" : "s"}`;
 

@@ -6,7 +6,7 @@ const TapeTexts = (() => {
   const panels = { 1: newPanel(1), 2: newPanel(2) };
 
   function newPanel(p) {
-    return { p, tape: null, waits: new Set(), visited: new Set(), now: null, focus: null,
+    return { p, tape: null, waits: new Set(), visited: new Set(), now: null, focus: null, race: null,
              box: $(`tape-box-${p}`), scroll: $(`tape-${p}`), rows: $(`tape-rows-${p}`) };
   }
 
@@ -51,7 +51,7 @@ const TapeTexts = (() => {
 
   function showPanel(panel) {
     panel.box.hidden = !panel.tape;
-    panel.now = panel.focus = null;
+    panel.now = panel.focus = panel.race = null;
     if (!panel.tape) return;
     const { segments } = Look.trace.paths[panel.p];
     panel.waits = new Set(segments.filter(segment => segment.kind === "wait").map(segment => segment.line));
@@ -81,21 +81,24 @@ const TapeTexts = (() => {
     row.classList.toggle("wait", panel.waits.has(line));
     row.classList.toggle("now", line === panel.now);
     row.classList.toggle("focus", line === panel.focus);
+    row.classList.toggle("race", line === panel.race);
     if (line === panel.now) row.setAttribute("aria-current", "true");
     return row;
   }
 
-  /** Marks the line at which each path is, and that of the segment under the hand; brings a new one into sight. */
+  /** Marks the line at which each path is, that of the segment under the hand and that of the race; brings a new one into sight. */
   function mark() {
     for (const p of PATHS) {
       const panel = panels[p];
       if (!panel.tape) continue;
       const { segments } = Look.trace.paths[p], segment = segments[Times.lastBegun(segments, Look.time)];
       const now = segment ? segment.line : null, focus = Look.focus && Look.focus.path === p ? Look.focus.line : null;
-      if (now === panel.now && focus === panel.focus) continue;
-      const wanted = focus !== null && focus !== panel.focus ? focus : now !== panel.now ? now : null;
-      Object.assign(panel, { now, focus });
-      if (wanted !== null) bringIntoSight(panel, wanted);
+      const marks = { race: Look.race ? Look.race.lines[p] : null, focus, now };
+      const changed = Object.keys(marks).filter(mark => marks[mark] !== panel[mark]);
+      if (!changed.length) continue;
+      const wanted = changed.map(mark => marks[mark]).find(line => line !== null);
+      Object.assign(panel, marks);
+      if (wanted !== undefined) bringIntoSight(panel, wanted);
       draw(panel);
     }
   }

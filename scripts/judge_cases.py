@@ -19,7 +19,7 @@ SETTLED = """
   const settled = async () => { while (page.judged === "asked") await new Promise(done => setTimeout(done, 2)); };
   const now = () => ({ answers: { ...Judge.answers }, state: page.state, isStale: document.body.classList.contains("stale"), workers: Judge.workers,
     marked: Judge.texts.map(text => [...text.numbers.querySelectorAll(".marked")].map(row => Number(row.textContent))),
-    said: Object.fromEntries(["waits", "verdict", "run"].map(part => [part, $("judge-" + part).textContent])) });
+    said: Object.fromEntries(["waits", "verdict", "run", "races"].map(part => [part, $("judge-" + part).textContent])) });
 """
 GIVE = """(async () => {
   %s
@@ -132,6 +132,7 @@ def rows_of_answers(row, page, room):
         seen["said"]["waits"])
     row.equal("its picture is drawn", (seen["state"], page.run("document.documentElement.dataset.moves"), seen["isStale"]), ("drawn", "19 11", False))
     row.has("and how its run ends is said", seen["said"]["run"], "end done")
+    row.equal("and that it has no race", seen["said"]["races"], "races 0All runs that both paths finish have the same moves.")
     row.equal("no line is marked", seen["marked"], [[], [], []])
     page.run("document.querySelector('#judge-waits .place').click()")
     due = [int(number) for number in re.findall(r"line (\d+)", seen["answers"]["waits"]["text"].splitlines()[1])]
@@ -164,6 +165,14 @@ def rows_of_answers(row, page, room):
     row.has("with what to do", seen["said"]["run"], "Do: set the divisor before this line")
     row.equal("and its line is marked", (seen["marked"], seen["answers"]["trace"]["status"]), ([[4], [], []], 3))
 
+    seen = page.give(*pair("race_upper.nc", "race_lower.nc", "plain.txt"))
+    row.equal("a race leaves the verdict as it is", line_of(seen["answers"]["verdict"]), ACCEPTED)
+    for part in ("races 1", "#500 after 0 path 1 line 3 path 2 line 3", "Put a wait into both tapes between the two lines"):
+        row.has(f"and is said, with what to do: {part}", seen["said"]["races"], part)
+    row.equal("and marks no line before it is clicked", seen["marked"], [[], [], []])
+    page.run("document.querySelector('#judge-races .place').click()")
+    row.equal("then its line of each path", page.wait()["marked"], [[3], [3], []])
+
     seen = page.give(b"%" * 4194305, *pair(*GOOD[1:]))
     row.equal("a tape that is too long has the program's status", seen["answers"]["verdict"]["status"], 13)
     row.has("and is told", seen["said"]["verdict"], "more than 4,194,304 bytes")
@@ -193,7 +202,7 @@ def rows_of_hands(row, page, room):
     row.equal("a change leaves all other bytes as they are", page.run("[...Judge.texts[0].bytes()]"),
               list(b"%\nO1\n(" + strange.replace(b")", b"").replace(b"\n", b"") + b")\n M30\n%\n"))
     seen = page.give(read(GOOD[0]), b"", b"")
-    row.equal("a tape that is not there yet is told", seen["said"], {"waits": "", "verdict": "Path 2 has no tape yet.", "run": ""})
+    row.equal("a tape that is not there yet is told", seen["said"], {"waits": "", "verdict": "Path 2 has no tape yet.", "run": "", "races": ""})
     page.give(b"", b"", b"")
     for place, text in ((0, "%\nO1\nM101\nM30\n%\n"), (1, "%\nO2\nM101\nM30\n%\n")):
         page.run(f"Judge.texts[{place}].field.focus()")

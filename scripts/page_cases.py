@@ -23,6 +23,15 @@ def trace(name):
     return [(name + ".txt", text(name + ".txt"))]
 
 
+# Races as the flange might have them: in its first stretch, behind its first meeting, and behind more than there are.
+RACES = ("#500 after 0 path 1 line 9 path 2 line 3", "#512 after 1 path 2 line 21 path 1 line 15", "#533 after 7 path 1 line 30 path 2 line 28")
+
+
+def with_races(trace, *races):
+    """A trace without a race, with these."""
+    return trace.replace("races 0\n", "\n".join((f"races {len(races)}", *races)) + "\n")
+
+
 FLANGE = [("flange_upper.nc", text("flange_upper.nc")), ("flange_lower.nc", text("flange_lower.nc"))]
 
 
@@ -119,15 +128,23 @@ def rows_of_refusals(row, hand, browser):
             ("a verdict", "refused 72 WaitMismatch path 1 line 9 path 2 line 6 after 0\n", "refused 72 WaitMismatch"),
             ("an empty text", "", "Line 1"),
             ("another text", "hello\n", "Line 1"),
-            ("another form", flange.replace("trace 1", "trace 2"), "trace 2"),
-            ("a text that breaks off", flange[:600].rsplit("\n", 1)[0] + "\n", "breaks off"),
+            ("the form before this one", flange.replace("trace 2", "trace 1"), 'reads the form "trace 2", and the text says "trace 1"'),
+            ("a text that breaks off", flange[:600].rsplit("\n", 1)[0] + "\n", "does not say how the run ended"),
+            ("a text without its races", flange.replace("races 0\n", ""), "does not have all races"),
+            ("a text with a race too few", with_races(flange, RACES[0]).replace("races 1", "races 2"), "does not have all races"),
+            ("a race too many", flange + RACES[0] + "\n", "Line 88"),
+            ("a race before the end", flange.replace("end done\n", "races 0\nend done\n"), "Line 86"),
+            ("a race of one path", with_races(flange, RACES[0].replace("path 2", "path 1")), "Line 88"),
+            ("a race that comes twice", with_races(flange, RACES[0], RACES[0]), "Line 89"),
+            ("another word for a race", with_races(flange, RACES[0].replace("after", "behind")), "Line 88"),
             ("an unknown move", flange.replace("1 8 aux M08", "1 8 lift"), "Line 21"),
             ("a word of the browser", flange.replace("1 8 aux M08", "1 8 constructor X1.000 Z1.000"), "Line 21"),
             ("a meeting of another number", flange.replace("met 1 M100", "met 2 M100"), "Line 25"),
             ("a meeting at another line", flange.replace("met 1 M100 path 1 line 11", "met 1 M100 path 1 line 12"), "Line 25"),
             ("a meeting without the other path", flange.replace("2 6 wait M100\n", ""), "Line 24"),
             ("a move of a path that waits", flange.replace("2 6 wait M100\n", "2 6 wait M100\n2 6 dwell 1\n"), "Line 18"),
-            ("a line after the end", flange + "1 9 end\n", "Line 87")):
+            ("a line after the end", flange.replace("races 0\n", "1 9 end\nraces 0\n"), "Line 87"),
+            ("a line after the races", flange + "1 9 end\n", "Line 88")):
         browser.drop([("bad.txt", bad)])
         fault = hand.shown("#fault")
         row(f"refused: {name}", hand.data("state") == "refused" and due in fault and hand.run("$('page').hidden"), fault)
@@ -279,19 +296,58 @@ def rows_of_tapes(row, hand, browser):
     row("of a long tape only the lines in sight are in the page", browser.run("document.querySelectorAll('#tapes .row').length") < 200)
 
 
+def rows_of_races(row, hand, browser):
+    """Each race is told in words with what to do, and a click marks where it is."""
+    marked = lambda p: hand.shown(f"#tape-{p} .row.race .text")
+    told = lambda: browser.run("[...document.querySelectorAll('#races .race')].map(e => e.textContent)")
+    browser.drop(trace("flange"))
+    row.has("a pair without a race says so", hand.shown("#badges"), "no race")
+    row.has("and what that means", hand.shown("#races-said"), "all runs that both paths finish have the same moves")
+    row("and has nothing to click", told() == [] and browser.run("$('races-hint').hidden"), told())
+    browser.drop([("raced.txt", text("raced.txt")), ("upper.nc", text("race_upper.nc", EXAMPLES)), ("lower.nc", text("race_lower.nc", EXAMPLES))])
+    row.equal("a pair with a race is drawn", hand.drawn(), ("drawn", "1 1", "1", "7", "done"))
+    row.has("how many races it has stands at the head", hand.shown("#badges"), "1 race")
+    row.has("what to do is told", hand.shown("#races-said"), "Put a wait into both tapes between the two lines, or let one path alone use the variable")
+    row.equal("a race is told in words", told(), ["#500 before the first meeting: path 1 may write it at line 3, path 2 has it at line 3"])
+    hand.press("#races .race")
+    browser.settle()
+    row.equal("a click on a race marks its lines in both tapes", [marked(1), marked(2)], ["#500=12.5", "G00 X30. Z#500"])
+    browser.drop([("three.txt", with_races(text("flange.txt"), *RACES))] + FLANGE)
+    row.has("several races are counted", hand.shown("#badges"), "3 races")
+    row.equal("a race behind a meeting says which", told()[1:],
+              ["#512 after meeting 1 (M100): path 2 may write it at line 21, path 1 has it at line 15",
+               "#533 after meeting 7: path 1 may write it at line 30, path 2 has it at line 28"])
+    hand.press("#races .race:nth-child(2)")
+    browser.settle()
+    row.equal("a click marks the stretch of the race too", browser.run("Look.stretch"), 1)
+    row.equal("and each line in the tape of its path", [marked(1), marked(2)], ["N130 G01 Z-24.5 F0.3", "N190 G01 Z-20."])
+    row("the row is marked", browser.run("document.querySelector('#races .race:nth-child(2)').getAttribute('aria-pressed') === 'true'"))
+    hand.press("#meetings tr[data-stretch='2']")
+    browser.settle()
+    row("another mark takes it off", marked(1) is None and browser.run("Look.race === null && Look.stretch === 2"))
+    hand.press("#races .race:nth-child(3)")
+    browser.settle()
+    row.equal("a race to which this run did not come has its lines alone", [browser.run("Look.stretch"), marked(1)], [None, "N280 T0505 (GROOVING TOOL)"])
+    browser.key("Escape")
+    browser.settle()
+    row("escape takes it off", marked(1) is None and browser.run("Look.race === null"))
+    browser.drop([("stopped.txt", "".join(line for line in text("raced.txt").splitlines(True) if line[:4] in ("1 0 ", "2 0 ") or line[0] not in "12m").replace("done", "stopped"))])
+    row.has("a run that was stopped before any meeting has the races of the pair", hand.shown("#races"), "#500 from the start on: path 1 may write it")
+
+
 def rows_of_keys(row, hand, browser):
     """All of it by the keyboard alone."""
-    browser.drop(FLANGE + trace("flange"))
+    browser.drop(FLANGE + [("flange.txt", with_races(text("flange.txt"), RACES[0]))])
     browser.run("document.activeElement.blur(); $('speed').value = '100'")
     reached = []
     for _ in range(60):
         browser.key("Tab")
-        now = browser.run("(e => e.id || Object.entries(e.dataset).map(pair => pair.join(' ')).join() || e.tagName)(document.activeElement)")
+        now = browser.run("(e => e.id || e.className === 'race' && 'race' || Object.entries(e.dataset).map(pair => pair.join(' ')).join() || e.tagName)(document.activeElement)")
         if now in reached:
             break
         reached.append(now)
     wanted = {"keys", "open", "exchange", "close-tapes", "tape-1", "tape-2", "plane", "coordinates work", "coordinates machine", "fit part",
-              "fit all", "show 1", "show 2", "show rapid", "stretch 0", "play", "slider", "speed", "rapid", "change", "times"}
+              "fit all", "show 1", "show 2", "show rapid", "stretch 0", "race", "play", "slider", "speed", "rapid", "change", "times"}
     row("the tabulator comes to everything", wanted <= set(reached), sorted(wanted - set(reached)))
     browser.run("$('meetings').querySelector('[tabindex=\"0\"]').focus()")
     browser.key("ArrowDown")
@@ -390,7 +446,9 @@ def rows_of_promises(row, hand, browser):
     row("it says what is proved of this run", "Proved" in said and "each line is what the tapes do in this run" in said, said)
     row("of each run it says the order of waits and meetings alone",
         len(of_each) == 1 and "waits and meetings" in of_each[0] and "as far as it gets" in of_each[0] and "line" not in of_each[0], said)
-    row("it says what is a guess, and what nobody looked for", all(word in said for word in ("A guess:", "collisions", "race")), said)
+    row("of races it says that they are all, and what a pair without one has",
+        "No variable has a race but those that are listed" in said and "If none has one, all runs that both paths finish have the same moves" in said, said)
+    row("it says what is a guess, and what nobody looked for", all(word in said for word in ("A guess:", "collisions", "two masters")), said)
     waits = browser.run("[...document.querySelectorAll('#meetings td:nth-child(6)')].map(e => e.textContent).filter(t => /\\d/.test(t))")
     row("each guessed wait has its sign", waits and all("\u2248" in wait for wait in waits), waits)
     row("the whole time is called a guess", "guess" in hand.shown("#now-total") and "(a guess)" in hand.shown("#badges"))
@@ -408,7 +466,7 @@ def rows_of_promises(row, hand, browser):
 
 
 GROUPS = {group.__name__.removeprefix("rows_of_"): group for group in (
-    rows_of_texts, rows_of_refusals, rows_of_times, rows_of_plane, rows_of_mouse, rows_of_tapes, rows_of_keys, rows_of_screens,
+    rows_of_texts, rows_of_refusals, rows_of_times, rows_of_plane, rows_of_mouse, rows_of_tapes, rows_of_races, rows_of_keys, rows_of_screens,
     rows_of_promises)}
 FIRST_ROWS = ("the page begins empty", "tapes before the trace are kept", "the trace then finds them")
 

@@ -77,7 +77,7 @@ def rows_of_single_files(row, browser, folder):
             hand.heights("plane", BLUE) and browser.run("$('tapes').hidden") == (not more))
     row.equal("one file needs no other", browser.run("document.querySelectorAll('script[src], link').length"), 0)
     for name, words, given, due in (("a refusal makes no file", ["x"], "refused 72 WaitMismatch\n", (1, b"")),
-                                    ("a text with other bytes makes no file", ["x"], "trace 1\n</textarea><script>\n", (1, b"")),
+                                    ("a text with other bytes makes no file", ["x"], "trace 2\n</textarea><script>\n", (1, b"")),
                                     ("a missing tape makes no file", ["x", "no.nc", "no.nc"], text("flange.txt"), (1, b"")),
                                     ("no name of a job is bad usage", [], "", (2, b""))):
         done = subprocess.run([picture, *words], input=given.encode(), capture_output=True)

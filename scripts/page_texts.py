@@ -13,12 +13,12 @@ def block(p, k):
 
 def long_trace(moves):
     """A trace of so many moves, half of each path, with a meeting after each two hundred."""
-    parts, met = ["trace 1\n", HEAD], 0
+    parts, met = ["trace 2\n", HEAD], 0
     for k in range(moves // 8):
         parts += [block(1, k), block(2, k + 3)]
         if k % 25 == 24:
             met += 1
             code, one, two = 100 + met % 90, 12 + k % 9000, 13 + k % 9000
             parts += [f"1 {one} wait M{code}\n2 {two} wait M{code}\n", f"met {met} M{code} path 1 line {one} path 2 line {two}\n"]
-    parts.append(f"1 9990 end\n2 9991 end\nrecords {moves // 4 + 2 * met + 2}\nend done\n")
+    parts.append(f"1 9990 end\n2 9991 end\nrecords {moves // 4 + 2 * met + 2}\nend done\nraces 0\n")
     return "".join(parts)

@@ -9,6 +9,7 @@ races|LEFT RIGHT SETTINGS||lists the shared variables whose value depends on whi
 trace|LEFT RIGHT SETTINGS|blocks|prints each move, wait and meeting of a run in its place, without a journal|trace examples/upper.nc examples/lower.nc examples/cell.txt
 run|LEFT RIGHT SETTINGS|blocks turret1 turret2|judges the tapes, runs both, and prints the moves of each turret|run examples/upper.nc examples/lower.nc examples/cell.txt
 resume||blocks turret1 turret2|continues the run of the journal after a stop or a crash|resume
+edit|EDITS||corrects offsets and variables of the run in the journal, before it goes on|edit edits.txt
 moves|||prints the moves that the journal has|moves
 state|||prints where both paths are, and their offsets and variables|state
 zones|FILE||says between which meetings of that run both turrets may come to one place|zones facing.txt
@@ -139,7 +140,7 @@ LEFT is the tape of path 1, RIGHT the tape of path 2. SETTINGS describes the mac
 positions, offsets (examples/cell.txt explains each line; an empty file takes the defaults). Options: --blocks N stops after N
 records; --turret1 FILE and --turret2 FILE write what each turret gets to a file or a named pipe, a line a call, during the run;
 --outside A-B: the tapes may lack the programs O A to O B. `waits` assumes something of the machine: see `help waits`.
-`run` and `make` begin the journal twin.journal in the current folder; `resume`, `moves` and `state` read it there.
+`run` and `make` begin the journal twin.journal in the current folder; `resume`, `edit`, `moves`, `state` and `zones` read it there.
 
   twin_lathe try waits examples/upper.nc examples/lower.nc examples/cell.txt
 
@@ -177,6 +178,14 @@ END
 It judges the pair as `verify` does. A race is a shared variable that one path may write while the other may read or write it, between the
 same two meetings. For each such variable it prints after how many meetings, which path may write it, and at which line of each tape.
 `races 0`: all runs that end make the same moves, whichever path is first. Else put a wait into both tapes, between the two lines.
+END
+    fi
+    if [[ $name == edit ]]; then
+        cat <<'END'
+
+EDITS is a text of lines: `work p n X.. Z..`, `tool p n X.. Z..` and `wear p n X.. Z..` as in the settings, `var p v NUMBER` and
+`var p v vacant` for a common variable (#100 to #199, #500 to #999). p is the path. At most 64 edits; each line is one, in order.
+They become records of the journal, all at once or none, and nothing moves. Then `resume` goes on with them.
 END
     fi
     if [[ $name == expand ]]; then

@@ -1,12 +1,12 @@
 "use strict";
-// What the judge said, in words: the waits, the verdict and how the run of the picture ended. The lines that an answer names are marked in
-// the texts, and a click on them goes there.
+// What the judge said, in words: the waits, the verdict, how the run of the picture ended, and the races of the pair. The lines that an
+// answer names are marked in the texts, and a click on them goes there.
 
 const Answers = (() => {
   const MOST_ROWS = 2000;               // meetings that are listed
   const meanings = JSON.parse($("meanings").textContent);
   const editors = { 1: null, 2: null, settings: null };
-  let marks = new Map();                // what is marked for the waits, the verdict and the run
+  let marks = new Map();                // what is marked for the waits, the verdict and the run, and for a race that was clicked
   let refusedWaits = "";                // the line that refuses the waits, if one does
 
   // ---- places ----
@@ -24,9 +24,9 @@ const Answers = (() => {
     for (const place of [...places].reverse()) editors[place.of].goTo(place.line);
   }
 
-  /** Marks the lines of the first of verdict, waits and run that has some. */
+  /** Marks the lines of the first of race, verdict, waits and run that has some. */
   function markAll() {
-    const places = ["verdict", "waits", "run"].map(part => marks.get(part) ?? []).find(some => some.length) ?? [];
+    const places = ["races", "verdict", "waits", "run"].map(part => marks.get(part) ?? []).find(some => some.length) ?? [];
     for (const of of Object.keys(editors)) editors[of].mark(places.filter(place => place.of === of).map(place => place.line));
   }
 
@@ -107,17 +107,37 @@ const Answers = (() => {
     } else tell("verdict", true, element("p", "answer", line), sentence("The two paths can never deadlock at a wait."));
   }
 
-  /** How the run ended whose picture is drawn. */
-  function showRun(answer) {
-    const line = answer.text.trimEnd().split("\n").pop(), alarm = /cause (\d+)/.exec(line);
+  /** What a trace says behind its events: how the run ended whose picture is drawn, and the races of the pair. */
+  function showTrace(answer) {
     if (!isLine(answer)) return tellNone("run", answer);
+    const lines = answer.text.trimEnd().split("\n"), end = lines.findIndex(line => line.startsWith("end "));
+    showRun(answer, lines[end]);
+    showRaces(lines.slice(end + 1));
+  }
+
+  function showRun(answer, line) {
+    const alarm = /cause (\d+)/.exec(line);
     marks.set("run", placesOf(line));
     if (alarm) tell("run", false, element("p", "answer", line), ...placesOf(line).map(quote), ...meaningOf(alarm[1]));
     else if (answer.status === 0) tell("run", true, element("p", "answer", line), sentence("Both programs ran to their ends."));
     else tell("run", true, element("p", "answer", line), sentence("The picture ends there, and the run does not."));
   }
 
-  const SHOW = { waits: showWaits, verdict: showVerdict, trace: showRun };
+  function showRaces([head, ...races]) {
+    if (!races.length) return tell("races", true, element("p", "answer", head), sentence("All runs that both paths finish have the same moves."));
+    tell("races", false, element("p", "answer", head), ...races.map(raceRow),
+      sentence("This run is one of many. Put a wait into both tapes between the two lines, or let one path alone use the variable."),
+      sentence("If both lines are right whoever is first, leave it."));
+  }
+
+  /** A race; a click on it marks its two lines. */
+  function raceRow(text) {
+    const made = row(text);
+    made.addEventListener("click", () => { marks.set("races", placesOf(text)); markAll(); });
+    return made;
+  }
+
+  const SHOW = { waits: showWaits, verdict: showVerdict, trace: showTrace };
 
   /** Shows one part of the answer to a question. */
   function show(part, answer) {
@@ -126,11 +146,16 @@ const Answers = (() => {
     markAll();
   }
 
-  /** Takes the marks and the run of the question before away. */
+  /** Takes the marks, the run and the races of the question before away. */
   function forget() {
     marks = new Map();
-    $("judge-run").replaceChildren();
-    $("judge-run").className = "judge-said";
+    clear("run");
+    clear("races");
+  }
+
+  function clear(part) {
+    $(`judge-${part}`).replaceChildren();
+    $(`judge-${part}`).className = "judge-said";
   }
 
   /** Says a sentence in place of all answers. */
@@ -138,8 +163,7 @@ const Answers = (() => {
     forget();
     markAll();
     tell("verdict", isGood, sentence(text));
-    $("judge-waits").replaceChildren();
-    $("judge-waits").className = "judge-said";
+    clear("waits");
   }
 
   return { editors, show, sayInstead };
