@@ -1,10 +1,10 @@
 -- The blocks of a contour.
 use Rattle.std.specs.Prelude.{ℕ, ◌-◌, Bool, true, false, ◌&&◌, ◌==◌, List, [], ◌∷◌, ◌++◌, length, drop, Option, Some, None, ℤ, pos, option_map, if◌then◌else◌}
 use Rattle.nc_number.specs.Options.{◌>>=◌}
-use Rattle.nc_text.specs.declared.tape.Word.{Word}
+use Rattle.line_text.specs.declared.body.Word.{Word}
 use Rattle.nc_text.specs.declared.tape.Block.{Block}
-use Rattle.nc_text.specs.declared.tape.Body.{Body}
-use Rattle.nc_text.specs.declared.tape.Body.TheVariants.{Words, Statement}
+use Rattle.line_text.specs.declared.body.Body.{Body}
+use Rattle.line_text.specs.declared.body.Body.TheVariants.{Words, Statement}
 use Rattle.nc_number.specs.declared.point.Point.{Point}
 use Rattle.cycle_form.specs.Words.{literal_at, length_at, is_code, start_of}
 

@@ -3,7 +3,7 @@ use Rattle.std.specs.Prelude.{ℕ, ◌+◌, Bool, true, false, not, ◌&&◌, �
 use Rattle.std.specs.List.{list_all}
 use Rattle.nc_number.specs.Options.{◌>>=◌}
 use Rattle.nc_number.specs.declared.point.Point.{Point}
-use Rattle.nc_text.specs.declared.tape.Word.{Word}
+use Rattle.line_text.specs.declared.body.Word.{Word}
 use Rattle.nc_text.specs.declared.tape.Block.{Block}
 use Rattle.rough_cycle.specs.Contour.{last_of}
 use Rattle.rough_cycle.specs.Roughing.{Rough, passes_from}

@@ -2,7 +2,7 @@
 use Rattle.std.specs.Prelude.{◌≡◌, ℕ, zero, suc, ◌+◌, ◌≤◌, Bool, true, false, not, ◌&&◌, ◌==◌, nat_le, nat_lt, List, [], ◌∷◌, length, Option, Some, None, is_none, ℤ, pos, negsuc, ◌+ℤ◌, int_lt, int_le, unsigned_abs, if◌then◌else◌}
 use Rattle.nc_number.specs.Arithmetic.{whole_of}
 use Rattle.nc_number.specs.Options.{◌>>=◌}
-use Rattle.nc_text.specs.declared.tape.Word.{Word}
+use Rattle.line_text.specs.declared.body.Word.{Word}
 use Rattle.nc_text.specs.declared.tape.Block.{Block}
 use Rattle.nc_number.specs.declared.point.Point.{Point}
 use Rattle.rough_cycle.specs.Form.{IsWritten}

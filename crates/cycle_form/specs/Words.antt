@@ -7,7 +7,7 @@ use Rattle.nc_number.specs.Literals.{is_literal, word_literal}
 use Rattle.nc_number.specs.Arithmetic.{whole_of}
 use Rattle.nc_number.specs.Conversions.{thousandths_of}
 use Rattle.nc_number.specs.Options.{◌>>=◌}
-use Rattle.nc_text.specs.declared.tape.Word.{Word}
+use Rattle.line_text.specs.declared.body.Word.{Word}
 use Rattle.nc_number.specs.declared.point.Point.{Point}
 
 abbrev pub value_of : Result Literal NumberFault → Option Literal

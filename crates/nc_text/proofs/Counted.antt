@@ -1,13 +1,13 @@
 -- Bytes past the limit need no count.
 use Rattle.std.proofs.Common.{◌≡◌, ◌==◌, ℕ, ◌+◌, ◌<◌, ◌≤◌, Bool, true, false, cond, ltb, List, [], ◌∷◌, length, Option, Some, None, Result, Ok, Err, refl, sym, ap, ◌∙◌, arith}
 use Rattle.std.proofs.lemmas.Bool.{lt-ltb, le-ltb, ltb-true, ltb-false}
-use Rattle.nc_text.specs.declared.refusal.Refusal.{Refusal}
-use Rattle.nc_text.specs.declared.refusal.Refusal.TheVariants.{NoProgramNumber, LineTooLong, TooManyBlocks, TapeTooLong, WordRange}
-use Rattle.nc_text.specs.declared.said.Said.{Said}
+use Rattle.line_text.specs.declared.refusal.Refusal.{Refusal}
+use Rattle.line_text.specs.declared.refusal.Refusal.TheVariants.{NoProgramNumber, LineTooLong, TooManyBlocks, TapeTooLong, WordRange}
+use Rattle.line_text.specs.declared.said.Said.{Said}
 use Rattle.nc_text.specs.declared.stage.Stage.{Stage}
 use Rattle.nc_text.specs.declared.stage.Stage.TheVariants as stages
 use Rattle.nc_text.specs.Lines.{Line}
-use Rattle.nc_text.specs.Said.{line_says}
+use Rattle.line_text.specs.Said.{line_says}
 use Rattle.nc_text.specs.Tape.{Before, is_past_end, next, percent_refusal, outer_refusal, said_refusal, unless_refused, with_said, after_said, after_percent, after_outer, begun, goes_on, in_leader, in_body, in_rest}
 use Rattle.nc_text.specs.Reading.{counted, kept_of, continued, line_continued}
 

@@ -7,12 +7,12 @@ use Rattle.std.proofs.lemmas.List.{length-replicate}
 use Rattle.std.proofs.lemmas.List.Elements.{All-head, All-tail, All-cons, All-replicate}
 use Rattle.nc_text.specs.declared.fault.TextFault.{TextFault}
 use Rattle.nc_text.specs.declared.tape.Program.{Program}
-use Rattle.nc_text.specs.declared.refusal.Refusal.TheVariants.{BadCharacter, NoEnd, TapeTooLong}
+use Rattle.line_text.specs.declared.refusal.Refusal.TheVariants.{BadCharacter, NoEnd, TapeTooLong}
 use Rattle.nc_text.specs.declared.stage.Stage.{Stage}
 use Rattle.nc_text.specs.declared.stage.Stage.TheVariants as stages
-use Rattle.nc_text.specs.Signs.{signs_of}
-use Rattle.nc_text.specs.Said.{read_words, read_block, read_head, line_says}
-use Rattle.nc_text.specs.Refusals.{refusal_number}
+use Rattle.line_text.specs.Signs.{signs_of}
+use Rattle.line_text.specs.Said.{read_words, read_block, read_head, line_says}
+use Rattle.line_text.specs.Refusals.{refusal_number}
 use Rattle.nc_text.specs.Lines.{Line, IsOneLine, lines_of}
 use Rattle.nc_text.specs.Tape.{Before, Answer, is_past_end, fault_behind, no_program, programs_of, in_leader, in_body, in_rest, tape_of}
 use Rattle.nc_text.specs.Reading.{refusal_of, continued, IsAt, HasRead, IsRefused}

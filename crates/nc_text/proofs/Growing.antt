@@ -4,9 +4,9 @@ use Rattle.std.specs.Option.{option_to_list}
 use Rattle.std.proofs.lemmas.List.{append-nil}
 use Rattle.nc_text.specs.declared.tape.Block.{Block}
 use Rattle.nc_text.specs.declared.tape.Program.{Program}
-use Rattle.nc_text.specs.declared.said.Said.{Said}
-use Rattle.nc_text.specs.declared.said.Said.TheVariants as said
-use Rattle.nc_text.specs.declared.said.SaidBlock.{SaidBlock}
+use Rattle.line_text.specs.declared.said.Said.{Said}
+use Rattle.line_text.specs.declared.said.Said.TheVariants as said
+use Rattle.line_text.specs.declared.said.SaidBlock.{SaidBlock}
 use Rattle.nc_text.specs.Tape.{Before, next, with_block, with_program, with_said}
 use Rattle.std.proofs.Math.Seq.{take-append_seam}
 use Rattle.nc_text.specs.declared.mark.Mark.{Mark}

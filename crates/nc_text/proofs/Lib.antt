@@ -1,11 +1,6 @@
-pub mod Cutting
-pub mod Placing
 pub mod LineEnds
 pub mod Counted
 pub mod Standing
 pub mod Deciding
 pub mod Growing
-pub mod Judged
-pub mod ShapeOfLine
 pub mod Shaping
-pub mod Scanning

@@ -7,9 +7,10 @@ use Rattle.std.proofs.lemmas.List.Elements.{All-nil, All-cons, All-head, All-tai
 use Rattle.std.proofs.lemmas.Grind.{flat_map-append}
 use Rattle.nc_text.specs.declared.tape.Block.{Block}
 use Rattle.nc_text.specs.declared.tape.Program.{Program}
-use Rattle.nc_text.specs.declared.said.SaidBlock.{SaidBlock}
+use Rattle.line_text.specs.declared.said.SaidBlock.{SaidBlock}
 use Rattle.nc_text.specs.Tape.{program_at, block_at, with_block}
-use Rattle.nc_text.specs.Shape.{RiseFrom, lines_of_program, lines_in, blocks_in, IsSaidShape, IsProgramShape, IsBlockShape, IsTapeShape}
+use Rattle.line_text.specs.LineShape.{IsSaidShape}
+use Rattle.nc_text.specs.Shape.{RiseFrom, lines_of_program, lines_in, blocks_in, IsProgramShape, IsBlockShape, IsTapeShape}
 use Rattle.nc_text.specs.ReadShape.{RiseTo, IsReadShape}
 
 -- Rising numbers.

@@ -1,10 +1,3 @@
-pub mod Signs
-pub mod Places
-pub mod Pieces
-pub mod Front
-pub mod Values
-pub mod Refusals
-pub mod Said
 pub mod Lines
 pub mod Tape
 pub mod Shape

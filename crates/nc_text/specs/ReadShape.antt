@@ -1,15 +1,14 @@
 -- The shape of what was read so far.
-use Rattle.std.specs.Prelude.{ℕ, ◌<◌, ◌≤◌, List, [], ◌∷◌, ◌++◌, length, All, Option, Some, None}
+use Rattle.std.specs.Prelude.{ℕ, ◌<◌, ◌≤◌, List, [], ◌∷◌, ◌++◌, length, All, Option}
 use Rattle.std.specs.Coded.{×_prop, le_prop}
 use Rattle.std.proofs.Props.{props}
-use Rattle.nc_text.specs.declared.tape.Body.{Body}
-use Rattle.nc_text.specs.declared.tape.Body.TheVariants.{Words, Statement}
+use Rattle.line_text.specs.declared.body.Body.{Body}
+use Rattle.line_text.specs.declared.body.Body.TheVariants.{Words, Statement}
 use Rattle.nc_text.specs.declared.tape.Program.{Program}
-use Rattle.nc_text.specs.declared.said.Said.{Said}
-use Rattle.nc_text.specs.declared.said.Said.TheVariants as said
 use Rattle.std.specs.Option.{option_to_list}
 use Rattle.nc_text.specs.Tape.{Before}
-use Rattle.nc_text.specs.Shape.{lines_in, blocks_in, IsProgramShape, IsBlockShape, IsBodyShape, IsSaidShape}
+use Rattle.line_text.specs.LineShape.{IsBodyShape}
+use Rattle.nc_text.specs.Shape.{lines_in, blocks_in, IsProgramShape, IsBlockShape}
 
 -- each number is above the one before it, the first above low, and the last is at most high
 abbrev pub RiseTo : ℕ → List ℕ → ℕ → Type 0
@@ -22,13 +21,6 @@ pub record IsReadShape (lines blocks : ℕ) (programs : List Program) : Type 0 w
   pub rise : RiseTo 0 (lines_in programs) lines
   pub count : length (blocks_in programs) ≤ blocks
   pub shaped : All IsBlockShape (blocks_in programs)
-
--- what a line of so many bytes says
-abbrev pub IsSaid : ℕ → Said → Type 0
-IsSaid most said.Nothing = Unit {0}
-IsSaid most (said.Program None) = Unit {0}
-IsSaid most (said.Program (Some number)) = (1 ≤ number) × (number ≤ 9999)
-IsSaid most (said.Block block) = IsSaidShape most block.sequence block.body
 
 abbrev pub IsShaped : Before → Type 0
 IsShaped before = IsReadShape before.lines before.blocks (before.done ++ option_to_list before.current)

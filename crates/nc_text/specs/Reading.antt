@@ -6,7 +6,7 @@ use Rattle.nc_text.specs.declared.fault.TextFault.{TextFault}
 use Rattle.nc_text.specs.declared.stage.Stage.{Stage}
 use Rattle.nc_text.specs.declared.stage.Stage.TheVariants as stages
 use Rattle.nc_text.specs.Lines.{Line, IsOneLine, lines_of, is_percent}
-use Rattle.nc_text.specs.Said.{line_says}
+use Rattle.line_text.specs.Said.{line_says}
 use Rattle.nc_text.specs.Tape.{Before, Answer, after_outer, after_percent, after_said, begun, goes_on, in_leader, in_body, in_rest, tape_of}
 
 -- what a reader keeps: where it stands, the present line and what was read before it

@@ -5,14 +5,14 @@ use Rattle.std.specs.Option.{option_to_list, is_none}
 use Rattle.nc_text.specs.declared.fault.TextFault.{TextFault}
 use Rattle.nc_text.specs.declared.tape.Block.{Block}
 use Rattle.nc_text.specs.declared.tape.Program.{Program}
-use Rattle.nc_text.specs.declared.refusal.Refusal.{Refusal}
-use Rattle.nc_text.specs.declared.refusal.Refusal.TheVariants.{NoProgramNumber, NoEnd, LineTooLong, TooManyBlocks, TapeTooLong, WordRange}
-use Rattle.nc_text.specs.declared.said.Said.{Said}
-use Rattle.nc_text.specs.declared.said.Said.TheVariants as said
-use Rattle.nc_text.specs.declared.said.SaidBlock.{SaidBlock}
+use Rattle.line_text.specs.declared.refusal.Refusal.{Refusal}
+use Rattle.line_text.specs.declared.refusal.Refusal.TheVariants.{NoProgramNumber, NoEnd, LineTooLong, TooManyBlocks, TapeTooLong, WordRange}
+use Rattle.line_text.specs.declared.said.Said.{Said}
+use Rattle.line_text.specs.declared.said.Said.TheVariants as said
+use Rattle.line_text.specs.declared.said.SaidBlock.{SaidBlock}
 use Rattle.nc_text.specs.Lines.{Line, lines_of, is_percent, size_of}
-use Rattle.nc_text.specs.Refusals.{refusal_number}
-use Rattle.nc_text.specs.Said.{line_says}
+use Rattle.line_text.specs.Refusals.{refusal_number}
+use Rattle.line_text.specs.Said.{line_says}
 
 -- what stands before a line
 pub record Before : Type 0 where

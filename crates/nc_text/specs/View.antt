@@ -1,6 +1,6 @@
 -- What was read, as contracts see it.
 use Rattle.std.specs.Prelude.{◌≡◌, Result, Ok, Err}
-use Rattle.nc_text.specs.declared.refusal.Refusal.{Refusal}
+use Rattle.line_text.specs.declared.refusal.Refusal.{Refusal}
 use Rattle.nc_text.specs.declared.progress.Progress.{Progress}
 use Rattle.nc_text.specs.Tape.{Before}
 

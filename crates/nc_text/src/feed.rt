@@ -8,14 +8,13 @@ ghost use Rattle.nc_text.specs.Mark.{Grows};
 ghost use Rattle.nc_text.specs.Reading.{continued, refusal_of, LeadsTo, IsOpenLine, HasRead, HasRefused};
 
 use crate::fault::TextFault;
-use crate::line_buffer::LineBuffer;
 use crate::line_feed::cut_at_line_feed;
 use crate::open_line::OpenLine;
 use crate::progress::Progress;
-use crate::refusal::Refusal;
 use crate::stage::{Stage, refusal_of};
 use crate::step::{behind_line, behind_lines};
 use crate::tape::Tape;
+use line_text::{LineBuffer, Refusal};
 use nc_number::{Failing, NoMemory};
 use std::alloc::Global;
 

@@ -4,33 +4,20 @@
 //! and its line.
 #![tactic(auto)]
 
-mod cut;
 mod fault;
 mod feed;
-mod front;
 mod going_back;
-mod line;
-mod line_buffer;
 mod line_feed;
 mod mark;
 mod open_line;
-mod piece;
 mod programs;
 mod progress;
 mod reader;
-mod refusal;
-mod said;
-mod sign;
 mod stage;
 mod step;
 mod tape;
-mod values;
-mod words;
 
 pub use fault::TextFault;
-pub use piece::Piece;
+pub use line_text::{Body, Piece, Reading, Refusal, Said, SaidBlock, Sign, Word, WordList};
 pub use reader::Reader;
-pub use refusal::Refusal;
-pub use said::{Reading, Said, SaidBlock};
-pub use sign::Sign;
-pub use tape::{Block, BlockList, Body, Program, Tape, Word, WordList};
+pub use tape::{Block, BlockList, Program, Tape};

@@ -2,8 +2,8 @@ ghost use Rattle.std.specs.Prelude.{◌≡◌, ◌++◌, Some, OnOk, OnErr};
 ghost use Rattle.std.specs.Option.{option_to_list};
 ghost use Rattle.nc_text.specs.Tape.{program_at, block_at, with_block};
 
-use crate::said::SaidBlock;
 use crate::tape::{Block, BlockList, Program};
+use line_text::SaidBlock;
 use std::alloc::{AllocError, Global};
 
 /// Begins a program, behind the one that is being read.

@@ -4,15 +4,14 @@ ghost use Rattle.nc_text.specs.Lines.{size_of};
 ghost use Rattle.nc_text.specs.Tape.{nothing_read, is_past_end, next, percent_refusal, outer_refusal, said_refusal, is_block, is_said_in_range, with_said, with_program, begun, after_outer, after_percent, after_said, unfinished, finished};
 ghost use Rattle.nc_number.specs.Answers.{Gives};
 ghost use Rattle.nc_text.specs.Mark.{Grows};
-ghost use Rattle.nc_text.specs.Shape.{IsSaidShape};
-ghost use Rattle.nc_text.specs.ReadShape.{IsSaid, IsReadShape, IsReadShape-prop};
-ghost use Rattle.nc_text.specs.declared.said.Said.TheVariants as said;
+ghost use Rattle.line_text.specs.LineShape.{IsSaid, IsSaidShape};
+ghost use Rattle.nc_text.specs.ReadShape.{IsReadShape, IsReadShape-prop};
+ghost use Rattle.line_text.specs.declared.said.Said.TheVariants as said;
 
 use crate::fault::TextFault;
 use crate::programs::{add_block, begin_program};
-use crate::refusal::Refusal;
-use crate::said::{Said, SaidBlock};
 use crate::tape::{Program, Tape};
+use line_text::{Refusal, Said, SaidBlock};
 use nc_number::Failing;
 use std::alloc::{AllocError, Global};
 

@@ -2,21 +2,19 @@ ghost use Rattle.std.specs.Prelude.{◌≡◌, ◌∷◌, ◌<◌, ◌-◌, ◌^
 ghost use Rattle.nc_number.specs.Answers.{Gives};
 ghost use Rattle.nc_text.specs.Lines.{Line, IsOneLine, is_percent, size_of};
 ghost use Rattle.nc_text.specs.declared.fault.TextFault.{TextFault};
-ghost use Rattle.nc_text.specs.Refusals.{refusal_number};
-ghost use Rattle.nc_text.specs.Said.{line_says};
+ghost use Rattle.line_text.specs.Refusals.{refusal_number};
+ghost use Rattle.line_text.specs.Said.{line_says};
 ghost use Rattle.nc_text.specs.Tape.{Before, goes_on, in_rest, after_outer, after_percent, after_said};
 ghost use Rattle.nc_text.specs.View.{before_of};
 ghost use Rattle.nc_text.specs.Mark.{Grows};
 ghost use Rattle.nc_text.specs.Reading.{continued, counted, line_continued, LeadsTo};
 
 use crate::fault::TextFault;
-use crate::line::read_line;
-use crate::line_buffer::LineBuffer;
 use crate::line_feed::cut_at_line_feed;
 use crate::open_line::{kept_whole, longer};
 use crate::progress::Progress;
-use crate::refusal::Refusal;
 use crate::stage::Stage;
+use line_text::{LineBuffer, Refusal, read_line};
 use nc_number::{Failing, NoMemory};
 
 /// A line that begins with `%` begins or ends the tape.

@@ -4,9 +4,9 @@ use Rattle.std.specs.Prelude.{All}
 use Rattle.std.proofs.lemmas.Bool.{le-ltb}
 use Rattle.std.proofs.lemmas.Bool.Decides.{nat_tests}
 use Rattle.std.proofs.lemmas.List.Elements.{filter-append, All-cons, All-head, All-tail}
-use Rattle.nc_text.specs.Signs.{Scan, is_blank, without_last, without_return, signs_of}
+use Rattle.line_text.specs.Signs.{Scan, is_blank, without_last, without_return, signs_of}
 use Rattle.nc_text.specs.Lines.{is_percent}
-use Rattle.nc_text.specs.Said.{line_says}
+use Rattle.line_text.specs.Said.{line_says}
 use Rattle.tape_relation.specs.Changed.{without_place, forget_places}
 use Rattle.tape_relation.specs.Alike.{Fits}
 use Rattle.tape_relation.specs.Edited.{with_line, IsLine, IsLastLine, MayHaveBlank}

@@ -4,12 +4,12 @@ use Rattle.std.specs.Char.{to_ascii_uppercase}
 use Rattle.std.specs.List.{list_all, prefix_len}
 use Rattle.std.proofs.lemmas.Bool.{and_parts, eqb-true}
 use Rattle.std.proofs.lemmas.Bool.Decides.{nat_tests}
-use Rattle.nc_text.specs.declared.sign.Sign.{Sign}
-use Rattle.nc_text.specs.declared.said.Said.TheVariants as said
-use Rattle.nc_text.specs.Signs.{Scan, is_blank, is_allowed, are_allowed, add_sign, inside_behind, scan_of, signs_of}
-use Rattle.nc_text.specs.Pieces.{is_comment, bytes_of}
-use Rattle.nc_text.specs.Front.{behind_comments, switch_of}
-use Rattle.nc_text.specs.Said.{judged, is_skipped, read_head, line_says}
+use Rattle.line_text.specs.declared.sign.Sign.{Sign}
+use Rattle.line_text.specs.declared.said.Said.TheVariants as said
+use Rattle.line_text.specs.Signs.{Scan, is_blank, is_allowed, are_allowed, add_sign, inside_behind, scan_of, signs_of}
+use Rattle.line_text.specs.Pieces.{is_comment, bytes_of}
+use Rattle.line_text.specs.Front.{behind_comments, switch_of}
+use Rattle.line_text.specs.Said.{judged, is_skipped, read_head, line_says}
 
 -- the same bytes count, and both lines end inside a comment or neither does
 pub record IsSameText (a b : Scan) : Type 0 where

@@ -7,11 +7,11 @@ use Rattle.std.proofs.lemmas.Bool.Decides.{nat_tests}
 use Rattle.std.proofs.lemmas.List.{nil_from_length, append-nil}
 use Rattle.std.proofs.Math.Seq.{take-append_seam}
 use Rattle.nc_number.specs.Literals.{is_literal, is_sign, behind_sign, is_point}
-use Rattle.nc_text.specs.declared.sign.Sign.{Sign}
-use Rattle.nc_text.specs.declared.piece.Piece.{Piece}
-use Rattle.nc_text.specs.Pieces.{Group, Cut, is_comment, depth_behind, begins_word, add_to_cut, cut_at, bytes_of, value_part, piece_of, pieces_of, value_len, end_of}
-use Rattle.nc_text.specs.Values.{closes, is_variable, is_reference, is_value}
-use Rattle.nc_text.specs.Said.{is_sound}
+use Rattle.line_text.specs.declared.sign.Sign.{Sign}
+use Rattle.line_text.specs.declared.piece.Piece.{Piece}
+use Rattle.line_text.specs.Pieces.{Group, Cut, is_comment, depth_behind, begins_word, add_to_cut, cut_at, bytes_of, value_part, piece_of, pieces_of, value_len, end_of}
+use Rattle.line_text.specs.Values.{closes, is_variable, is_reference, is_value}
+use Rattle.line_text.specs.Said.{is_sound}
 use Rattle.tape_relation.specs.Words.{IsWord, AreWords}
 use Rattle.tape_relation.specs.Cut.{IsCut}
 use Rattle.tape_relation.proofs.LiteralParts.{both}

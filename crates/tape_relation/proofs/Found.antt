@@ -5,11 +5,11 @@ use Rattle.std.specs.List.{list_all, prefix_len}
 use Rattle.std.proofs.lemmas.Bool.{eqb-true, or_parts}
 use Rattle.std.proofs.lemmas.Bool.Decides.{nat_tests}
 use Rattle.nc_number.specs.Literals.{is_literal}
-use Rattle.nc_text.specs.declared.sign.Sign.{Sign}
-use Rattle.nc_text.specs.declared.piece.Piece.{Piece}
-use Rattle.nc_text.specs.Pieces.{is_comment, bytes_of, pieces_of, value_len}
-use Rattle.nc_text.specs.Front.{is_switch, behind_digit, switch_of, behind_switch, behind_comments, is_statement, sentence_of, is_number_sign, number_part, behind_number, is_numbered}
-use Rattle.nc_text.specs.Said.{is_sound, stands_alone, read_pieces, unreadable, read_words, read_block, read_head}
+use Rattle.line_text.specs.declared.sign.Sign.{Sign}
+use Rattle.line_text.specs.declared.piece.Piece.{Piece}
+use Rattle.line_text.specs.Pieces.{is_comment, bytes_of, pieces_of, value_len}
+use Rattle.line_text.specs.Front.{is_switch, behind_digit, switch_of, behind_switch, behind_comments, is_statement, sentence_of, is_number_sign, number_part, behind_number, is_numbered}
+use Rattle.line_text.specs.Said.{is_sound, stands_alone, read_pieces, unreadable, read_words, read_block, read_head}
 use Rattle.tape_relation.specs.Words.{AreWords}
 use Rattle.tape_relation.specs.Cut.{IsCut}
 use Rattle.tape_relation.specs.LineGrammar.{Sentence, NoBlock, ProgramNumber, WordBlock, StatementBlock, IsSkip, none, alone, named, text_of, has_program_word, IsBlock, program, computed, worded, stated, numbered, IsSentence, blank, block}

@@ -6,11 +6,11 @@ use Rattle.std.proofs.lemmas.Bool.{eqb-true}
 use Rattle.std.proofs.lemmas.Bool.Decides.{nat_tests}
 use Rattle.std.proofs.Math.Seq.{take-append_seam}
 use Rattle.nc_number.specs.Literals.{is_literal, is_sign, is_point, behind_sign}
-use Rattle.nc_text.specs.declared.sign.Sign.{Sign}
-use Rattle.nc_text.specs.declared.piece.Piece.{Piece}
-use Rattle.nc_text.specs.Pieces.{is_comment, bytes_of}
-use Rattle.nc_text.specs.Front.{behind_comments, is_statement, sentence_of, is_number_sign, number_part, behind_number, is_numbered}
-use Rattle.nc_text.specs.Values.{is_variable, is_reference, closes}
+use Rattle.line_text.specs.declared.sign.Sign.{Sign}
+use Rattle.line_text.specs.declared.piece.Piece.{Piece}
+use Rattle.line_text.specs.Pieces.{is_comment, bytes_of}
+use Rattle.line_text.specs.Front.{behind_comments, is_statement, sentence_of, is_number_sign, number_part, behind_number, is_numbered}
+use Rattle.line_text.specs.Values.{is_variable, is_reference, closes}
 use Rattle.tape_relation.specs.Words.{AreWords}
 use Rattle.tape_relation.specs.LineGrammar.{text_of, IsStatement}
 use Rattle.tape_relation.proofs.LiteralParts.{both}

@@ -3,7 +3,7 @@ use Rattle.std.proofs.Common.{◌≡◌, ◌==◌, ℕ, ◌+◌, ◌-◌, Bool, 
 use Rattle.std.specs.List.{list_all, prefix_len, suffix_len}
 use Rattle.std.proofs.lemmas.Bool.{eqb-true}
 use Rattle.std.proofs.lemmas.List.{length_push, get_or_push, take_all, take_at, reverse-append, take-append-le, nil_from_length}
-use Rattle.nc_text.specs.Signs.{Scan, is_blank, inside_behind, add_sign, scan_of, without_last, without_blanks, signs_of}
+use Rattle.line_text.specs.Signs.{Scan, is_blank, inside_behind, add_sign, scan_of, without_last, without_blanks, signs_of}
 use Rattle.tape_relation.specs.Characters.{is_space, is_return, are_spaces, is_ignored}
 use Rattle.tape_relation.proofs.LiteralParts.{both}
 

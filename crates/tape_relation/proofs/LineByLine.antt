@@ -5,15 +5,15 @@ use Rattle.std.proofs.lemmas.Bool.{le-ltb}
 use Rattle.std.proofs.lemmas.List.{map-append}
 use Rattle.nc_text.specs.declared.tape.Block.{Block}
 use Rattle.nc_text.specs.declared.tape.Program.{Program}
-use Rattle.nc_text.specs.declared.tape.Word.{Word}
-use Rattle.nc_text.specs.declared.refusal.Refusal.{Refusal}
-use Rattle.nc_text.specs.declared.refusal.Refusal.TheVariants.{NoProgramNumber, NoEnd}
-use Rattle.nc_text.specs.declared.said.Said.{Said}
-use Rattle.nc_text.specs.declared.said.Said.TheVariants as said
-use Rattle.nc_text.specs.declared.said.SaidBlock.{SaidBlock}
-use Rattle.nc_text.specs.Refusals.{refusal_number}
+use Rattle.line_text.specs.declared.body.Word.{Word}
+use Rattle.line_text.specs.declared.refusal.Refusal.{Refusal}
+use Rattle.line_text.specs.declared.refusal.Refusal.TheVariants.{NoProgramNumber, NoEnd}
+use Rattle.line_text.specs.declared.said.Said.{Said}
+use Rattle.line_text.specs.declared.said.Said.TheVariants as said
+use Rattle.line_text.specs.declared.said.SaidBlock.{SaidBlock}
+use Rattle.line_text.specs.Refusals.{refusal_number}
 use Rattle.nc_text.specs.Lines.{Line, is_percent, size_of}
-use Rattle.nc_text.specs.Said.{line_says}
+use Rattle.line_text.specs.Said.{line_says}
 use Rattle.tape_relation.specs.Changed.{changed, changed_body, changed_block, changed_program}
 use Rattle.nc_text.specs.Tape.{Before, Answer, next, programs_of, is_past_end, is_block, is_said_in_range, said_refusal, block_at, program_at, with_block, with_said, unless_refused, after_said, finished, unfinished, goes_on, in_rest, in_body, in_leader, begun, nothing_read}
 

@@ -1,15 +1,15 @@
 -- What the reader takes from a line.
 use Rattle.std.proofs.Common.{◌≡◌, ℕ, ◌+◌, Bool, true, false, cond, ◌||◌, List, [], ◌∷◌, ◌++◌, length, Some}
 use Rattle.std.specs.List.{list_any}
-use Rattle.nc_text.specs.declared.said.Said.{Said}
-use Rattle.nc_text.specs.declared.said.Said.TheVariants as said
-use Rattle.nc_text.specs.declared.said.Reading.{Reading}
+use Rattle.line_text.specs.declared.said.Said.{Said}
+use Rattle.line_text.specs.declared.said.Said.TheVariants as said
+use Rattle.line_text.specs.declared.said.Reading.{Reading}
 use Rattle.nc_text.specs.declared.tape.Block.{Block}
 use Rattle.nc_text.specs.declared.tape.Program.{Program}
 use Rattle.nc_text.specs.Lines.{Line}
-use Rattle.nc_text.specs.Signs.{Scan, signs_of}
-use Rattle.nc_text.specs.Front.{behind_comments}
-use Rattle.nc_text.specs.Said.{is_skipped, read_head}
+use Rattle.line_text.specs.Signs.{Scan, signs_of}
+use Rattle.line_text.specs.Front.{behind_comments}
+use Rattle.line_text.specs.Said.{is_skipped, read_head}
 use Rattle.tape_relation.specs.Edited.{line_switch}
 use Rattle.nc_text.specs.Tape.{is_block, is_said_in_range}
 

@@ -5,14 +5,14 @@ use Rattle.std.specs.List.{list_all, list_any}
 use Rattle.std.proofs.lemmas.Bool.{eqb-true, eq-eqb, or_parts}
 use Rattle.std.proofs.lemmas.List.Elements.{All-nil, All-cons, All-head, All-tail}
 use Rattle.nc_number.specs.Literals.{is_literal}
-use Rattle.nc_text.specs.declared.sign.Sign.{Sign}
-use Rattle.nc_text.specs.declared.piece.Piece.{Piece}
-use Rattle.nc_text.specs.declared.said.Said.{Said}
-use Rattle.nc_text.specs.declared.said.Said.TheVariants as said
+use Rattle.line_text.specs.declared.sign.Sign.{Sign}
+use Rattle.line_text.specs.declared.piece.Piece.{Piece}
+use Rattle.line_text.specs.declared.said.Said.{Said}
+use Rattle.line_text.specs.declared.said.Said.TheVariants as said
 use Rattle.nc_text.specs.Lines.{Line}
-use Rattle.nc_text.specs.Values.{number_in}
-use Rattle.nc_text.specs.Front.{behind_comments}
-use Rattle.nc_text.specs.Said.{is_sequence, is_in_range, is_skipped}
+use Rattle.line_text.specs.Values.{number_in}
+use Rattle.line_text.specs.Front.{behind_comments}
+use Rattle.line_text.specs.Said.{is_sequence, is_in_range, is_skipped}
 use Rattle.nc_text.specs.Tape as tape
 use Rattle.tape_relation.specs.LineGrammar.{Sentence, NoBlock, ProgramNumber, WordBlock, StatementBlock, IsLine}
 use Rattle.tape_relation.specs.LineAlone as own

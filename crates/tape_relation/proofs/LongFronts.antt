@@ -6,7 +6,7 @@ use Rattle.std.specs.List.{list_all, before_first, after_first}
 use Rattle.std.proofs.lemmas.Bool.Decides.{nat_tests}
 use Rattle.std.proofs.lemmas.List.{length-append}
 use Rattle.nc_number.specs.Literals.{is_literal, is_sign, behind_sign, is_point, whole_part, fraction_part, significant, has_too_many_digits}
-use Rattle.nc_text.specs.Values.{digits_len, fraction_len, sign_len, unsigned_len, number_front, has_long_front}
+use Rattle.line_text.specs.Values.{digits_len, fraction_len, sign_len, unsigned_len, number_front, has_long_front}
 use Rattle.tape_relation.specs.Numbers.{BeginsLong}
 use Rattle.tape_relation.proofs.LiteralParts.{both, point_no_digit, Parts, parts_digits, parts_point, Split, split, significant_more, written, literal_read, many_read, many_found}
 

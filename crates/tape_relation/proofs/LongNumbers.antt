@@ -6,14 +6,14 @@ use Rattle.std.specs.List.{list_all, list_any, prefix_len, position_or_len}
 use Rattle.std.proofs.lemmas.Bool.{eqb-true}
 use Rattle.std.proofs.lemmas.List.{nil_from_length}
 use Rattle.nc_number.specs.Literals.{is_literal, whole_part, fraction_part}
-use Rattle.nc_text.specs.declared.sign.Sign.{Sign}
-use Rattle.nc_text.specs.declared.piece.Piece.{Piece}
-use Rattle.nc_text.specs.declared.said.Reading.{Reading}
+use Rattle.line_text.specs.declared.sign.Sign.{Sign}
+use Rattle.line_text.specs.declared.piece.Piece.{Piece}
+use Rattle.line_text.specs.declared.said.Reading.{Reading}
 use Rattle.nc_text.specs.Lines.{Line}
-use Rattle.nc_text.specs.Pieces.{Group, Cut, is_comment, bytes_of, value_part, piece_of, pieces_of, value_len, cut_at, add_to_cut}
-use Rattle.nc_text.specs.Values.{has_long_front}
-use Rattle.nc_text.specs.Front.{is_switch, switch_behind, behind_digit, switch_of, behind_switch, behind_comments, is_statement, sentence_of, is_number_sign, number_part, behind_number, is_numbered}
-use Rattle.nc_text.specs.Said.{is_sound, is_long, is_skipped, read_pieces, unreadable, read_words, read_numbered, read_statement, read_block, read_head}
+use Rattle.line_text.specs.Pieces.{Group, Cut, is_comment, bytes_of, value_part, piece_of, pieces_of, value_len, cut_at, add_to_cut}
+use Rattle.line_text.specs.Values.{has_long_front}
+use Rattle.line_text.specs.Front.{is_switch, switch_behind, behind_digit, switch_of, behind_switch, behind_comments, is_statement, sentence_of, is_number_sign, number_part, behind_number, is_numbered}
+use Rattle.line_text.specs.Said.{is_sound, is_long, is_skipped, read_pieces, unreadable, read_words, read_numbered, read_statement, read_block, read_head}
 use Rattle.tape_relation.specs.Numbers.{BeginsLong}
 use Rattle.tape_relation.specs.Words.{AreWords}
 use Rattle.tape_relation.specs.LineGrammar.{IsSkip, none, alone, named}

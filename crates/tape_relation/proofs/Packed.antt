@@ -2,7 +2,7 @@
 use Rattle.std.proofs.Common.{◌≡◌, ◌==◌, ℕ, ◌+◌, Bool, true, false, cond, not, ◌&&◌, List, [], ◌∷◌, ◌++◌, refl, sym, ap, subst, ◌∙◌, append-nil}
 use Rattle.std.specs.Prelude.{filter}
 use Rattle.std.proofs.lemmas.List.Elements.{filter-append}
-use Rattle.nc_text.specs.Signs.{is_blank, inside_behind, scan_of, without_last, without_return, without_blanks, content_of, signs_of}
+use Rattle.line_text.specs.Signs.{is_blank, inside_behind, scan_of, without_last, without_return, without_blanks, content_of, signs_of}
 use Rattle.tape_relation.proofs.Ignored.{by_last, last_pushed, trimmed_blank, trimmed_other}
 use Rattle.tape_relation.proofs.Blanks.{added, same_chain, blank_here, IsSameText}
 

@@ -7,22 +7,22 @@ use Rattle.std.proofs.lemmas.List.{length-map, take-map, drop-map}
 use Rattle.std.proofs.lemmas.List.Folds.{list_all-map}
 use Rattle.std.proofs.lemmas.Simd.{map-map}
 use Rattle.nc_number.specs.Literals.{is_literal}
-use Rattle.nc_text.specs.declared.sign.Sign.{Sign}
-use Rattle.nc_text.specs.declared.piece.Piece.{Piece}
-use Rattle.nc_text.specs.declared.tape.Body.TheVariants.{Words}
-use Rattle.nc_text.specs.declared.said.Said.{Said}
-use Rattle.nc_text.specs.declared.said.Said.TheVariants as said
-use Rattle.nc_text.specs.declared.said.SaidBlock.{SaidBlock}
-use Rattle.nc_text.specs.declared.said.Reading.{Reading}
-use Rattle.nc_text.specs.Signs.{Scan, is_allowed, are_allowed}
-use Rattle.nc_text.specs.Pieces.{Group, Cut, is_comment, depth_behind, begins_word, add_to_cut, cut_at, bytes_of, value_part, piece_of, pieces_of, value_len}
-use Rattle.nc_text.specs.Front.{behind_comments, is_switch, switch_of, behind_digit, behind_switch, sentence_of, is_statement, is_number_sign, number_part, behind_number, is_numbered}
-use Rattle.nc_text.specs.Values.{number_in}
-use Rattle.nc_text.specs.Said.{is_sequence, is_sound, is_long, has_program_letter, sequence_from, is_in_range, word_of, words_of, is_program, program_number, said_by, read_pieces, unreadable, read_words, numbered_text, numbered_sentence, read_numbered, read_statement, read_block, is_skipped, judged, read_head, judged_signs}
+use Rattle.line_text.specs.declared.sign.Sign.{Sign}
+use Rattle.line_text.specs.declared.piece.Piece.{Piece}
+use Rattle.line_text.specs.declared.body.Body.TheVariants.{Words}
+use Rattle.line_text.specs.declared.said.Said.{Said}
+use Rattle.line_text.specs.declared.said.Said.TheVariants as said
+use Rattle.line_text.specs.declared.said.SaidBlock.{SaidBlock}
+use Rattle.line_text.specs.declared.said.Reading.{Reading}
+use Rattle.line_text.specs.Signs.{Scan, is_allowed, are_allowed}
+use Rattle.line_text.specs.Pieces.{Group, Cut, is_comment, depth_behind, begins_word, add_to_cut, cut_at, bytes_of, value_part, piece_of, pieces_of, value_len}
+use Rattle.line_text.specs.Front.{behind_comments, is_switch, switch_of, behind_digit, behind_switch, sentence_of, is_statement, is_number_sign, number_part, behind_number, is_numbered}
+use Rattle.line_text.specs.Values.{number_in}
+use Rattle.line_text.specs.Said.{is_sequence, is_sound, is_long, has_program_letter, sequence_from, is_in_range, word_of, words_of, is_program, program_number, said_by, read_pieces, unreadable, read_words, numbered_text, numbered_sentence, read_numbered, read_statement, read_block, is_skipped, judged, read_head, judged_signs}
 use Rattle.tape_relation.specs.Changed.{without_place}
 use Rattle.tape_relation.proofs.Blanks.{IsSameText}
 use Rattle.tape_relation.proofs.LineByLine.{changed_said, changed_says}
-use Rattle.nc_text.proofs.Judged.{least}
+use Rattle.line_text.proofs.Judged.{least}
 use Rattle.tape_relation.proofs.Mapped.{either_map, prefix_same, any_same, filter_same}
 
 -- a sign, a word and a reading without places

@@ -2,7 +2,7 @@
 use Rattle.std.proofs.Common.{◌≡◌, ℕ, ◌+◌, List, [], ◌∷◌, ◌++◌, length, refl, ap, sym, subst, ◌∙◌, append_assoc}
 use Rattle.std.proofs.lemmas.List.{append-nil}
 use Rattle.nc_text.specs.declared.fault.TextFault.{TextFault}
-use Rattle.nc_text.specs.declared.refusal.Refusal.{Refusal}
+use Rattle.line_text.specs.declared.refusal.Refusal.{Refusal}
 use Rattle.nc_text.specs.Lines.{Line}
 use Rattle.tape_relation.specs.Conditions.{Holds, IsLeast, NoneHolds}
 use Rattle.tape_relation.specs.Relation.{fault_at, IsFirstFault}

@@ -5,17 +5,17 @@ use Rattle.std.specs.List.{list_all, list_any}
 use Rattle.std.proofs.lemmas.Bool.{or_parts}
 use Rattle.std.proofs.lemmas.List.Folds.{list_all-append}
 use Rattle.std.proofs.lemmas.List.Elements.{All-nil, All-cons, All-head, All-tail}
-use Rattle.nc_text.specs.declared.piece.Piece.{Piece}
-use Rattle.nc_text.specs.declared.said.Said.{Said}
-use Rattle.nc_text.specs.declared.said.Said.TheVariants as said
+use Rattle.line_text.specs.declared.piece.Piece.{Piece}
+use Rattle.line_text.specs.declared.said.Said.{Said}
+use Rattle.line_text.specs.declared.said.Said.TheVariants as said
 use Rattle.nc_text.specs.declared.tape.Block.{Block}
-use Rattle.nc_text.specs.declared.tape.Body.{Body}
-use Rattle.nc_text.specs.declared.tape.Body.TheVariants.{Words, Statement}
+use Rattle.line_text.specs.declared.body.Body.{Body}
+use Rattle.line_text.specs.declared.body.Body.TheVariants.{Words, Statement}
 use Rattle.nc_text.specs.declared.tape.Program.{Program}
-use Rattle.nc_text.specs.declared.tape.Word.{Word}
+use Rattle.line_text.specs.declared.body.Word.{Word}
 use Rattle.nc_text.specs.Lines.{Line}
-use Rattle.nc_text.specs.Values.{number_in}
-use Rattle.nc_text.specs.Said.{is_sequence, is_in_range, sequence_from, words_of}
+use Rattle.line_text.specs.Values.{number_in}
+use Rattle.line_text.specs.Said.{is_sequence, is_in_range, sequence_from, words_of}
 use Rattle.nc_text.specs.Tape.{is_said_in_range}
 use Rattle.nc_text.specs.Tape as tape
 use Rattle.nc_number.specs.Literals.{is_literal}

@@ -3,9 +3,9 @@ use Rattle.std.proofs.Common.{◌≡◌, ◌==◌, ℕ, ◌+◌, Bool, true, fal
 use Rattle.std.specs.Char.{is_ascii_digit, is_ascii_uppercase, to_ascii_uppercase}
 use Rattle.std.specs.List.{list_any}
 use Rattle.std.proofs.lemmas.Bool.{eqb-true, or_parts}
-use Rattle.nc_text.specs.declared.sign.Sign.{Sign}
+use Rattle.line_text.specs.declared.sign.Sign.{Sign}
 use Rattle.nc_text.specs.Lines.{Line}
-use Rattle.nc_text.specs.Signs.{Scan, add_sign, is_allowed, are_allowed, signs_of}
+use Rattle.line_text.specs.Signs.{Scan, add_sign, is_allowed, are_allowed, signs_of}
 use Rattle.tape_relation.specs.Characters.{is_ignored, is_character, IsRemark, IsOutside, nothing, byte, comment, HasBadCharacter, EndsInComment, sign_at, AreSigns, ignored, counted, remark, left_open}
 use Rattle.tape_relation.proofs.Ignored.{signs_on, signs_are}
 

@@ -4,22 +4,22 @@ use Rattle.std.specs.List.{list_all}
 use Rattle.std.proofs.lemmas.Bool.{eqb-true, le-ltb}
 use Rattle.std.proofs.lemmas.List.Elements.{All-nil}
 use Rattle.std.proofs.lemmas.List.Folds.{list_all-map}
-use Rattle.nc_text.specs.declared.sign.Sign.{Sign}
-use Rattle.nc_text.specs.declared.refusal.Refusal.{Refusal}
-use Rattle.nc_text.specs.declared.said.Said.{Said}
-use Rattle.nc_text.specs.declared.said.Said.TheVariants as said
-use Rattle.nc_text.specs.Signs.{is_allowed, are_allowed, scan_of, signs_of, without_last, without_return}
-use Rattle.nc_text.specs.Pieces.{bytes_of}
-use Rattle.nc_text.specs.Front.{switch_of, behind_comments}
+use Rattle.line_text.specs.declared.sign.Sign.{Sign}
+use Rattle.line_text.specs.declared.refusal.Refusal.{Refusal}
+use Rattle.line_text.specs.declared.said.Said.{Said}
+use Rattle.line_text.specs.declared.said.Said.TheVariants as said
+use Rattle.line_text.specs.Signs.{is_allowed, are_allowed, scan_of, signs_of, without_last, without_return}
+use Rattle.line_text.specs.Pieces.{bytes_of}
+use Rattle.line_text.specs.Front.{switch_of, behind_comments}
 use Rattle.nc_text.specs.Lines.{IsOneLine, lines_of, is_percent}
-use Rattle.nc_text.specs.Said.{is_skipped, read_head, line_says}
+use Rattle.line_text.specs.Said.{is_skipped, read_head, line_says}
 use Rattle.tape_relation.specs.Changed.{lowered}
 use Rattle.tape_relation.specs.Alike.{Fits}
 use Rattle.tape_relation.specs.Edited.{are_whole, with_line, IsLine, IsLastLine, IsSkipped, HasOnlyComments}
 use Rattle.nc_text.specs.Tape.{tape_of}
 use Rattle.tape_relation.proofs.Blanks.{only_comments, IsSameText}
 use Rattle.tape_relation.proofs.SkippedLines.{skipped}
-use Rattle.nc_text.proofs.Judged.{judged_ok}
+use Rattle.line_text.proofs.Judged.{judged_ok}
 use Rattle.tape_relation.proofs.Packed.{packed, signs_packed}
 use Rattle.tape_relation.proofs.LineByLine.{SaysNothing}
 use Rattle.tape_relation.proofs.OneLine.{alike_in_place, line_taken_out, last_taken_out}

@@ -5,10 +5,10 @@ use Rattle.std.specs.List.{AllZip}
 use Rattle.std.proofs.lemmas.Bool.{le-ltb}
 use Rattle.std.proofs.lemmas.List.Elements.{All-nil, All-cons, All-head, All-tail, All-get_or, All-take, All-same}
 use Rattle.std.proofs.lemmas.List.{take_at}
-use Rattle.nc_text.specs.Signs.{without_last}
+use Rattle.line_text.specs.Signs.{without_last}
 use Rattle.nc_text.specs.Lines.{Line, lines_of, onto_line, is_percent}
-use Rattle.nc_text.specs.Said.{judged_signs, line_says}
-use Rattle.nc_text.specs.Signs.{scan_of, signs_of, without_blanks}
+use Rattle.line_text.specs.Said.{judged_signs, line_says}
+use Rattle.line_text.specs.Signs.{scan_of, signs_of, without_blanks}
 use Rattle.tape_relation.specs.Alike.{IsAlike, Fits}
 use Rattle.tape_relation.specs.Edited.{with_line, IsLine, EndsWithoutReturn, HasNoReturn, HaveRoom, with_returns}
 use Rattle.nc_text.specs.Tape.{tape_of}

@@ -6,16 +6,16 @@ use Rattle.std.specs.List.{list_all, prefix_len}
 use Rattle.std.proofs.lemmas.Bool.{eqb-true, eq-eqb, or_parts}
 use Rattle.std.proofs.lemmas.Bool.Decides.{nat_tests}
 use Rattle.nc_number.specs.Literals.{is_literal}
-use Rattle.nc_text.specs.declared.sign.Sign.{Sign}
-use Rattle.nc_text.specs.declared.piece.Piece.{Piece}
-use Rattle.nc_text.specs.declared.tape.Body.TheVariants.{Words, Statement}
-use Rattle.nc_text.specs.declared.said.Said.{Said}
-use Rattle.nc_text.specs.declared.said.Said.TheVariants as said
-use Rattle.nc_text.specs.declared.said.Reading.{Reading}
-use Rattle.nc_text.specs.Pieces.{is_comment, bytes_of}
-use Rattle.nc_text.specs.Values.{number_in}
-use Rattle.nc_text.specs.Front.{is_switch, switch_behind, behind_digit, switch_of, behind_comments, is_statement, sentence_of}
-use Rattle.nc_text.specs.Said.{is_sound, stands_alone, sequence_from, is_in_range, words_of, is_program, read_pieces, read_words, read_numbered, read_statement, read_block, read_head}
+use Rattle.line_text.specs.declared.sign.Sign.{Sign}
+use Rattle.line_text.specs.declared.piece.Piece.{Piece}
+use Rattle.line_text.specs.declared.body.Body.TheVariants.{Words, Statement}
+use Rattle.line_text.specs.declared.said.Said.{Said}
+use Rattle.line_text.specs.declared.said.Said.TheVariants as said
+use Rattle.line_text.specs.declared.said.Reading.{Reading}
+use Rattle.line_text.specs.Pieces.{is_comment, bytes_of}
+use Rattle.line_text.specs.Values.{number_in}
+use Rattle.line_text.specs.Front.{is_switch, switch_behind, behind_digit, switch_of, behind_comments, is_statement, sentence_of}
+use Rattle.line_text.specs.Said.{is_sound, stands_alone, sequence_from, is_in_range, words_of, is_program, read_pieces, read_words, read_numbered, read_statement, read_block, read_head}
 use Rattle.tape_relation.specs.Words.{AreWords}
 use Rattle.tape_relation.specs.Cut.{IsCut}
 use Rattle.tape_relation.specs.LineGrammar.{Sentence, NoBlock, ProgramNumber, WordBlock, StatementBlock, IsSkip, none, alone, named, text_of, IsStatement, has_program_word, IsBlock, program, computed, worded, stated, numbered, IsSentence, blank, block}

@@ -1,12 +1,12 @@
 -- What changes nothing: a block that is skipped, and a carriage return before a line feed.
 use Rattle.std.proofs.Common.{◌≡◌, ℕ, Bool, true, false, cond, List, [], ◌∷◌, ◌++◌, Ok, ap, ◌∙◌}
-use Rattle.nc_text.specs.declared.said.Said.{Said}
-use Rattle.nc_text.specs.declared.said.Said.TheVariants as said
-use Rattle.nc_text.specs.Front.{behind_comments}
-use Rattle.nc_text.specs.Signs.{are_allowed, scan_of, signs_of, without_last, without_blanks}
-use Rattle.nc_text.proofs.Judged.{judged_ok}
+use Rattle.line_text.specs.declared.said.Said.{Said}
+use Rattle.line_text.specs.declared.said.Said.TheVariants as said
+use Rattle.line_text.specs.Front.{behind_comments}
+use Rattle.line_text.specs.Signs.{are_allowed, scan_of, signs_of, without_last, without_blanks}
+use Rattle.line_text.proofs.Judged.{judged_ok}
 use Rattle.tape_relation.proofs.Ignored.{last_pushed}
-use Rattle.nc_text.specs.Said.{judged_signs, is_skipped, read_head, line_says}
+use Rattle.line_text.specs.Said.{judged_signs, is_skipped, read_head, line_says}
 use Rattle.tape_relation.specs.Edited.{line_switch}
 
 pub skipped : (skips : ℕ) (line : List ℕ) (ended : Bool) (says : Said) → is_skipped skips (line_switch line ended) ≡ true → line_says skips line ended ≡ Ok says → says ≡ said.Nothing

@@ -7,11 +7,11 @@ use Rattle.std.specs.Cmp.Lexicographic.{pointwise}
 use Rattle.std.proofs.lemmas.Bool.{eqb-true, eq-eqb}
 use Rattle.std.proofs.lemmas.Bool.Decides.{nat_tests}
 use Rattle.std.proofs.Math.Seq.{take-append_seam}
-use Rattle.nc_text.specs.declared.sign.Sign.{Sign}
-use Rattle.nc_text.specs.declared.piece.Piece.{Piece}
-use Rattle.nc_text.specs.Pieces.{Cut, is_comment, bytes_of, add_to_cut, cut_at, depth_behind}
-use Rattle.nc_text.specs.Front.{is_statement, sentence_of}
-use Rattle.nc_text.specs.Values.{is_value}
+use Rattle.line_text.specs.declared.sign.Sign.{Sign}
+use Rattle.line_text.specs.declared.piece.Piece.{Piece}
+use Rattle.line_text.specs.Pieces.{Cut, is_comment, bytes_of, add_to_cut, cut_at, depth_behind}
+use Rattle.line_text.specs.Front.{is_statement, sentence_of}
+use Rattle.line_text.specs.Values.{is_value}
 use Rattle.tape_relation.specs.Words.{AreWords}
 use Rattle.tape_relation.specs.LineGrammar.{Begins, IsStatement}
 use Rattle.tape_relation.proofs.LiteralParts.{both}

@@ -3,14 +3,14 @@ use Rattle.std.proofs.Common.{◌≡◌, ℕ, ◌+◌, ◌<◌, ◌≤◌, Bool,
 use Rattle.std.specs.Option.{is_none}
 use Rattle.std.specs.List.{list_any}
 use Rattle.std.proofs.lemmas.Bool.{ltb-true, lt-ltb, leb-true, le-leb}
-use Rattle.nc_text.specs.declared.refusal.Refusal.{Refusal}
-use Rattle.nc_text.specs.declared.refusal.Refusal.TheVariants.{TooManyDigits, BadCharacter, NoNumber, OpenComment, NoProgramNumber, NoEnd, LineTooLong, TooManyBlocks, TapeTooLong, WordRange}
-use Rattle.nc_text.specs.declared.said.Said.{Said}
-use Rattle.nc_text.specs.declared.said.Said.TheVariants as said
-use Rattle.nc_text.specs.declared.said.Reading.{Reading}
+use Rattle.line_text.specs.declared.refusal.Refusal.{Refusal}
+use Rattle.line_text.specs.declared.refusal.Refusal.TheVariants.{TooManyDigits, BadCharacter, NoNumber, OpenComment, NoProgramNumber, NoEnd, LineTooLong, TooManyBlocks, TapeTooLong, WordRange}
+use Rattle.line_text.specs.declared.said.Said.{Said}
+use Rattle.line_text.specs.declared.said.Said.TheVariants as said
+use Rattle.line_text.specs.declared.said.Reading.{Reading}
 use Rattle.nc_text.specs.Lines.{Line, size_of}
-use Rattle.nc_text.specs.Signs.{are_allowed}
-use Rattle.nc_text.specs.Said.{judged, line_says}
+use Rattle.line_text.specs.Signs.{are_allowed}
+use Rattle.line_text.specs.Said.{judged, line_says}
 use Rattle.nc_text.specs.Tape.{Before, is_past_end, is_block, is_said_in_range, next, with_said, unless_refused, after_said, after_line}
 use Rattle.tape_relation.specs.Parts.{size, begins_percent, has_percent, behind_percent, is_closed}
 use Rattle.tape_relation.proofs.LiteralParts.{both}

@@ -5,9 +5,9 @@ use Rattle.std.specs.Char.{to_ascii_uppercase}
 use Rattle.std.specs.List.{prefix_len, suffix_len}
 use Rattle.std.proofs.lemmas.Bool.Decides.{nat_tests}
 use Rattle.std.proofs.lemmas.List.{length-map, take-map, map-append, reverse-append}
-use Rattle.nc_text.specs.Signs.{Scan, is_blank, add_sign, inside_behind, scan_of, without_last, without_return, without_blanks, content_of, signs_of}
+use Rattle.line_text.specs.Signs.{Scan, is_blank, add_sign, inside_behind, scan_of, without_last, without_return, without_blanks, content_of, signs_of}
 use Rattle.nc_text.specs.Lines.{Line, onto_line, lines_of, is_percent}
-use Rattle.nc_text.specs.Said.{line_says, judged_signs}
+use Rattle.line_text.specs.Said.{line_says, judged_signs}
 use Rattle.nc_text.specs.Tape.{Before, goes_on, after_said, after_outer, after_percent, in_rest, in_body, in_leader, begun, nothing_read, tape_of}
 use Rattle.tape_relation.proofs.Mapped.{either_map, prefix_same}
 

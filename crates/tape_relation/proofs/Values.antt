@@ -5,7 +5,7 @@ use Rattle.std.specs.List.{list_all}
 use Rattle.std.proofs.lemmas.Bool.{eqb-true, eq-eqb}
 use Rattle.std.proofs.lemmas.List.{nil_from_length}
 use Rattle.nc_number.specs.Literals.{is_literal, behind_sign}
-use Rattle.nc_text.specs.Values.{closes, is_variable, is_reference, is_value}
+use Rattle.line_text.specs.Values.{closes, is_variable, is_reference, is_value}
 use Rattle.tape_relation.specs.Numbers.{IsSign}
 use Rattle.tape_relation.specs.Value.{times, IsBracketed, IsVariable, IsValue}
 use Rattle.tape_relation.proofs.LiteralParts.{both, signed, literal_found, literal_read}

@@ -1,7 +1,7 @@
 -- Lines that say the same.
 use Rattle.std.specs.Prelude.{◌≡◌, ℕ, ◌≤◌, false, nat_lt, List, length}
 use Rattle.nc_text.specs.Lines.{Line, is_percent}
-use Rattle.nc_text.specs.Said.{line_says}
+use Rattle.line_text.specs.Said.{line_says}
 
 -- both lines begin with `%` or neither does; if not, they say the same, or are both refused by the same number; both are too
 -- long or neither is

@@ -1,8 +1,8 @@
 -- An answer with other line numbers or other words.
 use Rattle.std.specs.Prelude.{ℕ, ◌-◌, nat_lt, map, Ok, Err, if◌then◌else◌}
-use Rattle.nc_text.specs.declared.tape.Word.{Word}
-use Rattle.nc_text.specs.declared.tape.Body.{Body}
-use Rattle.nc_text.specs.declared.tape.Body.TheVariants.{Words, Statement}
+use Rattle.line_text.specs.declared.body.Word.{Word}
+use Rattle.line_text.specs.declared.body.Body.{Body}
+use Rattle.line_text.specs.declared.body.Body.TheVariants.{Words, Statement}
 use Rattle.nc_text.specs.declared.tape.Block.{Block}
 use Rattle.nc_text.specs.declared.tape.Program.{Program}
 use Rattle.nc_text.specs.Tape.{Answer}

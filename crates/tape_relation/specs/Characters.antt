@@ -2,7 +2,7 @@
 use Rattle.std.specs.Prelude.{◌≡◌, ℕ, ◌+◌, Bool, true, false, ◌&&◌, ◌||◌, ◌==◌, List, [], ◌∷◌, ◌++◌, length, map, codes}
 use Rattle.std.specs.Char.{is_ascii_digit, is_ascii_uppercase, to_ascii_uppercase}
 use Rattle.std.specs.List.{list_any}
-use Rattle.nc_text.specs.declared.sign.Sign.{Sign}
+use Rattle.line_text.specs.declared.sign.Sign.{Sign}
 use Rattle.nc_text.specs.Lines.{Line}
 
 -- spaces and tabs

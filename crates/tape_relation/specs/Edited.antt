@@ -1,12 +1,12 @@
 -- One line of a text, and what may be put into a text.
 use Rattle.std.specs.Prelude.{◌≡◌, ℕ, ◌<◌, ◌≤◌, Bool, true, false, ◌==◌, List, [], ◌∷◌, ◌++◌, length, All, Option, Ok, if◌then◌else◌}
 use Rattle.std.specs.List.{list_all}
-use Rattle.nc_text.specs.declared.said.Said.{Said}
-use Rattle.nc_text.specs.Signs.{signs_of, without_last}
-use Rattle.nc_text.specs.Pieces.{is_comment}
+use Rattle.line_text.specs.declared.said.Said.{Said}
+use Rattle.line_text.specs.Signs.{signs_of, without_last}
+use Rattle.line_text.specs.Pieces.{is_comment}
 use Rattle.nc_text.specs.Lines.{IsOneLine, lines_of, is_percent}
-use Rattle.nc_text.specs.Front.{behind_comments, switch_of}
-use Rattle.nc_text.specs.Said.{line_says, is_skipped}
+use Rattle.line_text.specs.Front.{behind_comments, switch_of}
+use Rattle.line_text.specs.Said.{line_says, is_skipped}
 use Rattle.tape_relation.specs.Alike.{Fits}
 
 -- the last line too has its line feed

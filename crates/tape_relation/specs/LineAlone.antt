@@ -1,8 +1,8 @@
 -- What a line between the `%` lines says, and what is wrong with it, whatever stands before it.
 use Rattle.std.specs.Prelude.{◌≡◌, ℕ, ◌/◌, ◌%◌, ◌^◌, ◌⊎◌, ◌==◌, Bool, true, false, List, ◌∷◌, ◌++◌, Option, Some, None}
 use Rattle.std.specs.List.{list_all}
-use Rattle.nc_text.specs.declared.sign.Sign.{Sign}
-use Rattle.nc_text.specs.declared.piece.Piece.{Piece}
+use Rattle.line_text.specs.declared.sign.Sign.{Sign}
+use Rattle.line_text.specs.declared.piece.Piece.{Piece}
 use Rattle.nc_text.specs.Lines.{Line}
 use Rattle.tape_relation.specs.Characters.{is_comment, bytes_of, AreSigns}
 use Rattle.tape_relation.specs.Words.{AreWords}

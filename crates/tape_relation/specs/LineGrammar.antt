@@ -1,8 +1,8 @@
 -- What a line is, as a grammar over its signs: comments, the skip sign, comments, and a statement or words.
 use Rattle.std.specs.Prelude.{◌≡◌, ℕ, ◌+◌, ◌<◌, ◌≤◌, ◌==◌, ◌⊎◌, Bool, true, false, not, List, [], ◌∷◌, ◌++◌, length, filter, codes, Option, Some, None}
 use Rattle.std.specs.List.{list_all, list_any}
-use Rattle.nc_text.specs.declared.sign.Sign.{Sign}
-use Rattle.nc_text.specs.declared.piece.Piece.{Piece}
+use Rattle.line_text.specs.declared.sign.Sign.{Sign}
+use Rattle.line_text.specs.declared.piece.Piece.{Piece}
 use Rattle.nc_text.specs.Lines.{Line}
 use Rattle.tape_relation.specs.Characters.{is_comment, bytes_of, AreSigns}
 use Rattle.tape_relation.specs.Numbers.{IsLiteral}

@@ -1,10 +1,10 @@
 -- The tape of a text, and the one fault of a text that is no tape, without any reader.
 use Rattle.std.specs.Prelude.{◌≡◌, ℕ, ◌+◌, ◌<◌, ◌⊎◌, true, false, List, [], ◌∷◌, ◌++◌, length}
 use Rattle.nc_text.specs.declared.fault.TextFault.{TextFault}
-use Rattle.nc_text.specs.declared.refusal.Refusal.{Refusal}
-use Rattle.nc_text.specs.declared.refusal.Refusal.TheVariants.{NoProgramNumber, NoEnd}
+use Rattle.line_text.specs.declared.refusal.Refusal.{Refusal}
+use Rattle.line_text.specs.declared.refusal.Refusal.TheVariants.{NoProgramNumber, NoEnd}
 use Rattle.nc_text.specs.declared.tape.Program.{Program}
-use Rattle.nc_text.specs.Refusals.{refusal_number}
+use Rattle.line_text.specs.Refusals.{refusal_number}
 use Rattle.nc_text.specs.Lines.{Line}
 use Rattle.tape_relation.specs.Parts.{AreLines, before_percent, body_of, is_closed, opening_line}
 use Rattle.tape_relation.specs.Conditions.{SayNothing, IsLeast, NoneHolds}

@@ -2,8 +2,8 @@
 use Rattle.std.specs.Prelude.{◌≡◌, ℕ, ◌+◌, true, false, List, [], ◌∷◌, ◌++◌}
 use Rattle.std.specs.Char.{is_ascii_uppercase}
 use Rattle.std.specs.List.{list_all, list_any}
-use Rattle.nc_text.specs.declared.sign.Sign.{Sign}
-use Rattle.nc_text.specs.declared.piece.Piece.{Piece}
+use Rattle.line_text.specs.declared.sign.Sign.{Sign}
+use Rattle.line_text.specs.declared.piece.Piece.{Piece}
 use Rattle.tape_relation.specs.Characters.{is_comment, bytes_of}
 use Rattle.tape_relation.specs.Value.{IsValue}
 

@@ -2,9 +2,9 @@
 
 ghost use Rattle.std.specs.Prelude.{◌≡◌, ◌∷◌, [], ◌++◌, true, false, map, List, ℕ, ◌<◌, Ok, length};
 ghost use Rattle.std.specs.Char.{to_ascii_uppercase};
-ghost use Rattle.nc_text.specs.declared.said.Said.TheVariants as said;
-ghost use Rattle.nc_text.specs.Said.{line_says};
-ghost use Rattle.nc_text.specs.Signs.{is_blank};
+ghost use Rattle.line_text.specs.declared.said.Said.TheVariants as said;
+ghost use Rattle.line_text.specs.Said.{line_says};
+ghost use Rattle.line_text.specs.Signs.{is_blank};
 ghost use Rattle.nc_text.specs.Tape.{tape_of};
 ghost use Rattle.nc_text.specs.Lines.{lines_of};
 ghost use Rattle.tape_relation.specs.Alike.{IsAlike, Fits};

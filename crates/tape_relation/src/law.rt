@@ -3,11 +3,11 @@
 ghost use Rattle.std.specs.Prelude.{◌≡◌, ◌↔◌, ℕ, true, List, Ok, Err};
 ghost use Rattle.nc_text.specs.declared.tape.Program.{Program};
 ghost use Rattle.nc_text.specs.declared.fault.TextFault.{TextFault};
-ghost use Rattle.nc_text.specs.declared.sign.Sign.{Sign};
-ghost use Rattle.nc_text.specs.declared.piece.Piece.{Piece};
+ghost use Rattle.line_text.specs.declared.sign.Sign.{Sign};
+ghost use Rattle.line_text.specs.declared.piece.Piece.{Piece};
 ghost use Rattle.nc_text.specs.Lines.{Line, lines_of};
 ghost use Rattle.nc_text.specs.Tape.{tape_of};
-ghost use Rattle.nc_text.specs.Values.{is_value};
+ghost use Rattle.line_text.specs.Values.{is_value};
 ghost use Rattle.tape_relation.specs.Parts.{AreLines};
 ghost use Rattle.tape_relation.specs.Relation.{IsTape, IsFault};
 ghost use Rattle.tape_relation.specs.Value.{IsValue};

@@ -1,5 +1,5 @@
 use Rattle.std.proofs.Common.{arith}
-use Rattle.nc_text.proofs.ShapeOfLine.{line_said}
+use Rattle.line_text.proofs.ShapeOfLine.{line_said}
 use Rattle.nc_text.proofs.step.program_line.Goals as goal
 
 pub pass_said-requires-clause-shape : goal.pass_said-requires-clause-shape

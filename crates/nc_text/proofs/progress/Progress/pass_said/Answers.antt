@@ -1,4 +1,4 @@
-use Rattle.nc_text.specs.declared.said.Said.TheVariants as said
+use Rattle.line_text.specs.declared.said.Said.TheVariants as said
 use Rattle.nc_text.specs.View.{before_of}
 use Rattle.nc_text.proofs.Growing.{grows_said}
 use Rattle.nc_text.proofs.progress.Progress.pass_said.Goals as goal

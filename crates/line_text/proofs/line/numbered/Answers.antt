@@ -1,0 +1,28 @@
+use Rattle.std.proofs.Common.{◌≡◌, ℕ, ◌-◌, Bool, true, false, ◌&&◌, List, [], ◌∷◌, length, take, drop, refl, sym, ap, ◌∙◌, arith}
+use Rattle.std.proofs.Math.Seq.{take-length}
+use Rattle.std.specs.List.{prefix_len}
+use Rattle.line_text.specs.declared.sign.Sign.{Sign}
+use Rattle.line_text.specs.Front.{is_number_sign, is_numbered, is_statement, sentence_of}
+use Rattle.line_text.proofs.line.numbered.Goals as goal
+
+never : (a b : Bool) → b ≡ false → (a && b) ≡ false
+never true b e = e
+never false b e = refl
+
+-- what stands behind the first sign
+behind_first : (sign : Sign) (signs others : List Sign) → others ≡ take (length (sign ∷ signs) - 1) signs → others ≡ signs
+behind_first sign signs others e =
+    let n : length (sign ∷ signs) - 1 ≡ length signs = omega arith in
+    e ∙ ap (λ (k : ℕ). take k signs) n ∙ take-length signs
+
+no_statement : (signs others behind : List Sign) (n : ℕ) → others ≡ take (length signs - 1) (drop 1 signs) → n ≡ prefix_len is_number_sign others → behind ≡ drop n others → is_statement (sentence_of behind) ≡ false → is_numbered signs ≡ false
+no_statement [] others behind n others-are n-is behind-is e = refl
+no_statement (sign ∷ signs) others behind n others-are n-is behind-is e =
+    let same = behind_first sign signs others others-are in
+    let rest : behind ≡ drop (prefix_len is_number_sign signs) signs = behind-is ∙ (λ i. drop (n-is i) (same i)) ∙ ap (λ (all : List Sign). drop (prefix_len is_number_sign all) signs) same in
+    never _ _ (ap (λ (text : List Sign). is_statement (sentence_of text)) (sym rest) ∙ e)
+
+pub returns-then-not-begins_statement : goal.returns-then-not-begins_statement
+returns-then-not-begins_statement c =
+    let no-statement : is_statement (sentence_of c.split_at.result.1.now) ≡ false = cc (c.begins_statement.ensures, c.if-not-begins_statement.true) in
+    no_statement c.args.signs.now _ c.split_at.result.1.now c.number_len.result refl c.number_len.ensures.count c.split_at.ensures.back no-statement

@@ -1,0 +1,6 @@
+use Rattle.std.proofs.Common.{◌≡◌}
+use Rattle.line_text.specs.Said.{words_of}
+use Rattle.line_text.proofs.words.words.Given as goal
+
+abbrev pub invariant-loop-piece : goal.invariant-loop-piece
+invariant-loop-piece l = l.words.items ≡ words_of l.yielded

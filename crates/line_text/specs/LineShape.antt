@@ -1,0 +1,41 @@
+-- The shape of what a line says.
+use Rattle.std.specs.Prelude.{◌≡◌, ℕ, ◌≤◌, ◌==◌, true, false, List, length, All, Option, None, Some, IfSome}
+use Rattle.std.specs.Char.{is_ascii_uppercase}
+use Rattle.std.specs.List.{list_any}
+use Rattle.nc_number.specs.Literals.{is_literal}
+use Rattle.line_text.specs.declared.body.Word.{Word}
+use Rattle.line_text.specs.declared.body.Body.{Body}
+use Rattle.line_text.specs.declared.body.Body.TheVariants.{Words, Statement}
+use Rattle.line_text.specs.declared.said.Said.{Said}
+use Rattle.line_text.specs.declared.said.Said.TheVariants as said
+use Rattle.line_text.specs.Front.{is_statement}
+use Rattle.line_text.specs.Values.{is_value}
+
+-- A letter and a whole value, on a line of at most so many bytes. N and O among the words are computed: a literal N is the
+-- block's sequence number, and a literal O begins a program.
+pub record IsWordShape (most : ℕ) (word : Word) : Type 0 where
+  pub letter : is_ascii_uppercase word.letter ≡ true
+  pub value : is_value word.text ≡ true
+  pub short : length word.text ≤ most
+  pub sequence : word.letter ≡ 78 → is_literal word.text ≡ false
+  pub program : word.letter ≡ 79 → is_literal word.text ≡ false
+
+-- a computed O is alone in its block
+abbrev pub IsAlone : Option ℕ → List Word → Type 0
+IsAlone sequence words = list_any (λ word. word.letter == 79) words ≡ true → (length words ≡ 1) × (sequence ≡ None)
+
+abbrev pub IsBodyShape : ℕ → Option ℕ → Body → Type 0
+IsBodyShape most sequence (Words words) = All (IsWordShape most) words × IsAlone sequence words
+IsBodyShape most sequence (Statement text) = (is_statement text ≡ true) × (length text ≤ most)
+
+-- what stands in a block
+pub record IsSaidShape (most : ℕ) (sequence : Option ℕ) (body : Body) : Type 0 where
+  pub sequence_is : IfSome sequence (λ n. n ≤ 99999)
+  pub body_is : IsBodyShape most sequence body
+
+-- what a line of so many bytes says
+abbrev pub IsSaid : ℕ → Said → Type 0
+IsSaid most said.Nothing = Unit {0}
+IsSaid most (said.Program None) = Unit {0}
+IsSaid most (said.Program (Some number)) = (1 ≤ number) × (number ≤ 9999)
+IsSaid most (said.Block block) = IsSaidShape most block.sequence block.body

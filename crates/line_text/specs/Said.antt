@@ -1,0 +1,157 @@
+-- What a line between the `%` lines says, and what makes it unreadable.
+use Rattle.std.specs.Prelude.{◌≡◌, ℕ, ◌<◌, ◌+◌, ◌/◌, ◌%◌, ◌^◌, Bool, true, false, not, ◌&&◌, ◌||◌, ◌==◌, nat_lt, List, [], ◌∷◌, length, map, filter, take, All, Option, Some, None, Result, Ok, Err, is_some, if◌then◌else◌}
+use Rattle.std.specs.List.{list_all, list_any, prefix_len}
+use Rattle.std.specs.Global.{Vec}
+use Rattle.nc_number.specs.Literals.{is_literal, has_too_many_digits}
+use Rattle.line_text.specs.declared.sign.Sign.{Sign}
+use Rattle.line_text.specs.declared.piece.Piece.{Piece}
+use Rattle.line_text.specs.declared.body.Word.{Word}
+use Rattle.line_text.specs.declared.body.Body.TheVariants.{Words, Statement}
+use Rattle.line_text.specs.declared.refusal.Refusal.{Refusal}
+use Rattle.line_text.specs.declared.refusal.Refusal.TheVariants.{TooManyDigits, BadCharacter, NoNumber, OpenComment}
+use Rattle.line_text.specs.declared.said.Said.{Said}
+use Rattle.line_text.specs.declared.said.Said.TheVariants as said
+use Rattle.line_text.specs.declared.said.Reading.{Reading}
+use Rattle.line_text.specs.Signs.{Scan, are_allowed, signs_of}
+use Rattle.line_text.specs.Pieces.{bytes_of, pieces_of, value_len}
+use Rattle.line_text.specs.Front.{behind_comments, switch_of, behind_switch, sentence_of, is_statement, is_numbered, number_part, behind_number}
+use Rattle.line_text.specs.Values.{is_value, number_in, has_long_front}
+
+-- the line is shorter than 2 ^ 32 bytes
+abbrev pub AreShort : List Piece → Type 0
+AreShort pieces = All (λ piece. length piece.text < 2 ^ 32) pieces
+
+-- an N with a literal is the block's sequence number
+abbrev pub is_sequence : Piece → Bool
+is_sequence piece = piece.letter == 78 && is_literal piece.text
+
+-- a letter with a whole value
+abbrev pub is_sound : Piece → Bool
+is_sound piece = piece.whole && is_value piece.text
+
+-- a sequence number or an O number with more digits than are allowed, whatever stands behind it
+abbrev pub is_long : Piece → Bool
+is_long piece = (piece.letter == 78 || piece.letter == 79) && has_long_front piece.text
+
+abbrev pub has_program_letter : List Piece → Bool
+has_program_letter pieces = list_any (λ piece. piece.letter == 79) pieces
+
+-- nothing but comments stands beside an O word
+abbrev pub stands_alone : Bool → List Piece → Bool
+stands_alone slash pieces = not (has_program_letter pieces) || (not slash && length pieces == 1)
+
+-- the last sequence number, or what it was before
+abbrev pub sequence_from : Option ℕ → List Piece → Option ℕ
+sequence_from before [] = before
+sequence_from before (piece ∷ pieces) = sequence_from (if is_sequence piece then number_in 0 99999 piece.text else before) pieces
+
+abbrev pub is_in_range : Piece → Bool
+is_in_range piece = not (is_sequence piece) || is_some (number_in 0 99999 piece.text)
+
+abbrev pub word_of : Piece → Word
+word_of piece = record { letter = piece.letter; start = piece.start; end = piece.end; text = piece.text }
+
+-- the words of a block, without its sequence numbers
+abbrev pub words_of : List Piece → List Word
+words_of pieces = map word_of (filter (λ piece. not (is_sequence piece)) pieces)
+
+-- an O number begins a program
+abbrev pub is_program : Bool → List Piece → Bool
+is_program slash [] = false
+is_program slash (piece ∷ pieces) = ((not slash && length pieces == 0) && piece.letter == 79) && is_literal piece.text
+
+abbrev pub program_number : List Piece → Option ℕ
+program_number [] = None
+program_number (piece ∷ pieces) = number_in 1 9999 piece.text
+
+abbrev pub said_by : Bool → List Piece → Said
+said_by slash pieces =
+    if is_program slash pieces then said.Program (program_number pieces)
+    else said.Block (record { sequence = sequence_from None pieces; in_range = list_all is_in_range pieces; body = Words (words_of pieces) })
+
+-- the numbers up to the first place where no word can begin count
+abbrev pub read_pieces : Bool → List Piece → Reading
+read_pieces slash pieces = record {
+  long = list_any is_long (take (prefix_len is_sound pieces + 1) pieces);
+  broken = nat_lt (prefix_len is_sound pieces) (length pieces) || not (stands_alone slash pieces);
+  said = said_by slash pieces;
+}
+
+-- something stands before the first letter that begins no word
+abbrev pub unreadable : Reading
+unreadable = record { long = false; broken = true; said = said.Nothing }
+
+unfoldable pub read_words : Bool → List Sign → Reading
+read_words slash signs = if value_len signs 0 == 0 then read_pieces slash (pieces_of signs) else unreadable
+
+-- a statement behind N and a literal
+abbrev pub numbered_text : List Sign → List ℕ
+numbered_text [] = []
+numbered_text (sign ∷ signs) = bytes_of (number_part signs)
+
+abbrev pub numbered_sentence : List Sign → List ℕ
+numbered_sentence [] = []
+numbered_sentence (sign ∷ signs) = sentence_of (behind_number signs)
+
+unfoldable pub read_numbered : List Sign → Reading
+read_numbered signs = record {
+  long = has_too_many_digits (numbered_text signs);
+  broken = false;
+  said = said.Block (record { sequence = number_in 0 99999 (numbered_text signs); in_range = is_some (number_in 0 99999 (numbered_text signs)); body = Statement (numbered_sentence signs) });
+}
+
+unfoldable pub read_statement : List Sign → Reading
+read_statement signs = record {
+  long = false;
+  broken = false;
+  said = said.Block (record { sequence = None; in_range = true; body = Statement (sentence_of signs) });
+}
+
+-- a block behind its skip sign
+unfoldable pub read_block : Bool → List Sign → Reading
+read_block slash signs =
+    if is_numbered signs then read_numbered signs
+    else (if is_statement (sentence_of signs) then read_statement signs else read_words slash signs)
+
+-- a line without a block
+abbrev pub no_block : Reading
+no_block = record { long = false; broken = false; said = said.Nothing }
+
+-- a block's switch is set
+abbrev pub is_skipped : ℕ → Option ℕ → Bool
+is_skipped skips None = false
+is_skipped skips (Some switch) = (skips / 2 ^ switch) % 2 == 1
+
+-- the least refusal of a line by itself; a skipped block must be readable, but says nothing
+abbrev pub judged : Bool → Bool → Bool → Reading → Result Said Refusal
+judged skipped allowed unclosed reading =
+    if reading.long && not skipped then Err TooManyDigits
+    else (if not allowed then Err BadCharacter
+    else (if reading.broken then Err NoNumber
+    else (if unclosed then Err OpenComment
+    else (if skipped then Ok said.Nothing
+    else Ok reading.said))))
+
+unfoldable pub read_head : List Sign → Reading
+read_head [] = no_block
+read_head (sign ∷ signs) = read_block (is_some (switch_of (sign ∷ signs))) (behind_comments (behind_switch (sign ∷ signs)))
+
+abbrev pub judged_signs : ℕ → Scan → Result Said Refusal
+judged_signs skips scan =
+    judged (is_skipped skips (switch_of (behind_comments scan.list))) (are_allowed scan.list) scan.unclosed (read_head (behind_comments scan.list))
+
+-- what a line says, or its least refusal by itself
+unfoldable pub line_says : ℕ → List ℕ → Bool → Result Said Refusal
+line_says skips line ended = judged_signs skips (signs_of line ended)
+
+-- the number and the text of a numbered statement, where the signs are one
+abbrev pub IsNumbered : List Sign → Option (Vec ℕ × Vec ℕ) → Type 0
+IsNumbered signs None = is_numbered signs ≡ false
+IsNumbered signs (Some found) = (is_numbered signs ≡ true) × (found.0.items ≡ numbered_text signs) × (found.1.items ≡ numbered_sentence signs) × (is_literal found.0.items ≡ true)
+
+abbrev pub statement_reading : Option ℕ → Bool → List ℕ → Bool → Reading
+statement_reading number in_range text long = record {
+  long = long;
+  broken = false;
+  said = said.Block (record { sequence = number; in_range = in_range; body = Statement text });
+}

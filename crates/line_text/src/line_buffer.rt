@@ -1,0 +1,18 @@
+use crate::sign::Sign;
+use std::alloc::Global;
+
+/// Where lines are read. The room that one line takes is used for the next.
+#[derive(Debug, Drop)]
+pub struct LineBuffer {
+    pub alloc: Global,
+    pub signs: Vec<Sign>,
+}
+
+impl LineBuffer {
+    pub fn new(alloc: Global) -> Self {
+        LineBuffer {
+            alloc,
+            signs: Vec::new(alloc),
+        }
+    }
+}

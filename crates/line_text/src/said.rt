@@ -1,0 +1,29 @@
+use crate::body::Body;
+
+/// A block without its line.
+#[derive(Debug, Drop)]
+pub struct SaidBlock {
+    pub sequence: Option<u32>,
+    /// Each sequence number of the block is in its range.
+    pub in_range: bool,
+    pub body: Body,
+}
+
+/// What a line says.
+#[derive(Debug, Drop)]
+pub enum Said {
+    Nothing,
+    /// An O number, if it is in its range.
+    Program(Option<u32>),
+    Block(SaidBlock),
+}
+
+/// What a line says if it is readable.
+#[derive(Debug, Drop)]
+pub struct Reading {
+    /// A sequence number or an O number has too many digits.
+    pub long: bool,
+    /// Something stands where no word can.
+    pub broken: bool,
+    pub said: Said,
+}

@@ -1,6 +1,0 @@
-use Rattle.std.proofs.Common.{◌≡◌, ◌++◌, drop}
-use Rattle.nc_text.specs.Pieces.{bytes_of}
-use Rattle.nc_text.proofs.cut.bytes.Given as goal
-
-abbrev pub invariant-loop-sign : goal.invariant-loop-sign
-invariant-loop-sign l = l.bytes.items ++ bytes_of (drop l.sign-index l.signs) ≡ bytes_of l.signs

@@ -1,6 +1,0 @@
-use Rattle.std.proofs.Common.{◌≡◌, ◌++◌, drop}
-use Rattle.nc_text.specs.Front.{sentence_of}
-use Rattle.nc_text.proofs.front.sentence.Given as goal
-
-abbrev pub invariant-loop-sign : goal.invariant-loop-sign
-invariant-loop-sign l = l.text.items ++ sentence_of (drop l.sign-index l.signs) ≡ sentence_of l.signs

@@ -1,5 +1,0 @@
-use Rattle.nc_text.proofs.Placing.{placed_behind}
-use Rattle.nc_text.proofs.line.read_head.Goals as goal
-
-pub read_block-requires-clause-placed : goal.read_block-requires-clause-placed
-read_block-requires-clause-placed c = rw (c.behind_comments.ensures, c.front-switch.ensures.rest) (placed_behind c.args.head.now c.requires.placed)

@@ -1,7 +1,0 @@
-use Rattle.std.proofs.Common.{◌≡◌, drop}
-use Rattle.std.specs.Prelude.{None}
-use Rattle.nc_text.specs.Said.{sequence_from}
-use Rattle.nc_text.proofs.words.sequence.Given as goal
-
-abbrev pub invariant-loop-piece : goal.invariant-loop-piece
-invariant-loop-piece l = sequence_from l.number (drop l.piece-index l.pieces) ≡ sequence_from None l.pieces

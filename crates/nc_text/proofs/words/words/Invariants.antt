@@ -1,6 +1,0 @@
-use Rattle.std.proofs.Common.{◌≡◌}
-use Rattle.nc_text.specs.Said.{words_of}
-use Rattle.nc_text.proofs.words.words.Given as goal
-
-abbrev pub invariant-loop-piece : goal.invariant-loop-piece
-invariant-loop-piece l = l.words.items ≡ words_of l.yielded
