@@ -15,30 +15,6 @@ use Rattle.block_order.specs.ProgramPlaces.{place_of}
 use Rattle.block_order.specs.TapeTable.{IsProgramTables, IsTapeTables}
 use Rattle.block_order.proofs.Programs.{stands, blocks_there, place_within}
 
-same_target : (a b : ℕ) → ◌≡◌ {A = Option ℕ} (Some a) (Some b) → a ≡ b
-same_target a b e = cc
-
-pub leads_then : (bs : List ControlBlock) (block n target : ℕ) → seek bs block n ≡ Some target → IsPermitted bs block target
-    → (t : ℕ) → (◌≡◌ {A = Result ℕ Cause} (Ok target) (Ok t)) ↔ Leads bs block n t
-leads_then bs block n target at may t = (
-  λ e. let same : target ≡ t = cc in subst (Leads bs block n) same (record { found = at; permitted = may }),
-  λ l. let same : target ≡ t = same_target target t (sym at ∙ l.found) in cc,
-)
-
-pub leads_else : (bs : List ControlBlock) (block n target : ℕ) → seek bs block n ≡ Some target → (IsPermitted bs block target → ⊥)
-    → (t : ℕ) → (◌≡◌ {A = Result ℕ Cause} (Err IntoLoop) (Ok t)) ↔ Leads bs block n t
-leads_else bs block n target at never t = (
-  λ e. absurd cc,
-  λ l. let same : t ≡ target = same_target t target (sym l.found ∙ at) in absurd (never (subst (IsPermitted bs block) same l.permitted)),
-)
-
-pub leads_none : (bs : List ControlBlock) (block n : ℕ) → seek bs block n ≡ None
-    → (t : ℕ) → (◌≡◌ {A = Result ℕ Cause} (Err NoSequence) (Ok t)) ↔ Leads bs block n t
-leads_none bs block n none t = (
-  λ e. absurd cc,
-  λ l. let both : ◌≡◌ {A = Option ℕ} None (Some t) = sym none ∙ l.found in absurd cc,
-)
-
 -- the first fault of a stage behind stages that are clear is the first fault of the tape
 pub first_of : (tape : List ControlProgram) (stage : Stage) (o : Option OrderFault) (fault : OrderFault) → IsClearBefore tape stage
     → IsFirstOf tape stage o → o ≡ Some fault → IsFirst tape fault.line fault.cause

@@ -17,18 +17,19 @@ same_number a b never = go (a == b) refl
     go true e = eqb-true a b e
     go false e = absurd (never (eqb-false a b e))
 
-block_at : (bs : List ControlBlock) (place : ℕ) (c : Control) → control_at bs place ≡ Some c
+-- the block of a control
+pub block_of_control : (bs : List ControlBlock) (place : ℕ) (c : Control) → control_at bs place ≡ Some c
     → (block : ControlBlock) × (slice_get bs place ≡ Some block) × (block.control ≡ c)
-block_at [] place c is = absurd cc
-block_at (b ∷ bs) zero c is = let same : b.control ≡ c = cc in (b, refl, same)
-block_at (b ∷ bs) (suc place) c is = block_at bs place c is
+block_of_control [] place c is = absurd cc
+block_of_control (b ∷ bs) zero c is = let same : b.control ≡ c = cc in (b, refl, same)
+block_of_control (b ∷ bs) (suc place) c is = block_of_control bs place c is
 
 jumps_straight : (tape : List ControlProgram) → IsClear tape Waiting → (program place target : ℕ) (c : Control)
     → Counts tape program
     → control_at (blocks tape program) place ≡ Some c → IsTarget tape program place c target
     → stretch (loud tape) (blocks tape program) place ≡ stretch (loud tape) (blocks tape program) target
 jumps_straight tape clear program place target c counts is to =
-    let b = block_at (blocks tape program) place c is in
+    let b = block_of_control (blocks tape program) place c is in
     let own : IsTarget tape program place b.0.control target =
     subst (λ x. IsTarget tape program place x target) (sym b.2) to in
     same_number (stretch (loud tape) (blocks tape program) place) (stretch (loud tape) (blocks tape program) target)
@@ -38,14 +39,14 @@ loops_straight : (tape : List ControlProgram) → IsClear tape Waiting → (prog
     → IsLoop (blocks tape program) head close
     → stretch (loud tape) (blocks tape program) head ≡ stretch (loud tape) (blocks tape program) close
 loops_straight tape clear program head close counts is_loop =
-    let b = block_at (blocks tape program) close (EndLoop is_loop.name) is_loop.is_close in
+    let b = block_of_control (blocks tape program) close (EndLoop is_loop.name) is_loop.is_close in
     same_number (stretch (loud tape) (blocks tape program) head) (stretch (loud tape) (blocks tape program) close)
     (λ differ. clear b.0.line _ (strays program close b.0 b.1 (loop head counts is_loop differ)))
 
 backs_main : (tape : List ControlProgram) → IsClear tape Waiting → (program place n : ℕ) → loud tape program ≡ true
     → control_at (blocks tape program) place ≡ Some (BackTo n) → program ≡ main_number tape
 backs_main tape clear program place n noisy is =
-    let b = block_at (blocks tape program) place (BackTo n) is in
+    let b = block_of_control (blocks tape program) place (BackTo n) is in
     same_number program (main_number tape)
     (λ differ. clear b.0.line _ (strays program place b.0 b.1 (back n noisy differ b.2)))
 
@@ -53,7 +54,7 @@ backs_main tape clear program place n noisy is =
 no_ninth : (tape : List ControlProgram) → IsClear tape Waiting → (m n program : ℕ) → n + m ≡ 8
     → IsReachedBy tape n (main_number tape) program → Chain tape (suc m) program → ⊥
 no_ninth tape clear zero n program eight reached (place, called, repeats, is, noisy, rest) =
-    let b = block_at (blocks tape program) place (Call called repeats) is in
+    let b = block_of_control (blocks tape program) place (Call called repeats) is in
     let all : n ≡ 8 = omega (arith, eight) in
     let eighth = subst (λ k. IsReachedBy tape k (main_number tape) program) all reached in
     clear b.0.line _ (deep program place called repeats b.0 eighth b.1 b.2 noisy)

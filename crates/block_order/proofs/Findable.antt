@@ -18,7 +18,7 @@ use Rattle.block_order.specs.Shape.{IsListed}
 use Rattle.block_order.specs.Faults.{Stage, Fitting, Finding, Waiting, HasFault, IsClear, IsNoLater, fixed_number, Stands, twice, mismatch, lost, unknown, into, strays, deep}
 use Rattle.block_order.specs.Found.{JumpFault, BlockFault, barred, jumps, calls, IsFaultOf, IsProgramFault}
 use Rattle.block_order.specs.Found as block
-use Rattle.block_order.specs.TapeTable.{place_from, place_of}
+use Rattle.block_order.specs.ProgramPlaces.{place_from, place_of}
 use Rattle.block_order.proofs.Lines.{rise-programs, rise-own, block-order, block-in}
 use Rattle.block_order.proofs.Located.{clear-new}
 
@@ -62,18 +62,6 @@ lift-jump tape p place n control None fixed other w = λ cause f. go cause f whe
       w cause (subst (λ (x : ℕ). JumpFault p.blocks place x cause) (sym k) j)
   go _ (calls called repeats e none) = other called repeats e
 
-find-place : (tape : List ControlProgram) (at q : ℕ) → place_from tape at q ≡ None → program_of tape q ≡ None
-find-place [] at q e = refl
-find-place (t ∷ ts) at q e = go (λ f. find-place ts (suc at) q f) (eqb t.number q) e where
-  go : (place_from ts (suc at) q ≡ None → program_of ts q ≡ None) → (v : Bool)
-      → cond v (Some at) (place_from ts (suc at) q) ≡ None → cond v (Some t) (program_of ts q) ≡ None
-  go rest true f = absurd cc
-  go rest false f = rest f
-
-pub no-program : (tape : List ControlProgram) (q : ℕ) → place_of tape q ≡ None → program_of tape q ≡ None
-unfolding place_of
-no-program tape q e = find-place tape 0 q e
-
 some-place : (tape : List ControlProgram) (at q i : ℕ) → place_from tape at q ≡ Some i → is_some (program_of tape q) ≡ true
 some-place [] at q i e = absurd cc
 some-place (t ∷ ts) at q i e = go (λ f. some-place ts (suc at) q i f) (eqb t.number q) e where
@@ -83,7 +71,6 @@ some-place (t ∷ ts) at q i e = go (λ f. some-place ts (suc at) q i f) (eqb t.
   go rest false f = rest f
 
 pub some-program : (tape : List ControlProgram) (q i : ℕ) → place_of tape q ≡ Some i → is_some (program_of tape q) ≡ true
-unfolding place_of
 some-program tape q i e = some-place tape 0 q i e
 
 pub lift-call : (tape : List ControlProgram) (p : ControlProgram) (place called repeats : ℕ) (control : Control) (o : Option Cause)

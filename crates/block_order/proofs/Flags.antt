@@ -1,13 +1,16 @@
 -- Flags of programs at their places, asked by O numbers.
-use Rattle.std.proofs.Common.{◌≡◌, ℕ, zero, suc, ◌+◌, ◌-◌, ◌≤◌, length, Bool, true, false, ◌==◌, List, [], ◌∷◌, map, drop, find, slice_index_or, refl, ap, sym, ◌∙◌, arith}
+use Rattle.std.proofs.Common.{◌≡◌, ◌≢◌, ◌↔◌, ◌⊎◌, inl, inr, ℕ, zero, suc, ◌+◌, ◌-◌, ◌<◌, ◌≤◌, length, Bool, true, false, ◌==◌, List, [], ◌∷◌, map, drop, find, slice_index_or, slice_set, Option, Some, None, refl, ap, sym, ◌∙◌, arith}
+use Rattle.std.proofs.lemmas.Grind.{get_or-set_at}
+use Rattle.std.proofs.lemmas.List.{get_or-set_other}
 use Rattle.block_order.specs.declared.numbers.ProgramNumbers.{ProgramNumbers}
 use Rattle.block_order.specs.declared.program.ControlBlock.{ControlBlock}
 use Rattle.block_order.specs.declared.program.ControlProgram.{ControlProgram}
 use Rattle.block_order.specs.Order.{blocks_of, blocks}
 use Rattle.block_order.specs.Loud.{has_loud_block, known_loud, loud}
-use Rattle.block_order.specs.ProgramPlaces.{place_from, flag_at, flagged}
+use Rattle.block_order.specs.ProgramPlaces.{place_from, place_of, flag_at, flagged}
 use Rattle.block_order.specs.Numbers.{KnowsPlaces}
 use Rattle.block_order.specs.Heard.{flag_known}
+use Rattle.block_order.proofs.Programs.{one_place}
 
 -- what stands at a place is the first of the rest from there
 drop_head : {X : Type 0} (n : ℕ) (xs : List X) (x d : X) (rest : List X) → drop n xs ≡ x ∷ rest
@@ -68,3 +71,36 @@ unfolding loud
 settled tape n within e =
     let next : n + 1 ≡ suc n = omega arith in
     stays tape n (e ∙ ap (λ m. known_loud tape m) next) (length tape - n) (length tape) (omega arith)
+
+same_or_not : (m n : ℕ) → (m ≡ n) ⊎ (m ≢ n)
+same_or_not m n = grind arith
+
+-- one flag more
+pub flag_set : (tape : List ControlProgram) (flags : List Bool) (number place : ℕ) → place_of tape number ≡ Some place
+    → place < length flags
+    → (q : ℕ) → (flagged tape (slice_set flags place true) q ≡ true) ↔ ((flagged tape flags q ≡ true) ⊎ (q ≡ number))
+flag_set tape flags number place is within q = go (place_of tape q) refl
+  where
+    at_place : (i : ℕ) → place_of tape q ≡ Some i → (i ≡ place) ⊎ (i ≢ place)
+        → (flag_at (slice_set flags place true) (Some i) ≡ true) ↔ ((flag_at flags (Some i) ≡ true) ⊎ (q ≡ number))
+    at_place i y (inl e) =
+        (λ t. inr (one_place tape q number place (y ∙ ap (λ k. Some k) e) is), λ h. get_or-set_at flags place i true false e within)
+    at_place i y (inr n) =
+        let other = get_or-set_other flags place i true false n in (
+          λ t. inl (sym other ∙ t),
+          λ h. elim h [
+            | inl t ↦ other ∙ t
+            | inr e ↦ absurd (let both : Some i ≡ Some place = sym y ∙ (ap (λ k. place_of tape k) e ∙ is) in let same : i ≡ place = cc in n same)
+          ],
+        )
+
+    go : (o : Option ℕ) → place_of tape q ≡ o
+        → (flag_at (slice_set flags place true) (place_of tape q) ≡ true) ↔ ((flag_at flags (place_of tape q) ≡ true) ⊎ (q ≡ number))
+    go None y = rw y (
+      λ t. absurd cc,
+      λ h. elim h [
+        | inl t ↦ absurd cc
+        | inr e ↦ absurd (let both : ◌≡◌ {A = Option ℕ} None (Some place) = sym y ∙ (ap (λ k. place_of tape k) e ∙ is) in cc)
+      ],
+    )
+    go (Some i) y = rw y (at_place i y (same_or_not i place))

@@ -7,8 +7,7 @@ use Rattle.block_order.specs.Loud.{has_loud_block, known_loud, loud}
 use Rattle.block_order.specs.ProgramPlaces.{place_of, flagged}
 use Rattle.block_order.specs.Numbers.{KnowsPlaces}
 use Rattle.block_order.specs.Heard.{flag_known}
-use Rattle.block_order.proofs.Flags.{flag_of_blocks, known_is_flagged, none_known}
-use Rattle.block_order.proofs.Called.{flag_set}
+use Rattle.block_order.proofs.Flags.{flag_of_blocks, flag_set, known_is_flagged, none_known}
 use Rattle.block_order.proofs.LoudReaches.{IsWithin, has_within, loud-has}
 
 -- a program with a loud block is loud, if what is known is so

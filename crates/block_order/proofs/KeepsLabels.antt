@@ -1,16 +1,18 @@
 -- Each step keeps the labels ahead, but for an M99 of the main program.
-use Rattle.std.proofs.Common.{◌≡◌, ℕ, zero, suc, ◌<◌, inl, inr, Bool, true, false, List, [], ◌∷◌, length, Some, refl, ap, sym, subst, ◌∙◌, arith}
+use Rattle.std.proofs.Common.{◌≡◌, ℕ, zero, suc, ◌<◌, inl, inr, Bool, true, false, List, [], ◌∷◌, length, Some, Ok, refl, ap, sym, subst, ◌∙◌, arith}
 use Rattle.block_order.specs.declared.control.Control.{Control}
 use Rattle.block_order.specs.declared.control.Control.TheVariants.{Next, Goto, While, Do, EndLoop, Wait, End, Call, Back, BackTo}
 use Rattle.block_order.specs.declared.frame.Frame.{Frame}
 use Rattle.block_order.specs.declared.label.Label.TheVariants as label
 use Rattle.block_order.specs.declared.program.ControlProgram.{ControlProgram}
-use Rattle.block_order.specs.Order.{blocks, control_at, IsLoop}
+use Rattle.block_order.specs.Order.{blocks, control_at, IsLoop, Leads}
 use Rattle.block_order.specs.Loud.{loud, mark_of}
 use Rattle.block_order.specs.Labels.{room, behind, counts, IsTarget, Counts, IsUnforked}
-use Rattle.block_order.specs.Steps.{at, returned, ReturnsTo, Goes, IsPlace, Kept, Same}
+use Rattle.block_order.specs.Moves.{at, return_by, place_of_jump_back}
+use Rattle.block_order.specs.Steps.{Goes, IsPlace, Kept, Same}
 use Rattle.block_order.proofs.LoudReaches.{AreLoud}
 use Rattle.block_order.proofs.CallChains.{counts_below, main_below}
+use Rattle.block_order.proofs.Moved.{jump_leads, exit_leads, head_leads, call_leads}
 use Rattle.block_order.proofs.LabelsAhead.{ahead-counts, ahead-quiet, moves_kept, from-next, from-jump, call_opens, repeat_begins, last_returns}
 
 -- the running program counts: it is the main program or loud
@@ -70,7 +72,7 @@ call_kept tape are f stack q more is few = go (loud tape q) refl
 pub back_kept : (tape : List ControlProgram) → AreLoud tape → (f g : Frame) (stack : List Frame)
     → IsPlace tape (f ∷ g ∷ stack) → control_at (blocks tape f.program) f.block ≡ Some Back
     → (left : ℕ) → f.left ≡ left
-    → Same tape f (g ∷ stack) (returned left f (g ∷ stack))
+    → Same tape f (g ∷ stack) (return_by left f (g ∷ stack))
 back_kept tape are f g stack place is zero l = go (loud tape f.program) refl
   where
     go : (b : Bool) → loud tape f.program ≡ b → Same tape f (g ∷ stack) (at g (suc g.block) ∷ stack)
@@ -94,21 +96,25 @@ back_kept tape are f g stack place is (suc left) l = go (loud tape f.program) re
 
 pub back_to_kept : (tape : List ControlProgram) → AreLoud tape → IsUnforked tape → (f : Frame) (stack : List Frame)
     → IsPlace tape (f ∷ stack) → (n : ℕ) → control_at (blocks tape f.program) f.block ≡ Some (BackTo n)
-    → (to : List Frame) → ReturnsTo tape f stack n to → Same tape f stack to
-back_to_kept tape are un f [] place n is to (target, leads, e) =
-    subst (Same tape f []) (sym e) (jump_kept tape un f [] place (BackTo n) is target (place.0, leads))
-back_to_kept tape are un f (g ∷ stack) place n is to (target, leads, e) =
-    subst (Same tape f (g ∷ stack)) (sym e) (go (loud tape f.program) refl)
+    → (to : List Frame) → place_of_jump_back tape n (f ∷ stack) ≡ Ok to → Same tape f stack to
+back_to_kept tape are un f [] place n is to e =
+    let j = jump_leads tape n f [] to e in
+    subst (Same tape f []) (sym j.2) (jump_kept tape un f [] place (BackTo n) is j.0 (place.0, j.1))
+back_to_kept tape are un f (g ∷ stack) place n is to e =
+    let j = jump_leads tape n g stack to e in
+    subst (Same tape f (g ∷ stack)) (sym j.2) (go j.0 j.1 (loud tape f.program) refl)
   where
-    go : (b : Bool) → loud tape f.program ≡ b → Same tape f (g ∷ stack) (at g target ∷ stack)
-    go true noisy = absurd (main_below tape are un f g stack place noisy (un.backs f.program f.block n noisy is))
-    go false quiet =
+    go : (target : ℕ) → Leads (blocks tape g.program) g.block n target → (b : Bool) → loud tape f.program ≡ b
+        → Same tape f (g ∷ stack) (at g target ∷ stack)
+    go target leads true noisy =
+        absurd (main_below tape are un f g stack place noisy (un.backs f.program f.block n noisy is))
+    go target leads false quiet =
         jump_kept tape un g stack place.3 (Call f.program place.0) place.1 target (quiet, f.block, n, is, leads)
         ∙ sym (ahead-quiet tape f (g ∷ stack) quiet)
 
 pub restart_kept : (tape : List ControlProgram) (f : Frame) → IsPlace tape (f ∷ [])
     → control_at (blocks tape f.program) f.block ≡ Some Back
-    → (to : List Frame) → Goes tape f [] Back to → Kept tape f [] Back to
+    → (to : List Frame) → Goes tape (f ∷ []) Back to → Kept tape f [] Back to
 restart_kept tape f place is to e = (
   rw place.1 (last_returns tape 8 f.program f.block (label.Again ∷ []) is),
   rw (e, place.0, place.1) refl,
@@ -116,24 +122,26 @@ restart_kept tape f place is to e = (
 
 pub keeps : (tape : List ControlProgram) → AreLoud tape → IsUnforked tape → (f : Frame) (stack : List Frame)
     → IsPlace tape (f ∷ stack) → (c : Control) → control_at (blocks tape f.program) f.block ≡ Some c
-    → (to : List Frame) → Goes tape f stack c to → Kept tape f stack c to
+    → (to : List Frame) → Goes tape (f ∷ stack) c to → Kept tape f stack c to
 keeps tape are un f stack place Next is to e = subst (Same tape f stack) (sym e) (next_kept tape f stack Next is refl)
 keeps tape are un f stack place (Goto n) is to (inl e) =
     subst (Same tape f stack) (sym e) (next_kept tape f stack (Goto n) is refl)
-keeps tape are un f stack place (Goto n) is to (inr (k, target, may, leads, e)) =
-    subst (Same tape f stack) (sym e) (jump_kept tape un f stack place (Goto n) is target (k, may, leads))
+keeps tape are un f stack place (Goto n) is to (inr (k, may, e)) =
+    let j = jump_leads tape k f stack to e in
+    subst (Same tape f stack) (sym j.2) (jump_kept tape un f stack place (Goto n) is j.0 (k, may, j.1))
 keeps tape are un f stack place (While m) is to (inl e) =
     subst (Same tape f stack) (sym e) (next_kept tape f stack (While m) is refl)
-keeps tape are un f stack place (While m) is to (inr (close, loop, e)) =
-    subst (Same tape f stack) (sym e) (exit_kept tape un f stack place close loop)
+keeps tape are un f stack place (While m) is to (inr e) =
+    let j = exit_leads tape f stack to e in subst (Same tape f stack) (sym j.2) (exit_kept tape un f stack place j.0 j.1)
 keeps tape are un f stack place (Do m) is to e =
     subst (Same tape f stack) (sym e) (next_kept tape f stack (Do m) is refl)
-keeps tape are un f stack place (EndLoop m) is to (head, loop, e) =
-    subst (Same tape f stack) (sym e) (loop_kept tape un f stack place head loop)
+keeps tape are un f stack place (EndLoop m) is to e =
+    let j = head_leads tape f stack to e in subst (Same tape f stack) (sym j.2) (loop_kept tape un f stack place j.0 j.1)
 keeps tape are un f stack place (Wait code) is to e = absurd e
 keeps tape are un f stack place End is to e = absurd e
-keeps tape are un f stack place (Call q r) is to (more, more_is, few, e) =
-    subst (Same tape f stack) (sym e) (call_kept tape are f stack q more (is ∙ ap (λ k. Some (Call q k)) more_is) few)
+keeps tape are un f stack place (Call q r) is to e =
+    let j = call_leads q r f stack to e in
+    subst (Same tape f stack) (sym j.3) (call_kept tape are f stack q j.0 (is ∙ ap (λ k. Some (Call q k)) j.1) j.2)
 keeps tape are un f [] place Back is to e = restart_kept tape f place is to e
 keeps tape are un f (g ∷ stack) place Back is to e =
     subst (Same tape f (g ∷ stack)) (sym e) (back_kept tape are f g stack place is f.left refl)

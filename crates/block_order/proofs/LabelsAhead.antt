@@ -10,7 +10,7 @@ use Rattle.block_order.specs.declared.program.ControlProgram.{ControlProgram}
 use Rattle.block_order.specs.Order.{blocks, control_at}
 use Rattle.block_order.specs.Loud.{loud, mark_of, marks, stretch}
 use Rattle.block_order.specs.Labels.{times, labels, whole, frame_labels, room, behind, counts, ahead}
-use Rattle.block_order.specs.Steps.{at}
+use Rattle.block_order.specs.Moves.{at}
 use Rattle.block_order.proofs.MarksFrom.{marks-at, same_stretch}
 
 pub ahead-counts : (tape : List ControlProgram) (f : Frame) (stack : List Frame) → counts tape f.program stack ≡ true

@@ -50,6 +50,16 @@ stands [] i d within = absurd (omega arith)
 stands (p ∷ ps) zero d within = refl
 stands (p ∷ ps) (suc i) d within = stands ps i d (omega arith)
 
+pub program_there : (tape : List ControlProgram) (q i : ℕ) → Some i ≡ place_of tape q → slice_get tape i ≡ program_of tape q
+program_there tape q i e =
+    let r = there tape 0 q i (sym e) in
+    let at = r.at in
+    let same : i ≡ r.behind = omega arith in
+    ap (λ k. slice_get tape k) same ∙ sym r.is
+
+pub no_program_there : (tape : List ControlProgram) (q : ℕ) → None ≡ place_of tape q → program_of tape q ≡ None
+no_program_there tape q e = not_there tape 0 q (sym e)
+
 -- the program that stands there
 pub blocks_there : (tape : List ControlProgram) (q i : ℕ) (p : ControlProgram) → Some i ≡ place_of tape q → i < length tape
     → p ≡ slice_index_or tape i p → p.blocks ≡ blocks tape q

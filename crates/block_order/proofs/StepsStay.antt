@@ -7,8 +7,10 @@ use Rattle.block_order.specs.declared.label.Label.TheVariants as label
 use Rattle.block_order.specs.declared.program.ControlProgram.{ControlProgram}
 use Rattle.block_order.specs.Order.{blocks, control_at}
 use Rattle.block_order.specs.Labels.{room, behind, counts, ahead}
-use Rattle.block_order.specs.Steps.{at, returned, Goes, Step, IsPlace, standing, passed}
+use Rattle.block_order.specs.Moves.{at, passed, return_by}
+use Rattle.block_order.specs.Steps.{Goes, Step, IsPlace, standing}
 use Rattle.block_order.proofs.LoudReaches.{AreLoud}
+use Rattle.block_order.proofs.Moved.{jump_leads, exit_leads, head_leads, call_leads}
 use Rattle.block_order.proofs.LabelsAhead.{ahead-counts, wait_begins, end_alone}
 
 pub place_moves : (tape : List ControlProgram) (f : Frame) (stack : List Frame) (block : ℕ) → IsPlace tape (f ∷ stack)
@@ -18,33 +20,34 @@ place_moves tape f (g ∷ stack) block place = place
 
 pub goes_stays : (tape : List ControlProgram) (f : Frame) (stack : List Frame) → IsPlace tape (f ∷ stack)
     → (c : Control) → control_at (blocks tape f.program) f.block ≡ Some c
-    → (to : List Frame) → Goes tape f stack c to → IsPlace tape to
+    → (to : List Frame) → Goes tape (f ∷ stack) c to → IsPlace tape to
 goes_stays tape f stack place Next is to e = subst (IsPlace tape) (sym e) (place_moves tape f stack (suc f.block) place)
 goes_stays tape f stack place (Goto n) is to (inl e) =
     subst (IsPlace tape) (sym e) (place_moves tape f stack (suc f.block) place)
-goes_stays tape f stack place (Goto n) is to (inr (k, target, may, leads, e)) =
-    subst (IsPlace tape) (sym e) (place_moves tape f stack target place)
+goes_stays tape f stack place (Goto n) is to (inr (k, may, e)) =
+    let j = jump_leads tape k f stack to e in subst (IsPlace tape) (sym j.2) (place_moves tape f stack j.0 place)
 goes_stays tape f stack place (While m) is to (inl e) =
     subst (IsPlace tape) (sym e) (place_moves tape f stack (suc f.block) place)
-goes_stays tape f stack place (While m) is to (inr (close, loop, e)) =
-    subst (IsPlace tape) (sym e) (place_moves tape f stack (suc close) place)
+goes_stays tape f stack place (While m) is to (inr e) =
+    let j = exit_leads tape f stack to e in subst (IsPlace tape) (sym j.2) (place_moves tape f stack (suc j.0) place)
 goes_stays tape f stack place (Do m) is to e =
     subst (IsPlace tape) (sym e) (place_moves tape f stack (suc f.block) place)
-goes_stays tape f stack place (EndLoop m) is to (head, loop, e) =
-    subst (IsPlace tape) (sym e) (place_moves tape f stack head place)
+goes_stays tape f stack place (EndLoop m) is to e =
+    let j = head_leads tape f stack to e in subst (IsPlace tape) (sym j.2) (place_moves tape f stack j.0 place)
 goes_stays tape f stack place (Wait code) is to e = absurd e
 goes_stays tape f stack place End is to e = absurd e
-goes_stays tape f stack place (Call q r) is to (more, more_is, few, e) =
-    subst (IsPlace tape) (sym e) (r, is, few, place)
+goes_stays tape f stack place (Call q r) is to e =
+    let j = call_leads q r f stack to e in subst (IsPlace tape) (sym j.3) (r, is, j.2, place)
 goes_stays tape f [] place Back is to e = subst (IsPlace tape) (sym e) place
 goes_stays tape f (g ∷ stack) place Back is to e = subst (IsPlace tape) (sym e) (go f.left)
   where
-    go : (left : ℕ) → IsPlace tape (returned left f (g ∷ stack))
+    go : (left : ℕ) → IsPlace tape (return_by left f (g ∷ stack))
     go zero = place_moves tape g stack (suc g.block) place.3
     go (suc left) = place
-goes_stays tape f [] place (BackTo n) is to (target, leads, e) = subst (IsPlace tape) (sym e) place
-goes_stays tape f (g ∷ stack) place (BackTo n) is to (target, leads, e) =
-    subst (IsPlace tape) (sym e) (place_moves tape g stack target place.3)
+goes_stays tape f [] place (BackTo n) is to e =
+    let j = jump_leads tape n f [] to e in subst (IsPlace tape) (sym j.2) place
+goes_stays tape f (g ∷ stack) place (BackTo n) is to e =
+    let j = jump_leads tape n g stack to e in subst (IsPlace tape) (sym j.2) (place_moves tape g stack j.0 place.3)
 
 pub step_stays : (tape : List ControlProgram) (from to : List Frame) → IsPlace tape from → Step tape from to
     → IsPlace tape to

@@ -1,8 +1,10 @@
 -- What is kept of which programs are loud.
-use Rattle.std.specs.Prelude.{ℕ, Bool, List}
+use Rattle.std.specs.Prelude.{◌≡◌, ℕ, Bool, List}
 use Rattle.block_order.specs.declared.loud.LoudPrograms.{LoudPrograms}
 use Rattle.block_order.specs.declared.numbers.ProgramNumbers.{ProgramNumbers}
-use Rattle.block_order.specs.Numbers.{place_known}
+use Rattle.block_order.specs.declared.program.ControlProgram.{ControlProgram}
+use Rattle.block_order.specs.Loud.{loud}
+use Rattle.block_order.specs.Numbers.{place_known, KnowsPlaces}
 use Rattle.block_order.specs.ProgramPlaces.{flag_at}
 
 -- the flag that is kept of an O number's program
@@ -12,3 +14,8 @@ flag_known numbers flags number = flag_at flags (place_known numbers number)
 -- whether the program of an O number is known to be loud
 abbrev pub heard : LoudPrograms → ℕ → Bool
 heard known number = flag_known known.numbers known.flags.items number
+
+-- what is kept of the tape's places and loud programs
+pub record IsKnown (tape : List ControlProgram) (known : LoudPrograms) : Type 0 where
+  pub places : KnowsPlaces tape known.numbers
+  pub loud_is : heard known ≡ loud tape

@@ -7,27 +7,34 @@ ghost use Rattle.block_order.specs.Order.{main_number, program_of};
 ghost use Rattle.block_order.specs.Faults.{Fitting, Finding, IsClear};
 ghost use Rattle.block_order.specs.First.{IsFirstOf};
 ghost use Rattle.block_order.specs.Found.{JumpFault, BlockFault, IsFaultOf, IsProgramFault};
+ghost use Rattle.block_order.specs.Numbers.{KnowsPlaces};
 ghost use Rattle.block_order.specs.Shape.{IsListed};
 ghost use Rattle.block_order.specs.TapeTable.{IsProgramTables, IsTapeTables};
 
 use crate::control::Control;
 use crate::fault::OrderFault;
+use crate::numbers::ProgramNumbers;
 use crate::program::ControlProgram;
 use crate::tables::{ProgramTables, TapeTables};
 use nc_number::Cause;
 
 /// The first fault of a tape in what its jumps and calls find: a sequence number that the program
 /// lacks, 50, an O number that the tape lacks, 51, or a jump into a loop, 53.
-pub(crate) fn finding_fault(tape: &[ControlProgram], tables: &TapeTables) -> Option<OrderFault>
+pub(crate) fn finding_fault(
+    tape: &[ControlProgram],
+    tables: &TapeTables,
+    numbers: &ProgramNumbers,
+) -> Option<OrderFault>
     requires listed { IsListed tape.now }
     requires fits { IsClear tape.now Fitting }
     requires made { IsTapeTables tape.now tables.now }
+    requires known { KnowsPlaces tape.now numbers.now }
     ensures { IsFirstOf tape.now Finding result }
 {
     let main = tape[0].number;
     for (at, program) in tape.iter().enumerate() {
         let own = &tables.programs[at];
-        if let Some(OrderFault { cause, line }) = program_fault(tables, own, main, program) {
+        if let Some(OrderFault { cause, line }) = program_fault(numbers, own, main, program) {
             let cause: Cause = cause;
             return Some(OrderFault { cause, line });
         }
@@ -37,20 +44,20 @@ pub(crate) fn finding_fault(tape: &[ControlProgram], tables: &TapeTables) -> Opt
 
 /// The first fault of one program.
 fn program_fault(
-    tables: &TapeTables,
+    numbers: &ProgramNumbers,
     own: &ProgramTables,
     main: u16,
     program: &ControlProgram,
 ) -> Option<OrderFault>
     requires { length program.now.blocks ≤ 20000 }
-    ensures { (tape : List ControlProgram) → IsTapeTables tape tables.now
+    ensures { (tape : List ControlProgram) → KnowsPlaces tape numbers.now
         → IsProgramTables program.now.blocks own.now → main ≡ main_number tape
         → IsProgramFault tape program.now result }
 {
     let is_main = program.number == main;
     let mut place: u32 = 0;
     for block in program.blocks.as_slice() {
-        if let Some(cause) = block_fault(tables, own, is_main, place, block.control) {
+        if let Some(cause) = block_fault(numbers, own, is_main, place, block.control) {
             let cause: Cause = cause;
             return Some(OrderFault {
                 cause,
@@ -64,13 +71,13 @@ fn program_fault(
 
 /// The fault of a block of a program, which is the main one or not.
 fn block_fault(
-    tables: &TapeTables,
+    numbers: &ProgramNumbers,
     own: &ProgramTables,
     is_main: bool,
     place: u32,
     control: Control,
 ) -> Option<Cause>
-    ensures { (tape : List ControlProgram) (program : ControlProgram) → IsTapeTables tape tables.now
+    ensures { (tape : List ControlProgram) (program : ControlProgram) → KnowsPlaces tape numbers.now
         → IsProgramTables program.blocks own.now → (IsTrue is_main ↔ (program.number ≡ main_number tape))
         → place < length program.blocks → IsFaultOf (BlockFault tape program place control) result }
 {
@@ -83,7 +90,7 @@ fn block_fault(
                 None
             }
         }
-        Control::Call { program, .. } => call_fault(tables, program),
+        Control::Call { program, .. } => call_fault(numbers, program),
         _ => None,
     }
 }
@@ -105,11 +112,11 @@ fn jump_fault(own: &ProgramTables, place: u32, number: u32) -> Option<Cause>
 }
 
 /// The fault of a call.
-fn call_fault(tables: &TapeTables, called: u16) -> Option<Cause>
-    ensures { (tape : List ControlProgram) → IsTapeTables tape tables.now
+fn call_fault(numbers: &ProgramNumbers, called: u16) -> Option<Cause>
+    ensures { (tape : List ControlProgram) → KnowsPlaces tape numbers.now
         → result ≡ (if is_some (program_of tape called) then None else Some NoProgram) }
 {
-    match tables.place_of(called) {
+    match numbers.place_of(called) {
         Some(_) => None,
         None => Some(Cause::NoProgram),
     }

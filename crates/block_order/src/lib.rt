@@ -8,8 +8,7 @@
 
 mod callers;
 mod control;
-mod deep;
-mod depth;
+mod draft;
 mod fault;
 mod finding;
 mod fitting;
@@ -20,22 +19,16 @@ mod laws;
 mod loops;
 mod loud;
 mod mismatch;
+mod moves;
 mod numbers;
 mod order;
 mod place;
 mod program;
-mod search;
-mod search_strays;
-mod searchers;
-mod searches;
 mod sequence;
-mod stretch;
 mod tables;
-mod view;
-mod waiting;
-mod ways;
 
 pub use control::Control;
+pub use draft::DraftOrder;
 pub use fault::OrderFault;
 pub use fitting_law::loops_that_fit_are_nested;
 pub use frame::Frame;
@@ -44,6 +37,11 @@ pub use laws::{
     a_tape_without_faults_is_unforked, being_loud_is_reaching_a_wait_or_an_end,
     each_step_keeps_the_labels,
 };
+pub use loops::{LoopTable, Reach};
+pub use loud::LoudPrograms;
+pub use numbers::ProgramNumbers;
 pub use order::BlockOrder;
 pub use place::{MOST_CALLS, Place};
 pub use program::{ControlBlock, ControlBlockList, ControlProgram};
+pub use sequence::{Finders, SequenceIndex};
+pub use tables::{ProgramTables, TapeTables};

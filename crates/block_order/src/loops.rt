@@ -11,7 +11,7 @@ use std::alloc::Global;
 
 /// The loops of one program.
 #[derive(Drop)]
-pub(crate) struct LoopTable {
+pub struct LoopTable {
     /// At the place of each head the place of its END.
     ends: Vec<Option<u32>>,
     /// At each place the head of the innermost loop that holds it.
@@ -20,16 +20,16 @@ pub(crate) struct LoopTable {
 
 /// The blocks from which a jump to one block is permitted: those from `low` to `high`.
 #[derive(Clone, Copy, Debug, PartialEq, Eq)]
-pub(crate) struct Reach {
-    pub(crate) low: u32,
-    pub(crate) high: u32,
+pub struct Reach {
+    pub low: u32,
+    pub high: u32,
 }
 
 impl Reach {
     ghost use Rattle.block_order.specs.Table.{IsWithin};
 
     /// The block lies in the reach.
-    pub(crate) fn holds(&self, block: u32) -> bool
+    pub fn holds(&self, block: u32) -> bool
         ensures { IsTrue result ↔ IsWithin self.now block }
     {
         self.low <= block && block <= self.high
@@ -59,7 +59,7 @@ impl LoopTable {
     }
 
     /// The END of the loop that begins at this block.
-    pub(crate) fn end_of(&self, head: u32) -> Option<u32>
+    pub fn end_of(&self, head: u32) -> Option<u32>
         ensures { (bs : List ControlBlock) → IsLoopTable bs self.now
             → (close : ℕ) → (result ≡ Some close) ↔ IsLoop bs head close }
     {
@@ -75,7 +75,7 @@ impl LoopTable {
     }
 
     /// The head of the loop that ends at this block.
-    pub(crate) fn head_of(&self, close: u32) -> Option<u32>
+    pub fn head_of(&self, close: u32) -> Option<u32>
         ensures { (bs : List ControlBlock) → IsLoopTable bs self.now
             → (head : ℕ) → (result ≡ Some head) ↔ IsLoop bs head close }
     {
@@ -88,7 +88,7 @@ impl LoopTable {
     }
 
     /// From where a jump to this block is permitted.
-    pub(crate) fn reach(&self, target: u32) -> Reach
+    pub fn reach(&self, target: u32) -> Reach
         ensures { (bs : List ControlBlock) → IsLoopTable bs self.now → target < length bs
             → (block : ℕ) → block ≤ u32.MAX → IsPermitted bs block target ↔ IsWithin result block }
     {

@@ -14,7 +14,7 @@ use std::alloc::{AllocError, Global};
 
 /// Which programs of a tape are loud: have a wait or an end, or call a loud one.
 #[derive(Drop)]
-pub(crate) struct LoudPrograms {
+pub struct LoudPrograms {
     numbers: ProgramNumbers,
     flags: Vec<bool>,
 }
@@ -195,28 +195,29 @@ fn loud_flags(
 }
 
 impl LoudPrograms {
-    pub(crate) fn of(alloc: Global, programs: &[ControlProgram]) -> Result<Self, NoMemory>
+    /// The loud ones of these programs, whose places are known.
+    pub(crate) fn of(
+        alloc: Global,
+        programs: &[ControlProgram],
+        numbers: ProgramNumbers,
+    ) -> Result<Self, NoMemory>
+        requires { KnowsPlaces programs.now numbers }
         ensures loud { IfOk result (λ known. heard known ≡ loud programs.now) }
         ensures places { IfOk result (λ known. KnowsPlaces programs.now known.numbers) }
     {
-        let numbers = ProgramNumbers::of(alloc, programs)?;
         let flags = loud_flags(alloc, &numbers, programs)?;
         Ok(LoudPrograms { numbers, flags })
     }
 
     /// The place of the program with this O number, if the tape has one.
-    pub(crate) fn place_of(&self, number: u16) -> Option<usize>
+    pub fn place_of(&self, number: u16) -> Option<usize>
         ensures { result ≡ place_known self.now.numbers number }
     {
         self.numbers.place_of(number)
     }
 
     /// The blocks of the program with this O number, and none of no program.
-    pub(crate) fn blocks_of<'a>(
-        &self,
-        programs: &'a [ControlProgram],
-        number: u16,
-    ) -> &'a [ControlBlock]
+    pub fn blocks_of<'a>(&self, programs: &'a [ControlProgram], number: u16) -> &'a [ControlBlock]
         requires { KnowsPlaces programs.now self.now.numbers }
         ensures { result.now ≡ blocks programs.now number }
     {
@@ -224,14 +225,14 @@ impl LoudPrograms {
     }
 
     /// The flag, at its place, of the program with this O number.
-    pub(crate) fn flag_of(&self, flags: &[bool], number: u16) -> bool
+    pub fn flag_of(&self, flags: &[bool], number: u16) -> bool
         ensures { result ≡ flag_known self.now.numbers flags.now number }
     {
         flag_of(&self.numbers, flags, number)
     }
 
     /// Whether the program with this O number is loud; no program is not.
-    pub(crate) fn is_loud(&self, number: u16) -> bool
+    pub fn is_loud(&self, number: u16) -> bool
         ensures { result ≡ heard self.now number }
     {
         flag_of(&self.numbers, &self.flags, number)

@@ -11,7 +11,7 @@ use std::alloc::Global;
 
 /// The place on the tape of each O number: of the first program with it, where it is given twice.
 #[derive(Drop)]
-pub(crate) struct ProgramNumbers {
+pub struct ProgramNumbers {
     places: IndexMap<u16, usize>,
 }
 

@@ -1,11 +1,8 @@
-ghost use Rattle.std.specs.Prelude.{◌≡◌, ℕ, ◌+◌, ◌≤◌, ◌↔◌, ◌∷◌, [], List, length, reverse, slice_get};
-ghost use Rattle.std.specs.Prelude.{Some, IsOk, IfErr, OnOk, OnErr};
+ghost use Rattle.std.specs.Prelude.{◌≡◌, ◌+◌, ◌≤◌, ◌↔◌, ◌∷◌, length, reverse, slice_get};
+ghost use Rattle.std.specs.Prelude.{Ok, Err, IsOk, IfErr, OnOk, OnErr};
 ghost use Rattle.nc_number.specs.declared.cause.Cause.TheVariants as Cause;
-ghost use Rattle.block_order.specs.declared.control.Control.TheVariants as Control;
-ghost use Rattle.block_order.specs.declared.program.ControlProgram.{ControlProgram};
-ghost use Rattle.block_order.specs.PlaceSteps.{start_of, callers, moved, opened, returned_from, returned_to};
-ghost use Rattle.block_order.specs.PlaceSteps.{MayPass, MayGoOn, MayLead, LeadsBack};
-ghost use Rattle.block_order.specs.Steps.{passed, standing, Step};
+ghost use Rattle.block_order.specs.Moves.{passed, place_at, place_of_call, place_of_return, place_of_caller};
+ghost use Rattle.block_order.specs.PlaceSteps.{start_of, callers, MayPass};
 
 use crate::frame::Frame;
 use arrayvec::ArrayVec;
@@ -96,18 +93,14 @@ impl Place {
     /// Goes to the next block, behind a wait too.
     pub fn next(&mut self)
         requires { MayPass self.old }
-        ensures passes { self.new ≡ passed self.old }
-        ensures follows { (tape : List ControlProgram) → MayGoOn (standing tape self.old)
-            → Step tape self.old self.new }
+        ensures { self.new ≡ passed self.old }
     {
         self.running.block += 1;
     }
 
     /// Goes to another block of the running program, as a jump, a WHILE that is left and an END do.
     pub fn to(&mut self, block: u32)
-        ensures moves { self.new ≡ moved block self.old }
-        ensures follows { (tape : List ControlProgram) → MayLead tape self.old block
-            → Step tape self.old self.new }
+        ensures { self.new ≡ place_at block self.old }
     {
         self.running.block = block;
     }
@@ -121,9 +114,8 @@ impl Place {
         ensures room { IsOk result ↔ (length self.old ≤ MOST_CALLS) }
         ensures deep { IfErr result (λ cause. cause ≡ Cause.TooDeep) }
         ensures refused { OnErr result (self.new ≡ self.old) }
-        ensures opens { OnOk result (self.new ≡ opened program repeats self.old) }
-        ensures follows { (tape : List ControlProgram) → standing tape self.old ≡ Some (Control.Call program repeats)
-            → OnOk result (Step tape self.old self.new) }
+        ensures opens { OnOk result (place_of_call program repeats self.old ≡ Ok self.new) }
+        ensures closed { IfErr result (λ cause. place_of_call program repeats self.old ≡ Err cause) }
     {
         if self.below.len() == MOST_CALLS {
             return Err(Cause::TooDeep);
@@ -140,9 +132,7 @@ impl Place {
     /// Returns, as M99 does: to the next repeat, or else behind the call; in the main program to its
     /// start.
     pub fn back(&mut self)
-        ensures returns { self.new ≡ returned_from self.old }
-        ensures follows { (tape : List ControlProgram) → standing tape self.old ≡ Some Control.Back
-            → Step tape self.old self.new }
+        ensures { self.new ≡ place_of_return self.old }
     {
         if self.below.is_empty() {
             self.running.block = 0;
@@ -161,9 +151,7 @@ impl Place {
     /// Returns to a block of the caller, as M99 P does, whatever repeats are left; in the main
     /// program goes to the block.
     pub fn back_to(&mut self, block: u32)
-        ensures returns { self.new ≡ returned_to block self.old }
-        ensures follows { (tape : List ControlProgram) (n : ℕ) → standing tape self.old ≡ Some (Control.BackTo n)
-            → LeadsBack tape self.old n block → Step tape self.old self.new }
+        ensures { self.new ≡ place_at block (place_of_caller self.old) }
     {
         if !self.below.is_empty() {
             self.running = self.below.remove(self.below.len() - 1);

@@ -9,17 +9,17 @@ use std::alloc::Global;
 
 /// From a sequence number to the ascending places of its blocks in one program.
 #[derive(Drop)]
-pub(crate) struct SequenceIndex {
+pub struct SequenceIndex {
     places: IndexMap<u32, Vec<u32>>,
 }
 
 /// The blocks from which the search for its number comes to one block: those from `low` up to, and
 /// without, `high`, and those from `around` on, whose search begins anew at the program's start.
 #[derive(Clone, Copy, Debug, PartialEq, Eq)]
-pub(crate) struct Finders {
-    pub(crate) low: u32,
-    pub(crate) high: u32,
-    pub(crate) around: Option<u32>,
+pub struct Finders {
+    pub low: u32,
+    pub high: u32,
+    pub around: Option<u32>,
 }
 
 impl SequenceIndex {
@@ -57,7 +57,7 @@ impl SequenceIndex {
 
     /// Where a search for this number leads from a block: to the next block of the number behind
     /// it, else to the first one of the program.
-    pub(crate) fn seek(&self, from: u32, number: u32) -> Option<u32>
+    pub fn seek(&self, from: u32, number: u32) -> Option<u32>
         ensures { (bs : List ControlBlock) → IsIndexOf bs self.now → result ≡ seek bs from number }
     {
         let places = self.places_of(number);
@@ -66,7 +66,7 @@ impl SequenceIndex {
     }
 
     /// From which blocks the search for this number comes to its block at a place.
-    pub(crate) fn finders(&self, number: u32, place: u32) -> Finders
+    pub fn finders(&self, number: u32, place: u32) -> Finders
         ensures { (bs : List ControlBlock) → IsIndexOf bs self.now → IsNumbered bs place number
             → (block : ℕ) → (seek bs block number ≡ Some place) ↔ IsFinder result block }
     {

@@ -1,30 +1,27 @@
 //! The tables of a tape whose programs and loops fit together.
-ghost use Rattle.std.specs.Prelude.{◌≡◌, ◌≤◌, ℕ, List, IfOk, length};
+ghost use Rattle.std.specs.Prelude.{◌≤◌, IfOk, length};
 ghost use Rattle.block_order.specs.Faults.{Fitting, IsClear};
 ghost use Rattle.block_order.specs.Fitting.{Fits};
-ghost use Rattle.block_order.specs.TapeTable.{IsProgramTables, IsTapeTables, place_of};
-ghost use Rattle.block_order.specs.declared.program.ControlProgram.{ControlProgram};
+ghost use Rattle.block_order.specs.TapeTable.{IsProgramTables, IsTapeTables};
 ghost use Rattle.block_order.specs.Shape.{IsListed};
 
 use crate::loops::LoopTable;
 use crate::program::ControlProgram;
 use crate::sequence::SequenceIndex;
-use indexmap::IndexMap;
 use nc_number::NoMemory;
 use std::alloc::Global;
 
 /// The tables of one program.
 #[derive(Drop)]
-pub(crate) struct ProgramTables {
-    pub(crate) index: SequenceIndex,
-    pub(crate) loops: LoopTable,
+pub struct ProgramTables {
+    pub index: SequenceIndex,
+    pub loops: LoopTable,
 }
 
-/// The tables of a tape's programs, in the order of the text, and the place of each O number.
+/// The tables of a tape's programs, in the order of the text.
 #[derive(Drop)]
-pub(crate) struct TapeTables {
-    pub(crate) programs: Vec<ProgramTables>,
-    places: IndexMap<u16, usize>,
+pub struct TapeTables {
+    pub programs: Vec<ProgramTables>,
 }
 
 impl TapeTables {
@@ -35,19 +32,10 @@ impl TapeTables {
         ensures { IfOk result (λ tables. IsTapeTables tape.now tables) }
     {
         let mut programs: Vec<ProgramTables> = Vec::new(alloc);
-        let mut places: IndexMap<u16, usize> = IndexMap::new(alloc);
         for program in tape {
-            places.insert(program.number, programs.len())?;
             programs.push(program_tables(alloc, program)?)?;
         }
-        Ok(TapeTables { programs, places })
-    }
-
-    /// The place of the program with this O number.
-    pub(crate) fn place_of(&self, number: u16) -> Option<usize>
-        ensures { (tape : List ControlProgram) → IsTapeTables tape self.now → result ≡ place_of tape number }
-    {
-        self.places.get(&number).copied()
+        Ok(TapeTables { programs })
     }
 }
 

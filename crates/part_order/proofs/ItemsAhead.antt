@@ -11,7 +11,7 @@ use Rattle.block_order.specs.declared.program.ControlProgram.{ControlProgram}
 use Rattle.block_order.specs.Order.{blocks, control_at}
 use Rattle.block_order.specs.Loud.{loud, mark_of, marks, stretch}
 use Rattle.block_order.specs.Labels.{room, counts}
-use Rattle.block_order.specs.Steps.{at}
+use Rattle.block_order.specs.Moves.{at}
 use Rattle.block_order.proofs.MarksFrom.{marks-at, marks-drop}
 use Rattle.part_order.specs.Parts.{Item, Stretch, Meets, times, items, whole, items_from, stretch_at, behind, ahead}
 

@@ -1,15 +1,17 @@
 -- Each step leads on in the items, past no wait.
-use Rattle.std.proofs.Common.{◌≡◌, ℕ, zero, suc, ◌<◌, inl, inr, Bool, true, false, List, [], ◌∷◌, length, Some, refl, ap, sym, subst, ◌∙◌, arith}
+use Rattle.std.proofs.Common.{◌≡◌, ℕ, zero, suc, ◌<◌, inl, inr, Bool, true, false, List, [], ◌∷◌, length, Some, Ok, refl, ap, sym, subst, ◌∙◌, arith}
 use Rattle.block_order.specs.declared.control.Control.{Control}
 use Rattle.block_order.specs.declared.control.Control.TheVariants.{Next, Goto, While, Do, EndLoop, Wait, End, Call, Back, BackTo}
 use Rattle.block_order.specs.declared.frame.Frame.{Frame}
 use Rattle.block_order.specs.declared.program.ControlProgram.{ControlProgram}
-use Rattle.block_order.specs.Order.{blocks, control_at, IsLoop}
+use Rattle.block_order.specs.Order.{blocks, control_at, IsLoop, Leads}
 use Rattle.block_order.specs.Loud.{loud, mark_of}
 use Rattle.block_order.specs.Labels.{room, counts, IsTarget, Counts, IsUnforked}
-use Rattle.block_order.specs.Steps.{at, returned, ReturnsTo, Goes, IsPlace, standing, passed}
+use Rattle.block_order.specs.Moves.{at, passed, return_by, place_of_jump_back}
+use Rattle.block_order.specs.Steps.{Goes, IsPlace, standing}
 use Rattle.block_order.proofs.LoudReaches.{AreLoud}
 use Rattle.block_order.proofs.CallChains.{counts_below, main_below}
+use Rattle.block_order.proofs.Moved.{jump_leads, exit_leads, head_leads, call_leads}
 use Rattle.part_order.specs.Parts.{Stretch, Meets, Anew, Follows, behind_stretch, behind_wait, anew, stretch_at, behind, ahead, path_items}
 use Rattle.part_order.proofs.ItemsAhead.{ahead-counts, ahead-quiet, moves_kept, unmarked_next, call_opens, repeat_begins, last_returns, wait_begins}
 
@@ -77,7 +79,7 @@ call_stands tape are n f stack q more is few s = go (loud tape q) refl
 back_stands : (tape : List ControlProgram) → AreLoud tape → (n : ℕ) (f g : Frame) (stack : List Frame)
     → IsPlace tape (f ∷ g ∷ stack) → control_at (blocks tape f.program) f.block ≡ Some Back
     → (left : ℕ) → f.left ≡ left
-    → Stands tape n (f ∷ g ∷ stack) → Stands tape n (returned left f (g ∷ stack))
+    → Stands tape n (f ∷ g ∷ stack) → Stands tape n (return_by left f (g ∷ stack))
 back_stands tape are n f g stack place is zero l s = go (loud tape f.program) refl
   where
     after : Frame
@@ -110,20 +112,24 @@ back_stands tape are n f g stack place is (suc left) l s = go (loud tape f.progr
 
 back_to_kept : (tape : List ControlProgram) → AreLoud tape → IsUnforked tape → (f : Frame) (stack : List Frame)
     → IsPlace tape (f ∷ stack) → (k : ℕ) → control_at (blocks tape f.program) f.block ≡ Some (BackTo k)
-    → (to : List Frame) → ReturnsTo tape f stack k to → ahead tape to ≡ ahead tape (f ∷ stack)
-back_to_kept tape are un f [] place k is to (target, leads, e) =
-    rw e (jump_kept tape un f [] place (BackTo k) is target (place.0, leads))
-back_to_kept tape are un f (g ∷ stack) place k is to (target, leads, e) = rw e (go (loud tape f.program) refl)
+    → (to : List Frame) → place_of_jump_back tape k (f ∷ stack) ≡ Ok to → ahead tape to ≡ ahead tape (f ∷ stack)
+back_to_kept tape are un f [] place k is to e =
+    let j = jump_leads tape k f [] to e in
+    rw j.2 (jump_kept tape un f [] place (BackTo k) is j.0 (place.0, j.1))
+back_to_kept tape are un f (g ∷ stack) place k is to e =
+    let j = jump_leads tape k g stack to e in rw j.2 (go j.0 j.1 (loud tape f.program) refl)
   where
-    go : (b : Bool) → loud tape f.program ≡ b → ahead tape (at g target ∷ stack) ≡ ahead tape (f ∷ g ∷ stack)
-    go true noisy = absurd (main_below tape are un f g stack place noisy (un.backs f.program f.block k noisy is))
-    go false quiet =
+    go : (target : ℕ) → Leads (blocks tape g.program) g.block k target → (b : Bool) → loud tape f.program ≡ b
+        → ahead tape (at g target ∷ stack) ≡ ahead tape (f ∷ g ∷ stack)
+    go target leads true noisy =
+        absurd (main_below tape are un f g stack place noisy (un.backs f.program f.block k noisy is))
+    go target leads false quiet =
         jump_kept tape un g stack place.3 (Call f.program place.0) place.1 target (quiet, f.block, k, is, leads)
         ∙ sym (ahead-quiet tape f (g ∷ stack) quiet)
 
 restart_stands : (tape : List ControlProgram) (n : ℕ) (f : Frame) → IsPlace tape (f ∷ [])
     → control_at (blocks tape f.program) f.block ≡ Some Back
-    → (to : List Frame) → Goes tape f [] Back to → Stands tape n (f ∷ []) → Stands tape n to
+    → (to : List Frame) → Goes tape (f ∷ []) Back to → Stands tape n (f ∷ []) → Stands tape n to
 restart_stands tape n f place is to e s =
     let here : ahead tape (f ∷ []) ≡ Stretch f.program (stretch_at tape f.program f.block) ∷ Anew ∷ [] =
     rw place.1 (last_returns tape 8 f.program f.block (Anew ∷ []) is) in
@@ -134,26 +140,30 @@ restart_stands tape n f place is to e s =
 
 pub goes_stands : (tape : List ControlProgram) → AreLoud tape → IsUnforked tape → (n : ℕ) (f : Frame) (stack : List Frame)
     → IsPlace tape (f ∷ stack) → (c : Control) → control_at (blocks tape f.program) f.block ≡ Some c
-    → (to : List Frame) → Goes tape f stack c to → Stands tape n (f ∷ stack) → Stands tape n to
+    → (to : List Frame) → Goes tape (f ∷ stack) c to → Stands tape n (f ∷ stack) → Stands tape n to
 goes_stands tape are un n f stack place Next is to e s =
     same tape n (f ∷ stack) to (rw e (next_kept tape f stack Next is refl)) s
 goes_stands tape are un n f stack place (Goto k) is to (inl e) s =
     same tape n (f ∷ stack) to (rw e (next_kept tape f stack (Goto k) is refl)) s
-goes_stands tape are un n f stack place (Goto k) is to (inr (number, target, may, leads, e)) s =
-    same tape n (f ∷ stack) to (rw e (jump_kept tape un f stack place (Goto k) is target (number, may, leads))) s
+goes_stands tape are un n f stack place (Goto k) is to (inr (number, may, e)) s =
+    let j = jump_leads tape number f stack to e in
+    same tape n (f ∷ stack) to (rw j.2 (jump_kept tape un f stack place (Goto k) is j.0 (number, may, j.1))) s
 goes_stands tape are un n f stack place (While m) is to (inl e) s =
     same tape n (f ∷ stack) to (rw e (next_kept tape f stack (While m) is refl)) s
-goes_stands tape are un n f stack place (While m) is to (inr (close, loop, e)) s =
-    same tape n (f ∷ stack) to (rw e (exit_kept tape un f stack place close loop)) s
+goes_stands tape are un n f stack place (While m) is to (inr e) s =
+    let j = exit_leads tape f stack to e in
+    same tape n (f ∷ stack) to (rw j.2 (exit_kept tape un f stack place j.0 j.1)) s
 goes_stands tape are un n f stack place (Do m) is to e s =
     same tape n (f ∷ stack) to (rw e (next_kept tape f stack (Do m) is refl)) s
-goes_stands tape are un n f stack place (EndLoop m) is to (head, loop, e) s =
-    same tape n (f ∷ stack) to (rw e (loop_kept tape un f stack place head loop)) s
+goes_stands tape are un n f stack place (EndLoop m) is to e s =
+    let j = head_leads tape f stack to e in
+    same tape n (f ∷ stack) to (rw j.2 (loop_kept tape un f stack place j.0 j.1)) s
 goes_stands tape are un n f stack place (Wait code) is to e s = absurd e
 goes_stands tape are un n f stack place End is to e s = absurd e
-goes_stands tape are un n f stack place (Call q r) is to (more, more_is, few, e) s =
-    subst (Stands tape n) (sym e)
-    (call_stands tape are n f stack q more (is ∙ ap (λ k. Some (Call q k)) more_is) few s)
+goes_stands tape are un n f stack place (Call q r) is to e s =
+    let j = call_leads q r f stack to e in
+    subst (Stands tape n) (sym j.3)
+    (call_stands tape are n f stack q j.0 (is ∙ ap (λ k. Some (Call q k)) j.1) j.2 s)
 goes_stands tape are un n f [] place Back is to e s = restart_stands tape n f place is to e s
 goes_stands tape are un n f (g ∷ stack) place Back is to e s =
     subst (Stands tape n) (sym e) (back_stands tape are n f g stack place is f.left refl s)

@@ -18,7 +18,7 @@ returns-in-Some c =
     let own : IsProgramTables p.blocks c.index-own.result.now =
     subst (λ (t : ProgramTables). IsProgramTables p.blocks t) (sym own_is) made.2 in
     let main = ap (λ x. x.number) (sym c.index-tape-0.is) ∙ main-is tape c.index-tape-0.result c.requires.listed.some c.index-tape-0.is in
-    let told = c.program_fault.ensures tape c.requires.made own main in
+    let told = c.program_fault.ensures tape c.requires.known own main in
     found-first tape i p c.in-Some.field-0.line c.in-Some.field-0.cause c.requires.listed c.requires.fits at
     c.loop-at.invariant (subst (IsProgramFault tape p) c.in-Some.is told)
 
@@ -34,7 +34,7 @@ loop-at-preserved c =
     let own : IsProgramTables p.blocks c.index-own.result.now =
     subst (λ (t : ProgramTables). IsProgramTables p.blocks t) (sym own_is) made.2 in
     let main = ap (λ x. x.number) (sym c.index-tape-0.is) ∙ main-is tape c.index-tape-0.result c.requires.listed.some c.index-tape-0.is in
-    let told = c.program_fault.ensures tape c.requires.made own main in
+    let told = c.program_fault.ensures tape c.requires.known own main in
     finds-more tape i p at (subst (IsProgramFault tape p) c.in_default.is told) c.loop-at.invariant
 
 pub returns : goal.returns

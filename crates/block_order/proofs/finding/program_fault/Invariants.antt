@@ -1,13 +1,14 @@
 use Rattle.std.proofs.Common.{◌≡◌, List}
 use Rattle.block_order.specs.declared.program.ControlProgram.{ControlProgram}
 use Rattle.block_order.specs.Order.{main_number}
-use Rattle.block_order.specs.TapeTable.{IsProgramTables, IsTapeTables}
+use Rattle.block_order.specs.Numbers.{KnowsPlaces}
+use Rattle.block_order.specs.TapeTable.{IsProgramTables}
 use Rattle.block_order.proofs.Findable.{ClearBlocks}
 use Rattle.block_order.proofs.finding.program_fault.Given as goal
 
 abbrev pub invariant-loop-block : goal.invariant-loop-block
 invariant-loop-block l = record {
   counted : l.place ≡ l.block-index;
-  clear : (tape : List ControlProgram) → IsTapeTables tape l.tables → IsProgramTables l.program.blocks l.own
+  clear : (tape : List ControlProgram) → KnowsPlaces tape l.numbers → IsProgramTables l.program.blocks l.own
       → l.main ≡ main_number tape → ClearBlocks tape l.program l.block-index;
 }

@@ -1,20 +1,15 @@
-use Rattle.std.proofs.Common.{◌≡◌, ◌≢◌, nat_eq, length, ◌+◌, Some, refl, sym, ap, ◌∙◌, arith, subst, ⊎_elim}
-use Rattle.std.proofs.lemmas.Bool.{cases_eq}
-use Rattle.std.proofs.lemmas.Grind.{common_steps}
-use Rattle.std.proofs.lemmas.List.{take_all, length_push}
+use Rattle.std.proofs.Common.{length, ◌+◌, refl, sym, ap, ◌∙◌, arith, subst}
+use Rattle.std.proofs.lemmas.List.{length_push}
 use Rattle.std.proofs.lemmas.Option.{slice_get_read, slice_get_within}
-use Rattle.block_order.specs.TapeTable.{place_of}
 use Rattle.block_order.proofs.Lines.{blocks-few}
-use Rattle.block_order.proofs.Located.{clear-new, clear-fits}
-use Rattle.block_order.proofs.TapePlaces.{EachTables, each-more, placed-new, placed-other, placed-none, ne-test}
-use Rattle.indexmap.specs.IndexMap.{get}
+use Rattle.block_order.proofs.Located.{clear-fits}
+use Rattle.block_order.proofs.MoreTables.{EachTables, each-more}
 use Rattle.block_order.proofs.tables.TapeTables.of.Goals as goal
 
 pub loop-program-init : goal.loop-program-init
 loop-program-init c = record {
   long = ap length c.new-programs.ensures.items;
   each = λ i p l at. absurd (omega arith);
-  placed = λ q. grind (arith, common_steps, placed-none q);
 }
 
 pub program_tables-requires-clause-few : goal.program_tables-requires-clause-few
@@ -36,22 +31,10 @@ loop-program-preserved c =
     let p = c.program-item.result in
     let known = c.loop-program.invariant in
     let at = slice_get_read tape (length tape) i p refl c.loop-program-test.true c.program-item.is in
-    let counted : c.len.result ≡ i = omega (arith, c.len.ensures, known.long, c.loop-program.programs.ok.0) in
     record {
       long = ap length c.in_ok-push.ensures.items ∙ length_push c.loop-program.programs.items _ ∙ ap (λ n. n + 1) known.long;
       each = subst (EachTables tape (i + 1)) (sym c.in_ok-push.ensures.items)
           (each-more tape i c.loop-program.programs.items p _ known.long at c.in_ok-program_tables.ensures known.each);
-      placed = λ q.
-          ⊎_elim
-          (λ (same : p.number ≡ q).
-          let step = placed-new tape i q p c.loop-program-test.true c.program-item.is
-          (clear-new tape i p c.requires.fits at) same in
-          ap (get nat_eq c.insert.new.self) (sym same) ∙ c.in_ok-insert.ensures.updates.1
-          ∙ ap (λ k. Some k) counted ∙ sym step)
-          (λ (ne : p.number ≢ q).
-          let step = placed-other tape i q p c.loop-program-test.true c.program-item.is ne in
-          c.in_ok-insert.ensures.updates.2 q (ne-test p.number q ne) ∙ known.placed q ∙ sym step)
-          (cases_eq p.number q);
     }
 
 pub returns : goal.returns
@@ -61,5 +44,4 @@ returns c =
     record {
       long = omega (arith, known.long);
       each = λ i p at. known.each i p (omega (arith, slice_get_within tape i p at)) at;
-      places = λ q. known.placed q ∙ ap (λ t. place_of t q) (take_all c.loop-program.program-index tape (omega arith));
     }

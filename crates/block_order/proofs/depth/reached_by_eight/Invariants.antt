@@ -1,5 +1,0 @@
-use Rattle.block_order.specs.Depth.{AreReached}
-use Rattle.block_order.proofs.depth.reached_by_eight.Given as goal
-
-abbrev pub invariant-loop-round : goal.invariant-loop-round
-invariant-loop-round l = AreReached l.programs l._round l.reached.items

@@ -1,8 +1,0 @@
-use Rattle.std.proofs.Common.{◌≡◌, ◌||◌, ℕ, nat_eq, drop}
-use Rattle.std.specs.HashSet.{contains}
-use Rattle.block_order.specs.Searchers.{has_back_to}
-use Rattle.block_order.proofs.search.return_numbers.Given as goal
-
-abbrev pub invariant-loop-block : goal.invariant-loop-block
-invariant-loop-block l =
-    (n : ℕ) → (contains nat_eq l.numbers n || has_back_to (drop l.block-index l.blocks) n) ≡ has_back_to l.blocks n

@@ -1,6 +1,0 @@
-use Rattle.std.proofs.Common.{◌-◌}
-use Rattle.block_order.specs.Searchers.{is_searcher, AreNext}
-use Rattle.block_order.proofs.searchers.next_searchers.Given as goal
-
-abbrev pub invariant-loop-done : goal.invariant-loop-done
-invariant-loop-done l = AreNext (is_searcher l.search) l.blocks (l.len - l.done) l.next.items

@@ -1,5 +1,0 @@
-use Rattle.block_order.specs.Searches.{AreSearchesBelow}
-use Rattle.block_order.proofs.searches.searches.Given as goal
-
-abbrev pub invariant-loop-program : goal.invariant-loop-program
-invariant-loop-program l = AreSearchesBelow l.programs l.program-index l.searches.items

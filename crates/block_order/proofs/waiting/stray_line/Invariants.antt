@@ -1,6 +1,0 @@
-use Rattle.block_order.specs.TapeFaults.{IsStrayLineBelow}
-use Rattle.block_order.specs.Waiting.{IsLeast}
-use Rattle.block_order.proofs.waiting.stray_line.Given as goal
-
-abbrev pub invariant-loop-at : goal.invariant-loop-at
-invariant-loop-at l = IsLeast (IsStrayLineBelow l.programs l.at) l.first

@@ -1,0 +1,77 @@
+-- The first line of a tape that may pass a wait is the least of its programs' first ones.
+use Rattle.std.proofs.Common.{◌≡◌, ℕ, suc, ◌+◌, ◌<◌, ◌⊎◌, inl, inr, Bool, true, false, ◌==◌, List, [], ◌∷◌, length, Option, Some, None, slice_get, refl, ap, sym, subst, ◌∙◌, arith}
+use Rattle.std.proofs.lemmas.Bool.Decides.{nat_tests}
+use Rattle.block_order.specs.declared.program.ControlBlock.{ControlBlock}
+use Rattle.block_order.specs.declared.program.ControlProgram.{ControlProgram}
+use Rattle.block_order.specs.Order.{blocks}
+use Rattle.block_order.specs.Labels.{Counts}
+use Rattle.block_order.specs.Faults.{Strays, jump, loop, back}
+use Rattle.wait_order.specs.TapeFaults.{IsStrayLineBelow, IsTapeStrayLine}
+use Rattle.wait_order.specs.Waiting.{IsStrayLine, IsLeast, sooner}
+use Rattle.wait_order.proofs.Least.{least_same, least_none, least_either}
+
+-- labels hang on each program in which a block may pass a wait
+pub strays_count : (tape : List ControlProgram) (program place : ℕ) (b : ControlBlock) → Strays tape program place b → Counts tape program
+strays_count tape program place b (jump target counts is apart) = counts
+strays_count tape program place b (loop head counts is apart) = counts
+strays_count tape program place b (back n is_loud other e) = inr is_loud
+
+-- where none hang on it
+pub least_uncounted : (tape : List ControlProgram) (program : ℕ) → (Counts tape program → ⊥) → IsLeast (IsStrayLine tape program) None
+least_uncounted tape program not_so = least_none {P = IsStrayLine tape program} none
+  where
+    none : (n : ℕ) → IsStrayLine tape program n → ⊥
+    none n (place, b, stands, strays, e) = not_so (strays_count tape program place b strays)
+
+-- one program more
+pub least_program : (tape : List ControlProgram) (i : ℕ) (p : ControlProgram) (a b : Option ℕ) → slice_get tape i ≡ Some p
+    → IsLeast (IsStrayLineBelow tape i) a → IsLeast (IsStrayLine tape p.number) b → IsLeast (IsStrayLineBelow tape (i + 1)) (sooner a b)
+least_program tape i p a b at l r =
+    least_either {R = IsStrayLineBelow tape (i + 1)} a b l r (λ n h. (let below = h.2 in (h.0, h.1, omega arith, h.3, h.4)))
+    (λ n h. (i, p, omega arith, at, h)) either
+  where
+    last : (t : ℕ) → t < i + 1 → (t ≡ i) ⊎ (t < i)
+    last t h = grind arith
+
+    here : (n t : ℕ) (q : ControlProgram) → slice_get tape t ≡ Some q → IsStrayLine tape q.number n → t ≡ i → IsStrayLine tape p.number n
+    here n t q is h e =
+        let both : Some q ≡ Some p = sym is ∙ (ap (λ k. slice_get tape k) e ∙ at) in
+        let same : q ≡ p = cc in
+        subst (λ x. IsStrayLine tape x.number n) same h
+
+    either : (n : ℕ) → IsStrayLineBelow tape (i + 1) n → IsStrayLineBelow tape i n ⊎ IsStrayLine tape p.number n
+    either n (t, q, below, is, h) = elim (last t below) [
+      | inl e ↦ inr (here n t q is h e)
+      | inr less ↦ inl (t, q, less, is, h)
+    ]
+
+pub least_no_program : (tape : List ControlProgram) → IsLeast (IsStrayLineBelow tape 0) None
+least_no_program tape = least_none {P = IsStrayLineBelow tape 0} (λ n h. (let below = h.2 in absurd (omega arith)))
+
+-- a program that has blocks stands on the tape
+pub record IsOnTape (tape : List ControlProgram) (q : ℕ) : Type 0 where
+  pub place : ℕ
+  pub program : ControlProgram
+  pub within : place < length tape
+  pub at : slice_get tape place ≡ Some program
+  pub number : program.number ≡ q
+
+pub on_tape : (tape : List ControlProgram) (q place : ℕ) (b : ControlBlock) → slice_get (blocks tape q) place ≡ Some b → IsOnTape tape q
+on_tape [] q place b e = absurd cc
+on_tape (p ∷ ps) q place b e = go (λ h. on_tape ps q place b h) (p.number == q) refl
+  where
+    go : (slice_get (blocks ps q) place ≡ Some b → IsOnTape ps q) → (x : Bool) → (p.number == q) ≡ x → IsOnTape (p ∷ ps) q
+    go rest true y = record { place = 0; program = p; within = omega arith; at = refl; number = grind (arith, nat_tests) }
+    go rest false y =
+        let r = rest (rw y at e) in
+        record { place = suc r.place; program = r.program; within = (let within = r.within in omega arith); at = r.at; number = r.number }
+
+-- all programs
+pub least_tape : (tape : List ControlProgram) (a : Option ℕ) → IsLeast (IsStrayLineBelow tape (length tape)) a
+    → IsLeast (IsTapeStrayLine tape) a
+least_tape tape a l = least_same {R = IsTapeStrayLine tape} a l (λ n h. (h.1.number, h.4)) from
+  where
+    from : (n : ℕ) → IsTapeStrayLine tape n → IsStrayLineBelow tape (length tape) n
+    from n (q, (place, b, stands, strays, e)) =
+        let r = on_tape tape q place b stands in
+        (r.place, r.program, r.within, r.at, subst (λ k. IsStrayLine tape k n) (sym r.number) (place, b, stands, strays, e))

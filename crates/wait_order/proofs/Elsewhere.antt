@@ -1,0 +1,107 @@
+-- Tests of the code and what they say of stretches.
+use Rattle.std.proofs.Common.{◌≡◌, ◌≢◌, ◌↔◌, ℕ, ◌-◌, ◌<◌, ◌≤◌, Bool, true, false, not, nat_eq, nat_le, List, [], ◌∷◌, length, Option, Some, None, slice_index, zero, suc, sym, subst, refl, ap, ◌∙◌, arith, zero-add}
+use Rattle.std.specs.Prelude.{IsTrue}
+use Rattle.std.proofs.lemmas.Bool.Decides.{nat_tests}
+use Rattle.block_order.specs.declared.control.Control.{Control}
+use Rattle.block_order.specs.declared.control.Control.TheVariants.{EndLoop}
+use Rattle.block_order.specs.declared.program.ControlBlock.{ControlBlock}
+use Rattle.block_order.specs.Order.{seek, control_at, IsLoop, IsPermitted}
+use Rattle.block_order.specs.Loud.{stretch}
+use Rattle.wait_order.specs.Waiting.{LeadsElsewhere, ClosesElsewhere}
+use Rattle.wait_order.specs.Stretches.{stretches_from}
+use Rattle.wait_order.proofs.Stretched.{stretches_are, stretch_rises}
+use Rattle.block_order.proofs.Targets.{seek_stands}
+
+pub differ : (a b : ℕ) → IsTrue (not (nat_eq a b)) ↔ (a ≢ b)
+differ a b = (λ t e. grind (arith, nat_tests), λ d. go d (nat_eq a b) refl)
+  where
+    go : (a ≢ b) → (x : Bool) → nat_eq a b ≡ x → IsTrue (not x)
+    go d true e = absurd (let same : a ≡ b = grind (arith, nat_tests) in d same)
+    go d false e = refl
+
+-- the stretches that the table gives differ where the blocks' stretches do
+pub apart_is : (ld : ℕ → Bool) (bs : List ControlBlock) (ss : List ℕ) (one other x y : ℕ) → ss ≡ stretches_from ld 0 bs
+    → one < length bs → other < length bs → x ≡ slice_index ss one → y ≡ slice_index ss other
+    → IsTrue (not (nat_eq x y)) ↔ (stretch ld bs one ≢ stretch ld bs other)
+apart_is ld bs ss one other x y e a b ex ey =
+    let ex' : x ≡ stretch ld bs one = ex ∙ (ap (λ s. slice_index s one) e ∙ (stretches_are ld bs 0 one 0 a ∙ zero-add (stretch ld bs one))) in
+    let ey' : y ≡ stretch ld bs other = ey ∙ (ap (λ s. slice_index s other) e ∙ (stretches_are ld bs 0 other 0 b ∙ zero-add (stretch ld bs other))) in
+    rw (ex', ey') (differ (stretch ld bs one) (stretch ld bs other))
+
+-- where the last block lies in the first stretch, no search leads to another one
+pub one_stretch : (ld : ℕ → Bool) (bs : List ControlBlock) (ss : List ℕ) (block n last : ℕ) → ss ≡ stretches_from ld 0 bs
+    → last ≡ slice_index ss (length bs - 1) → last ≡ 0 → block < length bs → LeadsElsewhere ld bs block n → ⊥
+one_stretch ld bs ss block n last e is first within (target, leads, differs) =
+    let end = length bs - 1 in
+    let there : last ≡ stretch ld bs end =
+    is ∙ (ap (λ s. slice_index s end) e ∙ (stretches_are ld bs 0 end 0 (omega arith) ∙ zero-add (stretch ld bs end))) in
+    let found = (seek_stands bs block n target leads.found).0 in
+    let one = stretch_rises ld bs block end (omega arith) in
+    let other = stretch_rises ld bs target end (omega (arith, found)) in
+    differs (omega arith)
+
+pub le_is : (a b : ℕ) → IsTrue (nat_le a b) ↔ (a ≤ b)
+le_is a b = (λ t. grind (arith, nat_tests), λ h. grind (arith, nat_tests))
+
+-- the search finds the target, and it is permitted
+pub leads_where : (ld : ℕ → Bool) (bs : List ControlBlock) (block n target : ℕ) (apart : Bool) → seek bs block n ≡ Some target
+    → IsPermitted bs block target → IsTrue apart ↔ (stretch ld bs block ≢ stretch ld bs target)
+    → IsTrue apart ↔ LeadsElsewhere ld bs block n
+leads_where ld bs block n target apart found permitted is =
+    (λ t. (target, record { found = found; permitted = permitted }, is.0 t), λ l. back l)
+  where
+    back : LeadsElsewhere ld bs block n → IsTrue apart
+    back (other, leads, differs) =
+        let same : Some other ≡ Some target = sym leads.found ∙ found in
+        let it : other ≡ target = cc in
+        is.1 (λ e. differs (e ∙ ap (λ k. stretch ld bs k) (sym it)))
+
+-- the search finds a target that is not permitted
+pub leads_nowhere : (ld : ℕ → Bool) (bs : List ControlBlock) (block n target : ℕ) (may : Bool) → seek bs block n ≡ Some target
+    → IsTrue may ↔ IsPermitted bs block target → may ≡ false → IsTrue may ↔ LeadsElsewhere ld bs block n
+leads_nowhere ld bs block n target may found is not_so = (λ t. absurd cc, λ l. back l)
+  where
+    back : LeadsElsewhere ld bs block n → IsTrue may
+    back (other, leads, differs) =
+        let same : Some other ≡ Some target = sym leads.found ∙ found in
+        let it : other ≡ target = cc in
+        is.1 (subst (λ k. IsPermitted bs block k) it leads.permitted)
+
+pub leads_none : (ld : ℕ → Bool) (bs : List ControlBlock) (block n : ℕ) → seek bs block n ≡ None
+    → IsTrue false ↔ LeadsElsewhere ld bs block n
+leads_none ld bs block n none = (λ t. absurd cc, λ l. back l)
+  where
+    back : LeadsElsewhere ld bs block n → IsTrue false
+    back (other, leads, differs) = absurd (let f = leads.found in cc)
+
+-- a place with a control lies within the program
+pub control_within : (bs : List ControlBlock) (i : ℕ) (c : Control) → control_at bs i ≡ Some c → i < length bs
+control_within [] i c e = absurd cc
+control_within (b ∷ bs) zero c e = omega arith
+control_within (b ∷ bs) (suc i) c e = let within = control_within bs i c e in omega arith
+
+-- the loop that ends here begins at one head
+pub closes_where : (ld : ℕ → Bool) (bs : List ControlBlock) (head close : ℕ) (apart : Bool)
+    → ((other : ℕ) → (Some head ≡ Some other) ↔ IsLoop bs other close)
+    → (head < length bs → close < length bs → IsTrue apart ↔ (stretch ld bs head ≢ stretch ld bs close))
+    → IsTrue apart ↔ ClosesElsewhere ld bs close
+closes_where ld bs head close apart heads is = (λ t. (head, loop, decides.0 t), λ l. back l)
+  where
+    loop : IsLoop bs head close
+    loop = (heads head).0 refl
+
+    decides : IsTrue apart ↔ (stretch ld bs head ≢ stretch ld bs close)
+    decides = is (control_within bs head loop.first loop.is_first) (control_within bs close (EndLoop loop.name) loop.is_close)
+
+    back : ClosesElsewhere ld bs close → IsTrue apart
+    back (other, other_loop, differs) =
+        let same : Some head ≡ Some other = (heads other).1 other_loop in
+        let it : head ≡ other = cc in
+        decides.1 (λ e. differs (ap (λ k. stretch ld bs k) (sym it) ∙ e))
+
+pub closes_nowhere : (ld : ℕ → Bool) (bs : List ControlBlock) (close : ℕ)
+    → ((other : ℕ) → (◌≡◌ {A = Option ℕ} None (Some other)) ↔ IsLoop bs other close) → IsTrue false ↔ ClosesElsewhere ld bs close
+closes_nowhere ld bs close heads = (λ t. absurd cc, λ l. absurd (let e : ◌≡◌ {A = Option ℕ} None (Some l.0) = (heads l.0).1 l.1 in cc))
+
+pub false_is_not_true : IsTrue false → ⊥
+false_is_not_true t = absurd cc

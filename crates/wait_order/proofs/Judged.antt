@@ -1,0 +1,75 @@
+-- The faults of waits are the strays and the ninth calls, and the first of them is the lesser line's, or the jump's on one line.
+use Rattle.std.proofs.Common.{◌≡◌, ℕ, suc, ◌<◌, ◌≤◌, ◌⊎◌, inl, inr, List, Option, Some, None, refl, subst, arith}
+use Rattle.nc_number.specs.declared.cause.Cause.{Cause}
+use Rattle.nc_number.specs.declared.cause.Cause.TheVariants.{BranchAtWait, WaitTooDeep}
+use Rattle.nc_number.specs.Causes.{cause_number}
+use Rattle.block_order.specs.declared.program.ControlProgram.{ControlProgram}
+use Rattle.block_order.specs.Faults.{Stage, Waiting, HasFault, twice, mismatch, lost, unknown, into, strays, deep, IsClear, IsNoLater}
+use Rattle.wait_order.specs.Deep.{IsDeepLine}
+use Rattle.wait_order.specs.TapeFaults.{IsTapeStrayLine}
+use Rattle.wait_order.specs.Waiting.{IsLeast, IsAtMost}
+
+-- what a fault of waits is
+abbrev pub Judged : List ControlProgram → ℕ → Cause → Type 0
+Judged tape line cause =
+    (IsTapeStrayLine tape line × (cause ≡ BranchAtWait)) ⊎ (IsDeepLine tape line × (cause ≡ WaitTooDeep))
+
+judged : (tape : List ControlProgram) (stage : Stage) (line : ℕ) (cause : Cause) → HasFault tape stage line cause → stage ≡ Waiting
+    → Judged tape line cause
+judged tape _ _ _ (twice before after program is again) e = absurd cc
+judged tape _ _ _ (mismatch program place block on at is) e = absurd cc
+judged tape _ _ _ (lost program place n block stands jumps none) e = absurd cc
+judged tape _ _ _ (unknown program place called repeats block stands calls none) e = absurd cc
+judged tape _ _ _ (into program place n target block stands jumps found not_so) e = absurd cc
+judged tape _ _ _ (strays program place block stands is) e = inl ((program, (place, block, stands, is, refl)), refl)
+judged tape _ _ _ (deep program place called repeats block by stands calls is_loud) e =
+    inr ((program, by, (place, block, called, stands, (repeats, calls, is_loud), refl)), refl)
+
+stray_fault : (tape : List ControlProgram) (line : ℕ) → IsTapeStrayLine tape line → HasFault tape Waiting line BranchAtWait
+stray_fault tape line (program, (place, block, stands, is, e)) =
+    subst (λ l. HasFault tape Waiting l BranchAtWait) e (strays program place block stands is)
+
+deep_fault : (tape : List ControlProgram) (line : ℕ) → IsDeepLine tape line → HasFault tape Waiting line WaitTooDeep
+deep_fault tape line (program, by, (place, block, called, stands, (repeats, calls, is_loud), e)) =
+    subst (λ l. HasFault tape Waiting l WaitTooDeep) e (deep program place called repeats block by stands calls is_loud)
+
+pub none_waiting : (tape : List ControlProgram) (a b : Option ℕ) → a ≡ None → b ≡ None → IsLeast (IsTapeStrayLine tape) a
+    → IsLeast (IsDeepLine tape) b → IsClear tape Waiting
+none_waiting tape a b ea eb p q line cause h = elim (judged tape Waiting line cause h refl) [
+  | inl s ↦ subst (λ o. IsAtMost o line) ea (p.least line s.0)
+  | inr d ↦ subst (λ o. IsAtMost o line) eb (q.least line d.0)
+]
+
+at_or_before : (m n : ℕ) → m ≤ n → (m < n) ⊎ (m ≡ n)
+at_or_before m n h = grind arith
+
+no_later : (line l : ℕ) (cause c : Cause) → line ≤ l → cause_number cause ≤ cause_number c → IsNoLater line cause l c
+no_later line l cause c le least = elim (at_or_before line l le) [ inl lt ↦ inl lt | inr e ↦ inr (e, least) ]
+
+-- each other line of the kind is no lower
+at_most : (o : Option ℕ) (m n : ℕ) → o ≡ Some m → IsAtMost o n → m ≤ n
+at_most o m n e h = subst (λ x. IsAtMost x n) e h
+
+below_all : (o : Option ℕ) (line n : ℕ) → ((m : ℕ) → o ≡ Some m → line ≤ m) → IsAtMost o n → line ≤ n
+below_all None line n before h = absurd h
+below_all (Some m) line n before h = let le = before m refl in omega arith
+
+pub stray_first : (tape : List ControlProgram) (line : ℕ) (a b : Option ℕ) → a ≡ Some line → IsLeast (IsTapeStrayLine tape) a
+    → IsLeast (IsDeepLine tape) b → ((m : ℕ) → b ≡ Some m → line ≤ m)
+    → HasFault tape Waiting line BranchAtWait
+    × ((l : ℕ) (c : Cause) → HasFault tape Waiting l c → IsNoLater line BranchAtWait l c)
+stray_first tape line a b e p q before = (stray_fault tape line (p.holds line e), λ l c h. least l c (judged tape Waiting l c h refl))
+  where
+    least : (l : ℕ) (c : Cause) → Judged tape l c → IsNoLater line BranchAtWait l c
+    least l c (inl (s, is)) = rw is (no_later line l BranchAtWait BranchAtWait (at_most a line l e (p.least l s)) (omega arith))
+    least l c (inr (d, is)) = rw is (no_later line l BranchAtWait WaitTooDeep (below_all b line l before (q.least l d)) (omega arith))
+
+pub deep_first : (tape : List ControlProgram) (line : ℕ) (a b : Option ℕ) → b ≡ Some line → IsLeast (IsTapeStrayLine tape) a
+    → IsLeast (IsDeepLine tape) b → ((m : ℕ) → a ≡ Some m → line < m)
+    → HasFault tape Waiting line WaitTooDeep
+    × ((l : ℕ) (c : Cause) → HasFault tape Waiting l c → IsNoLater line WaitTooDeep l c)
+deep_first tape line a b e p q before = (deep_fault tape line (q.holds line e), λ l c h. least l c (judged tape Waiting l c h refl))
+  where
+    least : (l : ℕ) (c : Cause) → Judged tape l c → IsNoLater line WaitTooDeep l c
+    least l c (inl (s, is)) = inl (below_all a (suc line) l before (p.least l s))
+    least l c (inr (d, is)) = rw is (no_later line l WaitTooDeep WaitTooDeep (at_most b line l e (q.least l d)) (omega arith))

@@ -1,0 +1,13 @@
+pub mod Stretched
+pub mod Elsewhere
+pub mod Ahead
+pub mod Nearest
+pub mod Least
+pub mod Leading
+pub mod Counted
+pub mod Searching
+pub mod Strayed
+pub mod Called
+pub mod Deepest
+pub mod Judged
+pub mod Listed

@@ -1,0 +1,226 @@
+-- Blocks that search alike, and what the numbers of returns and the searches of a tape are, one more at a time.
+use Rattle.std.proofs.Common.{◌≡◌, ℕ, zero, suc, ◌+◌, ◌<◌, ◌⊎◌, inl, inr, Bool, true, false, ◌||◌, ◌==◌, List, [], ◌∷◌, ◌++◌, length, drop, Option, Some, None, slice_get, slice_index_or, refl, ap, sym, subst, ◌∙◌, arith}
+use Rattle.std.specs.List.{list_any}
+use Rattle.std.proofs.lemmas.Bool.Decides.{nat_tests}
+use Rattle.std.proofs.Math.Seq.{drop-cons}
+use Rattle.block_order.specs.declared.control.Control.{Control}
+use Rattle.block_order.specs.declared.control.Control.TheVariants.{Next, Goto, While, Do, EndLoop, Wait, End, Call, Back, BackTo}
+use Rattle.block_order.specs.declared.program.ControlBlock.{ControlBlock}
+use Rattle.block_order.specs.declared.program.ControlProgram.{ControlProgram}
+use Rattle.wait_order.specs.declared.search.Search.{Search}
+use Rattle.wait_order.specs.declared.search.Search.TheVariants.{Computed}
+use Rattle.block_order.specs.Order.{blocks, control_at}
+use Rattle.wait_order.specs.Searchers.{is_searcher, is_sought, is_computed, is_call_of, is_back_to, has_back_to, IsSearcherAt}
+use Rattle.wait_order.specs.Searches.{IsLongQuiet, IsCallSearch, IsReturnSearch, HasReturnSearch, AreSearchesBelow, IsSearchStrayBelow}
+use Rattle.wait_order.specs.Waiting.{HasBack, IsSearchStray, IsLeast, sooner}
+use Rattle.wait_order.proofs.Least.{least_none, least_either}
+
+or_true : (x : Bool) → (x || true) ≡ true
+or_true true = refl
+or_true false = refl
+
+or_false : (x : Bool) → (x || false) ≡ x
+or_false true = refl
+or_false false = refl
+
+or_or : (x y z : Bool) → ((x || y) || z) ≡ (x || (y || z))
+or_or true y z = refl
+or_or false y z = refl
+
+pub computed_is : (c : Control) → is_computed c ≡ true → c ≡ Goto None
+computed_is (Goto None) e = refl
+computed_is (Goto (Some n)) e = absurd cc
+computed_is Next e = absurd cc
+computed_is (While m) e = absurd cc
+computed_is (Do m) e = absurd cc
+computed_is (EndLoop m) e = absurd cc
+computed_is (Wait code) e = absurd cc
+computed_is End e = absurd cc
+computed_is (Call p r) e = absurd cc
+computed_is Back e = absurd cc
+computed_is (BackTo n) e = absurd cc
+
+same_numbers : (a b : ℕ) → (a == b) ≡ true → a ≡ b
+same_numbers a b e = grind (arith, nat_tests)
+
+pub call_is : (called : ℕ) (c : Control) → is_call_of called c ≡ true → (repeats : ℕ) × (c ≡ Call called repeats)
+call_is called (Call p r) e = (r, ap (λ k. Call k r) (same_numbers p called e))
+call_is called (Goto n) e = absurd cc
+call_is called Next e = absurd cc
+call_is called (While m) e = absurd cc
+call_is called (Do m) e = absurd cc
+call_is called (EndLoop m) e = absurd cc
+call_is called (Wait code) e = absurd cc
+call_is called End e = absurd cc
+call_is called Back e = absurd cc
+call_is called (BackTo n) e = absurd cc
+
+back_is : (n : ℕ) (c : Control) → is_back_to n c ≡ true → c ≡ BackTo n
+back_is n (BackTo own) e = ap (λ k. BackTo k) (sym (same_numbers n own e))
+back_is n (Call p r) e = absurd cc
+back_is n (Goto m) e = absurd cc
+back_is n Next e = absurd cc
+back_is n (While m) e = absurd cc
+back_is n (Do m) e = absurd cc
+back_is n (EndLoop m) e = absurd cc
+back_is n (Wait code) e = absurd cc
+back_is n End e = absurd cc
+back_is n Back e = absurd cc
+
+pub same_as_itself : (a : ℕ) → (a == a) ≡ true
+same_as_itself a = grind (arith, nat_tests)
+
+pub has_back : (bs : List ControlBlock) (n : ℕ) → has_back_to bs n ≡ true → HasBack bs n
+has_back [] n e = absurd cc
+has_back (b ∷ bs) n e = go (λ h. has_back bs n h) (is_back_to n b.control) refl
+  where
+    go : (has_back_to bs n ≡ true → HasBack bs n) → (x : Bool) → is_back_to n b.control ≡ x → HasBack (b ∷ bs) n
+    go behind true y = (0, ap (λ c. Some c) (back_is n b.control y))
+    go behind false y =
+        let rest : has_back_to bs n ≡ true = ap (λ x. x || has_back_to bs n) (sym y) ∙ e in
+        let r = behind rest in
+        (suc r.0, r.1)
+
+pub back_has : (bs : List ControlBlock) (n inner : ℕ) → control_at bs inner ≡ Some (BackTo n) → has_back_to bs n ≡ true
+back_has [] n inner e = absurd cc
+back_has (b ∷ bs) n zero e =
+    let same : b.control ≡ BackTo n = cc in
+    let here : is_back_to n b.control ≡ true = ap (λ c. is_back_to n c) same ∙ same_as_itself n in
+    rw here refl
+back_has (b ∷ bs) n (suc inner) e =
+    let rest : has_back_to bs n ≡ true = back_has bs n inner e in
+    rw rest (or_true (is_back_to n b.control))
+
+pub get_within : {X : Type 0} (xs : List X) (i : ℕ) (x : X) → slice_get xs i ≡ Some x → i < length xs
+get_within [] i x e = absurd cc
+get_within (y ∷ ys) zero x e = omega arith
+get_within (y ∷ ys) (suc i) x e = let within = get_within ys i x e in omega arith
+
+pub any_searcher : (q : Control → Bool) (bs : List ControlBlock) (place : ℕ) → IsSearcherAt q bs place
+    → list_any (λ b. q b.control) bs ≡ true
+any_searcher q [] place (c, at, is) = absurd cc
+any_searcher q (b ∷ bs) zero (c, at, is) =
+    let same : b.control ≡ c = cc in
+    let here : q b.control ≡ true = ap q same ∙ is in
+    rw here refl
+any_searcher q (b ∷ bs) (suc place) (c, at, is) = rw (any_searcher q bs place (c, at, is)) (or_true (q b.control))
+
+-- the numbers of the returns of one block more
+pub noted_more : (bs : List ControlBlock) (i : ℕ) (d : ControlBlock) (n : ℕ) (old new : Bool) → i < length bs
+    → new ≡ (old || is_back_to n (slice_index_or bs i d).control) → (old || has_back_to (drop i bs) n) ≡ has_back_to bs n
+    → (new || has_back_to (drop (i + 1) bs) n) ≡ has_back_to bs n
+noted_more bs i d n old new within e before =
+    let on : i + 1 ≡ suc i = omega arith in
+    let b = slice_index_or bs i d in
+    let rest = has_back_to (drop (suc i) bs) n in
+    let cut : has_back_to (drop i bs) n ≡ (is_back_to n b.control || rest) = ap (λ l. has_back_to l n) (drop-cons bs i d within) in
+    ap (λ k. new || has_back_to (drop k bs) n) on
+    ∙ (ap (λ x. x || rest) e
+    ∙ (or_or old (is_back_to n b.control) rest ∙ (ap (λ x. old || x) (sym cut) ∙ before)))
+
+-- a list with one entry more
+get_push : {X : Type 0} (xs : List X) (y x : X) (i : ℕ) → slice_get (xs ++ y ∷ []) i ≡ Some x → (slice_get xs i ≡ Some x) ⊎ (x ≡ y)
+get_push [] y x zero e = inr (let same : y ≡ x = cc in sym same)
+get_push [] y x (suc i) e = absurd cc
+get_push (z ∷ xs) y x zero e = inl e
+get_push (z ∷ xs) y x (suc i) e = get_push xs y x i e
+
+get_kept : {X : Type 0} (xs : List X) (y x : X) (i : ℕ) → slice_get xs i ≡ Some x → slice_get (xs ++ y ∷ []) i ≡ Some x
+get_kept [] y x i e = absurd cc
+get_kept (z ∷ xs) y x zero e = e
+get_kept (z ∷ xs) y x (suc i) e = get_kept xs y x i e
+
+get_last : {X : Type 0} (xs : List X) (y : X) → slice_get (xs ++ y ∷ []) (length xs) ≡ Some y
+get_last [] y = refl
+get_last (z ∷ xs) y = get_last xs y
+
+last_or_before : (i n : ℕ) → i < n + 1 → (i ≡ n) ⊎ (i < n)
+last_or_before i n h = grind arith
+
+same_program : (tape : List ControlProgram) (i n : ℕ) (p q : ControlProgram) → slice_get tape n ≡ Some p → slice_get tape i ≡ Some q
+    → i ≡ n → q ≡ p
+same_program tape i n p q at is e =
+    let both : Some q ≡ Some p = sym is ∙ (ap (λ k. slice_get tape k) e ∙ at) in
+    cc
+
+-- the searches of one program more, which is not a long quiet one
+pub searches_same : (tape : List ControlProgram) (n : ℕ) (p : ControlProgram) (searches : List Search) → slice_get tape n ≡ Some p
+    → (IsLongQuiet tape p.number → ⊥) → AreSearchesBelow tape n searches → AreSearchesBelow tape (n + 1) searches
+searches_same tape n p searches at not_so are = record {
+  each = are.each;
+  computed = are.computed;
+  calls = λ i q below is long. elim (last_or_before i n below) [
+    | inl e ↦ absurd (not_so (subst (λ x. IsLongQuiet tape x.number) (same_program tape i n p q at is e) long))
+    | inr less ↦ are.calls i q less is long
+  ];
+}
+
+-- the same where it is one
+pub searches_more : (tape : List ControlProgram) (n : ℕ) (p : ControlProgram) (searches : List Search) (search : Search)
+    → slice_get tape n ≡ Some p → IsLongQuiet tape p.number → IsCallSearch p.number (blocks tape p.number) search
+    → AreSearchesBelow tape n searches → AreSearchesBelow tape (n + 1) (searches ++ search ∷ [])
+searches_more tape n p searches search at long serves are = record {
+  each = λ i s e. each i s (get_push searches search s i e);
+  computed = (are.computed.0, get_kept searches search Computed are.computed.0 are.computed.1);
+  calls = λ i q below is so. elim (last_or_before i n below) [
+    | inl e ↦ subst (λ x. HasReturnSearch tape x.number (searches ++ search ∷ [])) (sym (same_program tape i n p q at is e)) here
+    | inr less ↦ kept q.number (are.calls i q less is so)
+  ];
+}
+  where
+    own : IsReturnSearch tape p.number search
+    own = record { program = long; serves = serves }
+
+    here : HasReturnSearch tape p.number (searches ++ search ∷ [])
+    here = (length searches, search, get_last searches search, own)
+
+    kept : (called : ℕ) → HasReturnSearch tape called searches → HasReturnSearch tape called (searches ++ search ∷ [])
+    kept called (i, s, e, is) = (i, s, get_kept searches search s i e, is)
+
+    each : (i : ℕ) (s : Search) → (slice_get searches i ≡ Some s) ⊎ (s ≡ search)
+        → (s ≡ Computed) ⊎ ((called : ℕ) × IsReturnSearch tape called s)
+    each i s (inl e) = are.each i s e
+    each i s (inr e) = inr (p.number, subst (λ x. IsReturnSearch tape p.number x) (sym e) own)
+
+-- at first the computed GOTOs alone
+pub searches_none : (tape : List ControlProgram) → AreSearchesBelow tape 0 (Computed ∷ [])
+searches_none tape = record {
+  each = λ i s e. inl (first i s e);
+  computed = (0, refl);
+  calls = λ i q below is long. absurd (omega arith);
+}
+  where
+    first : (i : ℕ) (s : Search) → slice_get (Computed ∷ []) i ≡ Some s → s ≡ Computed
+    first zero s e = let same : Computed ≡ s = cc in sym same
+    first (suc i) s e = absurd cc
+
+-- one search more
+pub least_search : (ld : ℕ → Bool) (bs : List ControlBlock) (searches : List Search) (i : ℕ) (s : Search) (a b : Option ℕ)
+    → slice_get searches i ≡ Some s → IsLeast (IsSearchStrayBelow ld searches i bs) a
+    → IsLeast (IsSearchStray ld (is_searcher s) (is_sought s) bs) b
+    → IsLeast (IsSearchStrayBelow ld searches (i + 1) bs) (sooner a b)
+least_search ld bs searches i s a b at l r =
+    least_either {R = IsSearchStrayBelow ld searches (i + 1) bs} a b l r (λ n h. (let below = h.2 in (h.0, h.1, omega arith, h.3, h.4)))
+    (λ n h. (i, s, omega arith, at, h)) either
+  where
+    here : (n t : ℕ) (q : Search) → slice_get searches t ≡ Some q → IsSearchStray ld (is_searcher q) (is_sought q) bs n → t ≡ i
+        → IsSearchStray ld (is_searcher s) (is_sought s) bs n
+    here n t q is h e =
+        let both : Some q ≡ Some s = sym is ∙ (ap (λ k. slice_get searches k) e ∙ at) in
+        let same : q ≡ s = cc in
+        subst (λ x. IsSearchStray ld (is_searcher x) (is_sought x) bs n) same h
+
+    either : (n : ℕ) → IsSearchStrayBelow ld searches (i + 1) bs n
+        → IsSearchStrayBelow ld searches i bs n ⊎ IsSearchStray ld (is_searcher s) (is_sought s) bs n
+    either n (t, q, below, is, h) = elim (last_or_before t i below) [
+      | inl e ↦ inr (here n t q is h e)
+      | inr less ↦ inl (t, q, less, is, h)
+    ]
+
+-- where no block searches
+pub least_unsearched : (ld : ℕ → Bool) (bs : List ControlBlock) (s : Search) → list_any (λ b. is_searcher s b.control) bs ≡ false
+    → IsLeast (IsSearchStray ld (is_searcher s) (is_sought s) bs) None
+least_unsearched ld bs s e = least_none {P = IsSearchStray ld (is_searcher s) (is_sought s) bs} none
+  where
+    none : (n : ℕ) → IsSearchStray ld (is_searcher s) (is_sought s) bs n → ⊥
+    none n h = let some = any_searcher (is_searcher s) bs n h.0 in absurd (cc)

@@ -1,0 +1,28 @@
+-- The stretches of a program's blocks, one after another, are the stretches; and they rise.
+use Rattle.std.proofs.Common.{◌≡◌, ℕ, zero, suc, ◌+◌, ◌<◌, ◌≤◌, Bool, List, [], ◌∷◌, length, take, slice_index_or, ◌∙◌, arith, length-append}
+use Rattle.block_order.specs.declared.program.ControlBlock.{ControlBlock}
+use Rattle.block_order.specs.Loud.{mark_of, marks, stretch}
+use Rattle.wait_order.specs.Stretches.{stretches_from}
+
+-- one block more in front
+pub stretch_behind : (ld : ℕ → Bool) (b : ControlBlock) (bs : List ControlBlock) (i : ℕ)
+    → stretch ld (b ∷ bs) (suc i) ≡ length (mark_of ld b.control) + stretch ld bs i
+stretch_behind ld b bs i = length-append (mark_of ld b.control) (marks ld (take i bs))
+
+pub stretches_are : (ld : ℕ → Bool) (bs : List ControlBlock) (m i d : ℕ) → i < length bs
+    → slice_index_or (stretches_from ld m bs) i d ≡ m + stretch ld bs i
+stretches_are ld [] m i d within = absurd (omega arith)
+stretches_are ld (b ∷ bs) m zero d within = omega arith
+stretches_are ld (b ∷ bs) m (suc i) d within =
+    stretches_are ld bs (m + length (mark_of ld b.control)) i d (omega arith)
+    ∙ omega (arith, stretch_behind ld b bs i)
+
+-- a later block lies in no earlier stretch
+pub stretch_rises : (ld : ℕ → Bool) (bs : List ControlBlock) (i j : ℕ) → i ≤ j → stretch ld bs i ≤ stretch ld bs j
+stretch_rises ld [] zero j le = omega arith
+stretch_rises ld [] (suc i) zero le = absurd (omega arith)
+stretch_rises ld [] (suc i) (suc j) le = omega arith
+stretch_rises ld (b ∷ bs) zero j le = omega arith
+stretch_rises ld (b ∷ bs) (suc i) zero le = absurd (omega arith)
+stretch_rises ld (b ∷ bs) (suc i) (suc j) le =
+    omega (arith, stretch_behind ld b bs i, stretch_behind ld b bs j, stretch_rises ld bs i j (omega arith))

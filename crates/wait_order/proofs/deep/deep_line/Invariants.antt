@@ -1,0 +1,6 @@
+use Rattle.wait_order.specs.Deep.{IsDeepBelow}
+use Rattle.wait_order.specs.Waiting.{IsLeast}
+use Rattle.wait_order.proofs.deep.deep_line.Given as goal
+
+abbrev pub invariant-loop-program : goal.invariant-loop-program
+invariant-loop-program l = IsLeast (IsDeepBelow l.programs l.reached l.program-index) l.first

@@ -1,0 +1,8 @@
+use Rattle.std.proofs.Common.{◌≡◌, ◌||◌, ℕ, nat_eq, drop}
+use Rattle.std.specs.HashSet.{contains}
+use Rattle.wait_order.specs.Searchers.{has_back_to}
+use Rattle.wait_order.proofs.search.return_numbers.Given as goal
+
+abbrev pub invariant-loop-block : goal.invariant-loop-block
+invariant-loop-block l =
+    (n : ℕ) → (contains nat_eq l.numbers n || has_back_to (drop l.block-index l.blocks) n) ≡ has_back_to l.blocks n

@@ -1,0 +1,11 @@
+use Rattle.std.proofs.Common.{◌≡◌, ◌≤◌, ◌++◌, drop}
+use Rattle.block_order.specs.Heard.{heard}
+use Rattle.wait_order.specs.Stretches.{stretches_from}
+use Rattle.wait_order.proofs.stretch.stretches.Given as goal
+
+abbrev pub invariant-loop-block : goal.invariant-loop-block
+invariant-loop-block l = record {
+  few : l.marks ≤ l.block-index;
+  is : l.found.items ++ stretches_from (heard l.loud) l.marks (drop l.block-index l.blocks)
+      ≡ stretches_from (heard l.loud) 0 l.blocks;
+}

@@ -1,0 +1,8 @@
+use Rattle.block_order.specs.Loud.{loud}
+use Rattle.wait_order.specs.Searches.{IsSearchStrayBelow}
+use Rattle.wait_order.specs.Waiting.{IsLeast}
+use Rattle.wait_order.proofs.view.ProgramView.first_of_searches.Given as goal
+
+abbrev pub invariant-loop-search : goal.invariant-loop-search
+invariant-loop-search l =
+    IsLeast (IsSearchStrayBelow (loud l.self.programs.now) l.searches l.search-index l.self.ways.blocks.now) l.first

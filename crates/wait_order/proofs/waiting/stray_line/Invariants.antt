@@ -1,0 +1,6 @@
+use Rattle.wait_order.specs.TapeFaults.{IsStrayLineBelow}
+use Rattle.wait_order.specs.Waiting.{IsLeast}
+use Rattle.wait_order.proofs.waiting.stray_line.Given as goal
+
+abbrev pub invariant-loop-at : goal.invariant-loop-at
+invariant-loop-at l = IsLeast (IsStrayLineBelow l.programs l.at) l.first

@@ -1,0 +1,28 @@
+-- The ninth calls of chains of calls of loud programs.
+use Rattle.std.specs.Prelude.{◌≡◌, ℕ, ◌<◌, Bool, true, List, Some, slice_get}
+use Rattle.block_order.specs.declared.program.ControlBlock.{ControlBlock}
+use Rattle.block_order.specs.declared.program.ControlProgram.{ControlProgram}
+use Rattle.block_order.specs.Order.{blocks, main_number}
+use Rattle.block_order.specs.Faults.{IsReachedBy}
+use Rattle.wait_order.specs.Depth.{IsLoudCall}
+use Rattle.block_order.specs.ProgramPlaces.{flagged}
+
+-- the line of a call of a loud program
+abbrev pub IsCallLine : List ControlProgram → List ControlBlock → ℕ → Type 0
+IsCallLine tape bs line =
+    (place : ℕ) × (block : ControlBlock) × (called : ℕ) × (slice_get bs place ≡ Some block) × IsLoudCall tape block.control called
+    × (block.line ≡ line)
+
+-- the same in a program that is flagged
+abbrev pub IsReachedLine : List ControlProgram → List Bool → ControlProgram → ℕ → Type 0
+IsReachedLine tape reached program line = (flagged tape reached program.number ≡ true) × IsCallLine tape program.blocks line
+
+-- the same in one of the first n programs
+abbrev pub IsDeepBelow : List ControlProgram → List Bool → ℕ → ℕ → Type 0
+IsDeepBelow tape reached n line =
+    (place : ℕ) × (program : ControlProgram) × (place < n) × (slice_get tape place ≡ Some program)
+    × IsReachedLine tape reached program line
+
+-- the line of a call of a loud program in a program that eight such calls reach from the main one
+abbrev pub IsDeepLine : List ControlProgram → ℕ → Type 0
+IsDeepLine tape line = (program : ℕ) × IsReachedBy tape 8 (main_number tape) program × IsCallLine tape (blocks tape program) line

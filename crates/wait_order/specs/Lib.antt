@@ -1,0 +1,10 @@
+pub mod Stretches
+pub mod Ways
+pub mod Searchers
+pub mod Waiting
+pub mod Searches
+pub mod Ahead
+pub mod View
+pub mod TapeFaults
+pub mod Depth
+pub mod Deep

@@ -1,0 +1,26 @@
+-- The faults of waits over a whole tape.
+use Rattle.std.specs.Prelude.{◌≡◌, ℕ, ◌<◌, ◌≤◌, List, length, Some, slice_get}
+use Rattle.block_order.specs.declared.program.ControlProgram.{ControlProgram}
+use Rattle.block_order.specs.Order.{blocks}
+use Rattle.block_order.specs.Fitting.{Fits}
+use Rattle.wait_order.specs.Waiting.{IsStrayLine, HasRisingLines}
+
+-- a program of the tape that is the first of its number, has not too many blocks, loops that fit, and lines that rise
+pub record IsProgramOf (tape : List ControlProgram) (program : ControlProgram) : Type 0 where
+  pub own : blocks tape program.number ≡ program.blocks
+  pub few : length program.blocks ≤ 20000
+  pub fits : Fits program.blocks
+  pub rising : HasRisingLines program.blocks
+
+abbrev pub AreProgramsOf : List ControlProgram → Type 0
+AreProgramsOf tape = (place : ℕ) (program : ControlProgram) → slice_get tape place ≡ Some program → IsProgramOf tape program
+
+-- the line of a block of the tape that may pass a wait
+abbrev pub IsTapeStrayLine : List ControlProgram → ℕ → Type 0
+IsTapeStrayLine tape line = (program : ℕ) × IsStrayLine tape program line
+
+-- the same in one of the first programs
+abbrev pub IsStrayLineBelow : List ControlProgram → ℕ → ℕ → Type 0
+IsStrayLineBelow tape n line =
+    (place : ℕ) × (program : ControlProgram) × (place < n) × (slice_get tape place ≡ Some program)
+    × IsStrayLine tape program.number line

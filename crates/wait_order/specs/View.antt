@@ -1,0 +1,16 @@
+-- That a view of a program says what the program is.
+use Rattle.std.specs.Prelude.{◌≡◌}
+use Rattle.wait_order.specs.declared.view.ProgramView.{ProgramView}
+use Rattle.block_order.specs.Order.{blocks, main_number}
+use Rattle.block_order.specs.Loud.{loud}
+use Rattle.block_order.specs.Numbers.{KnowsPlaces}
+use Rattle.block_order.specs.Heard.{heard}
+use Rattle.wait_order.specs.Ways.{AreWays}
+
+-- the program of its number on its tape, its ways and the loud programs
+pub record IsView (view : ProgramView) : Type 0 where
+  pub places : KnowsPlaces view.programs.now view.loud.now.numbers
+  pub heard_loud : heard view.loud.now ≡ loud view.programs.now
+  pub main : view.main ≡ main_number view.programs.now
+  pub own_blocks : blocks view.programs.now view.number ≡ view.ways.blocks.now
+  pub ways : AreWays (loud view.programs.now) view.ways

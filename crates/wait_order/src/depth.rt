@@ -1,0 +1,107 @@
+//! Which programs are reached by eight calls of loud programs from the main one.
+ghost use Rattle.std.specs.Prelude.{◌≡◌, ◌↔◌, ◌⊎◌, ◌<◌, ℕ, Bool, true, List, IfOk, length};
+ghost use Rattle.wait_order.specs.Depth.{IsLoudCall, HasLoudCall, IsCalledBelow, IsCalledFrom, AreReached};
+ghost use Rattle.block_order.specs.ProgramPlaces.{flagged};
+ghost use Rattle.block_order.specs.Heard.{IsKnown};
+ghost use Rattle.wait_order.specs.TapeFaults.{AreProgramsOf};
+ghost use Rattle.block_order.specs.declared.program.ControlProgram.{ControlProgram};
+
+use block_order::{Control, ControlBlock, ControlProgram, LoudPrograms};
+use nc_number::NoMemory;
+use std::alloc::Global;
+
+// Flags the program that a block calls, if that is loud.
+fn flag_called(flags: &mut [bool], loud: &LoudPrograms, control: &Control)
+    ensures { (tape : List ControlProgram) → IsKnown tape loud.now → length flags.old ≡ length tape
+        → (q : ℕ) → (flagged tape flags.new q ≡ true) ↔ ((flagged tape flags.old q ≡ true) ⊎ IsLoudCall tape control.now q) }
+{
+    if let Control::Call {
+        program,
+        repeats: _,
+    } = control
+    {
+        if loud.is_loud(*program) {
+            if let Some(place) = loud.place_of(*program) {
+                if place < flags.len() {
+                    flags[place] = true;
+                }
+            }
+        }
+    }
+}
+
+fn flag_calls(flags: &mut [bool], loud: &LoudPrograms, blocks: &[ControlBlock])
+    ensures { (tape : List ControlProgram) → IsKnown tape loud.now → length flags.old ≡ length tape
+        → (q : ℕ) → (flagged tape flags.new q ≡ true) ↔ ((flagged tape flags.old q ≡ true) ⊎ HasLoudCall tape blocks.now q) }
+{
+    for block in blocks {
+        flag_called(flags, loud, &block.control);
+    }
+}
+
+// The programs that a flagged program calls, of the loud ones.
+fn flag_from(next: &mut [bool], loud: &LoudPrograms, reached: &[bool], program: &ControlProgram)
+    ensures { (tape : List ControlProgram) → IsKnown tape loud.now → length next.old ≡ length tape
+        → (q : ℕ) → (flagged tape next.new q ≡ true) ↔ ((flagged tape next.old q ≡ true)
+        ⊎ ((flagged tape reached.now program.now.number ≡ true) × HasLoudCall tape program.now.blocks q)) }
+{
+    if loud.flag_of(reached, program.number) {
+        flag_calls(next, loud, program.blocks.as_slice());
+    }
+}
+
+// The programs that flagged programs call, of the loud ones.
+fn flag_all(next: &mut [bool], loud: &LoudPrograms, reached: &[bool], programs: &[ControlProgram])
+    requires known { IsKnown programs.now loud.now }
+    requires count { length next.old ≡ length programs.now }
+    ensures { (q : ℕ) → (flagged programs.now next.new q ≡ true) ↔ ((flagged programs.now next.old q ≡ true)
+        ⊎ IsCalledBelow programs.now reached.now (length programs.now) q) }
+{
+    for program in programs {
+        flag_from(next, loud, reached, program);
+    }
+}
+
+// The programs that are reached by one call more.
+fn called_from(
+    alloc: Global,
+    programs: &[ControlProgram],
+    loud: &LoudPrograms,
+    reached: &[bool],
+) -> Result<Vec<bool>, NoMemory>
+    requires known { IsKnown programs.now loud.now }
+    requires own { AreProgramsOf programs.now }
+    ensures { IfOk result (λ next. IsCalledFrom programs.now reached.now next.items) }
+{
+    let mut next = vec![in alloc; false; programs.len()]?;
+    flag_all(&mut next, loud, reached, programs);
+    Ok(next)
+}
+
+// The main program alone.
+fn main_reached(alloc: Global, programs: &[ControlProgram]) -> Result<Vec<bool>, NoMemory>
+    requires some { 0 < length programs.now }
+    ensures { IfOk result (λ reached. AreReached programs.now 0 reached.items) }
+{
+    let mut reached = vec![in alloc; false; programs.len()]?;
+    reached[0] = true;
+    Ok(reached)
+}
+
+/// The programs that are reached by eight calls of loud programs from the main one, by their places.
+pub(crate) fn reached_by_eight(
+    alloc: Global,
+    programs: &[ControlProgram],
+    loud: &LoudPrograms,
+) -> Result<Vec<bool>, NoMemory>
+    requires some { 0 < length programs.now }
+    requires known { IsKnown programs.now loud.now }
+    requires own { AreProgramsOf programs.now }
+    ensures { IfOk result (λ reached. AreReached programs.now 8 reached.items) }
+{
+    let mut reached = main_reached(alloc, programs)?;
+    for _round in 0..8u8 {
+        reached = called_from(alloc, programs, loud, &reached)?;
+    }
+    Ok(reached)
+}

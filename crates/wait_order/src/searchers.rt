@@ -1,0 +1,121 @@
+//! The blocks of a program that search alike, ahead of each of its places.
+ghost use Rattle.std.specs.Prelude.{◌≡◌, ◌+◌, ◌<◌, ◌≤◌, ℕ, Bool, List, IfOk, length, slice_index, drop};
+ghost use Rattle.block_order.specs.declared.control.Control.{Control};
+ghost use Rattle.wait_order.specs.Searchers.{is_searcher, behind_marks, AreNext, AreLater};
+ghost use Rattle.block_order.specs.Heard.{heard};
+
+use crate::search::Search;
+use crate::stretch::mark_count;
+use block_order::{ControlBlock, LoudPrograms};
+use nc_number::NoMemory;
+use std::alloc::{AllocError, Global};
+
+fn places_behind(alloc: Global, len: usize) -> Result<Vec<usize>, NoMemory>
+    requires { len ≤ 20000 }
+    ensures { IfOk result (λ places. (length places.items ≡ len + 1) × (slice_index places.items len ≡ len)) }
+{
+    let places = vec![in alloc; len; len + 1]?;
+    Ok(places)
+}
+
+// The first block that searches at or behind each place; the place behind the last block where there
+// is none.
+fn next_searchers(
+    alloc: Global,
+    blocks: &[ControlBlock],
+    search: &Search,
+) -> Result<Vec<usize>, NoMemory>
+    requires { length blocks.now ≤ 20000 }
+    ensures { IfOk result (λ next. AreNext (is_searcher search.now) blocks.now 0 next.items) }
+{
+    let len = blocks.len();
+    let mut next = places_behind(alloc, len)?;
+    for done in 0..len {
+        let place = len - 1 - done;
+        next[place] = if search.is_searcher(&blocks[place].control) {
+            place
+        } else {
+            next[place + 1]
+        };
+    }
+    Ok(next)
+}
+
+fn behind_marks(marks: usize, next: usize, later: usize) -> usize
+    ensures { result ≡ behind_marks marks next later }
+{
+    if marks == 0 { later } else { next }
+}
+
+// The first block that searches behind the stretch of each place; the place behind the last block
+// where there is none.
+fn later_searchers(
+    alloc: Global,
+    loud: &LoudPrograms,
+    blocks: &[ControlBlock],
+    next: &[usize],
+) -> Result<Vec<usize>, NoMemory>
+    requires few { length blocks.now ≤ 20000 }
+    requires count { length next.now ≡ length blocks.now + 1 }
+    ensures { (searches : Control → Bool) → AreNext searches blocks.now 0 next.now
+        → IfOk result (λ later. AreLater (heard loud.now) searches blocks.now 0 later.items) }
+{
+    let len = blocks.len();
+    let mut later = places_behind(alloc, len)?;
+    for done in 0..len {
+        let place = len - 1 - done;
+        let marks = mark_count(loud, &blocks[place].control);
+        later[place] = behind_marks(marks, next[place + 1], later[place + 1]);
+    }
+    Ok(later)
+}
+
+/// The blocks of a program that search alike, by the places ahead of which they stand.
+#[derive(Drop)]
+pub(crate) struct SearchersAhead {
+    next: Vec<usize>,
+    later: Vec<usize>,
+}
+
+fn value_at(list: &[usize], place: usize) -> usize
+    ensures { result ≡ slice_index list.now place }
+{
+    list.get(place).copied().unwrap_or(0)
+}
+
+impl SearchersAhead {
+    ghost use Rattle.std.specs.Prelude.{Bool};
+    ghost use Rattle.wait_order.specs.Ahead.{AreAhead, IsFirstOther};
+    ghost use Rattle.wait_order.specs.Stretches.{stretches_from};
+    ghost use Rattle.block_order.specs.declared.control.Control.{Control};
+    ghost use Rattle.block_order.specs.declared.program.ControlBlock.{ControlBlock};
+
+    pub(crate) fn of(
+        alloc: Global,
+        loud: &LoudPrograms,
+        blocks: &[ControlBlock],
+        search: &Search,
+    ) -> Result<Self, NoMemory>
+        requires { length blocks.now ≤ 20000 }
+        ensures { IfOk result (AreAhead (heard loud.now) (is_searcher search.now) blocks.now) }
+    {
+        let next = next_searchers(alloc, blocks, search)?;
+        let later = later_searchers(alloc, loud, blocks, &next)?;
+        Ok(SearchersAhead { next, later })
+    }
+
+    /// The first block from a place on that searches and lies in another stretch than the target; the
+    /// place behind the last block where there is none.
+    pub(crate) fn first_other(&self, stretches: &[usize], from: usize, target: usize) -> usize
+        ensures { (loud : ℕ → Bool) (searches : Control → Bool) (bs : List ControlBlock)
+            → AreAhead loud searches bs self.now → stretches.now ≡ stretches_from loud 0 bs
+            → from ≤ length bs → target < length bs → IsFirstOther loud searches bs from target result }
+    {
+        let near = value_at(&self.next, from);
+        if value_at(stretches, near) == value_at(stretches, target) {
+            value_at(&self.later, near)
+        } else {
+            near
+        }
+    }
+}

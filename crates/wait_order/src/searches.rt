@@ -1,0 +1,73 @@
+//! What searches on a tape for any of several numbers.
+ghost use Rattle.std.specs.Prelude.{◌≡◌, ◌↔◌, ◌+◌, ℕ, List, Some, IsTrue, IfOk, OnOk, length, slice_get};
+ghost use Rattle.wait_order.specs.Waiting.{IsShort};
+ghost use Rattle.wait_order.specs.Searches.{IsLongQuiet, AreSearches, AreSearchesBelow};
+ghost use Rattle.block_order.specs.Heard.{IsKnown};
+ghost use Rattle.wait_order.specs.TapeFaults.{IsProgramOf, AreProgramsOf};
+ghost use Rattle.block_order.specs.declared.program.ControlProgram.{ControlProgram};
+
+use crate::search::Search;
+use block_order::{ControlBlock, ControlProgram, LoudPrograms};
+use nc_number::NoMemory;
+use std::alloc::Global;
+
+// From how many blocks on the numbers of a program's returns are gathered once for all its calls.
+const MANY_BLOCKS: usize = 65;
+
+/// Whether these are so few blocks that each call of their program looks at all of them.
+pub(crate) fn is_short(blocks: &[ControlBlock]) -> bool
+    ensures { IsTrue result ↔ IsShort blocks.now }
+{
+    blocks.len() < MANY_BLOCKS
+}
+
+// Whether the program is quiet and has more blocks.
+fn is_long_quiet(loud: &LoudPrograms, program: &ControlProgram) -> bool
+    ensures { (tape : List ControlProgram) → IsKnown tape loud.now → IsProgramOf tape program.now
+        → IsTrue result ↔ IsLongQuiet tape program.now.number }
+{
+    !is_short(program.blocks.as_slice()) && !loud.is_loud(program.number)
+}
+
+// Puts the search of the program's calls behind the others, if it is a long quiet one.
+fn note_calls(
+    alloc: Global,
+    loud: &LoudPrograms,
+    program: &ControlProgram,
+    searches: &mut Vec<Search>,
+) -> Result<(), NoMemory>
+    ensures { (tape : List ControlProgram) (n : ℕ) → IsKnown tape loud.now → IsProgramOf tape program.now
+        → slice_get tape n ≡ Some program.now → AreSearchesBelow tape n searches.old.items
+        → OnOk result (AreSearchesBelow tape (n + 1) searches.new.items) }
+{
+    if is_long_quiet(loud, program) {
+        let search = Search::calls(alloc, program.number, program.blocks.as_slice())?;
+        searches.push(search)?;
+    }
+    Ok(())
+}
+
+fn computed_alone(alloc: Global) -> Result<Vec<Search>, NoMemory>
+    ensures { (tape : List ControlProgram) → IfOk result (λ searches. AreSearchesBelow tape 0 searches.items) }
+{
+    let mut searches = Vec::new(alloc);
+    searches.push(Search::Computed)?;
+    Ok(searches)
+}
+
+/// The computed GOTOs, and the calls of each long quiet program.
+pub(crate) fn searches(
+    alloc: Global,
+    programs: &[ControlProgram],
+    loud: &LoudPrograms,
+) -> Result<Vec<Search>, NoMemory>
+    requires known { IsKnown programs.now loud.now }
+    requires own { AreProgramsOf programs.now }
+    ensures { IfOk result (λ searches. AreSearches programs.now searches.items) }
+{
+    let mut searches = computed_alone(alloc)?;
+    for program in programs {
+        note_calls(alloc, loud, program, &mut searches)?;
+    }
+    Ok(searches)
+}

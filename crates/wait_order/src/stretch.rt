@@ -1,0 +1,40 @@
+ghost use Rattle.std.specs.Prelude.{◌≡◌, ◌≤◌, length, IfOk};
+ghost use Rattle.block_order.specs.Loud.{mark_of};
+ghost use Rattle.block_order.specs.Heard.{heard};
+ghost use Rattle.wait_order.specs.Stretches.{stretches_from};
+
+use block_order::{Control, ControlBlock, LoudPrograms};
+use nc_number::NoMemory;
+use std::alloc::Global;
+
+// How many marks the block is: 1, or none.
+pub(crate) fn mark_count(loud: &LoudPrograms, control: &Control) -> usize
+    ensures is { result ≡ length (mark_of (heard loud.now) control.now) }
+    ensures few { result ≤ 1 }
+{
+    match control {
+        Control::Wait(_) | Control::End | Control::Back => 1,
+        Control::Call {
+            program,
+            repeats: _,
+        } => { if loud.is_loud(*program) { 1 } else { 0 } }
+        _ => 0,
+    }
+}
+
+/// The stretch of each block of a program: how many marks stand before it.
+pub(crate) fn stretches(
+    alloc: Global,
+    loud: &LoudPrograms,
+    blocks: &[ControlBlock],
+) -> Result<Vec<usize>, NoMemory>
+    ensures { IfOk result (λ found. found.items ≡ stretches_from (heard loud.now) 0 blocks.now) }
+{
+    let mut found = Vec::new(alloc);
+    let mut marks = 0;
+    for block in blocks {
+        found.push(marks)?;
+        marks += mark_count(loud, &block.control);
+    }
+    Ok(found)
+}

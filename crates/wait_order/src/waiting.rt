@@ -1,0 +1,177 @@
+//! The faults of waits: a jump that may pass a wait, and a chain of calls that is too deep for one.
+ghost use Rattle.std.specs.Prelude.{◌≡◌, ◌<◌, ◌≤◌, ℕ, IfOk, List, Contains, length};
+ghost use Rattle.block_order.specs.Labels.{Counts};
+ghost use Rattle.block_order.specs.Loud.{loud};
+ghost use Rattle.block_order.specs.Order.{main_number};
+ghost use Rattle.block_order.specs.Heard.{IsKnown};
+ghost use Rattle.wait_order.specs.TapeFaults.{IsProgramOf, AreProgramsOf, IsTapeStrayLine};
+ghost use Rattle.wait_order.specs.Deep.{IsDeepLine};
+ghost use Rattle.block_order.specs.Faults.{Fitting, Waiting, IsClear};
+ghost use Rattle.block_order.specs.First.{IsFirstOf};
+ghost use Rattle.block_order.specs.Shape.{IsListed};
+ghost use Rattle.wait_order.specs.Searches.{AreSearches};
+ghost use Rattle.block_order.specs.TapeTable.{IsProgramTables, IsTapeTables};
+ghost use Rattle.wait_order.specs.Waiting.{IsLeast, IsStrayLine};
+ghost use Rattle.block_order.specs.declared.program.ControlProgram.{ControlProgram};
+ghost use Rattle.nc_number.specs.declared.cause.Cause.{Cause};
+
+use crate::deep::deep_line;
+use crate::depth::reached_by_eight;
+use crate::search::Search;
+use crate::search_strays::sooner;
+use crate::searches::searches;
+use crate::stretch::stretches;
+use crate::view::ProgramView;
+use crate::ways::ProgramWays;
+use block_order::{ControlProgram, LoudPrograms, OrderFault, ProgramTables, TapeTables};
+use nc_number::{Cause, NoMemory};
+use std::alloc::Global;
+
+// The O number of the main program.
+fn main_of(programs: &[ControlProgram]) -> u16
+    ensures { result ≡ main_number programs.now }
+{
+    match programs.first() {
+        Some(program) => program.number,
+        None => 0,
+    }
+}
+
+// The line of the first block of a program that may pass a wait; labels hang on the program.
+fn program_line<'a>(
+    alloc: Global,
+    programs: &'a [ControlProgram],
+    loud: &'a LoudPrograms,
+    searches: &[Search],
+    own: &'a ProgramTables,
+    program: &'a ControlProgram,
+) -> Result<Option<u32>, NoMemory>
+    requires known { IsKnown programs.now loud.now }
+    requires searches { AreSearches programs.now searches.now }
+    requires tables { IsProgramTables program.now.blocks own.now }
+    requires own { IsProgramOf programs.now program.now }
+    requires counts { Counts programs.now program.now.number }
+    ensures { IfOk result (IsLeast (IsStrayLine programs.now program.now.number)) }
+{
+    let blocks = program.blocks.as_slice();
+    let found = stretches(alloc, loud, blocks)?;
+    let ways = ProgramWays {
+        blocks,
+        stretches: &found,
+        sequences: &own.index,
+        loops: &own.loops,
+    };
+    let view = ProgramView {
+        programs,
+        loud,
+        main: main_of(programs),
+        number: program.number,
+        ways,
+    };
+    let line = view.stray_line(alloc, searches)?;
+    Ok(line)
+}
+
+// The same of any program; where no labels hang on it nothing passes a wait.
+fn counted_line<'a>(
+    alloc: Global,
+    programs: &'a [ControlProgram],
+    loud: &'a LoudPrograms,
+    searches: &[Search],
+    own: &'a ProgramTables,
+    program: &'a ControlProgram,
+) -> Result<Option<u32>, NoMemory>
+    requires known { IsKnown programs.now loud.now }
+    requires searches { AreSearches programs.now searches.now }
+    requires tables { IsProgramTables program.now.blocks own.now }
+    requires own { IsProgramOf programs.now program.now }
+    ensures { IfOk result (IsLeast (IsStrayLine programs.now program.now.number)) }
+{
+    if program.number == main_of(programs) || loud.is_loud(program.number) {
+        program_line(alloc, programs, loud, searches, own, program)
+    } else {
+        Ok(None)
+    }
+}
+
+// The line of the tape's first block that may pass a wait.
+fn stray_line(
+    alloc: Global,
+    programs: &[ControlProgram],
+    tables: &TapeTables,
+    loud: &LoudPrograms,
+) -> Result<Option<u32>, NoMemory>
+    requires known { IsKnown programs.now loud.now }
+    requires tables { IsTapeTables programs.now tables.now }
+    requires own { AreProgramsOf programs.now }
+    ensures { IfOk result (IsLeast (IsTapeStrayLine programs.now)) }
+{
+    let searches = searches(alloc, programs, loud)?;
+    let mut first = None;
+    for (at, program) in programs.iter().enumerate() {
+        let own = &tables.programs[at];
+        let line = counted_line(alloc, programs, loud, &searches, own, program)?;
+        first = sooner(first, line);
+    }
+    Ok(first)
+}
+
+fn branch_at_wait(line: u32) -> OrderFault
+    ensures line { result.line ≡ line }
+    ensures cause { result.cause ≡ Cause.BranchAtWait }
+{
+    OrderFault {
+        line,
+        cause: Cause::BranchAtWait,
+    }
+}
+
+fn wait_too_deep(line: u32) -> OrderFault
+    ensures line { result.line ≡ line }
+    ensures cause { result.cause ≡ Cause.WaitTooDeep }
+{
+    OrderFault {
+        line,
+        cause: Cause::WaitTooDeep,
+    }
+}
+
+// The fault of the lesser line, and on one line the jump.
+fn first_fault(stray: Option<u32>, deep: Option<u32>) -> Option<OrderFault>
+    ensures { (tape : List ControlProgram) → IsLeast (IsTapeStrayLine tape) stray → IsLeast (IsDeepLine tape) deep
+        → IsFirstOf tape Waiting result }
+{
+    match (stray, deep) {
+        (None, None) => None,
+        (Some(line), None) => Some(branch_at_wait(line)),
+        (None, Some(line)) => Some(wait_too_deep(line)),
+        (Some(line), Some(other)) => {
+            if line <= other {
+                Some(branch_at_wait(line))
+            } else {
+                Some(wait_too_deep(other))
+            }
+        }
+    }
+}
+
+/// The first fault of waits on a tape, whose O numbers are given once and whose loops fit together:
+/// of the least line, and on one line the one with the lesser number; `None` exactly where there is
+/// none.
+pub(crate) fn waiting_fault(
+    alloc: Global,
+    programs: &[ControlProgram],
+    tables: &TapeTables,
+    loud: &LoudPrograms,
+) -> Result<Option<OrderFault>, NoMemory>
+    requires listed { IsListed programs.now }
+    requires fits { IsClear programs.now Fitting }
+    requires tables { IsTapeTables programs.now tables.now }
+    requires known { IsKnown programs.now loud.now }
+    ensures { IfOk result (IsFirstOf programs.now Waiting) }
+{
+    let stray = stray_line(alloc, programs, tables, loud)?;
+    let reached = reached_by_eight(alloc, programs, loud)?;
+    let deep = deep_line(programs, loud, &reached);
+    Ok(first_fault(stray, deep))
+}

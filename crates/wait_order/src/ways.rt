@@ -1,0 +1,84 @@
+//! Where the jumps of one program lead, and in which stretch its blocks lie.
+
+use block_order::{ControlBlock, LoopTable, SequenceIndex};
+
+/// One program's blocks, their stretches, and the tables of its sequence numbers and its loops.
+#[derive(Clone, Copy)]
+pub(crate) struct ProgramWays<'a> {
+    pub(crate) blocks: &'a [ControlBlock],
+    pub(crate) stretches: &'a [usize],
+    pub(crate) sequences: &'a SequenceIndex,
+    pub(crate) loops: &'a LoopTable,
+}
+
+impl ProgramWays<'_> {
+    ghost use Rattle.std.specs.Prelude.{◌≡◌, ◌≢◌, ◌↔◌, ◌<◌, ◌-◌, ℕ, Bool, IsTrue, length, slice_index};
+    ghost use Rattle.wait_order.specs.Waiting.{LeadsElsewhere, ClosesElsewhere};
+    ghost use Rattle.block_order.specs.Order.{IsPermitted};
+    ghost use Rattle.block_order.specs.Loud.{stretch};
+    ghost use Rattle.wait_order.specs.Ways.{AreWays};
+
+    pub(crate) fn stretch_at(&self, place: u32) -> usize
+        ensures { result ≡ slice_index self.now.stretches.now place }
+    {
+        self.stretches.get(place as usize).copied().unwrap_or(0)
+    }
+
+    // The stretch of the last block.
+    fn last_stretch(&self) -> usize
+        ensures { result ≡ slice_index self.now.stretches.now (length self.now.blocks.now - 1) }
+    {
+        self.stretches
+            .get(self.blocks.len().saturating_sub(1))
+            .copied()
+            .unwrap_or(0)
+    }
+
+    /// Whether all blocks lie in one stretch, so that no search leads to another one.
+    pub(crate) fn is_one_stretch(&self) -> bool
+        ensures { (loud : ℕ → Bool) → AreWays loud self.now → (block n : ℕ) → block < length self.now.blocks.now
+            → IsTrue result → LeadsElsewhere loud self.now.blocks.now block n → ⊥ }
+    {
+        self.last_stretch() == 0
+    }
+
+    fn are_apart(&self, one: u32, other: u32) -> bool
+        ensures { (loud : ℕ → Bool) → AreWays loud self.now
+            → one < length self.now.blocks.now → other < length self.now.blocks.now
+            → IsTrue result ↔ (stretch loud self.now.blocks.now one ≢ stretch loud self.now.blocks.now other) }
+    {
+        self.stretch_at(one) != self.stretch_at(other)
+    }
+
+    fn is_permitted(&self, block: u32, target: u32) -> bool
+        ensures { (loud : ℕ → Bool) → AreWays loud self.now
+            → block < length self.now.blocks.now → target < length self.now.blocks.now
+            → IsTrue result ↔ IsPermitted self.now.blocks.now block target }
+    {
+        let reach = self.loops.reach(target);
+        reach.low <= block && block <= reach.high
+    }
+
+    /// Whether the search for this number leads from the block to a permitted target in another
+    /// stretch.
+    pub(crate) fn leads_elsewhere(&self, block: u32, number: u32) -> bool
+        ensures { (loud : ℕ → Bool) → AreWays loud self.now → block < length self.now.blocks.now
+            → IsTrue result ↔ LeadsElsewhere loud self.now.blocks.now block number }
+    {
+        match self.sequences.seek(block, number) {
+            Some(target) => self.is_permitted(block, target) && self.are_apart(block, target),
+            None => false,
+        }
+    }
+
+    /// Whether the loop that ends at this block begins in another stretch.
+    pub(crate) fn closes_elsewhere(&self, close: u32) -> bool
+        ensures { (loud : ℕ → Bool) → AreWays loud self.now
+            → IsTrue result ↔ ClosesElsewhere loud self.now.blocks.now close }
+    {
+        match self.loops.head_of(close) {
+            Some(head) => self.are_apart(head, close),
+            None => false,
+        }
+    }
+}
