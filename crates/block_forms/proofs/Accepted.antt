@@ -4,17 +4,17 @@ use Rattle.std.proofs.lemmas.Bool.Decides.{nat_tests}
 use Rattle.nc_number.specs.declared.cause.Cause.TheVariants.{NotFixed, UnknownCode, WaitNotAlone, WaitPaths, TwoM, BadCall, AxisTwice, WordRange}
 use Rattle.block_order.specs.declared.control.Control.TheVariants as control
 use Rattle.macro_expr.specs.Tree.{Sentence, Aim, Assign, Goto, IfGoto, IfThen, WhileDo, DoOnly, EndLoop, ToNumber, ToNumberOf, IsInRange, IsLoop, IsAimInRange}
-use Rattle.block_forms.specs.declared.purpose.Purpose.{Purpose}
-use Rattle.block_forms.specs.declared.purpose.Purpose.TheVariants.{MacroCall, Subprogram, Return, Wait, Dwell, Setting, Other}
-use Rattle.block_forms.specs.declared.range.Range.TheVariants.{Between}
-use Rattle.block_forms.specs.declared.dialect.Dialect.{Dialect}
-use Rattle.block_forms.specs.declared.word.FlowWord.{FlowWord}
-use Rattle.block_forms.specs.Codes.{m_codes, m_code, is_waiting, has_code, first_waiting, purpose_of, is_macro}
-use Rattle.block_forms.specs.Ranges.{range_of}
+use Rattle.block_words.specs.declared.purpose.Purpose.{Purpose}
+use Rattle.block_words.specs.declared.purpose.Purpose.TheVariants.{MacroCall, Subprogram, Return, Wait, Dwell, Setting, Other}
+use Rattle.block_words.specs.declared.range.Range.TheVariants.{Between}
+use Rattle.block_words.specs.declared.dialect.Dialect.{Dialect}
+use Rattle.block_words.specs.declared.word.FlowWord.{FlowWord}
+use Rattle.block_words.specs.Codes.{m_codes, m_code, is_waiting, has_code, first_waiting, purpose_of, is_macro}
+use Rattle.block_words.specs.Ranges.{range_of}
 use Rattle.block_forms.specs.Refusals.{is_not_fixed, is_unknown, is_wait_not_alone, is_wait_of_others, has_two_m, is_bad_call, has_axis_twice, is_out_of_range, refusal_of}
 use Rattle.block_forms.specs.Controls.{number_of, or_number, call_of_p, back_to, wait_at, end_or_next, control_by, control_of_words, number_of_aim, control_of_sentence, is_sequence, is_allowed, waits_by_a_code}
 use Rattle.block_forms.proofs.NumbersFit.{IsWithin, last_within, first_within}
-use Rattle.block_forms.proofs.Waiting.{found_passes}
+use Rattle.block_words.proofs.Waiting.{found_passes}
 
 last_of_eight : (a b c d e f g h : Bool) → (if a then Some NotFixed else if b then Some UnknownCode else if c then Some WaitNotAlone else if d then Some WaitPaths else if e then Some TwoM else if f then Some BadCall else if g then Some AxisTwice else if h then Some WordRange else None) ≡ None → h ≡ false
 last_of_eight true b c d e f g h none = absurd (cc)

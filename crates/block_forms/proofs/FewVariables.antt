@@ -4,9 +4,9 @@ use Rattle.std.specs.Char.{to_ascii_uppercase}
 use Rattle.std.proofs.lemmas.Bool.Decides.{nat_tests}
 use Rattle.std.proofs.lemmas.List.Sums.{sum_by-cons}
 use Rattle.nc_number.specs.Literals.{is_sign, behind_sign}
-use Rattle.nc_text.specs.declared.tape.Word.{Word}
+use Rattle.line_text.specs.declared.body.Word.{Word}
 use Rattle.macro_expr.specs.Limits.{cleaned, variable_signs}
-use Rattle.block_forms.specs.declared.word.FlowWord.{FlowWord}
+use Rattle.block_words.specs.declared.word.FlowWord.{FlowWord}
 use Rattle.block_forms.specs.Forms.{signs_in}
 use Rattle.block_forms.specs.Variables.{variables_of_value, variables_of_words}
 use Rattle.block_forms.proofs.WordByWord.{signs_at}

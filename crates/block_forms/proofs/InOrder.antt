@@ -1,8 +1,8 @@
 -- The arguments I, J and K in their order, word by word.
 use Rattle.std.proofs.Common.{◌≡◌, ℕ, suc, ◌+◌, ◌<◌, Bool, true, false, cond, ◌&&◌, List, [], ◌∷◌, length, get_or, drop, Option, Some, None, codes, map, refl, ◌∙◌, arith}
 use Rattle.std.proofs.Math.Seq.{drop-cons}
-use Rattle.block_forms.specs.declared.word.FlowWord.{FlowWord}
-use Rattle.block_forms.specs.Words.{is_one_of, words_of}
+use Rattle.block_words.specs.declared.word.FlowWord.{FlowWord}
+use Rattle.block_words.specs.Words.{is_one_of, words_of}
 use Rattle.block_forms.specs.Refusals.{is_above, rises_behind}
 
 -- I, J and K of these words rise, and the first is above this letter

@@ -2,9 +2,9 @@
 use Rattle.std.proofs.Common.{◌≡◌, ℕ, false, List, Some, None, Ok, Err, refl, sym}
 use Rattle.nc_number.specs.declared.cause.Cause.{Cause}
 use Rattle.nc_number.specs.Causes.{cause_number}
-use Rattle.nc_text.specs.declared.tape.Word.{Word}
-use Rattle.block_forms.specs.declared.dialect.Dialect.{Dialect}
-use Rattle.block_forms.specs.declared.word.FlowWord.{FlowWord}
+use Rattle.line_text.specs.declared.body.Word.{Word}
+use Rattle.block_words.specs.declared.dialect.Dialect.{Dialect}
+use Rattle.block_words.specs.declared.word.FlowWord.{FlowWord}
 use Rattle.block_forms.specs.Refusals.{refusal_of}
 use Rattle.block_forms.specs.Forms.{all_words, has_many_variables, words_or_refusal}
 

@@ -4,9 +4,9 @@ use Rattle.std.proofs.lemmas.Bool.Decides.{nat_tests}
 use Rattle.nc_number.specs.Causes.{cause_number}
 use Rattle.nc_number.specs.declared.cause.Cause.{Cause}
 use Rattle.nc_number.specs.declared.cause.Cause.TheVariants.{TooManyVariables}
-use Rattle.nc_text.specs.declared.tape.Word.{Word}
-use Rattle.block_forms.specs.declared.dialect.Dialect.{Dialect}
-use Rattle.block_forms.specs.declared.word.FlowWord.{FlowWord}
+use Rattle.line_text.specs.declared.body.Word.{Word}
+use Rattle.block_words.specs.declared.dialect.Dialect.{Dialect}
+use Rattle.block_words.specs.declared.word.FlowWord.{FlowWord}
 use Rattle.block_forms.specs.Refusals.{IsLeast, refusal_of}
 use Rattle.block_forms.specs.Forms.{word_of, joined, all_words, has_many_variables, with_refusal, judged, words_or_refusal}
 use Rattle.block_forms.specs.Texts.{RefusesText, unread, many, said, IsLeastOfText}

@@ -1,6 +1,3 @@
-pub mod LastWord
-pub mod TableEnds
-pub mod Waiting
 pub mod InOrder
 pub mod NumbersFit
 pub mod Accepted

@@ -3,14 +3,14 @@ use Rattle.std.proofs.Common.{◌≡◌, ℕ, ◌≤◌, Bool, true, false, cond
 use Rattle.std.specs.List.{list_any, filter_map}
 use Rattle.std.proofs.lemmas.Bool.Decides.{nat_tests}
 use Rattle.code_tables.specs.Codes.{last_of}
-use Rattle.block_forms.specs.declared.purpose.Purpose.{Purpose}
-use Rattle.block_forms.specs.declared.range.Range.TheVariants.{Between}
-use Rattle.block_forms.specs.declared.word.FlowWord.{FlowWord}
-use Rattle.block_forms.specs.declared.word.WordValue.{WordValue}
-use Rattle.block_forms.specs.declared.word.WordValue.TheVariants.{Fixed, Computed}
-use Rattle.block_forms.specs.Words.{is_one_of, words_of, whole_value, value_of_last, whole_of_last, last_whole}
-use Rattle.block_forms.specs.Codes.{natural, first}
-use Rattle.block_forms.specs.Ranges.{is_between, range_of, fits_value, is_in_range}
+use Rattle.block_words.specs.declared.purpose.Purpose.{Purpose}
+use Rattle.block_words.specs.declared.range.Range.TheVariants.{Between}
+use Rattle.block_words.specs.declared.word.FlowWord.{FlowWord}
+use Rattle.block_words.specs.declared.word.WordValue.{WordValue}
+use Rattle.block_words.specs.declared.word.WordValue.TheVariants.{Fixed, Computed}
+use Rattle.block_words.specs.Words.{is_one_of, words_of, whole_value, value_of_last, whole_of_last, last_whole}
+use Rattle.block_words.specs.Codes.{natural, first}
+use Rattle.block_words.specs.Ranges.{is_between, range_of, fits_value, is_in_range}
 
 -- a number, if there is one, from the one to the other
 abbrev pub IsWithin : ℕ → ℕ → Option ℕ → Type 0

@@ -4,9 +4,9 @@ use Rattle.std.proofs.Math.Seq.{drop-cons}
 use Rattle.std.proofs.Math.ListN.{drop_of_length-le}
 use Rattle.std.proofs.lemmas.Bool.Decides.{nat_tests}
 use Rattle.std.specs.Result.{is_err}
-use Rattle.nc_text.specs.declared.tape.Word.{Word}
+use Rattle.line_text.specs.declared.body.Word.{Word}
 use Rattle.macro_expr.specs.Limits.{variable_signs}
-use Rattle.block_forms.specs.declared.word.FlowWord.{FlowWord}
+use Rattle.block_words.specs.declared.word.FlowWord.{FlowWord}
 use Rattle.block_forms.specs.Forms.{joined, all_words, word_of, lesser, gathered, signs_in}
 
 -- a word that reads

@@ -6,7 +6,7 @@ use Rattle.nc_number.specs.Causes.{cause_number}
 use Rattle.nc_number.specs.declared.cause.Cause.{Cause}
 use Rattle.nc_number.specs.declared.cause.Cause.TheVariants.{TooManyDigits, TooManyBrackets, TooManyVariables}
 use Rattle.nc_number.specs.Literals.{is_literal, has_minus, behind_sign, word_literal}
-use Rattle.nc_text.specs.declared.tape.Word.{Word}
+use Rattle.line_text.specs.declared.body.Word.{Word}
 use Rattle.macro_expr.specs.declared.tree.ExprFault.{ExprFault}
 use Rattle.macro_expr.specs.declared.stop.Stop.{Stop}
 use Rattle.macro_expr.specs.declared.stop.Stop.TheVariants as stop
@@ -16,7 +16,7 @@ use Rattle.macro_expr.specs.Statements.{expression_at, whole}
 use Rattle.macro_expr.specs.Limits.{cleaned, has_many_variables, has_long_number, has_deep_brackets, refusal, refusal_of, cause_beside, answer}
 use Rattle.macro_limits.specs.Refusals.{Lacks, Never}
 use Rattle.macro_expr.specs.Answers.{expression_of}
-use Rattle.block_forms.specs.declared.word.WordValue.{WordValue}
+use Rattle.block_words.specs.declared.word.WordValue.{WordValue}
 use Rattle.block_forms.specs.Forms.{fixed_value, computed_value, value_of, word_at, word_of}
 
 -- where reading stops in an expression

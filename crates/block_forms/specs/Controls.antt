@@ -3,12 +3,12 @@ use Rattle.std.specs.Prelude.{ℕ, ◌/◌, ◌%◌, nat_le, Bool, true, ◌&&�
 use Rattle.block_order.specs.declared.control.Control.{Control}
 use Rattle.block_order.specs.declared.control.Control.TheVariants as control
 use Rattle.macro_expr.specs.Tree.{Aim, ToNumber, ToNumberOf, Sentence, Assign, Goto, IfGoto, IfThen, WhileDo, DoOnly, EndLoop}
-use Rattle.block_forms.specs.declared.word.FlowWord.{FlowWord}
-use Rattle.block_forms.specs.declared.dialect.Dialect.{Dialect}
-use Rattle.block_forms.specs.declared.purpose.Purpose.{Purpose}
-use Rattle.block_forms.specs.declared.purpose.Purpose.TheVariants.{MacroCall, Subprogram, Return, Wait, Dwell, Setting, Other}
-use Rattle.block_forms.specs.Words.{last_whole}
-use Rattle.block_forms.specs.Codes.{natural, m_codes, has_code, is_waiting, first_waiting, purpose_of}
+use Rattle.block_words.specs.declared.word.FlowWord.{FlowWord}
+use Rattle.block_words.specs.declared.dialect.Dialect.{Dialect}
+use Rattle.block_words.specs.declared.purpose.Purpose.{Purpose}
+use Rattle.block_words.specs.declared.purpose.Purpose.TheVariants.{MacroCall, Subprogram, Return, Wait, Dwell, Setting, Other}
+use Rattle.block_words.specs.Words.{last_whole}
+use Rattle.block_words.specs.Codes.{natural, m_codes, has_code, is_waiting, first_waiting, purpose_of}
 
 -- the number of the last P or L, where it is whole and not below 0
 abbrev pub number_of : List ℕ → List FlowWord → Option ℕ

@@ -6,19 +6,19 @@ use Rattle.nc_number.specs.declared.literal.Literal.{Literal}
 use Rattle.nc_number.specs.declared.fault.NumberFault.{NumberFault}
 use Rattle.nc_number.specs.Causes.{cause_number}
 use Rattle.nc_number.specs.Literals.{is_literal, has_minus, behind_sign, word_literal}
-use Rattle.nc_text.specs.declared.tape.Word.{Word}
+use Rattle.line_text.specs.declared.body.Word.{Word}
 use Rattle.nc_text.specs.declared.tape.Block.{Block}
-use Rattle.nc_text.specs.declared.tape.Body.{Body}
-use Rattle.nc_text.specs.declared.tape.Body.TheVariants.{Words, Statement}
+use Rattle.line_text.specs.declared.body.Body.{Body}
+use Rattle.line_text.specs.declared.body.Body.TheVariants.{Words, Statement}
 use Rattle.block_order.specs.declared.control.Control.{Control}
 use Rattle.macro_expr.specs.declared.tree.ExprFault.{ExprFault}
 use Rattle.macro_expr.specs.Tree.{Tree, Sentence}
 use Rattle.macro_expr.specs.Limits.{variable_signs}
 use Rattle.macro_expr.specs.Answers.{expression_of, statement_of}
-use Rattle.block_forms.specs.declared.word.FlowWord.{FlowWord}
-use Rattle.block_forms.specs.declared.word.WordValue.{WordValue}
-use Rattle.block_forms.specs.declared.word.WordValue.TheVariants.{Fixed, Computed}
-use Rattle.block_forms.specs.declared.dialect.Dialect.{Dialect}
+use Rattle.block_words.specs.declared.word.FlowWord.{FlowWord}
+use Rattle.block_words.specs.declared.word.WordValue.{WordValue}
+use Rattle.block_words.specs.declared.word.WordValue.TheVariants.{Fixed, Computed}
+use Rattle.block_words.specs.declared.dialect.Dialect.{Dialect}
 use Rattle.block_forms.specs.Refusals.{refusal_of}
 use Rattle.block_forms.specs.Controls.{control_of_words, control_of_sentence}
 

@@ -1,6 +1,3 @@
-pub mod Words
-pub mod Codes
-pub mod Ranges
 pub mod Refusals
 pub mod Controls
 pub mod Forms

@@ -1,5 +1,5 @@
 -- When a block of words is refused. Each refusal is a condition of the whole block, apart from the others.
-use Rattle.std.specs.Prelude.{◌≡◌, ◌≤◌, ℕ, Bool, true, false, not, ◌==◌, ◌&&◌, ◌||◌, nat_lt, nat_le, List, [], ◌∷◌, length, map, Option, Some, None, codes, if◌then◌else◌}
+use Rattle.std.specs.Prelude.{◌≡◌, ◌≤◌, ℕ, Bool, true, false, not, ◌&&◌, ◌||◌, nat_lt, nat_le, List, [], ◌∷◌, length, map, Option, Some, None, codes, if◌then◌else◌}
 use Rattle.std.specs.List.{list_any}
 use Rattle.nc_number.specs.Causes.{cause_number}
 use Rattle.nc_number.specs.declared.cause.Cause.{Cause}
@@ -8,24 +8,14 @@ use Rattle.code_tables.specs.declared.row.Row.{Row}
 use Rattle.code_tables.specs.declared.system.System.{System}
 use Rattle.code_tables.specs.declared.system.System.TheVariants.{A, B}
 use Rattle.code_tables.specs.Kinds.{is_refused}
-use Rattle.block_forms.specs.declared.word.FlowWord.{FlowWord}
-use Rattle.block_forms.specs.declared.dialect.Dialect.{Dialect}
-use Rattle.block_forms.specs.declared.purpose.Purpose.{Purpose}
-use Rattle.block_forms.specs.declared.purpose.Purpose.TheVariants.{MacroCall, Subprogram, Return, Wait, Dwell, Setting, Other}
-use Rattle.block_forms.specs.Words.{is_one_of, words_of, has, is_computed, has_computed, last_whole}
-use Rattle.block_forms.specs.Codes.{natural, row_of_word, gives, is_dwell, is_setting, is_limit, is_machine, is_macro_call, has_code, has_wait, purpose_of}
-use Rattle.block_forms.specs.Ranges.{is_in_range}
-
--- the letters whose words must be written out: G, N and O everywhere, M outside macro calls, P and L of calls and returns, L of
--- the setting of an offset
-abbrev pub fixed_letters : Purpose → List ℕ
-fixed_letters MacroCall = codes "GNOPL"
-fixed_letters Subprogram = codes "GNOMPL"
-fixed_letters Return = codes "GNOMPL"
-fixed_letters Setting = codes "GNOML"
-fixed_letters Wait = codes "GNOM"
-fixed_letters Dwell = codes "GNOM"
-fixed_letters Other = codes "GNOM"
+use Rattle.block_words.specs.declared.word.FlowWord.{FlowWord}
+use Rattle.block_words.specs.declared.dialect.Dialect.{Dialect}
+use Rattle.block_words.specs.declared.purpose.Purpose.{Purpose}
+use Rattle.block_words.specs.declared.purpose.Purpose.TheVariants.{Subprogram}
+use Rattle.block_words.specs.Words.{is_one_of, words_of, has, is_computed, has_computed, last_whole}
+use Rattle.block_words.specs.Codes.{natural, row_of_word, gives, is_dwell, is_setting, is_limit, is_machine, is_macro_call, has_code, has_wait, purpose_of}
+use Rattle.block_words.specs.Purposes.{fixed_letters, is_idle_p, is_idle_l, names_both}
+use Rattle.block_words.specs.Ranges.{is_in_range}
 
 -- 54: a word that must be written out is computed
 abbrev pub is_not_fixed : Dialect → List FlowWord → Bool
@@ -83,11 +73,6 @@ abbrev pub is_wait_not_alone : Dialect → List FlowWord → Bool
 is_wait_not_alone dialect words =
     waits_there dialect words && nat_lt 1 (length (words_of (codes "ABCDEFGHIJKLMNOQRSTUVWXYZ") words))
 
--- P names both paths: 3 by bits, 12 or 21 by their numbers
-abbrev pub names_both : Bool → ℕ → Bool
-names_both true n = n == 3
-names_both false n = n == 12 || n == 21
-
 abbrev pub is_both : Bool → Option ℕ → Bool
 is_both bits None = false
 is_both bits (Some n) = names_both bits n
@@ -123,17 +108,6 @@ is_many (Some n) = nat_le 10000 n
 -- the P of a call of a subprogram has repeats before the program's four digits
 abbrev pub has_repeats : List FlowWord → Bool
 has_repeats words = is_many (natural (last_whole (codes "P") words))
-
--- P and L have no meaning in the block
-abbrev pub is_idle_p : Purpose → Bool
-is_idle_p Other = true
-is_idle_p _ = false
-
-abbrev pub is_idle_l : Purpose → Bool
-is_idle_l MacroCall = false
-is_idle_l Subprogram = false
-is_idle_l Setting = false
-is_idle_l _ = true
 
 -- a dwell or the setting of an offset beside a call or a return
 abbrev pub is_crowded_call : System → List FlowWord → Bool

@@ -1,9 +1,9 @@
 -- How many variables a block names.
 use Rattle.std.specs.Prelude.{ℕ, ◌+◌, List, [], ◌∷◌}
 use Rattle.macro_expr.specs.Tree.{variables, variables_in, evaluated, sentence_of}
-use Rattle.block_forms.specs.declared.word.FlowWord.{FlowWord}
-use Rattle.block_forms.specs.declared.word.WordValue.{WordValue}
-use Rattle.block_forms.specs.declared.word.WordValue.TheVariants.{Fixed, Computed}
+use Rattle.block_words.specs.declared.word.FlowWord.{FlowWord}
+use Rattle.block_words.specs.declared.word.WordValue.{WordValue}
+use Rattle.block_words.specs.declared.word.WordValue.TheVariants.{Fixed, Computed}
 use Rattle.block_forms.specs.declared.body.FlowBody.{FlowBody}
 use Rattle.block_forms.specs.declared.body.FlowBody.TheVariants.{Words, Statement}
 

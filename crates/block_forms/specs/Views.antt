@@ -4,8 +4,8 @@ use Rattle.nc_number.specs.declared.cause.Cause.{Cause}
 use Rattle.macro_expr.specs.Tree.{sentence_of}
 use Rattle.block_order.specs.declared.control.Control.{Control}
 use Rattle.block_order.specs.declared.control.Control.TheVariants.{Call}
-use Rattle.block_forms.specs.declared.purpose.Purpose.{Purpose}
-use Rattle.block_forms.specs.declared.purpose.Purpose.TheVariants as purpose
+use Rattle.block_words.specs.declared.purpose.Purpose.{Purpose}
+use Rattle.block_words.specs.declared.purpose.Purpose.TheVariants as purpose
 use Rattle.block_forms.specs.declared.called.Called.{Called}
 use Rattle.block_forms.specs.declared.called.CallKind.{CallKind}
 use Rattle.block_forms.specs.declared.called.CallKind.TheVariants.{Subprogram, Macro}

@@ -5,8 +5,8 @@ ghost use Rattle.block_forms.specs.Views.{refusal_of_body, control_of, call_of, 
 
 use crate::body::FlowBody;
 use crate::called::{CallKind, Called};
-use crate::purpose::Purpose;
 use block_order::Control;
+use block_words::Purpose;
 
 /// A block that is not refused.
 #[derive(Drop)]

@@ -2,12 +2,9 @@ ghost use Rattle.std.specs.Prelude.{◌≡◌, ◌≤◌, codes, IfSome};
 ghost use Rattle.macro_expr.specs.Tree.{aim_of, sentence_of};
 ghost use Rattle.block_forms.specs.Controls.{number_of, or_number, call_of_p, back_to, wait_at, end_or_next, number_of_aim, control_of_sentence};
 
-use crate::codes::{first_waiting, has_code};
-use crate::letters::number_of;
-use crate::purpose::Purpose;
-use crate::word::FlowWord;
 use crate::words::FlowWords;
 use block_order::Control;
+use block_words::{FlowWord, Purpose, first_waiting, has_code, number_of};
 use macro_expr::{Statement, Target};
 
 /// The number that the last word of these letters says, or another one.

@@ -1,11 +1,11 @@
 ghost use Rattle.std.specs.Prelude.{◌≡◌, ◌≤◌, ◌+◌, List, ℕ, Result, OnOk, IfOk};
 ghost use Rattle.nc_number.specs.Answers.{GivesBy};
-ghost use Rattle.block_forms.specs.declared.word.FlowWord.{FlowWord};
+ghost use Rattle.block_words.specs.declared.word.FlowWord.{FlowWord};
 ghost use Rattle.block_forms.specs.Variables.{variables_of_value, variables_of_words};
 ghost use Rattle.block_forms.specs.Forms.{lesser, joined, gathered};
 
 use crate::fault::FormFault;
-use crate::word::{FlowWord, FlowWordList};
+use block_words::{FlowWord, FlowWordList};
 use nc_number::{Failing, NoMemory};
 use std::alloc::Global;
 

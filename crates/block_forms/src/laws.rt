@@ -1,8 +1,8 @@
 ghost use Rattle.std.specs.Prelude.{◌≡◌, ◌↔◌, ℕ, List};
 ghost use Rattle.nc_number.specs.declared.cause.Cause.{Cause};
-ghost use Rattle.nc_text.specs.declared.tape.Word.{Word};
-ghost use Rattle.block_forms.specs.declared.dialect.Dialect.{Dialect};
-ghost use Rattle.block_forms.specs.declared.word.FlowWord.{FlowWord};
+ghost use Rattle.line_text.specs.declared.body.Word.{Word};
+ghost use Rattle.block_words.specs.declared.dialect.Dialect.{Dialect};
+ghost use Rattle.block_words.specs.declared.word.FlowWord.{FlowWord};
 ghost use Rattle.block_forms.specs.Refusals.{Refuses, IsLeast, refusal_of};
 ghost use Rattle.block_forms.specs.Forms.{all_words, words_or_refusal};
 ghost use Rattle.block_forms.specs.Texts.{RefusesText, IsLeastOfText};

@@ -1,14 +1,13 @@
 ghost use Rattle.std.specs.Prelude.{◌≡◌, codes};
 ghost use Rattle.std.specs.List.{list_any};
-ghost use Rattle.block_forms.specs.Words.{words_of};
+ghost use Rattle.block_words.specs.Words.{words_of};
 ghost use Rattle.block_forms.specs.Refusals.{is_refused_row, is_unknown_code, known_letters, is_macro_row, begins_macro_call, is_above, are_in_order, has_repeats};
 
-use crate::codes::{has_code, has_wait, row_of_word};
-use crate::letters::{count_of, has, has_computed, is_one_of, number_of};
-use crate::purpose::Purpose;
-use crate::range::is_in_range;
-use crate::word::FlowWord;
 use crate::words::FlowWords;
+use block_words::{
+    FlowWord, Purpose, count_of, has, has_code, has_computed, has_wait, is_in_range, is_one_of,
+    number_of, row_of_word,
+};
 use code_tables::{CodeKind, Row, System};
 use nc_number::Cause;
 
@@ -115,8 +114,8 @@ impl FlowWords {
     ghost use Rattle.block_forms.specs.Refusals.{is_wait_of_others, has_two_m, is_crowded_call, is_bad_macro_call};
     ghost use Rattle.block_forms.specs.Refusals.{is_bad_subprogram, is_bad_block, is_bad_call, has_axis_twice};
     ghost use Rattle.block_forms.specs.Refusals.{is_out_of_range, refusal_of};
-    ghost use Rattle.block_forms.specs.Words.{has, last_whole};
-    ghost use Rattle.block_forms.specs.Codes.{natural};
+    ghost use Rattle.block_words.specs.Words.{has, last_whole};
+    ghost use Rattle.block_words.specs.Codes.{natural};
 
     /// 54: a word that must be written out is computed.
     fn is_not_fixed(&self) -> bool

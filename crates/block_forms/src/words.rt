@@ -1,14 +1,10 @@
 ghost use Rattle.std.specs.Prelude.{◌≡◌};
-ghost use Rattle.block_forms.specs.Codes.{rows as rows_in, one_shot as one_shot_in, purpose_of};
+ghost use Rattle.block_words.specs.Codes.{rows as rows_in, one_shot as one_shot_in, purpose_of};
 
-use crate::codes::{
-    first_code, has_code, has_wait, have_macro_call, one_shot_of, purpose_by, rows_of,
+use block_words::{
+    Dialect, FlowWord, FlowWordList, Purpose, RowList, first_code, has, has_code, has_wait,
+    have_macro_call, one_shot_of, purpose_by, rows_of,
 };
-use crate::dialect::Dialect;
-use crate::letters::has;
-use crate::purpose::Purpose;
-use crate::row_list::RowList;
-use crate::word::{FlowWord, FlowWordList};
 use code_tables::{CodeKind, Row};
 use nc_number::NoMemory;
 use std::alloc::Global;
@@ -35,9 +31,9 @@ impl FlowWords {
     ghost use Rattle.std.specs.Prelude.{◌≤◌, false, None, IfOk, IfSome, codes};
     ghost use Rattle.std.specs.List.{list_any};
     ghost use Rattle.code_tables.specs.Kinds.{is_arc};
-    ghost use Rattle.block_forms.specs.Words.{has};
+    ghost use Rattle.block_words.specs.Words.{has};
     ghost use Rattle.block_forms.specs.Refusals.{refusal_of};
-    ghost use Rattle.block_forms.specs.Codes.{m_code, is_macro, gives, is_dwell, is_setting, is_limit, is_machine, is_macro_call};
+    ghost use Rattle.block_words.specs.Codes.{m_code, is_macro, gives, is_dwell, is_setting, is_limit, is_machine, is_macro_call};
 
     /// The words with their rows and their purpose.
     pub(crate) fn of(

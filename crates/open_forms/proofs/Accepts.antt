@@ -3,23 +3,24 @@ use Rattle.std.proofs.Common.{◌≡◌, ℕ, Bool, true, false, cond, not, ◌&
 use Rattle.std.specs.Prelude.{codes, if◌then◌else◌}
 use Rattle.std.specs.List.{list_any, list_all, filter_map}
 use Rattle.nc_number.specs.declared.cause.Cause.TheVariants.{TooManyDigits, NotFixed, UnknownCode, WaitNotAlone, WaitPaths, TwoM, BadCall, AxisTwice, WordRange}
-use Rattle.nc_text.specs.declared.tape.Word.{Word}
+use Rattle.line_text.specs.declared.body.Word.{Word}
 use Rattle.code_tables.specs.declared.row.Row.{Row}
 use Rattle.code_tables.specs.declared.system.System.{System}
 use Rattle.code_tables.specs.declared.system.System.TheVariants.{A, B}
 use Rattle.code_tables.specs.Systems.{rows_of_system}
 use Rattle.code_tables.specs.declared.kind.CodeKind.{CodeKind}
 use Rattle.code_tables.specs.declared.kind.CodeKind.TheVariants as kind
-use Rattle.block_forms.specs.declared.dialect.Dialect.{Dialect}
-use Rattle.block_forms.specs.declared.word.FlowWord.{FlowWord}
-use Rattle.block_forms.specs.declared.purpose.Purpose.{Purpose}
-use Rattle.block_forms.specs.declared.purpose.Purpose.TheVariants as purpose
-use Rattle.block_forms.specs.Words as read
-use Rattle.block_forms.specs.Codes.{gives, is_dwell, is_setting, is_macro_call, has_code, one_shot, purpose_by, purpose_of}
-use Rattle.block_forms.specs.Codes as read_codes
-use Rattle.block_forms.specs.declared.range.Range.TheVariants.{Between}
-use Rattle.block_forms.specs.Ranges.{range_of, is_in_range}
+use Rattle.block_words.specs.declared.dialect.Dialect.{Dialect}
+use Rattle.block_words.specs.declared.word.FlowWord.{FlowWord}
+use Rattle.block_words.specs.declared.purpose.Purpose.{Purpose}
+use Rattle.block_words.specs.declared.purpose.Purpose.TheVariants as purpose
+use Rattle.block_words.specs.Words as read
+use Rattle.block_words.specs.Codes.{gives, is_dwell, is_setting, is_macro_call, has_code, one_shot, purpose_by, purpose_of}
+use Rattle.block_words.specs.Codes as read_codes
+use Rattle.block_words.specs.declared.range.Range.TheVariants.{Between}
+use Rattle.block_words.specs.Ranges.{range_of, is_in_range}
 use Rattle.block_forms.specs.Controls.{end_or_next, control_of_words, control_by as full_control_by}
+use Rattle.block_words.specs.Purposes as asked
 use Rattle.block_forms.specs.Refusals as closed
 use Rattle.open_forms.specs.declared.role.Role.{Role}
 use Rattle.open_forms.specs.declared.role.Role.TheVariants as role
@@ -182,7 +183,7 @@ module _ (dialect : Dialect) (texts : List Word) (words : List FlowWord) (are : 
   g_plain : read.has_computed (codes "G") words ≡ false
   g_plain = go (purpose_of dialect words) given.fixed
     where
-      go : (p : Purpose) → read.has_computed (closed.fixed_letters p) words ≡ false → read.has_computed (codes "G") words ≡ false
+      go : (p : Purpose) → read.has_computed (asked.fixed_letters p) words ≡ false → read.has_computed (codes "G") words ≡ false
       go purpose.MacroCall e = fewer_computed (codes "G") (codes "GNOPL") (one_among 71 (codes "GNOPL") refl) words e
       go purpose.Subprogram e = fewer_computed (codes "G") (codes "GNOMPL") (one_among 71 (codes "GNOMPL") refl) words e
       go purpose.Return e = fewer_computed (codes "G") (codes "GNOMPL") (one_among 71 (codes "GNOMPL") refl) words e
@@ -299,16 +300,16 @@ module _ (dialect : Dialect) (texts : List Word) (words : List FlowWord) (are : 
   not_crowded : (p : Purpose) → purpose_of dialect words ≡ p → gives dialect.system is_macro_call words ≡ false → closed.is_crowded_call dialect.system words ≡ false
   not_crowded p is no_macro = (neither _ _ (neither _ _ (good_block p is no_macro)).0).1
 
-  l_free : (p : Purpose) → purpose_of dialect words ≡ p → gives dialect.system is_macro_call words ≡ false → closed.is_idle_l p ≡ true → read.has (codes "L") words ≡ false
-  l_free p is no_macro idle = go (read.has (codes "L") words) (closed.is_idle_l p) idle (neither _ _ (neither _ _ (good_block p is no_macro)).1).1
+  l_free : (p : Purpose) → purpose_of dialect words ≡ p → gives dialect.system is_macro_call words ≡ false → asked.is_idle_l p ≡ true → read.has (codes "L") words ≡ false
+  l_free p is no_macro idle = go (read.has (codes "L") words) (asked.is_idle_l p) idle (neither _ _ (neither _ _ (good_block p is no_macro)).1).1
     where
       go : (a b : Bool) → b ≡ true → (a && b) ≡ false → a ≡ false
       go false b e all = refl
       go true true e all = absurd (cc)
       go true false e all = absurd (cc)
 
-  fixed_by : (p : Purpose) → purpose_of dialect words ≡ p → read.has_computed (closed.fixed_letters p) words ≡ false
-  fixed_by p is = subst (λ q. read.has_computed (closed.fixed_letters q) words ≡ false) is given.fixed
+  fixed_by : (p : Purpose) → purpose_of dialect words ≡ p → read.has_computed (asked.fixed_letters p) words ≡ false
+  fixed_by p is = subst (λ q. read.has_computed (asked.fixed_letters q) words ≡ false) is given.fixed
 
   l_plain : (p : Purpose) → purpose_of dialect words ≡ p → read.has_computed (codes "L") words ≡ false
   l_plain purpose.MacroCall is = fewer_computed (codes "L") (codes "GNOPL") (one_among 76 (codes "GNOPL") refl) words (fixed_by purpose.MacroCall is)
@@ -319,11 +320,11 @@ module _ (dialect : Dialect) (texts : List Word) (words : List FlowWord) (are : 
   l_plain purpose.Dwell is = none_computed (codes "L") words (l_free purpose.Dwell is (not_macro purpose.Dwell is refl) refl)
   l_plain purpose.Other is = none_computed (codes "L") words (l_free purpose.Other is (not_macro purpose.Other is refl) refl)
 
-  p_plain : (p : Purpose) → purpose_of dialect words ≡ p → read.is_one_of (closed.fixed_letters p) 80 ≡ true → read.has_computed (codes "P") words ≡ false
-  p_plain p is there = fewer_computed (codes "P") (closed.fixed_letters p) (one_among 80 (closed.fixed_letters p) there) words (fixed_by p is)
+  p_plain : (p : Purpose) → purpose_of dialect words ≡ p → read.is_one_of (asked.fixed_letters p) 80 ≡ true → read.has_computed (codes "P") words ≡ false
+  p_plain p is there = fewer_computed (codes "P") (asked.fixed_letters p) (one_among 80 (asked.fixed_letters p) there) words (fixed_by p is)
 
   -- 54
-  plain_by : (p : Purpose) → is_left p ≡ true → read.has_computed (closed.fixed_letters p) words ≡ false → read.has_computed (codes "GNOM") words ≡ false
+  plain_by : (p : Purpose) → is_left p ≡ true → read.has_computed (asked.fixed_letters p) words ≡ false → read.has_computed (codes "GNOM") words ≡ false
   plain_by purpose.Dwell kind e = e
   plain_by purpose.Other kind e = e
   plain_by purpose.Setting kind e = fewer_computed (codes "GNOM") (codes "GNOML") (front_among (codes "GNOM") (codes "L")) words e
@@ -332,7 +333,7 @@ module _ (dialect : Dialect) (texts : List Word) (words : List FlowWord) (are : 
   plain_by purpose.Return kind e = absurd (cc)
   plain_by purpose.Wait kind e = absurd (cc)
 
-  letters_plain : (r : Role) (p : Purpose) → IsSame dialect.system words r p → read.has_computed (closed.fixed_letters p) words ≡ false → has_computed (fixed_letters r) texts ≡ false
+  letters_plain : (r : Role) (p : Purpose) → IsSame dialect.system words r p → read.has_computed (asked.fixed_letters p) words ≡ false → has_computed (fixed_letters r) texts ≡ false
   letters_plain _ _ (macro is) e = same_computed (codes "GNOPL") texts words are ∙ e
   letters_plain _ _ (subprogram apart is) e = same_computed (codes "GNOMPL") texts words are ∙ e
   letters_plain _ _ (returns apart is) e = same_computed (codes "GNOMPL") texts words are ∙ e
@@ -361,7 +362,7 @@ module _ (dialect : Dialect) (texts : List Word) (words : List FlowWord) (are : 
       go true e all = all
       go false e all = absurd (cc)
 
-  l_numbers : (p : Purpose) → purpose_of dialect words ≡ p → closed.is_idle_l p ≡ true → gives dialect.system is_macro_call words ≡ false → list_any is_parameter (numbers_of (codes "L") texts) ≡ false
+  l_numbers : (p : Purpose) → purpose_of dialect words ≡ p → asked.is_idle_l p ≡ true → gives dialect.system is_macro_call words ≡ false → list_any is_parameter (numbers_of (codes "L") texts) ≡ false
   l_numbers p is idle no_macro =
       let none_there : read.words_of (codes "L") words ≡ [] = none_of (codes "L") words (l_free p is no_macro idle) in
       same_any (same_numbers (codes "L") texts words are) none_there
@@ -520,9 +521,9 @@ module _ (dialect : Dialect) (texts : List Word) (words : List FlowWord) (are : 
   range_by _ _ (onward p apart held kind) is = refl
 
   m_plain : (p : Purpose) → purpose_of dialect words ≡ p → read_codes.is_macro p ≡ false → read.has_computed (codes "M") words ≡ false
-  m_plain p is other = fewer_computed (codes "M") (closed.fixed_letters p) (one_among 77 (closed.fixed_letters p) (there p other)) words (fixed_by p is)
+  m_plain p is other = fewer_computed (codes "M") (asked.fixed_letters p) (one_among 77 (asked.fixed_letters p) (there p other)) words (fixed_by p is)
     where
-      there : (p : Purpose) → read_codes.is_macro p ≡ false → read.is_one_of (closed.fixed_letters p) 77 ≡ true
+      there : (p : Purpose) → read_codes.is_macro p ≡ false → read.is_one_of (asked.fixed_letters p) 77 ≡ true
       there purpose.MacroCall e = absurd (cc)
       there purpose.Subprogram e = refl
       there purpose.Return e = refl

@@ -5,15 +5,15 @@ use Rattle.std.specs.List.{list_any, list_all, filter_map, cons_option}
 use Rattle.std.proofs.lemmas.Bool.{and_parts}
 use Rattle.std.proofs.lemmas.Bool.Decides.{nat_tests}
 use Rattle.nc_number.specs.Arithmetic.{whole_of}
-use Rattle.nc_text.specs.declared.tape.Word.{Word}
-use Rattle.block_forms.specs.declared.purpose.Purpose.{Purpose}
-use Rattle.block_forms.specs.declared.range.Range.TheVariants.{Between}
-use Rattle.block_forms.specs.declared.word.FlowWord.{FlowWord}
-use Rattle.block_forms.specs.declared.word.WordValue.{WordValue}
-use Rattle.block_forms.specs.declared.word.WordValue.TheVariants.{Fixed, Computed}
-use Rattle.block_forms.specs.Words.{is_one_of, words_of, has, is_computed, has_computed, whole_value}
-use Rattle.block_forms.specs.Codes.{natural}
-use Rattle.block_forms.specs.Ranges.{range_of, is_between, fits_value, is_in_range}
+use Rattle.line_text.specs.declared.body.Word.{Word}
+use Rattle.block_words.specs.declared.purpose.Purpose.{Purpose}
+use Rattle.block_words.specs.declared.range.Range.TheVariants.{Between}
+use Rattle.block_words.specs.declared.word.FlowWord.{FlowWord}
+use Rattle.block_words.specs.declared.word.WordValue.{WordValue}
+use Rattle.block_words.specs.declared.word.WordValue.TheVariants.{Fixed, Computed}
+use Rattle.block_words.specs.Words.{is_one_of, words_of, has, is_computed, has_computed, whole_value}
+use Rattle.block_words.specs.Codes.{natural}
+use Rattle.block_words.specs.Ranges.{range_of, is_between, fits_value, is_in_range}
 use Rattle.open_forms.specs.Words.{number}
 use Rattle.open_forms.specs.Refusals.{is_parameter, is_within, is_in}
 use Rattle.open_forms.proofs.ReadWords.{AreSaid, none, one_more, same_number}

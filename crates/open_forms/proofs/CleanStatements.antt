@@ -7,23 +7,23 @@ use Rattle.std.specs.List.{list_all, prefix_len}
 use Rattle.std.proofs.lemmas.Bool.{and_parts, eqb-true}
 use Rattle.std.proofs.lemmas.Bool.Decides.{nat_tests}
 use Rattle.macro_expr.specs.Limits.{cleaned}
-use Rattle.nc_text.specs.declared.sign.Sign.{Sign}
-use Rattle.nc_text.specs.declared.piece.Piece.{Piece}
+use Rattle.line_text.specs.declared.sign.Sign.{Sign}
+use Rattle.line_text.specs.declared.piece.Piece.{Piece}
 use Rattle.nc_text.specs.declared.tape.Block.{Block}
 use Rattle.nc_text.specs.declared.tape.Program.{Program}
-use Rattle.nc_text.specs.declared.tape.Body.TheVariants.{Words}
-use Rattle.nc_text.specs.declared.refusal.Refusal.{Refusal}
-use Rattle.nc_text.specs.declared.refusal.Refusal.TheVariants.{NoEnd}
-use Rattle.nc_text.specs.declared.said.Said.{Said}
-use Rattle.nc_text.specs.declared.said.Said.TheVariants as said
+use Rattle.line_text.specs.declared.body.Body.TheVariants.{Words}
+use Rattle.line_text.specs.declared.refusal.Refusal.{Refusal}
+use Rattle.line_text.specs.declared.refusal.Refusal.TheVariants.{NoEnd}
+use Rattle.line_text.specs.declared.said.Said.{Said}
+use Rattle.line_text.specs.declared.said.Said.TheVariants as said
 use Rattle.nc_text.specs.Lines.{Line, lines_of, is_percent}
-use Rattle.nc_text.specs.Signs.{Scan, is_blank, add_sign, inside_behind, scan_of, content_of, signs_of, are_allowed}
-use Rattle.nc_text.specs.Pieces.{is_comment, bytes_of, pieces_of, value_len}
-use Rattle.nc_text.specs.Front.{behind_comments, switch_of, behind_digit, behind_switch, sentence_of, is_statement, is_switch, is_number_sign, behind_number, is_numbered}
-use Rattle.nc_text.specs.Refusals.{refusal_number}
-use Rattle.nc_text.specs.Said.{sequence_from, is_in_range, words_of, said_by, is_program, program_number, read_pieces, read_words, unreadable, read_numbered, read_statement, read_block, read_head, is_skipped, line_says, numbered_sentence}
+use Rattle.line_text.specs.Signs.{Scan, is_blank, add_sign, inside_behind, scan_of, content_of, signs_of, are_allowed}
+use Rattle.line_text.specs.Pieces.{is_comment, bytes_of, pieces_of, value_len}
+use Rattle.line_text.specs.Front.{behind_comments, switch_of, behind_digit, behind_switch, sentence_of, is_statement, is_switch, is_number_sign, behind_number, is_numbered}
+use Rattle.line_text.specs.Refusals.{refusal_number}
+use Rattle.line_text.specs.Said.{sequence_from, is_in_range, words_of, said_by, is_program, program_number, read_pieces, read_words, unreadable, read_numbered, read_statement, read_block, read_head, is_skipped, line_says, numbered_sentence}
 use Rattle.nc_text.specs.Tape.{Before, nothing_read, programs_of, unless_refused, said_refusal, with_block, with_said, block_at, next, after_said, after_line, percent_refusal, after_percent, outer_refusal, after_outer, Answer, no_program, finished, unfinished, goes_on, in_rest, in_body, in_leader, begun, tape_of}
-use Rattle.nc_text.proofs.Judged.{judged_ok}
+use Rattle.line_text.proofs.Judged.{judged_ok}
 use Rattle.open_forms.specs.Widening.{IsClean, AreClean, IsCleanTape}
 
 -- a sign as a scan gives it

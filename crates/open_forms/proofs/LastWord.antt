@@ -3,8 +3,8 @@ use Rattle.std.proofs.Common.{◌≡◌, ℕ, ◌+◌, ◌<◌, Bool, true, fals
 use Rattle.std.proofs.lemmas.List.Elements.{filter-append}
 use Rattle.std.proofs.lemmas.List.{take_more}
 use Rattle.code_tables.specs.Codes.{last_of}
-use Rattle.nc_text.specs.declared.tape.Word.{Word}
-use Rattle.block_forms.specs.Words.{is_one_of}
+use Rattle.line_text.specs.declared.body.Word.{Word}
+use Rattle.block_words.specs.Words.{is_one_of}
 use Rattle.open_forms.specs.Words.{words_of, number, number_of_last, last_number}
 
 -- the last of a list with one more is that one

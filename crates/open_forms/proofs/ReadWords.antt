@@ -3,17 +3,17 @@ use Rattle.std.proofs.Common.{◌≡◌, ℕ, suc, Bool, true, false, cond, not,
 use Rattle.std.specs.List.{list_any, filter_map}
 use Rattle.nc_number.specs.declared.fault.NumberFault.TheVariants.{TooManyDigits}
 use Rattle.nc_number.specs.Literals.{is_literal, has_too_many_digits, literal_micro, has_point, has_minus, behind_sign}
-use Rattle.nc_text.specs.declared.tape.Word.{Word}
+use Rattle.line_text.specs.declared.body.Word.{Word}
 use Rattle.macro_expr.specs.declared.tree.ExprFault.{ExprFault}
 use Rattle.macro_expr.specs.Tree.{Tree}
 use Rattle.macro_expr.specs.Answers.{expression_of}
 use Rattle.code_tables.specs.declared.system.System.{System}
 use Rattle.code_tables.specs.Codes.{last_of}
-use Rattle.block_forms.specs.declared.word.FlowWord.{FlowWord}
-use Rattle.block_forms.specs.declared.word.WordValue.{WordValue}
-use Rattle.block_forms.specs.declared.word.WordValue.TheVariants.{Fixed, Computed}
-use Rattle.block_forms.specs.Words as read
-use Rattle.block_forms.specs.Codes.{natural, row_of_number, row_of_word as row_of_read}
+use Rattle.block_words.specs.declared.word.FlowWord.{FlowWord}
+use Rattle.block_words.specs.declared.word.WordValue.{WordValue}
+use Rattle.block_words.specs.declared.word.WordValue.TheVariants.{Fixed, Computed}
+use Rattle.block_words.specs.Words as read
+use Rattle.block_words.specs.Codes.{natural, row_of_number, row_of_word as row_of_read}
 use Rattle.block_forms.specs.Forms.{word_of, word_at, fixed_value, computed_value, all_words, joined}
 use Rattle.open_forms.specs.Words.{words_of, has, written, whole_of_written, number, numbers_of, number_of_last, last_number, has_computed, has_long}
 use Rattle.open_forms.specs.Refusals.{row_of_word}

@@ -10,7 +10,7 @@ use Rattle.nc_number.specs.Arithmetic.{whole_of}
 use Rattle.nc_number.specs.Literals.{literal_micro, word_literal, is_point, behind_sign, has_minus, whole_part, fraction_part}
 use Rattle.block_order.specs.declared.control.Control.{Control}
 use Rattle.block_order.specs.declared.control.Control.TheVariants as control
-use Rattle.block_forms.specs.Codes.{natural}
+use Rattle.block_words.specs.Codes.{natural}
 use Rattle.block_forms.specs.Controls.{number_of_aim, control_of_sentence}
 use Rattle.macro_expr.specs.Tree.{Tree, Named, Test, Aim, Sentence}
 use Rattle.macro_expr.specs.Words.{loop_words}

@@ -4,16 +4,16 @@ use Rattle.std.specs.List.{list_any, list_all, filter_map, cons_option, find}
 use Rattle.std.proofs.lemmas.Bool.{and_parts}
 use Rattle.std.proofs.lemmas.Bool.Decides.{nat_tests}
 use Rattle.nc_number.specs.Arithmetic.{whole_of}
-use Rattle.nc_text.specs.declared.tape.Word.{Word}
+use Rattle.line_text.specs.declared.body.Word.{Word}
 use Rattle.code_tables.specs.declared.row.Row.{Row}
 use Rattle.code_tables.specs.declared.kind.CodeKind.{CodeKind}
 use Rattle.code_tables.specs.Codes.{row_of}
 use Rattle.code_tables.specs.declared.system.System.{System}
 use Rattle.code_tables.specs.declared.system.System.TheVariants.{A, B}
 use Rattle.code_tables.specs.Systems.{rows_of_system}
-use Rattle.block_forms.specs.declared.word.FlowWord.{FlowWord}
-use Rattle.block_forms.specs.Words.{is_computed}
-use Rattle.block_forms.specs.Codes.{natural, row_of_number, row_of_word as row_of_read, is_dwell, is_setting, is_macro_call}
+use Rattle.block_words.specs.declared.word.FlowWord.{FlowWord}
+use Rattle.block_words.specs.Words.{is_computed}
+use Rattle.block_words.specs.Codes.{natural, row_of_number, row_of_word as row_of_read, is_dwell, is_setting, is_macro_call}
 use Rattle.block_forms.specs.Refusals.{is_refused_row, is_unknown_code}
 use Rattle.open_forms.specs.Words.{written, whole_of_written, number}
 use Rattle.open_forms.specs.Codes.{is_g}

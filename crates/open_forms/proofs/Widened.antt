@@ -2,10 +2,10 @@
 use Rattle.std.proofs.Common.{◌≡◌, ℕ, false, Bool, true, cond, List, Option, Some, None, Result, Ok, Err, refl, ◌∙◌, ap, subst}
 use Rattle.nc_number.specs.declared.cause.Cause.{Cause}
 use Rattle.nc_number.specs.declared.cause.Cause.TheVariants.{TooManyVariables}
-use Rattle.nc_text.specs.declared.tape.Word.{Word}
+use Rattle.line_text.specs.declared.body.Word.{Word}
 use Rattle.nc_text.specs.declared.tape.Block.{Block}
-use Rattle.nc_text.specs.declared.tape.Body.{Body}
-use Rattle.nc_text.specs.declared.tape.Body.TheVariants.{Words, Statement}
+use Rattle.line_text.specs.declared.body.Body.{Body}
+use Rattle.line_text.specs.declared.body.Body.TheVariants.{Words, Statement}
 use Rattle.macro_expr.specs.declared.stop.Stop.{Stop}
 use Rattle.macro_expr.specs.declared.tree.ExprFault.{ExprFault}
 use Rattle.macro_expr.specs.Tree.{Sentence}
@@ -14,8 +14,8 @@ use Rattle.macro_expr.specs.Statements.{statement_at, whole}
 use Rattle.macro_expr.specs.Grammar.{IsStatement}
 use Rattle.macro_expr.specs.Answers.{statement_of}
 use Rattle.macro_expr.proofs.StatementsSound.{whole-statement-sound}
-use Rattle.block_forms.specs.declared.dialect.Dialect.{Dialect}
-use Rattle.block_forms.specs.declared.word.FlowWord.{FlowWord}
+use Rattle.block_words.specs.declared.dialect.Dialect.{Dialect}
+use Rattle.block_words.specs.declared.word.FlowWord.{FlowWord}
 use Rattle.block_forms.specs.Controls.{control_of_words, control_of_sentence}
 use Rattle.block_forms.specs.Forms.{Form, OfWords, OfSentence, BlockForm, block_at, form_at, form_or_refusal, form_of_words, form_of_sentence, sentence_or_refusal, words_or_refusal, control_of_form, judged, all_words, has_many_variables as closed_many, with_refusal as form_refusal}
 use Rattle.block_forms.specs.Refusals as closed

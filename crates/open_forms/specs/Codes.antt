@@ -1,9 +1,9 @@
 -- The codes on which the control of a block hangs.
 use Rattle.std.specs.Prelude.{ℕ, Bool, true, false, not, ◌==◌, ◌&&◌, ◌||◌, nat_lt, nat_le, List, ℤ, pos, negsuc, codes, if◌then◌else◌}
 use Rattle.std.specs.List.{list_any, filter_map}
-use Rattle.nc_text.specs.declared.tape.Word.{Word}
-use Rattle.block_forms.specs.declared.dialect.Dialect.{Dialect}
-use Rattle.block_forms.specs.Codes.{is_waiting}
+use Rattle.line_text.specs.declared.body.Word.{Word}
+use Rattle.block_words.specs.declared.dialect.Dialect.{Dialect}
+use Rattle.block_words.specs.Codes.{is_waiting}
 use Rattle.open_forms.specs.declared.role.Role.{Role}
 use Rattle.open_forms.specs.declared.role.Role.TheVariants.{MacroCall, Subprogram, Return, Wait, End, Roughing, Finishing, Other}
 use Rattle.open_forms.specs.Words.{words_of, has, written, numbers_of}

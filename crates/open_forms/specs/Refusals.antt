@@ -3,12 +3,12 @@ use Rattle.std.specs.Prelude.{ℕ, Bool, true, false, not, ◌==◌, ◌&&◌, �
 use Rattle.std.specs.List.{list_any, list_all}
 use Rattle.nc_number.specs.declared.cause.Cause.{Cause}
 use Rattle.nc_number.specs.declared.cause.Cause.TheVariants.{TooManyDigits, NotFixed, UnknownCode, WaitNotAlone, WaitPaths, TwoM, BadCall, WordRange}
-use Rattle.nc_text.specs.declared.tape.Word.{Word}
+use Rattle.line_text.specs.declared.body.Word.{Word}
 use Rattle.code_tables.specs.declared.row.Row.{Row}
 use Rattle.code_tables.specs.declared.system.System.{System}
-use Rattle.block_forms.specs.declared.dialect.Dialect.{Dialect}
-use Rattle.block_forms.specs.Words.{is_one_of}
-use Rattle.block_forms.specs.Codes.{row_of_number, is_dwell, is_setting}
+use Rattle.block_words.specs.declared.dialect.Dialect.{Dialect}
+use Rattle.block_words.specs.Words.{is_one_of}
+use Rattle.block_words.specs.Codes.{row_of_number, is_dwell, is_setting}
 use Rattle.block_forms.specs.Refusals.{is_macro_row, is_both, is_many}
 use Rattle.open_forms.specs.declared.role.Role.{Role}
 use Rattle.open_forms.specs.declared.role.Role.TheVariants.{MacroCall, Subprogram, Return, Wait, End, Roughing, Finishing, Other}

@@ -6,7 +6,7 @@ use Rattle.nc_number.specs.declared.fault.NumberFault.{NumberFault}
 use Rattle.nc_number.specs.declared.literal.Literal.{Literal}
 use Rattle.nc_number.specs.Arithmetic.{whole_of}
 use Rattle.nc_number.specs.Literals.{is_literal, all_digits, word_literal}
-use Rattle.block_forms.specs.Codes.{natural}
+use Rattle.block_words.specs.Codes.{natural}
 use Rattle.block_order.specs.declared.control.Control.{Control}
 use Rattle.block_order.specs.declared.control.Control.TheVariants as control
 

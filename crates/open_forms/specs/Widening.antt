@@ -1,13 +1,13 @@
 -- When the open reading of a block must lead where its full reading does.
 use Rattle.std.specs.Prelude.{◌≡◌, false, Bool, not, ◌&&◌, List, [], ◌∷◌, Ok}
 use Rattle.std.specs.List.{list_any}
-use Rattle.nc_text.specs.declared.tape.Word.{Word}
+use Rattle.line_text.specs.declared.body.Word.{Word}
 use Rattle.nc_text.specs.declared.tape.Block.{Block}
 use Rattle.nc_text.specs.declared.tape.Program.{Program}
-use Rattle.nc_text.specs.declared.tape.Body.{Body}
-use Rattle.nc_text.specs.declared.tape.Body.TheVariants.{Words, Statement}
+use Rattle.line_text.specs.declared.body.Body.{Body}
+use Rattle.line_text.specs.declared.body.Body.TheVariants.{Words, Statement}
 use Rattle.macro_expr.specs.Limits.{cleaned}
-use Rattle.block_forms.specs.declared.dialect.Dialect.{Dialect}
+use Rattle.block_words.specs.declared.dialect.Dialect.{Dialect}
 use Rattle.block_forms.specs.Forms.{BlockForm, block_or_refusal}
 use Rattle.open_forms.specs.Codes.{m_codes, is_refused_m, is_macro}
 use Rattle.open_forms.specs.Controls.{open_control}

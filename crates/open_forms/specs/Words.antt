@@ -6,9 +6,9 @@ use Rattle.nc_number.specs.declared.literal.Literal.{Literal}
 use Rattle.nc_number.specs.Arithmetic.{whole_of}
 use Rattle.nc_number.specs.Literals.{is_literal, has_too_many_digits, word_literal}
 use Rattle.code_tables.specs.Codes.{last_of}
-use Rattle.nc_text.specs.declared.tape.Word.{Word}
-use Rattle.block_forms.specs.Words.{is_one_of}
-use Rattle.block_forms.specs.Codes.{natural}
+use Rattle.line_text.specs.declared.body.Word.{Word}
+use Rattle.block_words.specs.Words.{is_one_of}
+use Rattle.block_words.specs.Codes.{natural}
 
 -- the words of these letters, in their order
 abbrev pub words_of : List ℕ → List Word → List Word

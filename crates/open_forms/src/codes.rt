@@ -1,5 +1,5 @@
 ghost use Rattle.std.specs.Prelude.{◌≡◌};
-ghost use Rattle.block_forms.specs.Codes.{first_waiting};
+ghost use Rattle.block_words.specs.Codes.{first_waiting};
 ghost use Rattle.open_forms.specs.Codes.{is_g, has_g, leads_elsewhere, is_refused_g, m_codes, has_m, has_wait, is_refused_m, is_lone_m, is_roughing, has_contour, cycle_of, role_of};
 
 use crate::letters::{has, number, written};
@@ -76,7 +76,7 @@ fn find_waiting(words: &[Word], dialect: Dialect) -> Option<u32>
 }
 
 /// The first waiting M code of the block, which is none above the last waiting code.
-#[tactic(auto, using(block_forms::proofs::Waiting::first_waiting_is_below))]
+#[tactic(auto, using(block_words::proofs::Waiting::first_waiting_is_below))]
 pub(crate) fn first_waiting(words: &[Word], dialect: Dialect) -> Option<u16>
     ensures { result ≡ first_waiting dialect (m_codes words.now) }
 {

@@ -2,7 +2,7 @@ ghost use Rattle.std.specs.Prelude.{◌≡◌, ℕ, List, Ok};
 ghost use Rattle.nc_text.specs.declared.tape.Block.{Block};
 ghost use Rattle.nc_text.specs.declared.tape.Program.{Program};
 ghost use Rattle.nc_text.specs.Tape.{tape_of};
-ghost use Rattle.block_forms.specs.declared.dialect.Dialect.{Dialect};
+ghost use Rattle.block_words.specs.declared.dialect.Dialect.{Dialect};
 ghost use Rattle.block_forms.specs.Forms.{BlockForm};
 ghost use Rattle.open_forms.specs.Widening.{IsWidened, IsCleanTape};
 

@@ -1,6 +1,6 @@
 ghost use Rattle.std.specs.Prelude.{◌≡◌, ◌≤◌, ◌&&◌, not, IfSome, length, if◌then◌else◌};
 ghost use Rattle.nc_number.specs.Literals.{is_literal, has_too_many_digits};
-ghost use Rattle.block_forms.specs.Words.{is_one_of};
+ghost use Rattle.block_words.specs.Words.{is_one_of};
 ghost use Rattle.open_forms.specs.Words.{words_of, has, has_computed, has_long, written, number, last_number};
 
 use block_forms::is_one_of;

@@ -1,7 +1,8 @@
 ghost use Rattle.std.specs.Prelude.{◌≡◌, codes};
 ghost use Rattle.std.specs.List.{list_any, list_all};
-ghost use Rattle.block_forms.specs.Words.{is_one_of};
-ghost use Rattle.block_forms.specs.Refusals.{is_macro_row, is_both, is_many, names_both};
+ghost use Rattle.block_words.specs.Words.{is_one_of};
+ghost use Rattle.block_words.specs.Purposes.{names_both};
+ghost use Rattle.block_forms.specs.Refusals.{is_macro_row, is_both, is_many};
 ghost use Rattle.open_forms.specs.Words.{words_of, numbers_of, last_number};
 ghost use Rattle.open_forms.specs.Codes.{g_values, m_codes, is_refused_g, is_refused_m, is_lone_m, role_of};
 ghost use Rattle.open_forms.specs.Refusals.{fixed_letters, is_long, is_not_fixed, is_parameter, writes_parameters, row_of_word, is_no_row, is_beside_a_call, begins_macro_call, is_unknown_by, is_contour, is_crowded, is_unknown, waits_there, is_wait_not_alone, is_wait_of_others, has_two_m, takes_p, uses_p, is_one_contour, is_bad_call_by, is_in, are_in, is_in_range_by, is_out_of_range, refusal_of};

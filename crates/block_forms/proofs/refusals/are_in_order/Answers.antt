@@ -1,6 +1,6 @@
 use Rattle.std.proofs.Common.{◌≡◌, ◌∙◌, ◌+◌, true, false, codes, sym, ap, drop, rules}
 use Rattle.std.proofs.Math.ListN.{drop_of_length-le}
-use Rattle.block_forms.specs.Words.{is_one_of}
+use Rattle.block_words.specs.Words.{is_one_of}
 use Rattle.block_forms.specs.Refusals.{is_above}
 use Rattle.block_forms.proofs.InOrder.{in_order_behind, in_order_end, in_order_ends, in_order_goes, in_order_skips}
 use Rattle.block_forms.proofs.refusals.are_in_order.Goals as goal

@@ -1,6 +1,6 @@
 use Rattle.std.proofs.Common.{◌≡◌, true, false, refl, sym, ◌∙◌, ap}
 use Rattle.std.specs.List.{list_any}
-use Rattle.block_forms.specs.Codes.{gives, is_macro_call, has_code}
+use Rattle.block_words.specs.Codes.{gives, is_macro_call, has_code}
 use Rattle.block_forms.proofs.words.purpose_of.Goals as goal
 
 pub returns-then-has_code : goal.returns-then-has_code

@@ -1,5 +1,5 @@
 use Rattle.std.proofs.Common.{refl}
-use Rattle.block_forms.specs.declared.purpose.Purpose.TheVariants.{MacroCall, Subprogram}
+use Rattle.block_words.specs.declared.purpose.Purpose.TheVariants.{MacroCall, Subprogram}
 use Rattle.block_forms.proofs.Accepted.{number_at_most}
 use Rattle.block_forms.proofs.words.FlowWords.control.Goals as goal
 

@@ -1,0 +1,17 @@
+use Rattle.std.proofs.Common.{rules, subst, sym}
+use Rattle.nc_number.specs.declared.value.Var.TheVariants.{Vacant}
+use Rattle.motion_track.specs.declared.targets.TheConstants.{LONGEST}
+use Rattle.motion_track.specs.Within.{AreMovesWithin}
+use Rattle.block_values.specs.InForce.{settings_said}
+use Rattle.block_values.proofs.Ends.{all_within}
+use Rattle.block_values.proofs.moves.all_moves.Goals as goal
+
+pub returns-clause-moves : goal.returns-clause-moves
+returns-clause-moves c = search rules
+
+-- the moves lead no farther than those of the motion
+pub returns-clause-within : goal.returns-clause-within
+returns-clause-within c all =
+    let values = settings_said Vacant c.args.speed c.args.tool in
+    subst (AreMovesWithin LONGEST) (sym (returns-clause-moves c))
+    (all_within c.args.limits c.args.modal.now values c.args.motion.now c.args.code all)

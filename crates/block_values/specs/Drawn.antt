@@ -1,0 +1,53 @@
+-- What the code's own structs are as records of the definitions.
+use Rattle.std.specs.Prelude.{ℕ, Some, unwrap_or, Result, Ok, Err}
+use Rattle.motion_track.specs.Centre.{IsLengthWithin}
+use Rattle.block_values.specs.declared.motion.Motion.{Motion as Drawn}
+use Rattle.block_values.specs.declared.motion.MotionWords.{MotionWords}
+use Rattle.block_values.specs.Motion.{Motion}
+use Rattle.block_values.specs.Values.{Values, nothing_said}
+
+-- what the words of a block say to its motion
+abbrev pub motion_said : MotionWords → Values
+motion_said words = record nothing_said {
+  x = words.x;
+  z = words.z;
+  u = words.u;
+  w = words.w;
+  i = words.i;
+  k = words.k;
+  r = words.r;
+  number = words.number;
+  rest = Some words.rest;
+}
+
+-- what the motion of a block takes of its words
+abbrev pub motion_part : Values → MotionWords
+motion_part values = record {
+  x = values.x;
+  z = values.z;
+  u = values.u;
+  w = values.w;
+  i = values.i;
+  k = values.k;
+  r = values.r;
+  number = values.number;
+  rest = unwrap_or values.rest 0;
+}
+
+-- no length of the words is longer than that
+pub record AreLengthsWithin (far : ℕ) (words : MotionWords) : Type 0 where
+  pub x : IsLengthWithin far words.x
+  pub z : IsLengthWithin far words.z
+  pub u : IsLengthWithin far words.u
+  pub w : IsLengthWithin far words.w
+  pub i : IsLengthWithin far words.i
+  pub k : IsLengthWithin far words.k
+  pub r : IsLengthWithin far words.r
+
+abbrev pub motion_view : Drawn → Motion
+motion_view motion = record { moves = motion.moves; cycle = motion.cycle; offset = motion.offset }
+
+-- the motion of a block, or why there is none
+abbrev pub seen : {F : Type 0} → Result Drawn F → Result Motion F
+seen (Ok motion) = Ok (motion_view motion)
+seen (Err fault) = Err fault

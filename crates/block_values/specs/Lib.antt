@@ -1,0 +1,12 @@
+pub mod Outcomes
+pub mod Readings
+pub mod Purposes
+pub mod Values
+pub mod Arguments
+pub mod Operands
+pub mod InForce
+pub mod Motion
+pub mod Moves
+pub mod Within
+pub mod Seen
+pub mod Drawn

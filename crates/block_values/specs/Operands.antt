@@ -1,0 +1,57 @@
+-- What the operands of a statement come to, by what a table says of each variable.
+use Rattle.std.specs.Prelude.{ℕ, Bool, List, Option, Some, None, Result, Ok, Err, ℤ, pos, negsuc}
+use Rattle.nc_number.specs.declared.cause.Cause.{Cause}
+use Rattle.nc_number.specs.declared.cause.Cause.TheVariants.{VariableRange, NoSequence}
+use Rattle.nc_number.specs.declared.value.Var.{Var}
+use Rattle.nc_number.specs.Arithmetic.{nearest_quotient}
+use Rattle.nc_number.specs.Variables.{or_zero}
+use Rattle.common_vars.specs.declared.variable.Variable.{Variable}
+use Rattle.modal_state.specs.View.{ModalView}
+use Rattle.macro_expr.specs.declared.tree.Rel.{Rel}
+use Rattle.macro_expr.specs.Tree.{Tree, Named, Fixed as Numbered, Computed, Test, Aim, ToNumber, ToNumberOf}
+use Rattle.macro_eval.specs.declared.scope.Look.{Look}
+use Rattle.macro_eval.specs.declared.scope.VarFault.{VarFault}
+use Rattle.macro_eval.specs.Meaning.{whole_number, variable_number}
+use Rattle.macro_eval.specs.Relations.{holds_of}
+use Rattle.block_values.specs.Outcomes.{Outcome, Gives, ◌>>=◌, reading_none, value_with}
+use Rattle.block_values.specs.Readings.{variable_in}
+
+-- a number that is given names a variable, or is alarm 30
+abbrev pub existing : Option Variable → Result Variable Cause
+existing None = Err VariableRange
+existing (Some variable) = Ok variable
+
+abbrev pub number_named : ModalView → Result ℕ Cause → Result Variable Cause
+number_named modal (Ok n) = existing (variable_in modal n)
+number_named modal (Err cause) = Err cause
+
+-- the variable on the left side: its number is computed before the value
+abbrev pub variable_with : (ℕ → Result Look VarFault) → ModalView → Named → List Var → Outcome Variable
+variable_with table modal (Numbered n) reads = reading_none (existing (variable_in modal n)) reads
+variable_with table modal (Computed tree) reads =
+    value_with table tree reads >>= λ value left. reading_none (number_named modal (variable_number value)) left
+
+-- millimetres as a length in 0.001 mm, to the nearest, halves away from zero
+abbrev pub length_of : Var → ℤ
+length_of value = nearest_quotient (or_zero value) (pos 1000)
+
+-- a condition whose left side is evaluated
+abbrev pub relation_with : (ℕ → Result Look VarFault) → Rel → Var → Tree → List Var → Outcome Bool
+relation_with table rel left tree reads = value_with table tree reads >>= λ right rest. Gives (holds_of rel left right) rest
+
+-- a condition, left and then right
+abbrev pub condition_with : (ℕ → Result Look VarFault) → Test → List Var → Outcome Bool
+condition_with table test reads =
+    value_with table test.left reads >>= λ left behind_left. relation_with table test.rel left test.right behind_left
+
+-- a computed sequence number: 4 where it is not whole, and 50 where no block can have it
+abbrev pub sequence_number : Result ℤ Cause → Result ℕ Cause
+sequence_number (Ok (pos n)) = Ok n
+sequence_number (Ok (negsuc n)) = Err NoSequence
+sequence_number (Err cause) = Err cause
+
+-- the sequence number to which a jump goes
+abbrev pub sequence_with : (ℕ → Result Look VarFault) → Aim → List Var → Outcome ℕ
+sequence_with table (ToNumber n) reads = Gives n reads
+sequence_with table (ToNumberOf tree) reads =
+    value_with table tree reads >>= λ value left. reading_none (sequence_number (whole_number value)) left

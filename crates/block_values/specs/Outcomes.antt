@@ -1,0 +1,40 @@
+-- What a step of a block comes to: a value and the reads that are left, the need of a shared variable, or an alarm.
+use Rattle.std.specs.Prelude.{ℕ, List, Result, Ok, Err, ℤ, pos}
+use Rattle.nc_number.specs.declared.cause.Cause.{Cause}
+use Rattle.nc_number.specs.declared.value.Var.{Var}
+use Rattle.nc_number.specs.Causes.{cause_number}
+use Rattle.macro_expr.specs.Tree.{Tree}
+use Rattle.macro_eval.specs.declared.scope.Eval.TheVariants.{Got, Need, Fault}
+use Rattle.macro_eval.specs.declared.scope.Look.{Look}
+use Rattle.macro_eval.specs.declared.scope.VarFault.{VarFault}
+use Rattle.macro_eval.specs.Meaning.{Answer, meaning}
+
+pub data Outcome (A : Type 0) : Type 0 where
+  Gives : (value : A) → (left : List Var) → Outcome A
+  Needs : (variable : ℕ) → Outcome A
+  -- the number of the alarm, and its value, which is 0 but for 33
+  Alarms : (number : ℕ) → (value : ℤ) → Outcome A
+
+-- one step behind the other
+infixl 10 ◌>>=◌
+abbrev pub ◌>>=◌ : {A B : Type 0} → Outcome A → (A → List Var → Outcome B) → Outcome B
+(Gives value left) >>= next = next value left
+(Needs variable) >>= next = Needs variable
+(Alarms number value) >>= next = Alarms number value
+
+abbrev pub alarm : {A : Type 0} → Cause → Outcome A
+alarm cause = Alarms (cause_number cause) (pos 0)
+
+-- a step that takes no read
+abbrev pub reading_none : {A : Type 0} → Result A Cause → List Var → Outcome A
+reading_none (Ok value) left = Gives value left
+reading_none (Err cause) left = alarm cause
+
+abbrev pub answered : Answer → Outcome Var
+answered (Got value, left) = Gives value left
+answered (Need variable, left) = Needs variable
+answered (Fault number, left) = Alarms number (pos 0)
+
+-- the value of an expression, by what a table says of each variable
+abbrev pub value_with : (ℕ → Result Look VarFault) → Tree → List Var → Outcome Var
+value_with table tree reads = answered (meaning table tree reads)

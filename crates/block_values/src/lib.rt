@@ -1,0 +1,38 @@
+//! What the text of a block comes to: what its words, its arguments and its operands say, what is in
+//! force behind it, its motion and its moves.
+//!
+//! What is evaluated is generic over what is known of each variable, a [`Scope`](macro_eval::Scope), and
+//! takes the reads of shared variables one by one; the parts of a block are given what they hang on. So
+//! nothing here knows the state of a path. The layer above, where a path is such a scope, leans on
+//! [`words_taken`], [`arguments_taken`], [`value_taken`] and its like for statements, on
+//! [`modal_behind`], [`motion_behind`] and [`moves_behind`], and on the readings of a variable.
+#![tactic(auto)]
+
+mod arguments;
+mod modal;
+mod motion;
+mod moves;
+mod operands;
+mod outcome;
+mod readings;
+mod sense;
+mod values;
+mod words;
+
+pub use arguments::arguments_taken;
+pub use modal::modal_behind;
+pub use motion::{Motion, motion_behind};
+pub use moves::{last_end, moves_behind};
+pub use operands::{condition_taken, length_of, sequence_taken, value_taken, variable_taken};
+pub use outcome::Stop;
+pub use readings::{code_in_force, in_millimetres, in_units, part, programmed, variable_in};
+pub use sense::Sense;
+pub use values::Values;
+pub use words::words_taken;
+
+// For users of the library: the parts of these calls.
+pub use arguments::{argument, local_of};
+pub use modal::modal_after;
+pub use motion::{MotionWords, motion_of, setting};
+pub use moves::all_moves;
+pub use values::taken;

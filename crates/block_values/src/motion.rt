@@ -1,0 +1,277 @@
+//! The motion of a block: by its one-shot code if it has one, else by the motion code in force.
+ghost use Rattle.std.specs.Prelude.{ℕ, ◌≡◌, ◌≤◌, ◌∷◌, [], codes, length, None, IfOk, IfSome, unsigned_abs};
+ghost use Rattle.nc_number.specs.Axes.{IsAxisWithin};
+ghost use Rattle.nc_number.specs.Position.{IsPosition};
+ghost use Rattle.nc_moves.specs.declared.motion.Move.TheVariants.{Dwell};
+ghost use Rattle.motion_track.specs.Block.{IsBlockWithin};
+ghost use Rattle.motion_track.specs.Within.{AreMovesWithin};
+ghost use Rattle.turn_cycles.specs.Pass.{cycle_kind_of};
+ghost use Rattle.block_words.specs.Codes.{one_shot};
+ghost use Rattle.block_words.specs.Words.{has};
+ghost use Rattle.block_values.specs.Seen.{values_seen};
+ghost use Rattle.block_values.specs.Within.{AreLengthsSaid};
+ghost use Rattle.block_values.specs.Motion.{motion_kind, axis_under, form_of, setting_of, block_motion, cut_motion, motion_of};
+ghost use Rattle.block_values.specs.Drawn.{seen, motion_said, motion_part, AreLengthsWithin};
+ghost use Rattle.block_values.specs.Values.{Values};
+ghost use Rattle.code_tables.specs.declared.kind.CodeKind.{CodeKind};
+
+use crate::values::Values;
+use block_forms::FlowWords;
+use code_tables::CodeKind;
+use modal_state::Modal;
+use motion_track::{BlockMotion, LONGEST, MotionFault, track};
+use nc_moves::{Move, MoveList};
+use nc_number::{Axis, Cause, Point};
+use offset_store::{OffsetFault, OffsetForm, Offsets, Slot};
+use turn_cycles::{CycleKind, cycle_pass};
+
+/// What the words of a block say to its motion. Lengths are in 0.001 mm.
+#[derive(Clone, Copy, Debug, PartialEq, Eq)]
+pub struct MotionWords {
+    pub x: Option<i64>,
+    pub z: Option<i64>,
+    pub u: Option<i64>,
+    pub w: Option<i64>,
+    pub i: Option<i64>,
+    pub k: Option<i64>,
+    pub r: Option<i64>,
+    /// P of the setting of an offset.
+    pub number: Option<i64>,
+    /// A dwell in milliseconds.
+    pub rest: u64,
+}
+
+impl MotionWords {
+    /// What the motion of a block takes of its words.
+    pub fn of(values: &Values) -> MotionWords
+        requires { AreLengthsSaid values.now }
+        ensures words { result ≡ motion_part (values_seen values.now) }
+        ensures lengths { AreLengthsWithin 100000000000 result }
+    {
+        MotionWords {
+            x: values.x,
+            z: values.z,
+            u: values.u,
+            w: values.w,
+            i: values.i,
+            k: values.k,
+            r: values.r,
+            number: values.number,
+            rest: values.rest.unwrap_or(0),
+        }
+    }
+}
+
+/// What the motion of a block comes to.
+#[derive(Debug, Drop)]
+pub struct Motion {
+    pub moves: MoveList,
+    /// Where the cycle in force ends from then on.
+    pub cycle: Option<Point>,
+    /// The offset that is set, and to what.
+    pub offset: Option<(Slot, Point)>,
+}
+
+/// The motion of a block of these words, where this is in force behind its codes and words: by its
+/// one-shot code if it has one, else by the motion code in force.
+///
+/// Alarms: those of [`motion_of`].
+#[tactic(auto, using(crate::proofs::Hanging::motion_hangs))]
+pub fn motion_behind(
+    position: Point,
+    home: Point,
+    modal: &Modal,
+    offsets: &Offsets,
+    words: &FlowWords,
+    values: &Values,
+) -> Result<Motion, u8>
+    requires position { IsPosition position }
+    requires home { IsPosition home }
+    requires lengths { AreLengthsSaid values.now }
+    ensures motion { seen result ≡ motion_of home position offsets.now modal.now
+        (motion_kind modal.now (one_shot words.now.dialect.system words.now.words))
+        (has (codes "L") words.now.words) (values_seen values.now) }
+    ensures few { IfOk result (λ motion. length motion.moves ≤ 4) }
+    ensures within { IfOk result (λ motion. AreMovesWithin LONGEST motion.moves) }
+    ensures cycle { IfOk result (λ motion. IfSome motion.cycle IsPosition) }
+    ensures offset { IfOk result (λ motion. IfSome motion.offset (λ set. IsPosition set.1)) }
+{
+    let kind = words.one_shot.unwrap_or(modal.motion());
+    motion_of(
+        position,
+        home,
+        modal,
+        offsets,
+        kind,
+        words.has_l(),
+        &MotionWords::of(values),
+    )
+}
+
+/// The motion of a block by the kind of its code, from where the turret stands: a dwell, the setting of
+/// an offset, a cycle, a line, an arc, a thread, a way home, or none.
+///
+/// Alarms, as their numbers: 40 of an offset that does not exist, 41 past the range, 43 of an arc without
+/// a centre, 42 of one that ends off its circle, 44 of a cut without a feed; 56 of a rapid in machine
+/// coordinates while words are incremental, whatever words stand beside it.
+#[tactic(auto, using(crate::proofs::Ends::none_within))]
+pub fn motion_of(
+    position: Point,
+    home: Point,
+    modal: &Modal,
+    offsets: &Offsets,
+    kind: CodeKind,
+    has_l: bool,
+    words: &MotionWords,
+) -> Result<Motion, u8>
+    requires position { IsPosition position }
+    requires lengths { AreLengthsWithin 100000000000 words.now }
+    ensures motion { seen result ≡ motion_of home position offsets.now modal.now kind has_l (motion_said words.now) }
+    ensures few { IfOk result (λ motion. length motion.moves ≤ 4) }
+    ensures within { IsPosition home → IfOk result (λ motion. AreMovesWithin LONGEST motion.moves) }
+    ensures cycle { IfOk result (λ motion. IfSome motion.cycle IsPosition) }
+    ensures offset { IfOk result (λ motion. IfSome motion.offset (λ set. IsPosition set.1)) }
+{
+    match kind {
+        CodeKind::Dwell => Ok(dwell(modal.cycle(), words.rest)),
+        CodeKind::Setting => match setting(offsets, modal, has_l, words) {
+            Ok(set) => Ok(Motion {
+                moves: MoveList::empty(),
+                cycle: modal.cycle(),
+                offset: Some(set),
+            }),
+            Err(fault) => Err(fault.number),
+        },
+        CodeKind::Machine if modal.is_incremental() => Err(Cause::UnknownCode.number()),
+        _ => {
+            let block = block_motion(position, home, modal, offsets, words);
+            match cut_motion(kind, modal.cycle(), &block) {
+                Ok(motion) => Ok(motion),
+                Err(fault) => Err(fault.number),
+            }
+        }
+    }
+}
+
+// A rest alone.
+#[tactic(auto, using(crate::proofs::Ends::dwell_within))]
+fn dwell(cycle: Option<Point>, ms: u64) -> Motion
+    ensures within { AreMovesWithin LONGEST result.moves }
+    ensures motion { result ≡ record { moves = Dwell ms ∷ []; cycle = cycle; offset = None } }
+{
+    let mut moves = MoveList::empty();
+    moves.push(Move::Dwell { ms });
+    Motion {
+        moves,
+        cycle,
+        offset: None,
+    }
+}
+
+// What the words of an axis say: X and Z are incremental where G91 is in force, as U and W always are.
+fn axis_under(incremental: bool, word: Option<i64>, way: Option<i64>) -> Axis
+    ensures told { result ≡ axis_under incremental word way }
+    ensures range { (far : ℕ) → IfSome word (λ n. unsigned_abs n ≤ far)
+        → IfSome way (λ n. unsigned_abs n ≤ far) → IsAxisWithin far result }
+{
+    if !incremental {
+        return Axis::of(word, way);
+    }
+    match word {
+        Some(length) => Axis::By(length),
+        None => Axis::of(None, way),
+    }
+}
+
+/// The offset that G10 sets, and to what: with L a work offset, else a tool's. An absolute word sets, and
+/// an incremental one adds. Alarm 40 exactly where P names none, then 41 exactly where a part of it would
+/// be past 99,999.999 mm.
+pub fn setting(
+    offsets: &Offsets,
+    modal: &Modal,
+    has_l: bool,
+    words: &MotionWords,
+) -> Result<(Slot, Point), OffsetFault>
+    ensures set { result ≡ setting_of offsets.now modal.now has_l (motion_said words.now) }
+    ensures position { IfOk result (λ set. IsPosition set.1) }
+{
+    let slot = Slot::named(form_of(has_l), words.number)?;
+    let to = offsets.changed(
+        &slot,
+        axis_under(modal.is_incremental(), words.x, words.u),
+        axis_under(modal.is_incremental(), words.z, words.w),
+    )?;
+    Ok((slot, to))
+}
+
+fn form_of(has_l: bool) -> OffsetForm
+    ensures { result ≡ form_of has_l }
+{
+    if has_l {
+        OffsetForm::WorkOffset
+    } else {
+        OffsetForm::ToolOffset
+    }
+}
+
+// What the moves of the block hang on.
+fn block_motion(
+    position: Point,
+    home: Point,
+    modal: &Modal,
+    offsets: &Offsets,
+    words: &MotionWords,
+) -> BlockMotion
+    requires position { IsPosition position }
+    requires lengths { AreLengthsWithin 100000000000 words.now }
+    ensures block { result ≡ block_motion home position offsets.now modal.now (motion_said words.now) }
+    ensures within { IsBlockWithin LONGEST result }
+{
+    BlockMotion {
+        start: position,
+        shift: offsets.shift(modal.work(), modal.offset()),
+        home,
+        x: axis_under(modal.is_incremental(), words.x, words.u),
+        z: axis_under(modal.is_incremental(), words.z, words.w),
+        i: words.i,
+        k: words.k,
+        r: words.r,
+        feed: modal.feed().or_zero(),
+        per_rev: modal.is_per_revolution(),
+    }
+}
+
+// A cycle, or a line, an arc, a thread or a way home, or no motion at all.
+fn cut_motion(
+    kind: CodeKind,
+    kept: Option<Point>,
+    block: &BlockMotion,
+) -> Result<Motion, MotionFault>
+    requires kept { IfSome kept IsPosition }
+    requires block { IsBlockWithin LONGEST block.now }
+    ensures motion { seen result ≡ cut_motion (cycle_kind_of kind) kind kept block.now }
+    ensures few { IfOk result (λ motion. length motion.moves ≤ 4) }
+    ensures within { IsPosition block.now.start → IsPosition block.now.home
+        → IfOk result (λ motion. AreMovesWithin LONGEST motion.moves) }
+    ensures cycle { IfOk result (λ motion. IfSome motion.cycle IsPosition) }
+    ensures no_offset { IfOk result (λ motion. motion.offset ≡ None) }
+{
+    match CycleKind::of(kind) {
+        Some(cycle) => {
+            let pass = cycle_pass(cycle, kept, block)?;
+            Ok(Motion {
+                moves: pass.moves,
+                cycle: pass.kept,
+                offset: None,
+            })
+        }
+        None => {
+            let moves = track(kind, block)?;
+            Ok(Motion {
+                moves,
+                cycle: kept,
+                offset: None,
+            })
+        }
+    }
+}

@@ -1,0 +1,15 @@
+ghost use Rattle.std.specs.Prelude.{◌≡◌, false};
+ghost use Rattle.block_values.specs.Purposes.{is_macro_call};
+
+use block_words::Purpose;
+
+/// What decides the meaning of a word in its block, which calls no macro.
+#[derive(Clone, Copy, Debug, PartialEq, Eq)]
+pub struct Sense {
+    pub purpose: Purpose,
+    /// An arc is in force behind the block's own codes; beside it I, K and R are read.
+    pub arc: bool,
+    /// The setting of an offset is given, beside which R is read and ignored.
+    pub setting: bool,
+    ghost calls_no_macro: { is_macro_call purpose ≡ false },
+}

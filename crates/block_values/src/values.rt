@@ -1,0 +1,194 @@
+ghost use Rattle.std.specs.Prelude.{◌≡◌, ◌≤◌, true, unsigned_abs, Ok, Err, IfOk, IfErr, OnOk};
+ghost use Rattle.block_words.specs.Ranges.{fits, range_of};
+ghost use Rattle.block_words.specs.declared.range.Range.TheVariants.{Between};
+ghost use Rattle.nc_number.specs.Arithmetic.{whole_of};
+ghost use Rattle.block_words.specs.Codes.{natural};
+ghost use Rattle.block_values.specs.Values.{is_meant, is_dwell, with_rest, with_length, with_setting, with_word, taken, nothing_said};
+ghost use Rattle.block_values.specs.Within.{AreLengthsSaid};
+ghost use Rattle.block_values.specs.Seen.{values_seen, values_of, sense_seen};
+
+use crate::sense::Sense;
+use block_words::{Purpose, fits_word, is_one_of};
+use nc_number::{Cause, Literal, Var};
+
+/// What the words of a block say; of an address given twice the last that is not vacant.
+#[derive(Clone, Copy, Debug, PartialEq, Eq)]
+pub struct Values {
+    /// X, as every length here in 0.001 mm.
+    pub x: Option<i64>,
+    pub z: Option<i64>,
+    pub u: Option<i64>,
+    pub w: Option<i64>,
+    pub i: Option<i64>,
+    pub k: Option<i64>,
+    pub r: Option<i64>,
+    /// F, in whole units.
+    pub feed: Var,
+    /// S, in whole units.
+    pub speed: Var,
+    /// T, at most 9,999.
+    pub tool: Option<u16>,
+    /// P of the setting of an offset.
+    pub number: Option<i64>,
+    /// How long a dwell is, in milliseconds.
+    pub rest: Option<u64>,
+}
+
+impl Values {
+    /// Nothing is said.
+    pub fn nothing() -> Values
+        ensures said { values_seen result ≡ nothing_said }
+        ensures within { AreLengthsSaid result }
+    {
+        Values {
+            x: None,
+            z: None,
+            u: None,
+            w: None,
+            i: None,
+            k: None,
+            r: None,
+            feed: Var::Vacant,
+            speed: Var::Vacant,
+            tool: None,
+            number: None,
+            rest: None,
+        }
+    }
+}
+
+/// A whole number that is not below 0.
+fn natural(literal: &Literal) -> Option<u32>
+    ensures { result ≡ natural (whole_of literal.now.value) }
+{
+    match literal.whole() {
+        Some(number) if number >= 0 => Some(number.unsigned_abs() as u32),
+        _ => None,
+    }
+}
+
+/// The number of a tool.
+fn tool_of(literal: &Literal) -> Option<u16>
+    requires { fits (Between 0 9999) literal.now ≡ true }
+    ensures { result ≡ natural (whole_of literal.now.value) }
+{
+    match natural(literal) {
+        Some(number) => Some(number as u16),
+        None => None,
+    }
+}
+
+/// Whether I, K and R mean something there; every other letter does.
+fn is_meant(sense: &Sense, letter: u8) -> bool
+    ensures { result ≡ is_meant (sense_seen sense.now) letter }
+{
+    match letter {
+        b'I' | b'K' => sense.arc,
+        b'R' => sense.arc || sense.setting,
+        _ => true,
+    }
+}
+
+/// X, U and P say how long a dwell is.
+fn set_rest(letter: u8, literal: &Literal, values: &mut Values)
+    ensures said { values_seen values.new ≡ with_rest letter literal.now (values_seen values.old) }
+    ensures within { AreLengthsSaid values.old → AreLengthsSaid values.new }
+{
+    match letter {
+        b'X' | b'U' => values.rest = Some(literal.thousandths().unsigned_abs()),
+        b'P' => values.rest = natural(literal).map(u64::from),
+        _ => {}
+    }
+}
+
+/// A length along an axis, or to a centre.
+fn set_length(letter: u8, length: i64, values: &mut Values)
+    requires { unsigned_abs length ≤ 100000000000 }
+    ensures said { values_seen values.new ≡ with_length letter length (values_seen values.old) }
+    ensures within { AreLengthsSaid values.old → AreLengthsSaid values.new }
+{
+    match letter {
+        b'X' => values.x = Some(length),
+        b'Z' => values.z = Some(length),
+        b'U' => values.u = Some(length),
+        b'W' => values.w = Some(length),
+        b'I' => values.i = Some(length),
+        b'K' => values.k = Some(length),
+        b'R' => values.r = Some(length),
+        _ => {}
+    }
+}
+
+/// F, S and T, and the number of an offset.
+fn set_setting(sense: &Sense, letter: u8, literal: &Literal, values: &mut Values)
+    requires { fits (range_of sense.now.purpose letter) literal.now ≡ true }
+    ensures said { values_seen values.new ≡ with_setting (sense_seen sense.now) letter literal.now (values_seen values.old) }
+    ensures within { AreLengthsSaid values.old → AreLengthsSaid values.new }
+{
+    match letter {
+        b'F' => values.feed = Var::Is(literal.value()),
+        b'S' => values.speed = Var::Is(literal.value()),
+        b'T' => values.tool = tool_of(literal),
+        b'P' if matches!(sense.purpose, Purpose::Setting) => values.number = literal.whole(),
+        _ => {}
+    }
+}
+
+/// Whether the block is a dwell.
+fn is_dwell(sense: &Sense) -> bool
+    ensures { result ≡ is_dwell sense.now.purpose }
+{
+    matches!(sense.purpose, Purpose::Dwell)
+}
+
+/// Puts a word into the values.
+fn set_word(sense: &Sense, letter: u8, literal: &Literal, values: &mut Values)
+    requires { fits (range_of sense.now.purpose letter) literal.now ≡ true }
+    ensures said { values_seen values.new ≡ with_word (sense_seen sense.now) letter literal.now (values_seen values.old) }
+    ensures within { AreLengthsSaid values.old → AreLengthsSaid values.new }
+{
+    if is_one_of(b"XUZWP", letter) && is_dwell(sense) {
+        set_rest(letter, literal, values);
+    } else if is_one_of(b"XZUWIKR", letter) {
+        set_length(letter, literal.increments(), values);
+    } else {
+        set_setting(sense, letter, literal, values);
+    }
+}
+
+/// Takes a word into the values: 56 of I, K and R that mean nothing, then 64 of a word out of its
+/// range.
+pub(crate) fn take_word(
+    sense: &Sense,
+    letter: u8,
+    literal: &Literal,
+    values: &mut Values,
+) -> Result<(), Cause>
+    ensures taken { OnOk result
+        (taken (sense_seen sense.now) letter literal.now (values_seen values.old) ≡ Ok (values_seen values.new)) }
+    ensures refused { IfErr result
+        (λ cause. taken (sense_seen sense.now) letter literal.now (values_seen values.old) ≡ Err cause) }
+    ensures within { AreLengthsSaid values.old → AreLengthsSaid values.new }
+{
+    if !is_meant(sense, letter) {
+        Err(Cause::UnknownCode)
+    } else if fits_word(sense.purpose, letter, literal) {
+        set_word(sense, letter, literal, values);
+        Ok(())
+    } else {
+        Err(Cause::WordRange)
+    }
+}
+
+/// The values with a word taken: 56 of I, K and R that mean nothing, then 64 of a word out of its
+/// range.
+pub fn taken(sense: &Sense, letter: u8, literal: &Literal, values: Values) -> Result<Values, Cause>
+    ensures said { values_of result ≡ taken (sense_seen sense.now) letter literal.now (values_seen values) }
+    ensures within { AreLengthsSaid values → IfOk result AreLengthsSaid }
+{
+    let mut after = values;
+    match take_word(sense, letter, literal, &mut after) {
+        Ok(()) => Ok(after),
+        Err(cause) => Err(cause),
+    }
+}

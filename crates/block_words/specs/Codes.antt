@@ -1,0 +1,111 @@
+-- The G and M codes of a block, and what they make of P and L.
+use Rattle.std.specs.Prelude.{ℕ, Bool, true, false, ◌==◌, ◌&&◌, nat_le, List, [], ◌∷◌, Option, Some, None, ℤ, pos, negsuc, codes, find, if◌then◌else◌}
+use Rattle.std.specs.List.{list_any, filter_map}
+use Rattle.code_tables.specs.declared.row.Row.{Row}
+use Rattle.code_tables.specs.declared.kind.CodeKind.{CodeKind}
+use Rattle.code_tables.specs.declared.kind.CodeKind.TheVariants.{Dwell, Setting, Limit, Machine, MacroCall}
+use Rattle.code_tables.specs.declared.group.TheConstants.{ONE_SHOT_GROUP}
+use Rattle.code_tables.specs.Codes.{row_of, last_of_group}
+use Rattle.code_tables.specs.declared.system.System.{System}
+use Rattle.code_tables.specs.Systems.{rows_of_system}
+use Rattle.block_words.specs.declared.word.FlowWord.{FlowWord}
+use Rattle.block_words.specs.declared.dialect.Dialect.{Dialect}
+use Rattle.block_words.specs.declared.purpose.Purpose.{Purpose}
+use Rattle.block_words.specs.declared.purpose.Purpose.TheVariants as purpose
+use Rattle.block_words.specs.Words.{words_of, whole_value}
+
+-- a number that is not below 0
+abbrev pub natural : Option ℤ → Option ℕ
+natural None = None
+natural (Some (pos n)) = Some n
+natural (Some (negsuc n)) = None
+
+-- the row of a G code that is written out, if the system has it
+abbrev pub row_of_number : System → Option ℕ → Option Row
+row_of_number system None = None
+row_of_number system (Some code) = row_of (rows_of_system system) code
+
+abbrev pub row_of_word : System → FlowWord → Option Row
+row_of_word system word = row_of_number system (natural (whole_value word.value))
+
+-- the rows of the block's G words, in their order
+abbrev pub rows : System → List FlowWord → List Row
+rows system words = filter_map (row_of_word system) (words_of (codes "G") words)
+
+-- a G code of that kind is given
+abbrev pub gives : System → (CodeKind → Bool) → List FlowWord → Bool
+gives system is_kind words = list_any (λ row. is_kind row.kind) (rows system words)
+
+abbrev pub is_dwell : CodeKind → Bool
+is_dwell Dwell = true
+is_dwell other = false
+
+abbrev pub is_setting : CodeKind → Bool
+is_setting Setting = true
+is_setting other = false
+
+abbrev pub is_limit : CodeKind → Bool
+is_limit Limit = true
+is_limit other = false
+
+abbrev pub is_machine : CodeKind → Bool
+is_machine Machine = true
+is_machine other = false
+
+abbrev pub is_macro_call : CodeKind → Bool
+is_macro_call MacroCall = true
+is_macro_call other = false
+
+abbrev pub kind_of : Option Row → Option CodeKind
+kind_of None = None
+kind_of (Some row) = Some row.kind
+
+-- the one-shot code that is in force: the last one of the block
+abbrev pub one_shot : System → List FlowWord → Option CodeKind
+one_shot system words = kind_of (last_of_group (rows system words) ONE_SHOT_GROUP)
+
+-- the numbers of the block's M words that are written out, in their order
+abbrev pub m_codes : List FlowWord → List ℕ
+m_codes words = filter_map (λ word. natural (whole_value word.value)) (words_of (codes "M") words)
+
+-- the first of the codes, if there is one
+abbrev pub first : List ℕ → Option ℕ
+first [] = None
+first (code ∷ codes) = Some code
+
+-- the M code of the block: the first one, and in a block that is not refused the only one outside a macro call
+abbrev pub m_code : List FlowWord → Option ℕ
+m_code words = first (m_codes words)
+
+abbrev pub is_waiting : Dialect → ℕ → Bool
+is_waiting dialect code = nat_le dialect.low code && nat_le code dialect.high
+
+abbrev pub has_code : ℕ → List FlowWord → Bool
+has_code code words = list_any (λ own. own == code) (m_codes words)
+
+-- the first waiting code of the block
+abbrev pub first_waiting : Dialect → List ℕ → Option ℕ
+first_waiting dialect codes = find (is_waiting dialect) codes
+
+abbrev pub has_wait : Dialect → List FlowWord → Bool
+has_wait dialect words = list_any (is_waiting dialect) (m_codes words)
+
+-- what the one-shot code in force makes of P and L
+abbrev pub purpose_by : Option CodeKind → Purpose
+purpose_by (Some Dwell) = purpose.Dwell
+purpose_by (Some Setting) = purpose.Setting
+purpose_by other = purpose.Other
+
+-- What decides the meaning of P and L: a macro call; a call, a return or a wait; else the one-shot code in force.
+abbrev pub purpose_of : Dialect → List FlowWord → Purpose
+purpose_of dialect words =
+    if gives dialect.system is_macro_call words then purpose.MacroCall
+    else if has_code 98 words then purpose.Subprogram
+    else if has_code 99 words then purpose.Return
+    else if has_wait dialect words then purpose.Wait
+    else purpose_by (one_shot dialect.system words)
+
+-- a call of a macro, in which M is an argument
+abbrev pub is_macro : Purpose → Bool
+is_macro purpose.MacroCall = true
+is_macro _ = false

@@ -1,0 +1,95 @@
+ghost use Rattle.std.specs.Prelude.{◌≡◌, ◌≤◌, Some, IfSome, unsigned_abs};
+
+use macro_eval::Code;
+use nc_number::Literal;
+use std::marker::Model;
+
+/// The value of a word.
+#[derive(Debug, Drop)]
+pub enum WordValue {
+    /// A number that is written out.
+    Fixed(Literal),
+    /// A variable or a bracketed expression, behind the word's own sign. Contracts see the code as
+    /// the tree of its text.
+    Computed { minus: bool, code: Code },
+}
+
+/// An address letter and its value.
+#[derive(Debug, Drop)]
+pub struct FlowWord {
+    /// The letter, in upper case.
+    pub letter: u8,
+    /// What it says.
+    pub value: WordValue,
+}
+
+/// The words of a block, in the order of the text.
+#[derive(Debug, Drop)]
+pub struct FlowWordList {
+    words: Vec<FlowWord>,
+}
+
+impl Model for FlowWordList {
+    ghost use Rattle.std.specs.Prelude.{List};
+    ghost use Rattle.std.specs.Coded.{coded_list};
+    ghost use Rattle.block_words.specs.declared.word.FlowWord.{FlowWord};
+    ghost use Rattle.block_words.specs.contracts.word.FlowWord.{the_row};
+
+    ghost Value = { List FlowWord };
+
+    ghost coded = { coded_list the_row.coded };
+
+    ghost view = { λ list. list.words.items };
+}
+
+impl FlowWordList {
+    pub fn of(words: Vec<FlowWord>) -> Self
+        ensures { result ≡ words.items }
+    {
+        FlowWordList { words }
+    }
+
+    /// The words, first to last.
+    pub fn as_slice(&self) -> &[FlowWord]
+        ensures { result.now ≡ self.now }
+    {
+        self.words.as_slice()
+    }
+}
+
+impl WordValue {
+    ghost use Rattle.block_words.specs.Words.{is_computed, whole_value};
+    ghost use Rattle.block_words.specs.Codes.{natural};
+
+    /// Whether it is a variable or an expression.
+    pub fn is_computed(&self) -> bool
+        ensures { result ≡ is_computed self.now }
+    {
+        match self {
+            WordValue::Fixed(_) => false,
+            WordValue::Computed { .. } => true,
+        }
+    }
+
+    /// The whole number that is written out; it may have a point, with a fraction of 0.
+    pub fn whole(&self) -> Option<i64>
+        ensures value { result ≡ whole_value self.now }
+        ensures range { IfSome result (λ n. unsigned_abs n ≤ 99999999) }
+    {
+        match self {
+            WordValue::Fixed(literal) => literal.whole(),
+            WordValue::Computed { .. } => None,
+        }
+    }
+
+    /// The whole number that is written out, where it is not below 0.
+    pub fn natural(&self) -> Option<u32>
+        ensures value { result ≡ natural (whole_value self.now) }
+        ensures range { IfSome result (λ n. n ≤ 99999999) }
+    {
+        match self.whole() {
+            Some(n) if n >= 0 => Some(n as u32),
+            _ => None,
+        }
+    }
+}
