@@ -1,7 +1,7 @@
 -- A tape is accepted exactly with one list of labels.
 use Rattle.std.proofs.Common.{◌↔◌, List}
 use Rattle.nc_text.specs.declared.tape.Program.{Program}
-use Rattle.block_forms.specs.declared.dialect.Dialect.{Dialect}
+use Rattle.block_words.specs.declared.dialect.Dialect.{Dialect}
 use Rattle.block_order.specs.declared.program.ControlProgram.{ControlProgram}
 use Rattle.tape_flow.specs.Controls.{controls}
 use Rattle.tape_flow.specs.Exact.{IsAccepted}

@@ -6,11 +6,11 @@ use Rattle.std.proofs.lemmas.List.{append-nil, map-append}
 use Rattle.std.proofs.lemmas.Grind.{flat_map-append}
 use Rattle.nc_text.specs.declared.tape.Block.{Block}
 use Rattle.nc_text.specs.declared.tape.Program.{Program}
-use Rattle.nc_text.specs.declared.refusal.Refusal.{Refusal}
-use Rattle.nc_text.specs.declared.said.Said.{Said}
-use Rattle.nc_text.specs.declared.said.Said.TheVariants as said
+use Rattle.line_text.specs.declared.refusal.Refusal.{Refusal}
+use Rattle.line_text.specs.declared.said.Said.{Said}
+use Rattle.line_text.specs.declared.said.Said.TheVariants as said
 use Rattle.nc_text.specs.Lines.{Line, lines_of, is_percent}
-use Rattle.nc_text.specs.Said.{line_says}
+use Rattle.line_text.specs.Said.{line_says}
 use Rattle.nc_text.specs.Shape.{RiseFrom, blocks_in}
 use Rattle.nc_text.specs.ReadShape.{RiseTo}
 use Rattle.nc_text.specs.Tape.{Before, Answer, nothing_read, programs_of, next, with_said, with_block, program_at, block_at, said_refusal, percent_refusal, outer_refusal, unless_refused, after_said, goes_on, in_rest, in_body, in_leader, begun, tape_of}

@@ -11,7 +11,7 @@ use Rattle.block_order.specs.Order.{blocks, main_number, control_at, control_of,
 use Rattle.block_order.specs.Loud.{loud, stretch}
 use Rattle.block_order.specs.Labels.{IsTarget, Chain, Counts, IsStraight, IsUnforked}
 use Rattle.block_order.specs.Faults.{Stage, Waiting, HasFault, IsReachedBy, Stands, Strays, twice, mismatch, lost, unknown, into, strays, deep, jump, loop, back, IsClear}
-use Rattle.block_order.proofs.Strayed.{block_of_control}
+use Rattle.block_order.proofs.Faultless.{block_of_control}
 use Rattle.flow_laws.specs.Waits.{IsFreeOf, AreWaitFaultsExact}
 
 same_number : (a b : ℕ) → (a ≢ b → ⊥) → a ≡ b

@@ -1,7 +1,7 @@
 -- Which tapes are accepted, said by their lists of labels and without the faults of waits.
 use Rattle.std.specs.Prelude.{◌≡◌, List, Ok}
 use Rattle.nc_text.specs.declared.tape.Program.{Program}
-use Rattle.block_forms.specs.declared.dialect.Dialect.{Dialect}
+use Rattle.block_words.specs.declared.dialect.Dialect.{Dialect}
 use Rattle.block_order.specs.Faults.{Finding, Fitting, IsClear}
 use Rattle.block_order.specs.Labels.{IsUnforked}
 use Rattle.tape_flow.specs.Controls.{controls}

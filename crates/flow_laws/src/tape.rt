@@ -1,7 +1,7 @@
 //! The answers that a tape has.
 ghost use Rattle.std.specs.Prelude.{◌≡◌, ◌↔◌, ℕ, List};
 ghost use Rattle.nc_text.specs.declared.tape.Program.{Program};
-ghost use Rattle.block_forms.specs.declared.dialect.Dialect.{Dialect};
+ghost use Rattle.block_words.specs.declared.dialect.Dialect.{Dialect};
 ghost use Rattle.tape_flow.specs.Exact.{IsAccepted, IsRefused};
 ghost use Rattle.tape_flow.specs.Forms.{ProgramForm};
 ghost use Rattle.flow_laws.specs.Answers.{CantBothFail, HasRisingBlocks};

@@ -1,12 +1,10 @@
 //! The list of labels of a flow: each program's once, joined by the calls.
 ghost use Rattle.std.specs.Prelude.{◌≡◌, ℕ, ◌≤◌, ◌++◌, ◌∷◌, [], Some, length, IfOk, IfErr, IfSome, IfNone, OnOk};
-ghost use Rattle.std.specs.Option.{option_copied};
 ghost use Rattle.block_order.specs.declared.control.Control.TheVariants as Control;
 ghost use Rattle.block_order.specs.declared.label.Label.TheVariants as Label;
 ghost use Rattle.block_order.specs.Answers.{IfFault};
 ghost use Rattle.block_order.specs.Labels.{IsUnforked};
-ghost use Rattle.block_order.specs.Order.{blocks, program_of};
-ghost use Rattle.tape_flow.specs.Places.{last_line};
+ghost use Rattle.block_order.specs.Order.{program_of};
 ghost use Rattle.label_list.specs.Lists.{at, most_labels, off_line, path_labels};
 ghost use Rattle.label_list.specs.Pieces.{AreKnown, IsReady, IsShort, IsShortCall, IsPiece, IsCallOf, IsTaken};
 ghost use Rattle.label_list.specs.Pieces.{coming, FailsAt, FailsInCall, FailsLong, IsListTooLong};
@@ -17,48 +15,17 @@ use crate::labelled::Labelled;
 use crate::list::LabelList;
 use crate::piece::{Ending, Piece, push_at};
 use block_order::{
-    BlockOrder, Control, ControlBlock, ControlProgram, Label, MOST_CALLS,
-    a_tape_without_faults_is_unforked,
+    BlockOrder, Control, ControlBlock, Label, MOST_CALLS, a_tape_without_faults_is_unforked,
 };
 use nc_number::Failing;
 use std::alloc::Global;
-use tape_flow::Flow;
-
-fn program_of(programs: &[ControlProgram], number: u16) -> Option<&ControlProgram>
-    ensures { option_copied result ≡ program_of programs.now number }
-{
-    for program in programs {
-        if program.number == number {
-            return Some(program);
-        }
-    }
-    None
-}
-
-fn last_line(program: &ControlProgram) -> u32
-    ensures { result ≡ last_line program.now }
-{
-    let blocks = program.blocks.as_slice();
-    match blocks.get(blocks.len().saturating_sub(1)) {
-        Some(block) => block.line,
-        None => program.line,
-    }
-}
-
-fn blocks_of(order: &BlockOrder, number: u16) -> &[ControlBlock]
-    ensures { result.now ≡ blocks order.now number }
-{
-    match program_of(order.as_slice(), number) {
-        Some(program) => program.blocks.as_slice(),
-        None => &[],
-    }
-}
+use tape_flow::{Flow, last_line};
 
 /// The line at which a path runs off the program.
 fn off_line(order: &BlockOrder, number: u16) -> u32
     ensures { result ≡ off_line (program_of order.now number) }
 {
-    match program_of(order.as_slice(), number) {
+    match order.program(number) {
         Some(program) => last_line(program),
         None => 0,
     }
@@ -201,7 +168,7 @@ fn piece_of(
     ensures many { IfErr result (λ error. IfFault error (FailsLong order.now number)) }
 {
     let mut labels = Vec::new(alloc);
-    for block in blocks_of(order, number) {
+    for block in order.blocks(number) {
         match learn_call(alloc, order, known, &block.control, left - 1) {
             Ok(()) => {}
             Err(error) => return Err(error),

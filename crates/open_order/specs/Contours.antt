@@ -4,10 +4,10 @@ use Rattle.std.specs.List.{list_any}
 use Rattle.nc_number.specs.declared.cause.Cause.{Cause}
 use Rattle.nc_number.specs.declared.cause.Cause.TheVariants.{NoSequence, BranchAtWait}
 use Rattle.nc_number.specs.Causes.{cause_number}
-use Rattle.nc_text.specs.declared.tape.Word.{Word}
+use Rattle.line_text.specs.declared.body.Word.{Word}
 use Rattle.nc_text.specs.declared.tape.Block.{Block}
-use Rattle.nc_text.specs.declared.tape.Body.{Body}
-use Rattle.nc_text.specs.declared.tape.Body.TheVariants.{Words, Statement}
+use Rattle.line_text.specs.declared.body.Body.{Body}
+use Rattle.line_text.specs.declared.body.Body.TheVariants.{Words, Statement}
 use Rattle.nc_text.specs.declared.tape.Program.{Program}
 use Rattle.block_order.specs.declared.control.Control.{Control}
 use Rattle.block_order.specs.declared.control.Control.TheVariants.{Wait, End, Call, Back, BackTo}
@@ -16,7 +16,7 @@ use Rattle.block_order.specs.declared.program.ControlProgram.{ControlProgram}
 use Rattle.block_order.specs.Loud.{loud}
 use Rattle.block_order.specs.Order.{blocks, seek}
 use Rattle.tape_flow.specs.declared.fault.FlowFault.{FlowFault}
-use Rattle.block_forms.specs.Words.{is_one_of}
+use Rattle.block_words.specs.Words.{is_one_of}
 use Rattle.open_forms.specs.Codes.{is_g}
 use Rattle.open_forms.specs.Words.{written, last_number}
 use Rattle.open_order.specs.declared.contour.Contour.{Contour}

@@ -3,18 +3,18 @@
 use Rattle.std.specs.Prelude.{ℕ, Bool, true, false, not, ◌==◌, ◌&&◌, ◌||◌, nat_le, List, [], ◌∷◌, Option, Some, None, ℤ, pos, negsuc, Result, Ok, Err, if◌then◌else◌}
 use Rattle.std.specs.Ordering.{nat_cmp}
 use Rattle.std.specs.BTreeSet.{insert_key}
-use Rattle.nc_text.specs.declared.tape.Word.{Word}
+use Rattle.line_text.specs.declared.body.Word.{Word}
 use Rattle.nc_text.specs.declared.tape.Block.{Block}
-use Rattle.nc_text.specs.declared.tape.Body.{Body}
-use Rattle.nc_text.specs.declared.tape.Body.TheVariants.{Words, Statement}
+use Rattle.line_text.specs.declared.body.Body.{Body}
+use Rattle.line_text.specs.declared.body.Body.TheVariants.{Words, Statement}
 use Rattle.nc_text.specs.declared.tape.Program.{Program}
 use Rattle.code_tables.specs.declared.row.Row.{Row}
 use Rattle.code_tables.specs.Kinds.{is_refused}
 use Rattle.block_order.specs.declared.control.Control.{Control}
 use Rattle.block_order.specs.declared.control.Control.TheVariants.{Call}
 use Rattle.block_forms.specs.declared.fault.FormFault.{FormFault}
-use Rattle.block_forms.specs.declared.dialect.Dialect.{Dialect}
-use Rattle.block_forms.specs.Codes.{row_of_number, is_waiting}
+use Rattle.block_words.specs.declared.dialect.Dialect.{Dialect}
+use Rattle.block_words.specs.Codes.{row_of_number, is_waiting}
 use Rattle.open_forms.specs.Words.{written, number}
 use Rattle.open_forms.specs.Controls.{open_control, numbered}
 use Rattle.open_order.specs.declared.premises.Premises.{Premises}

@@ -1,6 +1,6 @@
 //! The codes of a block that are taken on trust.
 ghost use Rattle.std.specs.Prelude.{◌≡◌};
-ghost use Rattle.block_forms.specs.Codes.{row_of_number};
+ghost use Rattle.block_words.specs.Codes.{row_of_number};
 ghost use Rattle.open_forms.specs.Words.{number};
 ghost use Rattle.open_forms.specs.Controls.{numbered, open_control};
 ghost use Rattle.open_order.specs.Basis.{basis};

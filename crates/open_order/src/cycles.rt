@@ -1,14 +1,13 @@
 //! What is wrong with the contours of a tape.
 ghost use Rattle.std.specs.Prelude.{◌≡◌, ◌≤◌, ◌<◌, length, IfSome};
 ghost use Rattle.std.specs.List.{list_any};
-ghost use Rattle.std.specs.Option.{option_copied};
 ghost use Rattle.block_order.specs.Loud.{loud};
-ghost use Rattle.block_order.specs.Order.{blocks, program_of};
+ghost use Rattle.block_order.specs.Order.{blocks};
 ghost use Rattle.nc_text.specs.Shape.{IsTapeShape};
 ghost use Rattle.open_order.specs.Contours.{disturbs, between, is_calm, last_block, fault_between, fault_from, contour_cause, fault_at, block_fault, blocks_fault, contour_fault};
 
 use crate::contour::{Contour, contour_in};
-use block_order::{BlockOrder, Control, ControlBlock, ControlProgram};
+use block_order::{BlockOrder, Control, ControlBlock};
 use nc_number::Cause;
 use nc_text::{Block, Program};
 use tape_flow::FlowFault;
@@ -53,26 +52,6 @@ fn is_calm(order: &BlockOrder, blocks: &[ControlBlock], first: u32, last: u32) -
     first <= last && !has_disturbing(order, between(blocks, first, last))
 }
 
-fn program_of(programs: &[ControlProgram], number: u16) -> Option<&ControlProgram>
-    ensures { option_copied result ≡ program_of programs.now number }
-{
-    for program in programs {
-        if program.number == number {
-            return Some(program);
-        }
-    }
-    None
-}
-
-fn blocks_of(order: &BlockOrder, program: u16) -> &[ControlBlock]
-    ensures { result.now ≡ blocks order.now program }
-{
-    match program_of(order.as_slice(), program) {
-        Some(program) => program.blocks.as_slice(),
-        None => &[],
-    }
-}
-
 /// The last block of the contour that begins with this one.
 fn last_block(order: &BlockOrder, program: u16, contour: Contour, first: u32) -> Option<u32>
     ensures { result ≡ last_block (blocks order.now program) contour first }
@@ -90,7 +69,7 @@ fn fault_between(order: &BlockOrder, program: u16, first: u32, last: Option<u32>
 {
     match last {
         Some(last) => {
-            if is_calm(order, blocks_of(order, program), first, last) {
+            if is_calm(order, order.blocks(program), first, last) {
                 None
             } else {
                 Some(Cause::BranchAtWait)

@@ -15,6 +15,7 @@ use nc_number::Failing;
 use nc_text::Program;
 use std::alloc::Global;
 use tape_flow::FlowFault;
+use wait_order::check_order;
 
 /// The order of the blocks of programs, or its first fault.
 fn order_of(alloc: Global, programs: Vec<ControlProgram>) -> Result<BlockOrder, Failing<FlowFault>>
@@ -24,7 +25,7 @@ fn order_of(alloc: Global, programs: Vec<ControlProgram>) -> Result<BlockOrder, 
     ensures first { IfErr result (λ error. IfFault error
         (λ fault. IsOrderFault programs.items fault.line fault.number)) }
 {
-    match BlockOrder::check(alloc, programs) {
+    match check_order(alloc, programs) {
         Ok(order) => Ok(order),
         Err(Failing::Fault(fault)) => Err(Failing::Fault(FlowFault {
             number: fault.cause.number(),

@@ -9,7 +9,7 @@ use Rattle.nc_number.specs.declared.fault.Failing.TheVariants.{Fault, NoMemory}
 use Rattle.nc_text.specs.declared.tape.Block.{Block}
 use Rattle.nc_text.specs.declared.tape.Program.{Program}
 use Rattle.nc_text.specs.Shape.{RiseFrom, lines_in, blocks_in, IsTapeShape}
-use Rattle.block_forms.specs.declared.dialect.Dialect.{Dialect}
+use Rattle.block_words.specs.declared.dialect.Dialect.{Dialect}
 use Rattle.block_forms.specs.Forms.{BlockForm, block_or_refusal}
 use Rattle.block_order.specs.Answers.{IfFault}
 use Rattle.tape_flow.specs.declared.fault.FlowFault.{FlowFault}

@@ -8,7 +8,7 @@ use Rattle.nc_text.specs.declared.tape.Block.{Block}
 use Rattle.nc_text.specs.declared.tape.Program.{Program}
 use Rattle.nc_text.specs.Shape as tape
 use Rattle.nc_text.specs.Shape.{IsTapeShape}
-use Rattle.block_forms.specs.declared.dialect.Dialect.{Dialect}
+use Rattle.block_words.specs.declared.dialect.Dialect.{Dialect}
 use Rattle.block_forms.specs.Forms.{BlockForm, Form, form_or_refusal, block_at}
 use Rattle.block_order.specs.Shape as order
 use Rattle.block_order.specs.Shape.{IsListed}

@@ -1,14 +1,15 @@
 -- The programs and blocks of a flow, seen as far as the order of blocks goes.
-use Rattle.std.proofs.Common.{◌≡◌, ℕ, zero, suc, Bool, true, false, ◌==◌, List, [], ◌∷◌, map, Option, Some, None, slice_get, refl, if◌then◌else◌, length, sym, Bor}
+use Rattle.std.proofs.Common.{◌≡◌, ℕ, zero, suc, ◌+◌, Bool, true, false, ◌==◌, List, [], ◌∷◌, map, Option, Some, None, slice_get, refl, ap, sym, ◌∙◌, arith, if◌then◌else◌, Bor}
 use Rattle.std.specs.Option.{option_map, option_copied}
 use Rattle.block_forms.specs.declared.block.FlowBlock.{FlowBlock}
 use Rattle.block_forms.specs.Blocks.{block_form}
 use Rattle.block_order.specs.declared.program.ControlProgram.{ControlProgram}
-use Rattle.block_order.specs.Order.{program_of, blocks, control_at}
+use Rattle.block_order.specs.Order.{program_of, blocks_of, blocks}
+use Rattle.block_order.specs.ProgramPlaces.{place_from, place_of}
 use Rattle.tape_flow.specs.declared.program.FlowProgram.{FlowProgram}
 use Rattle.tape_flow.specs.Forms.{program_form}
 use Rattle.tape_flow.specs.Controls.{control_block, control_program, controls}
-use Rattle.tape_flow.specs.Places.{flow_program, mark_of_block, mark_at}
+use Rattle.tape_flow.specs.Places.{flow_program, flow_blocks, flow_block}
 
 pub block_seen : (blocks : List FlowBlock) (k : ℕ)
     → option_map (λ block. control_block (block_form block)) (slice_get blocks k)
@@ -37,8 +38,58 @@ pub lent_seen : {A B : Type 0} (view : A → B) (found : Option (Bor A))
 lent_seen view None = refl
 lent_seen view (Some lent) = refl
 
--- the mark of a block that is not past the last one
-pub mark_there : (tape : List ControlProgram) (number block : ℕ) (program : ControlProgram)
-    → Some program ≡ program_of tape number → (block == length program.blocks) ≡ false
-    → mark_of_block tape number (control_at (blocks tape number) block) ≡ mark_at tape number block
-mark_there tape number block program found within = rw (sym found, within) refl
+-- a program of the flow stands at the place that the order keeps of its number
+record IsThere (programs : List FlowProgram) (from number place : ℕ) : Type 0 where
+  behind : ℕ
+  at : place ≡ from + behind
+  is : slice_get programs behind ≡ flow_program programs number
+
+there : (programs : List FlowProgram) (from number place : ℕ)
+    → place_from (controls (map program_form programs)) from number ≡ Some place → IsThere programs from number place
+there [] from number place e = absurd cc
+there (program ∷ programs) from number place e = go (λ h. there programs (suc from) number place h) (program.number == number) refl
+  where
+    go : (place_from (controls (map program_form programs)) (suc from) number ≡ Some place → IsThere programs (suc from) number place)
+        → (x : Bool) → (program.number == number) ≡ x → IsThere (program ∷ programs) from number place
+    go rest true named =
+        let both : Some from ≡ Some place = rw named at e in
+        let same : from ≡ place = cc in
+        record { behind = 0; at = omega arith; is = rw named refl }
+    go rest false named =
+        let found = rest (rw named at e) in
+        record { behind = suc found.behind; at = (let at = found.at in omega arith); is = rw named found.is }
+
+pub program_there : (programs : List FlowProgram) (number place : ℕ)
+    → Some place ≡ place_of (controls (map program_form programs)) number → slice_get programs place ≡ flow_program programs number
+program_there programs number place e =
+    let found = there programs 0 number place (sym e) in
+    let at = found.at in
+    let same : place ≡ found.behind = omega arith in
+    ap (λ k. slice_get programs k) same ∙ found.is
+
+not_there : (programs : List FlowProgram) (from number : ℕ)
+    → place_from (controls (map program_form programs)) from number ≡ None → flow_program programs number ≡ None
+not_there [] from number e = refl
+not_there (program ∷ programs) from number e = go (λ h. not_there programs (suc from) number h) (program.number == number) refl
+  where
+    go : (place_from (controls (map program_form programs)) (suc from) number ≡ None → flow_program programs number ≡ None)
+        → (x : Bool) → (program.number == number) ≡ x → flow_program (program ∷ programs) number ≡ None
+    go rest true named = absurd (let both : ◌≡◌ {A = Option ℕ} (Some from) None = rw named at e in cc)
+    go rest false named = rw named (rest (rw named at e))
+
+pub no_program_there : (programs : List FlowProgram) (number : ℕ)
+    → None ≡ place_of (controls (map program_form programs)) number → flow_program programs number ≡ None
+no_program_there programs number e = not_there programs 0 number (sym e)
+
+-- the block of a place in the flow and in the order
+pub block_in_order : (programs : List FlowProgram) (order : List ControlProgram) (number place : ℕ)
+    → order ≡ controls (map program_form programs)
+    → option_map (λ block. control_block (block_form block)) (flow_block programs number place) ≡ slice_get (blocks order number) place
+block_in_order programs order number place agrees =
+    rw agrees (ordered (flow_program programs number) ∙ ap (λ found. slice_get (blocks_of found) place) (program_seen programs number))
+  where
+    ordered : (found : Option FlowProgram)
+        → option_map (λ block. control_block (block_form block)) (slice_get (flow_blocks found) place)
+        ≡ slice_get (blocks_of (option_map (λ p. control_program (program_form p)) found)) place
+    ordered None = refl
+    ordered (Some program) = block_seen program.blocks place

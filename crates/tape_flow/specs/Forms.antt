@@ -3,7 +3,7 @@ use Rattle.std.specs.Prelude.{ℕ, List, [], ◌∷◌, ◌++◌, map, Result, O
 use Rattle.nc_number.specs.Results.{◌>>=◌}
 use Rattle.nc_text.specs.declared.tape.Block.{Block}
 use Rattle.nc_text.specs.declared.tape.Program.{Program}
-use Rattle.block_forms.specs.declared.dialect.Dialect.{Dialect}
+use Rattle.block_words.specs.declared.dialect.Dialect.{Dialect}
 use Rattle.block_forms.specs.Forms.{BlockForm, block_or_refusal}
 use Rattle.block_forms.specs.Blocks.{block_form}
 use Rattle.tape_flow.specs.declared.fault.FlowFault.{FlowFault}

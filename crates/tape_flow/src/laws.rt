@@ -1,7 +1,7 @@
 //! What holds of every tape, for the crates above: who calls the function has the law.
 ghost use Rattle.std.specs.Prelude.{ℕ, List};
 ghost use Rattle.nc_text.specs.declared.tape.Program.{Program};
-ghost use Rattle.block_forms.specs.declared.dialect.Dialect.{Dialect};
+ghost use Rattle.block_words.specs.declared.dialect.Dialect.{Dialect};
 ghost use Rattle.tape_flow.specs.Forms.{ProgramForm};
 ghost use Rattle.tape_flow.specs.Exact.{IsAccepted, IsRefused};
 

@@ -1,48 +1,23 @@
 //! What a flow lends to the layers above: its blocks, and what a place of it is.
-ghost use Rattle.std.specs.Prelude.{◌≡◌, ◌==◌, Some, length, map, slice_get};
+ghost use Rattle.std.specs.Prelude.{◌≡◌, ◌==◌, Some, length, slice_get};
 ghost use Rattle.std.specs.Option.{option_copied, option_map};
 ghost use Rattle.block_forms.specs.Blocks.{block_form};
 ghost use Rattle.block_order.specs.Labels.{start};
 ghost use Rattle.block_order.specs.Loud.{loud, mark_of};
 ghost use Rattle.block_order.specs.Order.{blocks, control_at, main_number, program_of, seek};
-ghost use Rattle.tape_flow.specs.Controls.{control_block, control_program, controls};
-ghost use Rattle.tape_flow.specs.Forms.{program_form};
-ghost use Rattle.tape_flow.specs.Places.{flow_program, flow_block, last_line, line_in, line_at};
+ghost use Rattle.tape_flow.specs.Controls.{control_block};
+ghost use Rattle.tape_flow.specs.Places.{flow_program, flow_blocks, flow_block, last_line, line_in, line_at};
 ghost use Rattle.tape_flow.specs.Places.{label_of, label_at, only, mark_of_block, mark_at};
 
 use crate::flow::Flow;
-use crate::ordering::control_of;
 use crate::program::FlowProgram;
 use block_forms::FlowBlock;
-use block_order::{BlockOrder, Control, ControlBlock, Frame, Label, Mark, Place};
+use block_order::{BlockOrder, Control, ControlProgram, Frame, Label, Mark, Place};
 
-fn main_of(programs: &[FlowProgram]) -> u16
-    ensures { result ≡ main_number (controls (map program_form programs.now)) }
+fn get_program(programs: &[FlowProgram], place: usize) -> Option<&FlowProgram>
+    ensures { option_copied result ≡ slice_get programs.now place }
 {
-    match programs {
-        [main, ..] => main.number,
-        [] => 0,
-    }
-}
-
-fn program_of(programs: &[FlowProgram], number: u16) -> Option<&FlowProgram>
-    ensures { option_copied result ≡ flow_program programs.now number }
-{
-    for program in programs {
-        if program.number == number {
-            return Some(program);
-        }
-    }
-    None
-}
-
-fn control_block_of(block: Option<&FlowBlock>) -> Option<ControlBlock>
-    ensures { result ≡ option_map (λ block. control_block (block_form block)) (option_copied block.entry) }
-{
-    match block {
-        Some(block) => Some(control_of(block)),
-        None => None,
-    }
+    programs.get(place)
 }
 
 fn get_block(blocks: &[FlowBlock], place: usize) -> Option<&FlowBlock>
@@ -51,34 +26,37 @@ fn get_block(blocks: &[FlowBlock], place: usize) -> Option<&FlowBlock>
     blocks.get(place)
 }
 
-/// The block at a place, as far as the order of blocks goes.
-fn block_at(blocks: &[FlowBlock], place: usize) -> Option<ControlBlock>
-    ensures { result ≡ slice_get (map control_block (map block_form blocks.now)) place }
+fn block_of(program: Option<&FlowProgram>, block: u32) -> Option<&FlowBlock>
+    ensures { option_copied result ≡ slice_get (flow_blocks (option_copied program.entry)) block }
 {
-    control_block_of(get_block(blocks, place))
+    match program {
+        Some(program) => get_block(program.blocks.as_slice(), block as usize),
+        None => None,
+    }
 }
 
-fn last_line(program: &FlowProgram) -> u32
-    ensures { result ≡ last_line (control_program (program_form program.now)) }
+/// The line of the program's last block, or of its O number where it has none.
+pub fn last_line(program: &ControlProgram) -> u32
+    ensures { result ≡ last_line program.now }
 {
     let blocks = program.blocks.as_slice();
-    match block_at(blocks, blocks.len().saturating_sub(1)) {
+    match blocks.get(blocks.len().saturating_sub(1)) {
         Some(block) => block.line,
         None => program.line,
     }
 }
 
-fn line_in(program: &FlowProgram, block: u32) -> u32
-    ensures { result ≡ line_in (Some (control_program (program_form program.now))) block }
+fn line_in(program: &ControlProgram, block: u32) -> u32
+    ensures { result ≡ line_in (Some program.now) block }
 {
-    match block_at(program.blocks.as_slice(), block as usize) {
+    match program.blocks.as_slice().get(block as usize) {
         Some(block) => block.line,
         None => last_line(program),
     }
 }
 
-fn is_past(program: &FlowProgram, block: u32) -> bool
-    ensures { result ≡ (block == length (control_program (program_form program.now)).blocks) }
+fn is_past(program: &ControlProgram, block: u32) -> bool
+    ensures { result ≡ (block == length program.now.blocks) }
 {
     block as usize == program.blocks.as_slice().len()
 }
@@ -115,7 +93,7 @@ impl Flow {
     pub fn main(&self) -> u16
         ensures { result ≡ main_number self.now.order }
     {
-        main_of(self.programs.as_slice())
+        self.order.main()
     }
 
     /// Where a path begins: the first block of the main program.
@@ -125,12 +103,14 @@ impl Flow {
         Place::start(self.main())
     }
 
-    fn program_of(&self, number: u16) -> Option<&FlowProgram>
-        ensures value { option_copied result ≡ flow_program self.now.programs number }
-        ensures ordered { option_map (λ program. control_program (program_form program.now)) result
-            ≡ program_of self.now.order number }
+    /// The program with this O number, found by the order's index.
+    fn program(&self, number: u16) -> Option<&FlowProgram>
+        ensures { option_copied result ≡ flow_program self.now.programs number }
     {
-        program_of(self.programs.as_slice(), number)
+        match self.order.place_of(number) {
+            Some(place) => get_program(self.programs.as_slice(), place),
+            None => None,
+        }
     }
 
     /// A block of a program, counted from 0; none where the tape has no such program, or the program
@@ -140,16 +120,13 @@ impl Flow {
         ensures ordered { option_map (λ block. control_block (block_form block.now)) result
             ≡ slice_get (blocks self.now.order program) block }
     {
-        match self.program_of(program) {
-            Some(program) => get_block(program.blocks.as_slice(), block as usize),
-            None => None,
-        }
+        block_of(self.program(program), block)
     }
 
     fn control(&self, program: u16, block: u32) -> Option<Control>
         ensures { result ≡ control_at (blocks self.now.order program) block }
     {
-        match control_block_of(self.block(program, block)) {
+        match self.order.block(program, block) {
             Some(block) => Some(block.control),
             None => None,
         }
@@ -169,7 +146,7 @@ impl Flow {
         ensures { result ≡ line_at self.now.order at.now }
     {
         let running = at.running();
-        match self.program_of(running.program) {
+        match self.order.program(running.program) {
             Some(program) => line_in(program, running.block),
             None => 0,
         }
@@ -202,7 +179,7 @@ impl Flow {
     pub fn mark(&self, program: u16, block: u32) -> Option<Mark>
         ensures { result ≡ mark_at self.now.order program block }
     {
-        match self.program_of(program) {
+        match self.order.program(program) {
             Some(found) if is_past(found, block) => Some(Mark::Past),
             Some(_) => self.mark_of_block(program, self.control(program, block)),
             None => None,

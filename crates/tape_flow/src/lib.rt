@@ -2,7 +2,8 @@
 //!
 //! [`compile`] reads each block of a tape, resolves what it does to the order of blocks, and refuses
 //! the tape where the control would not take it: of several refusals the first of a fixed order. The
-//! [`Flow`] that it makes gives the layers above everything that a block needs without a look-up.
+//! [`Flow`] that it makes finds what stands at a place by one look-up of the program's O number, however
+//! many programs the tape has.
 #![tactic(auto)]
 
 mod fault;
@@ -16,4 +17,5 @@ mod reading;
 pub use fault::FlowFault;
 pub use flow::{Flow, compile};
 pub use laws::an_accepted_tape_is_not_refused;
+pub use lending::last_line;
 pub use program::{FlowBlockList, FlowProgram, FlowProgramList};

@@ -14,6 +14,7 @@ use block_forms::FlowBlock;
 use block_order::{BlockOrder, ControlBlock, ControlBlockList, ControlProgram};
 use nc_number::{Failing, NoMemory};
 use std::alloc::Global;
+use wait_order::check_order;
 
 pub(crate) fn control_of(block: &FlowBlock) -> ControlBlock
     ensures { result ≡ control_block (block_form block.now) }
@@ -71,7 +72,7 @@ pub(crate) fn order_of(
         (λ fault. IsOrderFault (controls (map program_form programs.now)) fault.line fault.number)) }
 {
     let controls = control_programs(alloc, programs)?;
-    match BlockOrder::check(alloc, controls) {
+    match check_order(alloc, controls) {
         Ok(order) => Ok(order),
         Err(Failing::Fault(fault)) => Err(Failing::Fault(FlowFault {
             number: fault.cause.number(),

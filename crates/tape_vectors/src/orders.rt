@@ -9,6 +9,7 @@ use block_order::{BlockOrder, Control, ControlBlock, ControlBlockList, ControlPr
 use nc_number::{Failing, NoMemory};
 use std::alloc::{AllocError, Global};
 use std::test::Fail;
+use wait_order::check_order;
 
 /// The programs of a tape, parted by `;`, each with the line of its O number and its blocks, of which each stands a line further on
 /// than the one before; and the refusal of the tape, or `none`. Or, behind a `|`, where a jump from a block of the first program
@@ -213,7 +214,7 @@ fn told(alloc: Global, order: &BlockOrder, call: Call) -> Result<String, AllocEr
 fn answer(alloc: Global, tape: Vec<ControlProgram>, call: Call) -> Result<String, AllocError>
     requires { IsListed tape.items }
 {
-    match BlockOrder::check(alloc, tape) {
+    match check_order(alloc, tape) {
         Ok(order) => told(alloc, &order, call),
         Err(Failing::Fault(fault)) => refusal(alloc, fault.cause.number(), fault.line),
         Err(Failing::NoMemory) => String::from_str(alloc, "no memory"),

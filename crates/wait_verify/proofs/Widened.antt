@@ -10,9 +10,9 @@ use Rattle.nc_number.specs.declared.cause.Cause.{Cause}
 use Rattle.nc_number.specs.declared.path.Path.{Path}
 use Rattle.nc_number.specs.declared.path.Path.TheVariants.{One, Two}
 use Rattle.cell_settings.specs.Cell.{Cell}
-use Rattle.nc_text.specs.declared.tape.Word.{Word}
-use Rattle.nc_text.specs.declared.tape.Body.{Body}
-use Rattle.nc_text.specs.declared.tape.Body.TheVariants.{Words, Statement}
+use Rattle.line_text.specs.declared.body.Word.{Word}
+use Rattle.line_text.specs.declared.body.Body.{Body}
+use Rattle.line_text.specs.declared.body.Body.TheVariants.{Words, Statement}
 use Rattle.nc_text.specs.declared.tape.Block.{Block}
 use Rattle.nc_text.specs.declared.tape.Program.{Program}
 use Rattle.nc_text.specs.Shape.{blocks_in}
@@ -23,16 +23,17 @@ use Rattle.block_order.specs.declared.program.ControlBlock.{ControlBlock}
 use Rattle.block_order.specs.declared.program.ControlProgram.{ControlProgram}
 use Rattle.block_order.specs.Loud.{loud}
 use Rattle.block_order.specs.Order.{blocks as order_blocks}
-use Rattle.block_forms.specs.declared.purpose.Purpose.{Purpose}
-use Rattle.block_forms.specs.declared.purpose.Purpose.TheVariants as purpose
-use Rattle.block_forms.specs.declared.dialect.Dialect.{Dialect}
-use Rattle.block_forms.specs.declared.word.FlowWord.{FlowWord}
-use Rattle.block_forms.specs.Codes.{gives, is_macro_call, purpose_of}
+use Rattle.block_words.specs.declared.purpose.Purpose.{Purpose}
+use Rattle.block_words.specs.declared.purpose.Purpose.TheVariants as purpose
+use Rattle.block_words.specs.declared.dialect.Dialect.{Dialect}
+use Rattle.block_words.specs.declared.word.FlowWord.{FlowWord}
+use Rattle.block_words.specs.Codes.{gives, is_macro_call, purpose_of}
 use Rattle.block_forms.specs.Forms as closed_forms
 use Rattle.block_forms.specs.Forms.{BlockForm, Form, all_words, block_or_refusal, block_at, form_at, form_of_words, form_or_refusal, control_of_form, has_many_variables, with_refusal, words_or_refusal}
+use Rattle.block_words.specs.Purposes as asked
 use Rattle.block_forms.specs.Refusals as closed
-use Rattle.block_forms.specs.Words as read
-use Rattle.block_forms.specs.Words.{is_one_of}
+use Rattle.block_words.specs.Words as read
+use Rattle.block_words.specs.Words.{is_one_of}
 use Rattle.open_forms.specs.Codes.{is_macro}
 use Rattle.open_forms.specs.Words.{words_of, written}
 use Rattle.open_forms.proofs.Accepts.{IsAccepted, accepted}
@@ -204,7 +205,7 @@ g_plain : (dialect : Dialect) (words : List FlowWord) → closed.is_not_fixed di
     → read.has_computed (codes "G") words ≡ false
 g_plain dialect words fixed = go (purpose_of dialect words) fixed
   where
-    go : (p : Purpose) → read.has_computed (closed.fixed_letters p) words ≡ false → read.has_computed (codes "G") words ≡ false
+    go : (p : Purpose) → read.has_computed (asked.fixed_letters p) words ≡ false → read.has_computed (codes "G") words ≡ false
     go purpose.MacroCall e = fewer_computed (codes "G") (codes "GNOPL") (one_among 71 (codes "GNOPL") refl) words e
     go purpose.Subprogram e = fewer_computed (codes "G") (codes "GNOMPL") (one_among 71 (codes "GNOMPL") refl) words e
     go purpose.Return e = fewer_computed (codes "G") (codes "GNOMPL") (one_among 71 (codes "GNOMPL") refl) words e

@@ -7,7 +7,7 @@ use Rattle.nc_text.specs.Tape.{tape_of}
 use Rattle.nc_number.specs.declared.path.Path.{Path}
 use Rattle.nc_number.specs.declared.path.Path.TheVariants.{One, Two}
 use Rattle.cell_settings.specs.Cell.{Cell}
-use Rattle.block_forms.specs.declared.dialect.Dialect.{Dialect}
+use Rattle.block_words.specs.declared.dialect.Dialect.{Dialect}
 use Rattle.open_forms.specs.Widening.{has_interrupt}
 use Rattle.tape_flow.specs.Controls.{controls}
 use Rattle.tape_flow.specs.Forms.{ProgramForm}

@@ -13,13 +13,13 @@ learn_call-returns-in_ok-keep-in-Ok-clause-ready t c =
 pub piece_of-loop-block-init : goal.piece_of-loop-block-init
 piece_of-loop-block-init t c = record {
   known = c.requires.known;
-  so_far = rw (c.new-labels.ensures.items, c.blocks_of-block-items.ensures) (so_far_start c.args.order.now c.args.number);
+  so_far = rw (c.new-labels.ensures.items, c.blocks-block-items.ensures) (so_far_start c.args.order.now c.args.number);
 }
 
 pub piece_of-learn_call-requires : goal.piece_of-learn_call-requires
 piece_of-learn_call-requires t c =
     let pos : 0 < c.args.left = short_some c.args.order.now c.args.left c.args.number c.requires.short in
-    let items = c.blocks_of-block-items.result.now in
+    let items = c.blocks-block-items.result.now in
     let i = c.loop-block.block-index in (
       omega arith,
       (
@@ -34,7 +34,7 @@ pub piece_of-returns-in-Err-clause-many : goal.piece_of-returns-in-Err-clause-ma
 piece_of-returns-in-Err-clause-many t c =
     let order = c.args.order.now in
     let number = c.args.number in
-    let items = c.blocks_of-block-items.result.now in
+    let items = c.blocks-block-items.result.now in
     let i = c.loop-block.block-index in
     let so = so_far_at order number c.loop-block.labels.items items i c.loop-block-test.true c.loop-block.invariant.so_far in
     by_fault (FailsInCall order (get_or items i no_block).control) (FailsLong order number) c.in-Err.error
@@ -45,7 +45,7 @@ pub piece_of-returns-in-Ok-Some-clause-piece : goal.piece_of-returns-in-Ok-Some-
 piece_of-returns-in-Ok-Some-clause-piece t c =
     let order = c.args.order.now in
     let number = c.args.number in
-    let items = c.blocks_of-block-items.result.now in
+    let items = c.blocks-block-items.result.now in
     let i = c.loop-block.block-index in
     let so = so_far_at order number c.loop-block.labels.items items i c.loop-block-test.true c.loop-block.invariant.so_far in
     piece_at order number c.loop-block.labels.items c.take_block.new.labels.items (get_or items i no_block) (drop (i + 1) items)
@@ -55,7 +55,7 @@ pub piece_of-returns-in-Err-take_block-clause-many : goal.piece_of-returns-in-Er
 piece_of-returns-in-Err-take_block-clause-many t c =
     let order = c.args.order.now in
     let number = c.args.number in
-    let items = c.blocks_of-block-items.result.now in
+    let items = c.blocks-block-items.result.now in
     let i = c.loop-block.block-index in
     let so = so_far_at order number c.loop-block.labels.items items i c.loop-block-test.true c.loop-block.invariant.so_far in
     by_fault (FailsAt order (get_or items i no_block).line (get_or items i no_block).control c.loop-block.labels.items)
@@ -67,7 +67,7 @@ pub piece_of-loop-block-preserved : goal.piece_of-loop-block-preserved
 piece_of-loop-block-preserved t c =
     let order = c.args.order.now in
     let number = c.args.number in
-    let items = c.blocks_of-block-items.result.now in
+    let items = c.blocks-block-items.result.now in
     let i = c.loop-block.block-index in
     let so = so_far_at order number c.loop-block.labels.items items i c.loop-block-test.true c.loop-block.invariant.so_far in
     record {
@@ -80,7 +80,7 @@ pub piece_of-returns-in-Ok-push_at-clause-piece : goal.piece_of-returns-in-Ok-pu
 piece_of-returns-in-Ok-push_at-clause-piece t c =
     let order = c.args.order.now in
     let number = c.args.number in
-    let so = so_far_past order number c.loop-block.labels.items c.blocks_of-block-items.result.now c.loop-block.block-index
+    let so = so_far_past order number c.loop-block.labels.items c.blocks-block-items.result.now c.loop-block.block-index
     c.loop-block-test.false c.loop-block.invariant.so_far in
     piece_off order number c.off_line.result c.loop-block.labels.items c.push_at.new.labels.items so c.off_line.ensures
     c.in-Ok-push_at.ensures.added
@@ -89,7 +89,7 @@ pub piece_of-returns-in-Err-push_at-clause-many : goal.piece_of-returns-in-Err-p
 piece_of-returns-in-Err-push_at-clause-many t c =
     let order = c.args.order.now in
     let number = c.args.number in
-    let so = so_far_past order number c.loop-block.labels.items c.blocks_of-block-items.result.now c.loop-block.block-index
+    let so = so_far_past order number c.loop-block.labels.items c.blocks-block-items.result.now c.loop-block.block-index
     c.loop-block-test.false c.loop-block.invariant.so_far in
     by_fault (IsTooLong c.loop-block.labels.items (at Off c.off_line.result ∷ [])) (FailsLong order number) c.in-Err-push_at.error
     (λ fault long. fails_off order number c.off_line.result c.loop-block.labels.items fault so long)

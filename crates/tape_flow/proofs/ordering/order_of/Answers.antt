@@ -7,8 +7,8 @@ use Rattle.tape_flow.specs.Forms.{program_form}
 use Rattle.tape_flow.specs.Controls.{control_program}
 use Rattle.tape_flow.proofs.ordering.order_of.Goals as goal
 
-pub check-requires : goal.check-requires
-check-requires c =
+pub check_order-requires : goal.check_order-requires
+check_order-requires c =
     let is = c.in_ok-controls.ensures ∙ sym (map-map control_program program_form c.args.programs.now) in
     record { listed = subst (λ order. IsListed order) (sym is) c.requires }
 

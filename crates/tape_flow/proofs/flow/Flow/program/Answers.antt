@@ -1,0 +1,19 @@
+-- The order keeps the place of each program of the flow.
+use Rattle.std.proofs.Common.{Some, None, ◌≡◌, map, ap, sym, ◌∙◌, slice_get}
+use Rattle.block_order.specs.ProgramPlaces.{place_of}
+use Rattle.tape_flow.specs.Forms.{program_form}
+use Rattle.tape_flow.specs.Controls.{controls}
+use Rattle.tape_flow.proofs.Seen.{program_there, no_program_there}
+use Rattle.tape_flow.proofs.flow.Flow.program.Goals as goal
+
+pub returns-in-Some : goal.returns-in-Some
+returns-in-Some c =
+    let flow = c.args.self.now in
+    c.get_program.ensures ∙ ap (λ ps. slice_get ps c.in-Some.place) c.as_slice.ensures
+    ∙ program_there flow.programs c.args.number c.in-Some.place
+    (c.in-Some.ensures ∙ ap (λ tape. place_of tape c.args.number) flow.agrees)
+
+pub returns-in-None : goal.returns-in-None
+returns-in-None c =
+    let flow = c.args.self.now in
+    sym (no_program_there flow.programs c.args.number (c.in-None.ensures ∙ ap (λ tape. place_of tape c.args.number) flow.agrees))
