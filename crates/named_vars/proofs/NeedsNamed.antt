@@ -21,11 +21,11 @@ use Rattle.block_order.specs.declared.program.ControlProgram.{ControlProgram}
 use Rattle.block_forms.specs.declared.block.FlowBlock.{FlowBlock}
 use Rattle.block_forms.specs.declared.body.FlowBody.{FlowBody}
 use Rattle.block_forms.specs.declared.body.FlowBody.TheVariants.{Words, Statement}
-use Rattle.block_forms.specs.declared.purpose.Purpose.{Purpose}
-use Rattle.block_forms.specs.declared.purpose.Purpose.TheVariants.{MacroCall}
-use Rattle.block_forms.specs.declared.word.FlowWord.{FlowWord}
-use Rattle.block_forms.specs.declared.word.WordValue.{WordValue}
-use Rattle.block_forms.specs.declared.word.WordValue.TheVariants.{Fixed as Written, Computed as Evaluated}
+use Rattle.block_words.specs.declared.purpose.Purpose.{Purpose}
+use Rattle.block_words.specs.declared.purpose.Purpose.TheVariants.{MacroCall}
+use Rattle.block_words.specs.declared.word.FlowWord.{FlowWord}
+use Rattle.block_words.specs.declared.word.WordValue.{WordValue}
+use Rattle.block_words.specs.declared.word.WordValue.TheVariants.{Fixed as Written, Computed as Evaluated}
 use Rattle.macro_expr.specs.Tree.{Tree, Number, Variable as Numbered, VariableOf, Signed, Applied, Joined, Named, Fixed as Plain, Computed, Test, Aim, ToNumber, ToNumberOf, Sentence, Assign, Goto, IfGoto, IfThen, WhileDo, DoOnly, EndLoop, evaluated_name, evaluated_aim, evaluated_test, evaluated as evaluated_in, sentence_of}
 use Rattle.macro_eval.specs.declared.scope.Look.{Look}
 use Rattle.macro_eval.specs.declared.scope.Look.TheVariants as look
@@ -34,14 +34,19 @@ use Rattle.macro_eval.specs.declared.scope.Eval.{Eval}
 use Rattle.macro_eval.specs.declared.scope.Eval.TheVariants.{Got, Need, Fault}
 use Rattle.macro_eval.specs.Meaning.{Answer, made, function_value, operator_value, whole_number, variable_number, seen, looked_by, looked_up, then_with, meaning}
 use Rattle.tape_flow.specs.declared.flow.Flow.{Flow}
+use Rattle.block_order.specs.Moves.{place_of_jump, place_behind_loop, place_of_head}
 use Rattle.path_state.specs.View.{Fixed, PathView}
-use Rattle.path_state.specs.Looks.{variable_in, look_of}
-use Rattle.path_state.specs.Outcomes.{Outcome, Gives, Needs, Alarms, ◌>>=◌, reading_none, answered, evaluated}
-use Rattle.path_state.specs.Values.{Values, Sense, nothing_said, sense_of, taken, taken_var, word_taken, words_taken}
-use Rattle.path_state.specs.Arguments.{argument_taken, arguments_taken}
-use Rattle.path_state.specs.Places.{Standing, goes_on, jumped, loop_left, loop_again}
-use Rattle.path_state.specs.Statements.{After, standing_of, existing, number_named, length_of, along, with_offset, written_path, written, named, assigned, tested, sequence_number, aimed, moved, gone_to, gone_next, assigned_next, statement_effect}
-use Rattle.path_state.specs.Effect.{Effect, Done, AtWait, AtEnd, Alarm, Moved, acted, done_by, controlled, of_moved, of_values, of_arguments, of_purpose, block_of_words, of_after, effect_of_body, effect_of_block, block_at, effect_of}
+use Rattle.block_values.specs.Readings.{variable_in}
+use Rattle.path_state.specs.Looks.{look_of}
+use Rattle.block_values.specs.Outcomes.{Outcome, Gives, Needs, Alarms, ◌>>=◌, reading_none, answered}
+use Rattle.path_state.specs.Said.{evaluated}
+use Rattle.block_values.specs.Values.{Values, Sense, nothing_said, taken, taken_var}
+use Rattle.path_state.specs.Said.{sense_of, word_taken, words_taken}
+use Rattle.path_state.specs.Said.{argument_taken, arguments_taken}
+use Rattle.path_state.specs.Standing.{Standing, standing_of, standing_behind}
+use Rattle.block_values.specs.Operands.{existing, number_named, length_of, sequence_number}
+use Rattle.path_state.specs.Statements.{After, along, with_offset, written_path, written, named, assigned, tested, aimed, move_effect, jump_effect, next_effect, assigned_next, statement_effect}
+use Rattle.path_state.specs.Effect.{Effect, Moved, acted, done_by, controlled, of_moved, of_values, of_arguments, of_purpose, block_of_words, of_after, effect_of_body, effect_of_block, block_at, effect_of}
 use Rattle.path_state.specs.Effect as effect
 use Rattle.named_vars.specs.Names.{names, some_names, sentence_may_write, sentence_names, word_names, words_name, body_names, found_names, block_names}
 
@@ -173,9 +178,9 @@ module _ (fixed : Fixed) (path : PathView) (P : ℕ → Type 0) where
       (λ v e. all v (or_right (names test.left v) (some_names (test.right ∷ []) v) (first_names test.right [] v e))) behind_left)
       (λ right rest. tt))
 
-  moved_asks : (to : Result Standing Cause) (left : List Var) → Asks P (moved path to left)
-  moved_asks (Ok to) left = tt
-  moved_asks (Err cause) left = tt
+  move_asks : (to : Result (List Frame) Cause) (left : List Var) → Asks P (move_effect path to left)
+  move_asks (Ok to) left = tt
+  move_asks (Err cause) left = tt
 
   aim_asks : (aim : Aim) → ((v : ℕ) → some_names (evaluated_aim aim) v ≡ true → P v)
       → (reads : List Var) → Asks P (aimed fixed path aim reads)
@@ -184,11 +189,11 @@ module _ (fixed : Fixed) (path : PathView) (P : ℕ → Type 0) where
       then_asks P (evaluated fixed path t reads) _ (value_asks t (λ v e. all v (first_names t [] v e)) reads)
       (λ value left. none_asks P (sequence_number (whole_number value)) left)
 
-  gone_asks : (tape : List ControlProgram) (aim : Aim) → ((v : ℕ) → some_names (evaluated_aim aim) v ≡ true → P v)
-      → (reads : List Var) → Asks P (gone_to tape fixed path aim reads)
-  gone_asks tape aim all reads =
+  jump_asks : (tape : List ControlProgram) (aim : Aim) → ((v : ℕ) → some_names (evaluated_aim aim) v ≡ true → P v)
+      → (reads : List Var) → Asks P (jump_effect tape fixed path aim reads)
+  jump_asks tape aim all reads =
       then_asks P (aimed fixed path aim reads) _ (aim_asks aim all reads)
-      (λ n left. moved_asks (jumped tape (standing_of path) n) left)
+      (λ n left. move_asks (place_of_jump tape n path.place) left)
 
   -- by what a condition comes to
   test_asks : (test : Test) → ((v : ℕ) → some_names (evaluated_test test) v ≡ true → P v)
@@ -206,20 +211,20 @@ module _ (fixed : Fixed) (path : PathView) (P : ℕ → Type 0) where
       → ((v : ℕ) → some_names (evaluated_in sentence) v ≡ true → P v)
       → (reads : List Var) → Asks P (statement_effect tape fixed path sentence reads)
   trees_ask tape (Assign name t) all reads = assigned_asks name t all reads
-  trees_ask tape (Goto aim) all reads = gone_asks tape aim all reads
+  trees_ask tape (Goto aim) all reads = jump_asks tape aim all reads
   trees_ask tape (IfGoto test aim) all reads =
       test_asks test (λ v e. all v (in_front v (evaluated_test test) (evaluated_aim aim) e)) reads
-      (gone_to tape fixed path aim) (gone_next path)
-      (gone_asks tape aim (λ v e. all v (behind v (evaluated_test test) (evaluated_aim aim) e))) (λ left. tt)
+      (jump_effect tape fixed path aim) (next_effect path)
+      (jump_asks tape aim (λ v e. all v (behind v (evaluated_test test) (evaluated_aim aim) e))) (λ left. tt)
   trees_ask tape (IfThen test name t) all reads =
       test_asks test (λ v e. all v (in_front v (evaluated_test test) (evaluated_name name ++ t ∷ []) e)) reads
-      (assigned_next fixed path name t) (gone_next path)
+      (assigned_next fixed path name t) (next_effect path)
       (assigned_asks name t (λ v e. all v (behind v (evaluated_test test) (evaluated_name name ++ t ∷ []) e))) (λ left. tt)
   trees_ask tape (WhileDo test m) all reads =
-      test_asks test all reads (gone_next path) (moved path (loop_left tape (standing_of path)))
-      (λ left. tt) (moved_asks (loop_left tape (standing_of path)))
+      test_asks test all reads (next_effect path) (move_effect path (place_behind_loop tape path.place))
+      (λ left. tt) (move_asks (place_behind_loop tape path.place))
   trees_ask tape (DoOnly m) all reads = tt
-  trees_ask tape (EndLoop m) all reads = moved_asks (loop_again tape (standing_of path)) reads
+  trees_ask tape (EndLoop m) all reads = move_asks (place_of_head tape path.place) reads
 
   statement_asks : (tape : List ControlProgram) (sentence : Sentence) → ((v : ℕ) → sentence_names sentence v ≡ true → P v)
       → (reads : List Var) → Asks P (statement_effect tape fixed path sentence reads)
@@ -269,7 +274,7 @@ module _ (tape : List ControlProgram) (fixed : Fixed) (path : PathView) (P : ℕ
   controlled-asks : (moved : Moved) (arguments : Option (List Var)) (c : Control)
       → EffectAsks P (controlled tape moved arguments c)
   controlled-asks moved arguments control.End = tt
-  controlled-asks moved arguments c = done-asks moved (goes_on tape (standing_of moved.path) arguments c)
+  controlled-asks moved arguments c = done-asks moved (standing_behind tape (standing_of moved.path) arguments c)
 
   moves-ask : (c : Control) (moved : Result Moved ℕ) → EffectAsks P (of_moved tape c moved)
   moves-ask c (Ok moved) = controlled-asks moved None c

@@ -22,19 +22,24 @@ use Rattle.block_order.specs.declared.program.ControlProgram.{ControlProgram}
 use Rattle.block_forms.specs.declared.block.FlowBlock.{FlowBlock}
 use Rattle.block_forms.specs.declared.body.FlowBody.{FlowBody}
 use Rattle.block_forms.specs.declared.body.FlowBody.TheVariants.{Words, Statement}
-use Rattle.block_forms.specs.declared.purpose.Purpose.{Purpose}
-use Rattle.block_forms.specs.declared.purpose.Purpose.TheVariants.{MacroCall}
-use Rattle.block_forms.specs.declared.word.FlowWord.{FlowWord}
+use Rattle.block_words.specs.declared.purpose.Purpose.{Purpose}
+use Rattle.block_words.specs.declared.purpose.Purpose.TheVariants.{MacroCall}
+use Rattle.block_words.specs.declared.word.FlowWord.{FlowWord}
 use Rattle.macro_expr.specs.Tree.{Tree, Named, Fixed as Plain, Computed, Aim, Sentence, Assign, Goto, IfGoto, IfThen, WhileDo, DoOnly, EndLoop, sentence_of}
 use Rattle.macro_eval.specs.Meaning.{variable_number}
 use Rattle.tape_flow.specs.declared.flow.Flow.{Flow}
+use Rattle.block_order.specs.Moves.{place_of_jump, place_behind_loop, place_of_head}
 use Rattle.path_state.specs.View.{Fixed, PathView}
-use Rattle.path_state.specs.Looks.{is_shared, variable_in}
-use Rattle.path_state.specs.Outcomes.{Outcome, Gives, Needs, Alarms, reading_none, evaluated}
-use Rattle.path_state.specs.Values.{Values, nothing_said, sense_of, words_taken}
-use Rattle.path_state.specs.Arguments.{arguments_taken}
-use Rattle.path_state.specs.Places.{Standing, goes_on, jumped, loop_left, loop_again}
-use Rattle.path_state.specs.Statements.{Write, After, standing_of, existing, number_named, length_of, along, with_offset, written_path, with_common, written, named, assigned, tested, aimed, moved, gone_to, gone_next, assigned_next, statement_effect}
+use Rattle.block_values.specs.Readings.{variable_in}
+use Rattle.path_state.specs.Looks.{is_shared}
+use Rattle.block_values.specs.Outcomes.{Outcome, Gives, Needs, Alarms, reading_none}
+use Rattle.path_state.specs.Said.{evaluated}
+use Rattle.block_values.specs.Values.{Values, nothing_said}
+use Rattle.path_state.specs.Said.{sense_of, words_taken}
+use Rattle.path_state.specs.Said.{arguments_taken}
+use Rattle.path_state.specs.Standing.{Standing, standing_of, standing_behind}
+use Rattle.block_values.specs.Operands.{existing, number_named, length_of}
+use Rattle.path_state.specs.Statements.{Write, After, along, with_offset, written_path, with_common, written, named, assigned, tested, aimed, move_effect, jump_effect, next_effect, assigned_next, statement_effect}
 use Rattle.path_state.specs.Effect.{Effect, Done, Moved, acted, done_by, controlled, of_moved, of_values, of_arguments, of_purpose, block_of_words, of_after, effect_of_body, effect_of_block, block_at, effect_of}
 use Rattle.path_state.proofs.NeedsShared.{named_in_table}
 use Rattle.path_state.proofs.ControlledStatements.{OnGives, behind_gives, after_any, either}
@@ -106,33 +111,33 @@ module _ (fixed : Fixed) (path : PathView) where
         (λ value left. written-writes name all v meant value left)))
         (λ after left writes. writes)
 
-    moved-writes : (to : Result Standing Cause) (left : List Var) → OnGives (Writes P) (moved path to left)
-    moved-writes (Ok to) left = tt
-    moved-writes (Err cause) left = tt
+    move-writes : (to : Result (List Frame) Cause) (left : List Var) → OnGives (Writes P) (move_effect path to left)
+    move-writes (Ok to) left = tt
+    move-writes (Err cause) left = tt
 
-    gone-writes : (tape : List ControlProgram) (aim : Aim) (reads : List Var)
-        → OnGives (Writes P) (gone_to tape fixed path aim reads)
-    gone-writes tape aim reads =
+    jump-writes : (tape : List ControlProgram) (aim : Aim) (reads : List Var)
+        → OnGives (Writes P) (jump_effect tape fixed path aim reads)
+    jump-writes tape aim reads =
         after_any (Writes P) (aimed fixed path aim reads) _
-        (λ n left. moved-writes (jumped tape (standing_of path) n) left)
+        (λ n left. move-writes (place_of_jump tape n path.place) left)
 
     statement-writes : (tape : List ControlProgram) (sentence : Sentence)
         → ((v : ℕ) → sentence_may_write sentence v ≡ true → P v)
         → (reads : List Var) → OnGives (Writes P) (statement_effect tape fixed path sentence reads)
     statement-writes tape (Assign name t) all reads = assigned-writes name t all reads
-    statement-writes tape (Goto aim) all reads = gone-writes tape aim reads
+    statement-writes tape (Goto aim) all reads = jump-writes tape aim reads
     statement-writes tape (IfGoto test aim) all reads =
         after_any (Writes P) (tested fixed path test reads) _ (λ holds left.
-        either (Writes P) holds (gone_to tape fixed path aim left) (gone_next path left) (gone-writes tape aim left) tt)
+        either (Writes P) holds (jump_effect tape fixed path aim left) (next_effect path left) (jump-writes tape aim left) tt)
     statement-writes tape (IfThen test name t) all reads =
         after_any (Writes P) (tested fixed path test reads) _ (λ holds left.
-        either (Writes P) holds (assigned_next fixed path name t left) (gone_next path left) (assigned-writes name t all left) tt)
+        either (Writes P) holds (assigned_next fixed path name t left) (next_effect path left) (assigned-writes name t all left) tt)
     statement-writes tape (WhileDo test m) all reads =
         after_any (Writes P) (tested fixed path test reads) _ (λ holds left.
-        either (Writes P) holds (gone_next path left) (moved path (loop_left tape (standing_of path)) left) tt
-        (moved-writes (loop_left tape (standing_of path)) left))
+        either (Writes P) holds (next_effect path left) (move_effect path (place_behind_loop tape path.place) left) tt
+        (move-writes (place_behind_loop tape path.place) left))
     statement-writes tape (DoOnly m) all reads = tt
-    statement-writes tape (EndLoop m) all reads = moved-writes (loop_again tape (standing_of path)) reads
+    statement-writes tape (EndLoop m) all reads = move-writes (place_of_head tape path.place) reads
 
 -- what is said of the variable that a block writes
 abbrev EffectWrites : (ℕ → Type 0) → Effect → Type 0
@@ -147,7 +152,7 @@ module _ (tape : List ControlProgram) (fixed : Fixed) (path : PathView) (P : ℕ
   controlled-writes : (moved : Moved) (arguments : Option (List Var)) (c : Control)
       → EffectWrites P (controlled tape moved arguments c)
   controlled-writes moved arguments control.End = tt
-  controlled-writes moved arguments c = done-writes moved (goes_on tape (standing_of moved.path) arguments c)
+  controlled-writes moved arguments c = done-writes moved (standing_behind tape (standing_of moved.path) arguments c)
 
   moves-write : (c : Control) (moved : Result Moved ℕ) → EffectWrites P (of_moved tape c moved)
   moves-write c (Ok moved) = controlled-writes moved None c

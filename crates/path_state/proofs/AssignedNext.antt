@@ -4,8 +4,9 @@ use Rattle.nc_number.specs.declared.value.Var.{Var}
 use Rattle.common_vars.specs.declared.variable.Variable.{Variable}
 use Rattle.macro_expr.specs.Tree.{Tree, Named}
 use Rattle.path_state.specs.View.{Fixed, PathView}
-use Rattle.path_state.specs.Outcomes.{Outcome, Gives, Needs, Alarms, ◌>>=◌, evaluated}
-use Rattle.path_state.specs.Statements.{After, named, written, and_next, assigned_next}
+use Rattle.block_values.specs.Outcomes.{Outcome, Gives, Needs, Alarms, ◌>>=◌}
+use Rattle.path_state.specs.Said.{evaluated}
+use Rattle.path_state.specs.Statements.{After, named, written, then_next, assigned_next}
 use Rattle.path_state.specs.StatementSteps.{taken_next}
 
 -- three steps are the first, and then the other two
@@ -21,6 +22,6 @@ pub assigned_by : (fixed : Fixed) (path : PathView) (name : Named) (tree : Tree)
 assigned_by fixed path name tree reads left variable is =
     ap (λ (step : Outcome Variable).
     (step >>= λ v behind_name. evaluated fixed path tree behind_name >>= λ value rest. written fixed path v value rest)
-    >>= λ (after : After) rest. Gives (and_next after) rest) is
+    >>= λ (after : After) rest. Gives (then_next after) rest) is
     ∙ in_turn (evaluated fixed path tree left) (λ value rest. written fixed path variable value rest)
-    (λ after rest. Gives (and_next after) rest)
+    (λ after rest. Gives (then_next after) rest)

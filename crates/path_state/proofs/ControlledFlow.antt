@@ -23,7 +23,7 @@ use Rattle.tape_flow.specs.Controls.{control_block, control_program, controls}
 use Rattle.tape_flow.specs.Places.{flow_program, flow_blocks, flow_block}
 use Rattle.tape_flow.proofs.Seen.{block_seen, program_seen}
 use Rattle.path_state.specs.View.{Fixed, PathView}
-use Rattle.path_state.specs.Outcomes.{Outcome, Gives, Needs, Alarms}
+use Rattle.block_values.specs.Outcomes.{Outcome, Gives, Needs, Alarms}
 use Rattle.path_state.specs.Statements.{Write, After, statement_effect}
 use Rattle.path_state.specs.Effect.{Done, AtWait, of_after, past_the_last, effect_of_body, effect_of_block, block_at, effect_of}
 use Rattle.path_state.specs.Controlled.{GoesAsOrdered}
@@ -159,17 +159,13 @@ pub at_end : (flow : Flow) (path : PathView) (reads : List Var)
     → (after : PathView) (write : Option Write) (moves : List Move)
     → effect_of flow path reads ≢ Done after write moves
 at_end flow path reads stands after write moves is =
-    go path.place stands
-    (subst (λ effect. GoesAsOrdered flow.order path effect) is (steady flow path reads).goes)
+    go (subst (λ effect. GoesAsOrdered flow.order path effect) is (steady flow path reads).goes)
   where
-    other : (c : Control) (f : Frame) (stack to : List Frame) → control.End ≡ c
-        → Goes_to flow.order f stack c to → ⊥
-    other control.End f stack to e goes = goes
-    other _ f stack to e goes = cc
+    other : (c : Control) → control.End ≡ c → Goes_to flow.order path.place c after.place → ⊥
+    other control.End e goes = goes
+    other _ e goes = cc
 
-    go : (place : List Frame) → standing flow.order place ≡ Some control.End
-        → Step flow.order place after.place → ⊥
-    go [] there step = step
-    go (f ∷ stack) there (c, stands', goes) =
-        let e : Some control.End ≡ Some c = sym there ∙ stands' in
-        let same : control.End ≡ c = cc in other c f stack after.place same goes
+    go : Step flow.order path.place after.place → ⊥
+    go (c, there, goes) =
+        let e : Some control.End ≡ Some c = sym stands ∙ there in
+        let same : control.End ≡ c = cc in other c same goes

@@ -10,7 +10,7 @@ use Rattle.block_order.specs.Labels.{IsUnforked}
 use Rattle.block_order.specs.Steps.{Step, standing, IsPlace, Kept, KeepsLabels}
 use Rattle.block_order.proofs.Faultless.{faultless_unforked}
 use Rattle.block_order.proofs.OnePath.{keeps_labels}
-use Rattle.block_forms.specs.declared.dialect.Dialect.{Dialect}
+use Rattle.block_words.specs.declared.dialect.Dialect.{Dialect}
 use Rattle.nc_text.specs.declared.tape.Program.{Program}
 use Rattle.tape_flow.specs.Exact.{IsAccepted}
 use Rattle.tape_flow.specs.Forms.{program_form}
@@ -32,7 +32,7 @@ kept-ahead tape f (g ∷ stack) _ to kept = kept
 step-ahead : (tape : List ControlProgram) → KeepsLabels tape → (place to : List Frame)
     → IsPlace tape place → Step tape place to
     → IsPlace tape to × AheadOf tape place (standing tape place) to
-step-ahead tape law [] to here step = absurd step
+step-ahead tape law [] to here step = absurd here
 step-ahead tape law (f ∷ stack) to here (c, stands, goes) =
     let kept = law.step f stack here c stands to goes in
     (kept.0, subst (λ o. AheadOf tape (f ∷ stack) o to) (sym stands) (kept-ahead tape f stack c to kept.1))

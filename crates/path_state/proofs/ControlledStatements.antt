@@ -1,5 +1,5 @@
 -- A statement that is done leads where the order of blocks allows, and what is fixed for its path stays.
-use Rattle.std.proofs.Common.{◌≡◌, ℕ, suc, Bool, true, false, inl, List, ◌∷◌, Some, Result, Ok, Err, refl, ap, subst, ◌∙◌, if◌then◌else◌}
+use Rattle.std.proofs.Common.{◌≡◌, ℕ, Bool, true, false, inl, inr, List, Some, Result, Ok, Err, refl, sym, subst, if◌then◌else◌}
 use Rattle.nc_number.specs.declared.cause.Cause.{Cause}
 use Rattle.nc_number.specs.declared.point.Point.{Point}
 use Rattle.nc_number.specs.declared.value.Var.{Var}
@@ -14,15 +14,16 @@ use Rattle.block_order.specs.declared.control.Control.TheVariants as control
 use Rattle.block_order.specs.declared.frame.Frame.{Frame}
 use Rattle.block_order.specs.declared.program.ControlProgram.{ControlProgram}
 use Rattle.block_order.specs.Order.{MayBe}
-use Rattle.block_order.specs.Steps.{at, Goes as Goes_to, Step, standing}
+use Rattle.block_order.specs.Moves.{passed, place_of_jump, place_behind_loop, place_of_head}
+use Rattle.block_order.specs.Steps.{Step, standing}
 use Rattle.block_forms.specs.Controls.{number_of_aim, control_of_sentence}
 use Rattle.macro_expr.specs.Tree.{Tree, Named, Aim, ToNumber, ToNumberOf, Sentence, Assign, Goto, IfGoto, IfThen, WhileDo, DoOnly, EndLoop}
 use Rattle.path_state.specs.View.{Fixed, PathView}
 use Rattle.path_state.specs.Looks.{is_shared}
-use Rattle.path_state.specs.Outcomes.{Outcome, Gives, Needs, Alarms, ◌>>=◌, evaluated}
-use Rattle.path_state.specs.Places.{Standing, jumped, loop_left, loop_again}
-use Rattle.path_state.specs.Statements.{After, standing_of, length_of, along, with_offset, written_path, with_common, written, named, assigned, tested, aimed, moved, gone_to, gone_next, and_next, assigned_next, statement_effect}
-use Rattle.path_state.proofs.ControlledPlaces.{Steps, jumped_steps, next_steps, left_steps, again_steps}
+use Rattle.block_values.specs.Outcomes.{Outcome, Gives, Needs, Alarms, ◌>>=◌}
+use Rattle.path_state.specs.Said.{evaluated}
+use Rattle.block_values.specs.Operands.{length_of}
+use Rattle.path_state.specs.Statements.{After, along, with_offset, written_path, with_common, written, named, assigned, tested, aimed, move_effect, jump_effect, next_effect, assigned_next, statement_effect}
 
 -- what is said of a value holds where a step gives one
 abbrev pub OnGives : {A : Type 0} → (A → Type 0) → Outcome A → Type 0
@@ -96,40 +97,23 @@ assigned-keeps fixed path name tree reads =
     after_any (Keeps path) (evaluated fixed path tree behind_name) _
     (λ value left. written-keeps fixed path v value left))
 
--- on to the next block
-and_next-goes : (tape : List ControlProgram) (path : PathView) (c : Control) (after : After)
-    → standing tape path.place ≡ Some c
-    → ((f : Frame) (stack : List Frame) → Goes_to tape f stack c (at f (suc f.block) ∷ stack))
-    → Keeps path after → Goes tape path (and_next after)
-and_next-goes tape path c after stands goes keeps = record {
-  step = subst (λ place. Step tape place (and_next after).path.place) (keeps.place)
-      (next_steps tape (standing_of after.path) c
-      (ap (λ place. standing tape place) keeps.place ∙ stands) goes);
-  fixed = keeps.fixed;
-}
-
-assigned_next-goes : (tape : List ControlProgram) (fixed : Fixed) (path : PathView) (c : Control)
-    (name : Named) (tree : Tree) (reads : List Var)
-    → standing tape path.place ≡ Some c
-    → ((f : Frame) (stack : List Frame) → Goes_to tape f stack c (at f (suc f.block) ∷ stack))
-    → OnGives (Goes tape path) (assigned_next fixed path name tree reads)
-assigned_next-goes tape fixed path c name tree reads stands goes =
+-- an assignment, and on to the next block
+assigned_next-goes : (tape : List ControlProgram) (fixed : Fixed) (path : PathView) (name : Named) (tree : Tree)
+    (reads : List Var)
+    → Step tape path.place (passed path.place) → OnGives (Goes tape path) (assigned_next fixed path name tree reads)
+assigned_next-goes tape fixed path name tree reads step =
     behind_gives (Keeps path) (Goes tape path) (assigned fixed path name tree reads) _
     (assigned-keeps fixed path name tree reads)
-    (λ after left keeps. and_next-goes tape path c after stands goes keeps)
+    (λ after left keeps. record {
+      step = subst (λ place. Step tape path.place (passed place)) (sym keeps.place) step;
+      fixed = keeps.fixed;
+    })
 
-gone_next-goes : (tape : List ControlProgram) (path : PathView) (c : Control) (reads : List Var)
-    → standing tape path.place ≡ Some c
-    → ((f : Frame) (stack : List Frame) → Goes_to tape f stack c (at f (suc f.block) ∷ stack))
-    → OnGives (Goes tape path) (gone_next path reads)
-gone_next-goes tape path c reads stands goes =
-    record { step = next_steps tape (standing_of path) c stands goes; fixed = refl }
-
-moved-goes : (tape : List ControlProgram) (path : PathView) (to : Result Standing Cause)
-    (left : List Var) → Steps tape path.place to
-    → OnGives (Goes tape path) (moved path to left)
-moved-goes tape path (Ok to) left steps = record { step = steps; fixed = refl }
-moved-goes tape path (Err cause) left steps = tt
+move-goes : (tape : List ControlProgram) (path : PathView) (to : Result (List Frame) Cause) (left : List Var)
+    → ((there : List Frame) → to ≡ Ok there → Step tape path.place there)
+    → OnGives (Goes tape path) (move_effect path to left)
+move-goes tape path (Ok there) left step = record { step = step there refl; fixed = refl }
+move-goes tape path (Err cause) left step = tt
 
 -- the number that a target comes to is one that the order of blocks allows
 aimed-allowed : (fixed : Fixed) (path : PathView) (aim : Aim) (reads : List Var)
@@ -137,15 +121,14 @@ aimed-allowed : (fixed : Fixed) (path : PathView) (aim : Aim) (reads : List Var)
 aimed-allowed fixed path (ToNumber n) reads = refl
 aimed-allowed fixed path (ToNumberOf tree) reads = anything (aimed fixed path (ToNumberOf tree) reads)
 
-gone_to-goes : (tape : List ControlProgram) (fixed : Fixed) (path : PathView) (aim : Aim)
-    (reads : List Var)
+jump-goes : (tape : List ControlProgram) (fixed : Fixed) (path : PathView) (aim : Aim) (reads : List Var)
     → standing tape path.place ≡ Some (control.Goto (number_of_aim aim))
-    → OnGives (Goes tape path) (gone_to tape fixed path aim reads)
-gone_to-goes tape fixed path aim reads stands =
+    → OnGives (Goes tape path) (jump_effect tape fixed path aim reads)
+jump-goes tape fixed path aim reads stands =
     behind_gives (MayBe (number_of_aim aim)) (Goes tape path) (aimed fixed path aim reads) _
     (aimed-allowed fixed path aim reads)
-    (λ n left may. moved-goes tape path (jumped tape (standing_of path) n) left
-    (jumped_steps tape (standing_of path) (number_of_aim aim) n stands may))
+    (λ n left may. move-goes tape path (place_of_jump tape n path.place) left
+    (λ there e. (control.Goto (number_of_aim aim), stands, inr (n, may, e))))
 
 -- by what a condition comes to
 pub either : {A : Type 0} (P : A → Type 0) (holds : Bool) (first second : Outcome A) → OnGives P first
@@ -160,27 +143,24 @@ pub statement-goes : (tape : List ControlProgram) (fixed : Fixed) (path : PathVi
     → standing tape path.place ≡ Some (control_of_sentence sentence)
     → OnGives (Goes tape path) (statement_effect tape fixed path sentence reads)
 statement-goes tape fixed path (Assign name tree) reads stands =
-    assigned_next-goes tape fixed path control.Next name tree reads stands (λ f stack. refl)
-statement-goes tape fixed path (Goto aim) reads stands = gone_to-goes tape fixed path aim reads stands
+    assigned_next-goes tape fixed path name tree reads (control.Next, stands, refl)
+statement-goes tape fixed path (Goto aim) reads stands = jump-goes tape fixed path aim reads stands
 statement-goes tape fixed path (IfGoto test aim) reads stands =
     after_any (Goes tape path) (tested fixed path test reads) _ (λ holds left.
-    either (Goes tape path) holds (gone_to tape fixed path aim left) (gone_next path left)
-    (gone_to-goes tape fixed path aim left stands)
-    (gone_next-goes tape path (control.Goto (number_of_aim aim)) left stands (λ f stack. inl refl)))
+    either (Goes tape path) holds (jump_effect tape fixed path aim left) (next_effect path left)
+    (jump-goes tape fixed path aim left stands)
+    (record { step = (control.Goto (number_of_aim aim), stands, inl refl); fixed = refl }))
 statement-goes tape fixed path (IfThen test name tree) reads stands =
     after_any (Goes tape path) (tested fixed path test reads) _ (λ holds left.
-    either (Goes tape path) holds (assigned_next fixed path name tree left) (gone_next path left)
-    (assigned_next-goes tape fixed path control.Next name tree left stands (λ f stack. refl))
-    (gone_next-goes tape path control.Next left stands (λ f stack. refl)))
+    either (Goes tape path) holds (assigned_next fixed path name tree left) (next_effect path left)
+    (assigned_next-goes tape fixed path name tree left (control.Next, stands, refl))
+    (record { step = (control.Next, stands, refl); fixed = refl }))
 statement-goes tape fixed path (WhileDo test name) reads stands =
     after_any (Goes tape path) (tested fixed path test reads) _ (λ holds left.
-    either (Goes tape path) holds (gone_next path left)
-    (moved path (loop_left tape (standing_of path)) left)
-    (gone_next-goes tape path (control.While name) left stands (λ f stack. inl refl))
-    (moved-goes tape path (loop_left tape (standing_of path)) left
-    (left_steps tape (standing_of path) name stands)))
+    either (Goes tape path) holds (next_effect path left) (move_effect path (place_behind_loop tape path.place) left)
+    (record { step = (control.While name, stands, inl refl); fixed = refl })
+    (move-goes tape path (place_behind_loop tape path.place) left (λ there e. (control.While name, stands, inr e))))
 statement-goes tape fixed path (DoOnly name) reads stands =
-    gone_next-goes tape path (control.Do name) reads stands (λ f stack. refl)
+    record { step = (control.Do name, stands, refl); fixed = refl }
 statement-goes tape fixed path (EndLoop name) reads stands =
-    moved-goes tape path (loop_again tape (standing_of path)) reads
-    (again_steps tape (standing_of path) name stands)
+    move-goes tape path (place_of_head tape path.place) reads (λ there e. (control.EndLoop name, stands, e))

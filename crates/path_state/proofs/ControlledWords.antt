@@ -10,23 +10,23 @@ use Rattle.block_order.specs.declared.control.Control.{Control}
 use Rattle.block_order.specs.declared.control.Control.TheVariants as control
 use Rattle.block_order.specs.declared.program.ControlProgram.{ControlProgram}
 use Rattle.block_order.specs.Steps.{standing}
-use Rattle.block_forms.specs.declared.word.FlowWord.{FlowWord}
-use Rattle.block_forms.specs.declared.dialect.Dialect.{Dialect}
-use Rattle.block_forms.specs.declared.purpose.Purpose.{Purpose}
-use Rattle.block_forms.specs.declared.purpose.Purpose.TheVariants.{MacroCall, Subprogram, Return, Wait}
-use Rattle.block_forms.specs.Codes.{one_shot, m_codes, has_code, first_waiting, purpose_of}
-use Rattle.block_forms.specs.Words.{has}
+use Rattle.block_words.specs.declared.word.FlowWord.{FlowWord}
+use Rattle.block_words.specs.declared.dialect.Dialect.{Dialect}
+use Rattle.block_words.specs.declared.purpose.Purpose.{Purpose}
+use Rattle.block_words.specs.declared.purpose.Purpose.TheVariants.{MacroCall, Subprogram, Return, Wait}
+use Rattle.block_words.specs.Codes.{one_shot, m_codes, has_code, first_waiting, purpose_of}
+use Rattle.block_words.specs.Words.{has}
 use Rattle.block_forms.specs.Controls.{number_of, or_number, back_to, wait_at, control_by, control_of_words}
 use Rattle.path_state.specs.View.{Fixed, PathView}
-use Rattle.path_state.specs.Outcomes.{Outcome, Gives, Needs, Alarms}
-use Rattle.path_state.specs.Values.{Values, nothing_said, sense_of, words_taken}
-use Rattle.path_state.specs.Arguments.{arguments_taken}
-use Rattle.path_state.specs.Motion.{Motion, motion_kind, motion_of}
-use Rattle.path_state.specs.Places.{Standing, goes_on}
-use Rattle.path_state.specs.Statements.{standing_of}
-use Rattle.path_state.specs.Effect.{Effect, Moved, modal_after, after_motion, motion_with, acted, done_by, controlled, of_moved, of_values, of_arguments, of_purpose, block_of_words}
+use Rattle.block_values.specs.Outcomes.{Outcome, Gives, Needs, Alarms}
+use Rattle.block_values.specs.Values.{Values, nothing_said}
+use Rattle.path_state.specs.Said.{sense_of, words_taken, arguments_taken}
+use Rattle.block_values.specs.Motion.{Motion, motion_kind, motion_of}
+use Rattle.path_state.specs.Standing.{Standing, standing_of, standing_behind}
+use Rattle.block_values.specs.InForce.{modal_after}
+use Rattle.path_state.specs.Effect.{Effect, Moved, after_motion, motion_with, acted, done_by, controlled, of_moved, of_values, of_arguments, of_purpose, block_of_words}
 use Rattle.path_state.specs.Controlled.{GoesAsOrdered, KeepsFixed}
-use Rattle.path_state.proofs.ControlledPlaces.{Steps, Passes, goes_on_steps}
+use Rattle.path_state.proofs.ControlledPlaces.{Steps, Passes, behind_steps}
 use Rattle.path_state.proofs.ControlledStatements.{Stays}
 
 -- an effect that leads where the order of blocks allows and keeps what is fixed
@@ -85,7 +85,7 @@ modal-stays : (fixed : Fixed) (path : PathView) (system : System) (words : List 
     → MovesThere path (motion_with fixed path system words values modal)
 modal-stays fixed path system words values (Ok modal) =
     motion-stays path modal system words values
-    (motion_of fixed path modal (motion_kind modal (one_shot system words)) (has (codes "L") words) values)
+    (motion_of fixed.home path.position path.offsets modal (motion_kind modal (one_shot system words)) (has (codes "L") words) values)
 modal-stays fixed path system words values (Err number) = tt
 
 acted-stays : (fixed : Fixed) (path : PathView) (system : System) (words : List FlowWord) (values : Values)
@@ -103,11 +103,11 @@ done-steady tape path moved (Err cause) stays steps = record { goes = tt; keeps 
 moved-steady : (tape : List ControlProgram) (path : PathView) (moved : Moved)
     (arguments : Option (List Var)) (c : Control)
     → Stays path moved.path → standing tape path.place ≡ Some c → Passes c
-    → IsSteady tape path (done_by moved (goes_on tape (standing_of moved.path) arguments c))
+    → IsSteady tape path (done_by moved (standing_behind tape (standing_of moved.path) arguments c))
 moved-steady tape path moved arguments c stays stands passes =
-    done-steady tape path moved (goes_on tape (standing_of moved.path) arguments c) stays
-    (subst (λ place. Steps tape place (goes_on tape (standing_of moved.path) arguments c)) stays.place
-    (goes_on_steps tape (standing_of moved.path) arguments c
+    done-steady tape path moved (standing_behind tape (standing_of moved.path) arguments c) stays
+    (subst (λ place. Steps tape place (standing_behind tape (standing_of moved.path) arguments c)) stays.place
+    (behind_steps tape (standing_of moved.path) arguments c
     (ap (λ place. standing tape place) stays.place ∙ stands) passes))
 
 -- a control of words that waits nowhere

@@ -18,18 +18,21 @@ use Rattle.block_order.specs.declared.program.ControlProgram.{ControlProgram}
 use Rattle.block_forms.specs.declared.block.FlowBlock.{FlowBlock}
 use Rattle.block_forms.specs.declared.body.FlowBody.{FlowBody}
 use Rattle.block_forms.specs.declared.body.FlowBody.TheVariants.{Words, Statement}
-use Rattle.block_forms.specs.declared.purpose.Purpose.{Purpose}
-use Rattle.block_forms.specs.declared.purpose.Purpose.TheVariants.{MacroCall}
-use Rattle.block_forms.specs.declared.word.FlowWord.{FlowWord}
+use Rattle.block_words.specs.declared.purpose.Purpose.{Purpose}
+use Rattle.block_words.specs.declared.purpose.Purpose.TheVariants.{MacroCall}
+use Rattle.block_words.specs.declared.word.FlowWord.{FlowWord}
 use Rattle.macro_expr.specs.Tree.{Tree, Named, Aim, Sentence, Assign, Goto, IfGoto, IfThen, WhileDo, DoOnly, EndLoop, sentence_of}
 use Rattle.tape_flow.specs.declared.flow.Flow.{Flow}
+use Rattle.block_order.specs.declared.frame.Frame.{Frame}
+use Rattle.block_order.specs.Moves.{place_of_jump, place_behind_loop, place_of_head}
 use Rattle.path_state.specs.View.{Fixed, PathView}
 use Rattle.path_state.specs.Looks.{is_shared}
-use Rattle.path_state.specs.Outcomes.{Outcome, Gives, Needs, Alarms, evaluated}
-use Rattle.path_state.specs.Values.{Values, nothing_said, sense_of, words_taken}
-use Rattle.path_state.specs.Arguments.{arguments_taken}
-use Rattle.path_state.specs.Places.{Standing, goes_on, jumped, loop_left, loop_again}
-use Rattle.path_state.specs.Statements.{Write, After, standing_of, length_of, along, with_offset, written_path, with_common, written, named, assigned, tested, aimed, moved, gone_to, gone_next, assigned_next, statement_effect}
+use Rattle.block_values.specs.Outcomes.{Outcome, Gives, Needs, Alarms}
+use Rattle.path_state.specs.Said.{evaluated, sense_of, words_taken, arguments_taken}
+use Rattle.block_values.specs.Values.{Values, nothing_said}
+use Rattle.path_state.specs.Standing.{Standing, standing_of, standing_behind}
+use Rattle.block_values.specs.Operands.{length_of}
+use Rattle.path_state.specs.Statements.{Write, After, along, with_offset, written_path, with_common, written, named, assigned, tested, aimed, move_effect, jump_effect, next_effect, assigned_next, statement_effect}
 use Rattle.path_state.specs.Effect.{Effect, Done, Moved, acted, done_by, controlled, of_moved, of_values, of_arguments, of_purpose, block_of_words, of_after, effect_of_body, effect_of_block, block_at, effect_of}
 use Rattle.path_state.proofs.ControlledStatements.{OnGives, behind_gives, after_any, either}
 
@@ -76,36 +79,36 @@ module _ (fixed : Fixed) (path : PathView) where
       (assigned-writes name tree reads)
       (λ after left writes. writes)
 
-  moved-writes : (to : Result Standing Cause) (left : List Var)
-      → OnGives (Writes fixed) (moved path to left)
-  moved-writes (Ok to) left = tt
-  moved-writes (Err cause) left = tt
+  move-writes : (to : Result (List Frame) Cause) (left : List Var)
+      → OnGives (Writes fixed) (move_effect path to left)
+  move-writes (Ok to) left = tt
+  move-writes (Err cause) left = tt
 
-  gone_to-writes : (tape : List ControlProgram) (aim : Aim) (reads : List Var)
-      → OnGives (Writes fixed) (gone_to tape fixed path aim reads)
-  gone_to-writes tape aim reads =
+  jump-writes : (tape : List ControlProgram) (aim : Aim) (reads : List Var)
+      → OnGives (Writes fixed) (jump_effect tape fixed path aim reads)
+  jump-writes tape aim reads =
       after_any (Writes fixed) (aimed fixed path aim reads) _
-      (λ n left. moved-writes (jumped tape (standing_of path) n) left)
+      (λ n left. move-writes (place_of_jump tape n path.place) left)
 
   statement-writes : (tape : List ControlProgram) (sentence : Sentence) (reads : List Var)
       → OnGives (Writes fixed) (statement_effect tape fixed path sentence reads)
   statement-writes tape (Assign name tree) reads = assigned_next-writes name tree reads
-  statement-writes tape (Goto aim) reads = gone_to-writes tape aim reads
+  statement-writes tape (Goto aim) reads = jump-writes tape aim reads
   statement-writes tape (IfGoto test aim) reads =
       after_any (Writes fixed) (tested fixed path test reads) _ (λ holds left.
-      either (Writes fixed) holds (gone_to tape fixed path aim left) (gone_next path left)
-      (gone_to-writes tape aim left) tt)
+      either (Writes fixed) holds (jump_effect tape fixed path aim left) (next_effect path left)
+      (jump-writes tape aim left) tt)
   statement-writes tape (IfThen test name tree) reads =
       after_any (Writes fixed) (tested fixed path test reads) _ (λ holds left.
-      either (Writes fixed) holds (assigned_next fixed path name tree left) (gone_next path left)
+      either (Writes fixed) holds (assigned_next fixed path name tree left) (next_effect path left)
       (assigned_next-writes name tree left) tt)
   statement-writes tape (WhileDo test name) reads =
       after_any (Writes fixed) (tested fixed path test reads) _ (λ holds left.
-      either (Writes fixed) holds (gone_next path left)
-      (moved path (loop_left tape (standing_of path)) left) tt
-      (moved-writes (loop_left tape (standing_of path)) left))
+      either (Writes fixed) holds (next_effect path left)
+      (move_effect path (place_behind_loop tape path.place) left) tt
+      (move-writes (place_behind_loop tape path.place) left))
   statement-writes tape (DoOnly name) reads = tt
-  statement-writes tape (EndLoop name) reads = moved-writes (loop_again tape (standing_of path)) reads
+  statement-writes tape (EndLoop name) reads = move-writes (place_of_head tape path.place) reads
 
 -- the effect of a block
 abbrev EffectWrites : Fixed → Effect → Type 0
@@ -121,7 +124,7 @@ module _ (tape : List ControlProgram) (fixed : Fixed) (path : PathView) where
       → EffectWrites fixed (controlled tape moved arguments c)
   controlled-writes moved arguments control.End = tt
   controlled-writes moved arguments c =
-      done-writes moved (goes_on tape (standing_of moved.path) arguments c)
+      done-writes moved (standing_behind tape (standing_of moved.path) arguments c)
 
   moves-write : (c : Control) (moved : Result Moved ℕ) → EffectWrites fixed (of_moved tape c moved)
   moves-write c (Ok moved) = controlled-writes moved None c

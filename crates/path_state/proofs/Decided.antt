@@ -1,35 +1,33 @@
 -- What a block comes to, decided step by step.
-use Rattle.std.proofs.Common.{◌≡◌, ◌≢◌, ℕ, Bool, true, false, List, [], Option, Some, None, Result, Ok, Err, refl, ap, sym, ◌∙◌}
+use Rattle.std.proofs.Common.{◌≡◌, ◌≢◌, ℕ, false, List, [], Option, Some, Result, Ok, Err, refl, ap, sym, ◌∙◌}
+use Rattle.nc_number.specs.declared.cause.Cause.{Cause}
 use Rattle.nc_number.specs.declared.value.Var.{Var}
 use Rattle.code_tables.specs.declared.system.System.{System}
 use Rattle.block_order.specs.declared.control.Control.{Control}
 use Rattle.block_order.specs.declared.program.ControlProgram.{ControlProgram}
-use Rattle.block_forms.specs.declared.word.FlowWord.{FlowWord}
-use Rattle.block_forms.specs.declared.purpose.Purpose.{Purpose}
-use Rattle.block_forms.specs.declared.purpose.Purpose.TheVariants.{MacroCall, Subprogram, Return, Wait, Dwell, Setting, Other}
-use Rattle.path_state.specs.declared.outcome.Stop.{Stop}
-use Rattle.path_state.specs.declared.outcome.Stop.TheVariants as stop
-use Rattle.path_state.specs.declared.values.Values as kept
-use Rattle.block_forms.specs.declared.dialect.Dialect.{Dialect}
+use Rattle.block_words.specs.declared.word.FlowWord.{FlowWord}
+use Rattle.block_words.specs.declared.purpose.Purpose.{Purpose}
+use Rattle.block_words.specs.declared.purpose.Purpose.TheVariants.{MacroCall, Subprogram, Return, Wait, Dwell, Setting, Other}
+use Rattle.block_values.specs.declared.outcome.Stop.{Stop}
+use Rattle.block_values.specs.declared.outcome.Stop.TheVariants as stop
+use Rattle.block_values.specs.declared.values.Values as kept
+use Rattle.block_words.specs.declared.dialect.Dialect.{Dialect}
 use Rattle.block_forms.specs.Controls.{control_by}
 use Rattle.path_state.specs.View.{Fixed, PathView}
 use Rattle.path_state.specs.Looks.{look_of}
-use Rattle.path_state.specs.Outcomes.{Outcome}
-use Rattle.path_state.specs.Values.{Values, Sense, nothing_said, words_taken}
-use Rattle.path_state.specs.Seen.{values_seen, outcome_of, words_with}
+use Rattle.block_values.specs.Values.{Values, Sense, nothing_said, words_with}
+use Rattle.path_state.specs.Said.{words_taken}
+use Rattle.block_values.specs.Seen.{values_seen, outcome_of}
 use Rattle.block_order.specs.declared.control.Control.TheVariants.{Next, Goto, While, Do, EndLoop, Wait as AtWait, End, Call, Back, BackTo}
 use Rattle.block_order.specs.PlaceSteps.{MayPass}
 use Rattle.local_levels.specs.Stack.{all_vacant}
 use Rattle.path_state.specs.declared.decision.Decision.{Decision}
 use Rattle.path_state.specs.declared.decision.Decision.TheVariants as decision
-use Rattle.path_state.specs.Purposes.{is_macro_call}
-use Rattle.path_state.specs.Arguments.{arguments_taken}
-use Rattle.path_state.specs.Places.{goes_on}
-use Rattle.path_state.specs.Statements.{standing_of}
-use Rattle.path_state.specs.Seen.{arguments_with}
-use Rattle.path_state.specs.Effect.{Effect, Moved, of_values, of_arguments, controlled, done_by, macro_effect, block_of_words, of_purpose, words_effect}
-use Rattle.path_state.specs.Decisions.{of_said, of_arguments_said, MayTake}
-use Rattle.path_state.proofs.ByTable.{by_table, arguments_by_table}
+use Rattle.block_values.specs.Purposes.{is_macro_call}
+use Rattle.path_state.specs.Standing.{Standing, standing_of, standing_of_call, standing_behind}
+use Rattle.block_values.specs.Arguments.{arguments_with}
+use Rattle.path_state.specs.Effect.{Moved, alarm_of, of_values, of_arguments, controlled, done_by, macro_effect, block_of_words, of_purpose, words_effect}
+use Rattle.path_state.specs.Decisions.{decided, of_said, of_arguments_said, MayTake}
 
 -- of a step that gives values or stops, the effect
 pub of_values_said : (tape : List ControlProgram) (path : PathView) (system : System) (words : List FlowWord) (control : Control) (said : Result kept.Values Stop) (left : List Var)
@@ -42,7 +40,7 @@ pub words_said : (tape : List ControlProgram) (path : PathView) (sense : Sense) 
     → outcome_of values_seen said left ≡ words_with (look_of path.fixed path) sense words nothing_said reads
     → of_values tape path.fixed path system words control (words_taken path.fixed path sense words nothing_said reads) ≡ of_said tape path system words control said
 words_said tape path sense system words control reads said left e =
-    ap (of_values tape path.fixed path system words control) (sym (e ∙ by_table path.fixed path sense words nothing_said reads))
+    ap (of_values tape path.fixed path system words control) (sym e)
     ∙ of_values_said tape path system words control said left
 
 -- what is taken, where it is taken
@@ -61,7 +59,7 @@ pub arguments_said : {A : Type 0} → (tape : List ControlProgram) (path : PathV
     → outcome_of (λ done. arguments) taken left ≡ arguments_with (look_of path.fixed path) words all_vacant reads
     → macro_effect tape path.fixed path words control reads ≡ of_arguments_said tape path control (if_taken taken arguments)
 arguments_said tape path words control reads arguments taken left e =
-    ap (of_arguments tape path control) (sym (e ∙ arguments_by_table path.fixed path words all_vacant reads))
+    ap (of_arguments tape path control) (sym e)
     ∙ of_taken tape path control arguments taken left
 
 -- a block of words that calls no macro, and stands at no wait
@@ -96,7 +94,7 @@ called _ dialect words is = absurd cc
 
 -- behind a block that is no end control goes on
 pub goes : (tape : List ControlProgram) (moved : Moved) (arguments : Option (List Var)) (control : Control) → control ≢ End
-    → controlled tape moved arguments control ≡ done_by moved (goes_on tape (standing_of moved.path) arguments control)
+    → controlled tape moved arguments control ≡ done_by moved (standing_behind tape (standing_of moved.path) arguments control)
 goes tape moved arguments End is = absurd (is refl)
 goes tape moved arguments Next is = refl
 goes tape moved arguments (Goto n) is = refl
@@ -108,8 +106,19 @@ goes tape moved arguments (Call program repeats) is = refl
 goes tape moved arguments Back is = refl
 goes tape moved arguments (BackTo n) is = refl
 
+-- a macro call goes where it leads, and raises the alarm of why it leads nowhere
+pub call_goes : (tape : List ControlProgram) (path : PathView) (arguments : List Var) (program repeats : ℕ) (there : Standing)
+    → standing_of_call (Some arguments) program repeats (standing_of path) ≡ Ok there
+    → decided path (decision.Macro program repeats arguments) ≡ controlled tape (record { path = path; moves = [] }) (Some arguments) (Call program repeats)
+call_goes tape path arguments program repeats there e = rw e refl
+
+pub call_stays : (tape : List ControlProgram) (path : PathView) (arguments : List Var) (program repeats : ℕ) (cause : Cause)
+    → standing_of_call (Some arguments) program repeats (standing_of path) ≡ Err cause
+    → alarm_of cause ≡ controlled tape (record { path = path; moves = [] }) (Some arguments) (Call program repeats)
+call_stays tape path arguments program repeats cause e = rw e refl
+
 -- where the running block has one behind it, whatever was decided may be done
-pub may_take : (path : PathView) (decided : Decision) → MayPass path.place → MayTake path decided
+pub may_take : (path : PathView) (what : Decision) → MayPass path.place → MayTake path what
 may_take path (decision.Need variable) may = tt
 may_take path (decision.AtWait code) may = tt
 may_take path (decision.AtEnd step) may = tt

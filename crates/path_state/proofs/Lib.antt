@@ -1,8 +1,3 @@
-pub mod ByTable
-mod Ends
-mod Hanging
-pub mod Searches
-pub mod SearchesInOrder
 pub mod ControlledPlaces
 pub mod ControlledStatements
 pub mod ControlledWords
@@ -12,7 +7,6 @@ pub mod ControlledLabels
 pub mod NeedsShared
 pub mod NeedsStatements
 pub mod NeedsWords
-mod RoutedSearches
 mod StandingLevels
 pub mod Decided
 mod AssignedNext

@@ -20,8 +20,10 @@ use Rattle.macro_eval.specs.Meaning.{Answer, made, function_value, operator_valu
 use Rattle.macro_eval.proofs.TakenReads.{takes, needs}
 use Rattle.modal_state.specs.View.{ModalView}
 use Rattle.path_state.specs.View.{Fixed, PathView}
-use Rattle.path_state.specs.Looks.{is_shared, is_there, if_there, variable_in, held_by, look_of}
-use Rattle.path_state.specs.Outcomes.{Outcome, Gives, Needs, Alarms, ◌>>=◌, reading_none, answered, evaluated}
+use Rattle.block_values.specs.Readings.{is_there, if_there, variable_in}
+use Rattle.path_state.specs.Looks.{is_shared, held_by, look_of}
+use Rattle.block_values.specs.Outcomes.{Outcome, Gives, Needs, Alarms, ◌>>=◌, reading_none, answered}
+use Rattle.path_state.specs.Said.{evaluated}
 
 -- what a step needs is shared by the table
 abbrev NeedsShared : (ℕ → Result Look VarFault) → Eval → Type 0

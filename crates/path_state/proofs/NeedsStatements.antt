@@ -12,11 +12,14 @@ use Rattle.offset_store.specs.Changes.{in_range, point_at}
 use Rattle.block_order.specs.declared.program.ControlProgram.{ControlProgram}
 use Rattle.macro_expr.specs.Tree.{Tree, Named, Fixed as Numbered, Computed, Test, Aim, ToNumber, ToNumberOf, Sentence, Assign, Goto, IfGoto, IfThen, WhileDo, DoOnly, EndLoop, variables, variables_in, evaluated_name, evaluated_aim, evaluated as evaluated_in}
 use Rattle.macro_eval.specs.Meaning.{whole_number, variable_number}
+use Rattle.block_order.specs.declared.frame.Frame.{Frame}
+use Rattle.block_order.specs.Moves.{place_of_jump, place_behind_loop, place_of_head}
 use Rattle.path_state.specs.View.{Fixed, PathView}
-use Rattle.path_state.specs.Looks.{variable_in}
-use Rattle.path_state.specs.Outcomes.{Outcome, ◌>>=◌, evaluated}
-use Rattle.path_state.specs.Places.{Standing, jumped, loop_left, loop_again}
-use Rattle.path_state.specs.Statements.{After, standing_of, existing, number_named, length_of, along, with_offset, written_path, written, named, assigned, tested, sequence_number, aimed, moved, gone_to, gone_next, assigned_next, statement_effect}
+use Rattle.block_values.specs.Readings.{variable_in}
+use Rattle.block_values.specs.Outcomes.{Outcome, ◌>>=◌}
+use Rattle.path_state.specs.Said.{evaluated}
+use Rattle.block_values.specs.Operands.{existing, number_named, length_of, sequence_number}
+use Rattle.path_state.specs.Statements.{After, along, with_offset, written_path, written, named, assigned, tested, aimed, move_effect, jump_effect, next_effect, assigned_next, statement_effect}
 use Rattle.path_state.proofs.NeedsShared.{Asks, then_asks, none_asks, tree_asks}
 
 append_variables : (first second : List Tree)
@@ -85,20 +88,20 @@ module _ (fixed : Fixed) (path : PathView) where
       (tree_asks fixed path tree reads)
       (λ value left. none_asks fixed 0 left (sequence_number (whole_number value)))
 
-  moved_asks : (to : Result Standing Cause) (most : ℕ) (left : List Var)
-      → Asks fixed most left (moved path to left)
-  moved_asks (Ok to) most left = omega arith
-  moved_asks (Err cause) most left = tt
+  move_asks : (to : Result (List Frame) Cause) (most : ℕ) (left : List Var)
+      → Asks fixed most left (move_effect path to left)
+  move_asks (Ok to) most left = omega arith
+  move_asks (Err cause) most left = tt
 
-  gone_to_asks : (tape : List ControlProgram) (aim : Aim) (reads : List Var)
-      → Asks fixed (variables_in (evaluated_aim aim)) reads (gone_to tape fixed path aim reads)
-  gone_to_asks tape aim reads =
+  jump_asks : (tape : List ControlProgram) (aim : Aim) (reads : List Var)
+      → Asks fixed (variables_in (evaluated_aim aim)) reads (jump_effect tape fixed path aim reads)
+  jump_asks tape aim reads =
       then_asks fixed (variables_in (evaluated_aim aim)) 0 _ (omega arith) reads
       (aimed fixed path aim reads) _ (aimed_asks aim reads)
-      (λ n left. moved_asks (jumped tape (standing_of path) n) 0 left)
+      (λ n left. move_asks (place_of_jump tape n path.place) 0 left)
 
-  gone_next_asks : (most : ℕ) (reads : List Var) → Asks fixed most reads (gone_next path reads)
-  gone_next_asks most reads = omega arith
+  next_asks : (most : ℕ) (reads : List Var) → Asks fixed most reads (next_effect path reads)
+  next_asks most reads = omega arith
 
   -- by what a condition comes to
   test_asks : (test : Test) (most all : ℕ) → variables test.left + variables test.right + most ≤ all
@@ -121,18 +124,18 @@ module _ (fixed : Fixed) (path : PathView) where
       → Asks fixed (variables_in (evaluated_in sentence)) reads
       (statement_effect tape fixed path sentence reads)
   statement_asks tape (Assign name tree) reads = assigned_next_asks name tree reads
-  statement_asks tape (Goto aim) reads = gone_to_asks tape aim reads
+  statement_asks tape (Goto aim) reads = jump_asks tape aim reads
   statement_asks tape (IfGoto test aim) reads =
       test_asks test (variables_in (evaluated_aim aim)) _ (omega arith) reads
-      (gone_to tape fixed path aim) (gone_next path)
-      (gone_to_asks tape aim) (gone_next_asks (variables_in (evaluated_aim aim)))
+      (jump_effect tape fixed path aim) (next_effect path)
+      (jump_asks tape aim) (next_asks (variables_in (evaluated_aim aim)))
   statement_asks tape (IfThen test name tree) reads =
       let most = variables_in (evaluated_name name ++ tree ∷ []) in
-      test_asks test most _ (omega arith) reads (assigned_next fixed path name tree) (gone_next path)
-      (assigned_next_asks name tree) (gone_next_asks most)
+      test_asks test most _ (omega arith) reads (assigned_next fixed path name tree) (next_effect path)
+      (assigned_next_asks name tree) (next_asks most)
   statement_asks tape (WhileDo test name) reads =
-      test_asks test 0 _ (omega arith) reads (gone_next path)
-      (λ left. moved path (loop_left tape (standing_of path)) left)
-      (gone_next_asks 0) (moved_asks (loop_left tape (standing_of path)) 0)
-  statement_asks tape (DoOnly name) reads = gone_next_asks 0 reads
-  statement_asks tape (EndLoop name) reads = moved_asks (loop_again tape (standing_of path)) 0 reads
+      test_asks test 0 _ (omega arith) reads (next_effect path)
+      (λ left. move_effect path (place_behind_loop tape path.place) left)
+      (next_asks 0) (move_asks (place_behind_loop tape path.place) 0)
+  statement_asks tape (DoOnly name) reads = next_asks 0 reads
+  statement_asks tape (EndLoop name) reads = move_asks (place_of_head tape path.place) 0 reads

@@ -7,24 +7,24 @@ use Rattle.local_levels.specs.Stack.{all_vacant}
 use Rattle.block_order.specs.declared.control.Control.{Control}
 use Rattle.block_order.specs.declared.control.Control.TheVariants as control
 use Rattle.block_order.specs.declared.program.ControlProgram.{ControlProgram}
-use Rattle.block_forms.specs.declared.word.FlowWord.{FlowWord}
-use Rattle.block_forms.specs.declared.word.WordValue.{WordValue}
-use Rattle.block_forms.specs.declared.word.WordValue.TheVariants.{Fixed as Written, Computed}
+use Rattle.block_words.specs.declared.word.FlowWord.{FlowWord}
+use Rattle.block_words.specs.declared.word.WordValue.{WordValue}
+use Rattle.block_words.specs.declared.word.WordValue.TheVariants.{Fixed as Written, Computed}
 use Rattle.block_forms.specs.declared.block.FlowBlock.{FlowBlock}
 use Rattle.block_forms.specs.declared.body.FlowBody.{FlowBody}
 use Rattle.block_forms.specs.declared.body.FlowBody.TheVariants.{Words, Statement}
-use Rattle.block_forms.specs.declared.purpose.Purpose.{Purpose}
-use Rattle.block_forms.specs.declared.purpose.Purpose.TheVariants.{MacroCall}
+use Rattle.block_words.specs.declared.purpose.Purpose.{Purpose}
+use Rattle.block_words.specs.declared.purpose.Purpose.TheVariants.{MacroCall}
 use Rattle.block_forms.specs.Variables.{variables_of_value, variables_of_words, variables_of_body}
 use Rattle.macro_expr.specs.Tree.{variables, variables_in, evaluated as evaluated_in, sentence_of}
 use Rattle.tape_flow.specs.declared.flow.Flow.{Flow}
 use Rattle.path_state.specs.View.{Fixed, PathView}
 use Rattle.path_state.specs.Looks.{is_shared}
-use Rattle.path_state.specs.Outcomes.{Outcome, Gives, Needs, Alarms, evaluated}
-use Rattle.path_state.specs.Values.{Values, Sense, nothing_said, sense_of, taken, taken_var, word_taken, words_taken}
-use Rattle.path_state.specs.Arguments.{argument_taken, arguments_taken}
-use Rattle.path_state.specs.Places.{Standing, goes_on}
-use Rattle.path_state.specs.Statements.{After, standing_of}
+use Rattle.block_values.specs.Outcomes.{Outcome, Gives, Needs, Alarms}
+use Rattle.path_state.specs.Said.{evaluated, sense_of, word_taken, words_taken, argument_taken, arguments_taken}
+use Rattle.block_values.specs.Values.{Values, Sense, nothing_said, taken, taken_var}
+use Rattle.path_state.specs.Standing.{Standing, standing_of, standing_behind}
+use Rattle.path_state.specs.Statements.{After}
 use Rattle.path_state.specs.Effect.{Effect, Need, Done, AtWait, AtEnd, Alarm, Moved, acted, done_by, controlled, of_moved, of_values, of_arguments, of_purpose, block_of_words, of_after, effect_of_body, effect_of_block, block_at, effect_of}
 use Rattle.path_state.specs.Controlled.{AsksForShared}
 use Rattle.path_state.proofs.NeedsShared.{Asks, then_asks, none_asks, tree_asks}
@@ -81,7 +81,7 @@ module _ (fixed : Fixed) (path : PathView) where
     controlled-asks : (moved : Moved) (arguments : Option (List Var)) (c : Control)
         → AsksFor fixed most reads (controlled tape moved arguments c)
     controlled-asks moved arguments control.End = tt
-    controlled-asks moved arguments c = done-asks moved (goes_on tape (standing_of moved.path) arguments c)
+    controlled-asks moved arguments c = done-asks moved (standing_behind tape (standing_of moved.path) arguments c)
 
     moves-ask : (c : Control) (moved : Result Moved ℕ)
         → AsksFor fixed most reads (of_moved tape c moved)

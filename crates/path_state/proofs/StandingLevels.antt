@@ -2,7 +2,7 @@
 use Rattle.std.proofs.Common.{◌≤◌, List, [], ◌∷◌, length, arith}
 use Rattle.block_forms.specs.declared.called.CallKind.{CallKind}
 use Rattle.block_forms.specs.declared.called.CallKind.TheVariants.{Macro, Subprogram}
-use Rattle.path_state.specs.Routes.{macros}
+use Rattle.path_state.specs.Standing.{macros}
 
 pub macros_few : (calls : List CallKind) → macros calls ≤ length calls
 macros_few [] = omega arith

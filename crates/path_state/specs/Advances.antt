@@ -1,6 +1,5 @@
 -- What a path answers to the turn of a block.
-use Rattle.std.specs.Prelude.{◌≡◌, ◌≤◌, ℕ, length, Option, Some, None}
-use Rattle.nc_number.specs.declared.value.Var.{Var}
+use Rattle.std.specs.Prelude.{◌≡◌, ◌≤◌, ℕ, length}
 use Rattle.nc_moves.specs.declared.motion.Moves.{Moves}
 use Rattle.motion_track.specs.declared.targets.TheConstants.{LONGEST}
 use Rattle.motion_track.specs.Within.{AreMovesWithin}

@@ -1,23 +1,22 @@
 -- What a decision of the code comes to, as an effect.
-use Rattle.std.specs.Prelude.{ℕ, List, [], Option, Some, None, Result, Ok, Err, ℤ}
+use Rattle.std.specs.Prelude.{ℕ, List, [], Some, None, Result, Ok, Err}
 use Rattle.nc_number.specs.declared.value.Var.{Var}
 use Rattle.code_tables.specs.declared.system.System.{System}
 use Rattle.block_order.specs.PlaceSteps.{MayPass}
 use Rattle.path_state.specs.declared.words_step.WordsStep.{WordsStep}
 use Rattle.path_state.specs.declared.decision.Decision.{Decision}
 use Rattle.path_state.specs.declared.decision.Decision.TheVariants as decision
-use Rattle.path_state.specs.declared.outcome.Stop.{Stop}
-use Rattle.path_state.specs.declared.outcome.Stop.TheVariants as stop
+use Rattle.block_values.specs.declared.outcome.Stop.{Stop}
+use Rattle.block_values.specs.declared.outcome.Stop.TheVariants as stop
 use Rattle.block_order.specs.declared.control.Control.{Control}
 use Rattle.block_order.specs.declared.program.ControlProgram.{ControlProgram}
-use Rattle.block_forms.specs.declared.word.FlowWord.{FlowWord}
-use Rattle.path_state.specs.declared.values.Values as kept
-use Rattle.path_state.specs.Seen.{values_seen}
+use Rattle.block_words.specs.declared.word.FlowWord.{FlowWord}
+use Rattle.block_values.specs.declared.values.Values as kept
+use Rattle.block_values.specs.Seen.{values_seen}
 use Rattle.path_state.specs.View.{PathView}
-use Rattle.path_state.specs.Places.{Standing}
 use Rattle.path_state.specs.declared.route.Route.TheVariants.{Call}
-use Rattle.path_state.specs.Routes.{gone}
-use Rattle.path_state.specs.Statements.{standing_of, with_standing}
+use Rattle.path_state.specs.Routes.{route_end}
+use Rattle.path_state.specs.Standing.{standing_of, with_standing}
 use Rattle.path_state.specs.StatementSteps.{after_step, done_at}
 use Rattle.path_state.specs.Effect.{Effect, Need, Done, AtWait, AtEnd, Alarm, Moved, acted, controlled, of_moved, with_set_offset}
 
@@ -58,9 +57,9 @@ decided path (decision.AtWait code) = AtWait code
 decided path (decision.AtEnd step) = AtEnd (behind_words path step) step.moves
 decided path (decision.Alarm number value) = Alarm number value
 decided path (decision.Words step route) =
-    Done (with_standing (behind_words path step) (gone (standing_of path) None route)) None step.moves
+    Done (with_standing (behind_words path step) (route_end (standing_of path) None route)) None step.moves
 decided path (decision.Macro program repeats arguments) =
-    Done (with_standing path (gone (standing_of path) (Some arguments) (Call program repeats))) None []
+    Done (with_standing path (route_end (standing_of path) (Some arguments) (Call program repeats))) None []
 decided path (decision.Statement step) = done_at (after_step path step)
 
 -- where control goes on from a block, there is a number for the one behind it

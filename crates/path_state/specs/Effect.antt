@@ -1,5 +1,5 @@
 -- What a block does to its path: the whole, step by step.
-use Rattle.std.specs.Prelude.{ℕ, Bool, true, false, List, [], ◌∷◌, Option, Some, None, Result, Ok, Err, ℤ, pos, codes}
+use Rattle.std.specs.Prelude.{ℕ, List, [], ◌∷◌, Option, Some, None, Result, Ok, Err, ℤ, pos, codes}
 use Rattle.nc_number.specs.declared.cause.Cause.{Cause}
 use Rattle.nc_number.specs.declared.cause.Cause.TheVariants.{RanOff}
 use Rattle.nc_number.specs.declared.point.Point.{Point}
@@ -8,22 +8,16 @@ use Rattle.nc_number.specs.Causes.{cause_number}
 use Rattle.nc_moves.specs.declared.motion.Move.{Move}
 use Rattle.code_tables.specs.declared.system.System.{System}
 use Rattle.local_levels.specs.Stack.{all_vacant}
-use Rattle.modal_state.specs.declared.fault.ModalFault.{ModalFault}
-use Rattle.modal_state.specs.declared.words.ModalWords.{ModalWords}
-use Rattle.modal_state.specs.declared.words.SpeedWord.{SpeedWord}
-use Rattle.modal_state.specs.declared.words.SpeedWord.TheVariants.{Speed, Limit}
 use Rattle.modal_state.specs.View.{ModalView}
-use Rattle.modal_state.specs.Modal.{with_codes}
-use Rattle.modal_state.specs.Words.{with_words, tool_fault}
 use Rattle.offset_store.specs.declared.slot.Slot.{Slot}
 use Rattle.offset_store.specs.Table.{OffsetTable}
 use Rattle.offset_store.specs.Changes.{with_point}
 use Rattle.block_order.specs.declared.control.Control.{Control}
 use Rattle.block_order.specs.declared.control.Control.TheVariants.{Wait, End}
 use Rattle.block_order.specs.declared.program.ControlProgram.{ControlProgram}
-use Rattle.block_forms.specs.declared.word.FlowWord.{FlowWord}
-use Rattle.block_forms.specs.declared.purpose.Purpose.{Purpose}
-use Rattle.block_forms.specs.declared.purpose.Purpose.TheVariants.{MacroCall}
+use Rattle.block_words.specs.declared.word.FlowWord.{FlowWord}
+use Rattle.block_words.specs.declared.purpose.Purpose.{Purpose}
+use Rattle.block_words.specs.declared.purpose.Purpose.TheVariants.{MacroCall}
 use Rattle.block_order.specs.declared.frame.Frame.{Frame}
 use Rattle.block_forms.specs.declared.block.FlowBlock.{FlowBlock}
 use Rattle.block_forms.specs.declared.body.FlowBody.{FlowBody}
@@ -31,17 +25,18 @@ use Rattle.block_forms.specs.declared.body.FlowBody.TheVariants.{Words, Statemen
 use Rattle.tape_flow.specs.declared.flow.Flow.{Flow}
 use Rattle.tape_flow.specs.declared.program.FlowProgram.{FlowProgram}
 use Rattle.tape_flow.specs.Places.{flow_block}
-use Rattle.block_forms.specs.Words.{has}
-use Rattle.block_forms.specs.Codes.{rows, one_shot, gives, is_limit, m_code}
+use Rattle.block_words.specs.Words.{has}
+use Rattle.block_words.specs.Codes.{one_shot, gives, is_limit, m_code}
 use Rattle.macro_expr.specs.Tree.{Sentence, sentence_of}
 use Rattle.path_state.specs.View.{Fixed, PathView}
-use Rattle.path_state.specs.Outcomes.{Outcome, Gives, Needs, Alarms}
-use Rattle.path_state.specs.Values.{Values, nothing_said, sense_of, words_taken}
-use Rattle.path_state.specs.Arguments.{arguments_taken}
-use Rattle.path_state.specs.Motion.{Motion, motion_kind, motion_of}
-use Rattle.path_state.specs.Moves.{all_moves, last_end}
-use Rattle.path_state.specs.Places.{Standing, goes_on}
-use Rattle.path_state.specs.Statements.{Write, After, standing_of, with_standing, statement_effect}
+use Rattle.block_values.specs.Outcomes.{Outcome, Gives, Needs, Alarms}
+use Rattle.block_values.specs.Values.{Values, nothing_said}
+use Rattle.path_state.specs.Said.{sense_of, words_taken, arguments_taken}
+use Rattle.block_values.specs.InForce.{modal_after}
+use Rattle.block_values.specs.Motion.{Motion, motion_kind, motion_of}
+use Rattle.block_values.specs.Moves.{all_moves, last_end}
+use Rattle.path_state.specs.Standing.{Standing, standing_of, with_standing, standing_behind}
+use Rattle.path_state.specs.Statements.{Write, After, statement_effect}
 
 -- what a block comes to, and at most one write to a shared variable
 pub data Effect : Type 0 where
@@ -51,24 +46,6 @@ pub data Effect : Type 0 where
   -- the path stays on the block
   AtEnd : (path : PathView) → (moves : List Move) → Effect
   Alarm : (number : ℕ) → (value : ℤ) → Effect
-
--- S of a block: beside G50 it is the highest speed
-abbrev pub speed_word : Bool → Var → SpeedWord
-speed_word true s = Limit s
-speed_word false s = Speed s
-
-abbrev pub modal_words : Bool → Values → ModalWords
-modal_words limits values = record { feed = values.feed; speed = speed_word limits values.speed; tool = values.tool }
-
-abbrev pub unless_fault : Option ModalFault → ModalView → Result ModalView ℕ
-unless_fault None modal = Ok modal
-unless_fault (Some fault) modal = Err fault.number
-
--- G codes set their groups, and F, S and T are taken; alarm 40 of T
-abbrev pub modal_after : ModalView → System → List FlowWord → Values → Result ModalView ℕ
-modal_after modal system words values =
-    unless_fault (tool_fault values.tool)
-    (with_words (with_codes modal (rows system words)) (modal_words (gives system is_limit words) values))
 
 abbrev pub with_set_offset : OffsetTable → Option (Slot × Point) → OffsetTable
 with_set_offset offsets None = offsets
@@ -98,7 +75,7 @@ after_motion path modal system words values (Err number) = Err number
 abbrev pub motion_with : Fixed → PathView → System → List FlowWord → Values → Result ModalView ℕ → Result Moved ℕ
 motion_with fixed path system words values (Ok modal) =
     after_motion path modal system words values
-    (motion_of fixed path modal (motion_kind modal (one_shot system words)) (has (codes "L") words) values)
+    (motion_of fixed.home path.position path.offsets modal (motion_kind modal (one_shot system words)) (has (codes "L") words) values)
 motion_with fixed path system words values (Err number) = Err number
 
 -- the modal state and then the motion of a block whose words are evaluated, its G codes those of the system
@@ -116,7 +93,7 @@ done_by moved (Err cause) = alarm_of cause
 -- control behind the moves of a block; at the end the path stays on the block
 abbrev pub controlled : List ControlProgram → Moved → Option (List Var) → Control → Effect
 controlled tape moved arguments End = AtEnd moved.path moved.moves
-controlled tape moved arguments control = done_by moved (goes_on tape (standing_of moved.path) arguments control)
+controlled tape moved arguments control = done_by moved (standing_behind tape (standing_of moved.path) arguments control)
 
 abbrev pub of_moved : List ControlProgram → Control → Result Moved ℕ → Effect
 of_moved tape control (Ok moved) = controlled tape moved None control

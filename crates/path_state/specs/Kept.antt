@@ -7,9 +7,7 @@ use Rattle.modal_state.specs.View.{ModalView}
 use Rattle.offset_store.specs.Table.{OffsetTable}
 use Rattle.path_state.specs.declared.path.Fixed as kept
 use Rattle.path_state.specs.View.{Fixed, PathView}
-use Rattle.path_state.specs.Places.{Standing}
-use Rattle.path_state.specs.Routes.{IsMatched}
-use Rattle.path_state.specs.Statements.{standing_of}
+use Rattle.path_state.specs.Standing.{Standing, IsMatched, standing_of}
 
 abbrev pub fixed_of : kept.Fixed → Fixed
 fixed_of fixed = record { home = fixed.home; shared100 = fixed.shared100; shared500 = fixed.shared500 }

@@ -1,19 +1,12 @@
 pub mod View
 pub mod Looks
-pub mod Outcomes
-pub mod Purposes
-pub mod Values
-pub mod Motion
-pub mod Moves
-pub mod Arguments
-pub mod Jumps
-pub mod Places
+pub mod Said
+pub mod Standing
 pub mod Routes
 pub mod Statements
 pub mod Effect
 pub mod Writings
 pub mod StatementSteps
-pub mod Within
 pub mod Kept
 pub mod Decisions
 pub mod Fits
@@ -23,5 +16,3 @@ pub mod Controlled
 pub mod Edits
 pub mod Ahead
 pub mod Worked
-pub mod Seen
-pub mod Drawn

@@ -18,9 +18,9 @@ use Rattle.macro_expr.specs.Tree.{Tree, Number, Variable, Joined, Fixed as Numbe
 use Rattle.block_order.specs.declared.control.Control.TheVariants.{Next, Call, Back, End}
 use Rattle.block_order.specs.declared.frame.Frame.{Frame}
 use Rattle.block_forms.specs.declared.called.CallKind.TheVariants.{Macro}
-use Rattle.block_forms.specs.declared.purpose.Purpose.TheVariants.{Other, MacroCall, Dwell, Return}
-use Rattle.block_forms.specs.declared.word.FlowWord.{FlowWord}
-use Rattle.block_forms.specs.declared.word.WordValue.TheVariants.{Fixed as Written, Computed}
+use Rattle.block_words.specs.declared.purpose.Purpose.TheVariants.{Other, MacroCall, Dwell, Return}
+use Rattle.block_words.specs.declared.word.FlowWord.{FlowWord}
+use Rattle.block_words.specs.declared.word.WordValue.TheVariants.{Fixed as Written, Computed}
 use Rattle.path_state.specs.View.{Fixed, PathView}
 use Rattle.path_state.specs.Effect.{Effect, Need, Done, AtEnd, Alarm, block_of_words, block_of_statement}
 

@@ -1,6 +1,5 @@
 -- What a statement writes.
-use Rattle.std.specs.Prelude.{ℕ, Bool, true, ◌&&◌, ◌||◌, nat_le, Some, None}
-use Rattle.nc_number.specs.declared.value.Var.{Var}
+use Rattle.std.specs.Prelude.{ℕ, Bool, ◌&&◌, ◌||◌, nat_le, Some, None}
 use Rattle.nc_number.specs.Position.{is_position}
 use Rattle.common_vars.specs.Common.{with_value}
 use Rattle.local_levels.specs.Stack.{with_local}

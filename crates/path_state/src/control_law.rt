@@ -10,7 +10,7 @@ ghost use Rattle.block_order.specs.Labels.{IsUnforked};
 ghost use Rattle.block_order.specs.Steps.{IsPlace, standing};
 ghost use Rattle.nc_text.specs.declared.tape.Program.{Program};
 ghost use Rattle.block_forms.specs.declared.body.FlowBody.{FlowBody};
-ghost use Rattle.block_forms.specs.declared.dialect.Dialect.{Dialect};
+ghost use Rattle.block_words.specs.declared.dialect.Dialect.{Dialect};
 ghost use Rattle.block_forms.specs.Variables.{variables_of_body};
 ghost use Rattle.tape_flow.specs.declared.flow.Flow.{Flow};
 ghost use Rattle.tape_flow.specs.Exact.{IsAccepted};

@@ -11,11 +11,9 @@ ghost use Rattle.local_levels.specs.Stack.{local};
 ghost use Rattle.cell_settings.specs.Preset.{is_path, IsPreset};
 ghost use Rattle.offset_store.specs.Offsets.{no_offsets};
 ghost use Rattle.tape_flow.specs.Places.{line_at};
-ghost use Rattle.path_state.specs.Statements.{standing_of, with_standing};
-ghost use Rattle.path_state.specs.Routes.{gone};
+ghost use Rattle.path_state.specs.Standing.{standing_of};
 ghost use Rattle.path_state.specs.Opening.{opening_path, preset_slot, with_preset, with_presets};
 
-use crate::route::Route;
 use crate::standing::Standing;
 use block_order::{BlockOrder, Place};
 use cell_settings::{Preset, PresetKind, Settings};
@@ -147,14 +145,6 @@ impl PathState {
         ensures { result.now ≡ standing_of self.now }
     {
         &self.standing
-    }
-
-    /// Lets control go there.
-    pub(crate) fn go(&mut self, route: Route)
-        requires { MayPass self.old.place }
-        ensures { self.new ≡ with_standing self.old (gone (standing_of self.old) None route) }
-    {
-        self.standing.go(route);
     }
 
     /// Goes on behind a wait at which the path stands.

@@ -1,10 +1,8 @@
-/// Where control goes behind a block that is done.
+/// Where control goes behind a block of words that is done.
 #[derive(Clone, Copy, Debug, PartialEq, Eq)]
 pub enum Route {
     /// To the next block.
     Next,
-    /// To a block of the running program.
-    To(u32),
     /// Into a program that is called, to run it so many times.
     Call { program: u16, repeats: u16 },
     /// Back, as M99 leads: to the next repeat, behind the call, or to the start of the main program.

@@ -1,98 +1,16 @@
 //! What a path holds of each variable, as a block begins.
-ghost use Rattle.std.specs.Prelude.{◌≡◌, ℕ, ◌≤◌, ◌-ℤ◌, unsigned_abs, Ok, IfSome};
-ghost use Rattle.nc_number.specs.Position.{IsWithin, travel};
+ghost use Rattle.std.specs.Prelude.{◌≡◌, ◌-ℤ◌, Ok};
+ghost use Rattle.nc_number.specs.Position.{IsWithin};
 ghost use Rattle.offset_store.specs.Offsets.{shift_travel};
-ghost use Rattle.common_vars.specs.Variables.{IsVariable, variable_of};
-ghost use Rattle.path_state.specs.Looks.{look_of, held, part, or_vacant, in_units, in_millimetres, code_in_force, shift_now, is_shared, is_there, variable_in};
+ghost use Rattle.common_vars.specs.Variables.{IsVariable};
+ghost use Rattle.block_values.specs.Readings.{part, in_units, in_millimetres, code_in_force, variable_in};
+ghost use Rattle.path_state.specs.Looks.{look_of, held, shift_now, is_shared};
 
 use crate::path::PathState;
-use common_vars::{AxisLetter, Variable, a_variable_has_one_number, variable_of};
+use block_values::{code_in_force, in_millimetres, in_units, part, programmed, variable_in};
+use common_vars::{AxisLetter, Variable};
 use macro_eval::{Look, Scope, VarFault};
-use modal_state::Modal;
-use nc_number::{Point, Value, Var};
-
-/// The variable of a number, if there is one.
-fn known_variable(number: u32) -> Option<Variable>
-    ensures named { result ≡ variable_of number }
-    ensures exists { IfSome result IsVariable }
-{
-    a_variable_has_one_number();
-    variable_of(number)
-}
-
-/// Whether the variable is one of the system whose codes are in force: the code of a modal group is where
-/// the system has the group, and every other variable.
-fn is_there(modal: &Modal, variable: Variable) -> bool
-    ensures { result ≡ is_there modal.now variable }
-{
-    match variable {
-        Variable::Code(group) => modal.code(group).is_some(),
-        _ => true,
-    }
-}
-
-/// The variable of a number in the system whose codes are in force, if there is one.
-pub(crate) fn variable_in(modal: &Modal, number: u32) -> Option<Variable>
-    ensures named { result ≡ variable_in modal.now number }
-    ensures exists { IfSome result IsVariable }
-{
-    match known_variable(number) {
-        Some(variable) if is_there(modal, variable) => Some(variable),
-        _ => None,
-    }
-}
-
-/// The part of a point along an axis.
-fn part(axis: AxisLetter, point: &Point) -> i64
-    ensures part { result ≡ part axis point.now }
-    ensures within { (far : ℕ) → IsWithin far point.now → unsigned_abs result ≤ far }
-{
-    match axis {
-        AxisLetter::X => point.x,
-        AxisLetter::Z => point.z,
-    }
-}
-
-/// A programmed length: that of the machine without the shift.
-fn without(shift: i64, length: i64) -> i64
-    requires shift { unsigned_abs shift ≤ shift_travel }
-    requires length { unsigned_abs length ≤ travel }
-    ensures { result ≡ length -ℤ shift }
-{
-    length - shift
-}
-
-fn or_vacant(value: Option<Value>) -> Var
-    ensures { result ≡ or_vacant value }
-{
-    match value {
-        Some(value) => Var::Is(value),
-        None => Var::Vacant,
-    }
-}
-
-/// A number in whole units.
-fn in_units(number: u16) -> Var
-    ensures { result ≡ in_units number }
-{
-    or_vacant(Value::of_units(i64::from(number)))
-}
-
-/// A length in 0.001 mm, as millimetres.
-fn in_millimetres(length: i64) -> Var
-    ensures { result ≡ in_millimetres length }
-{
-    or_vacant(Value::of_increments(length))
-}
-
-fn code_in_force(code: Option<u16>) -> Var
-    ensures { result ≡ code_in_force code }
-{
-    match code {
-        Some(code) => in_units(code),
-        None => Var::Vacant,
-    }
-}
+use nc_number::{Point, Var};
 
 impl PathState {
     /// Whether both paths share the variable.
@@ -114,8 +32,7 @@ impl PathState {
     fn programmed(&self, axis: AxisLetter) -> Var
         ensures { result ≡ in_millimetres (part axis self.now.position -ℤ part axis (shift_now self.now)) }
     {
-        let shift = self.shift_now();
-        in_millimetres(without(part(axis, &shift), part(axis, &self.position)))
+        programmed(axis, &self.shift_now(), &self.position)
     }
 
     /// A common variable.

@@ -1,102 +1,37 @@
 //! What a statement does: an assignment, a jump, the head or the end of a loop.
-ghost use Rattle.std.specs.Prelude.{◌≡◌, ◌≤◌, ◌++◌, ◌∷◌, ℕ, [], List, IfOk, length};
+ghost use Rattle.std.specs.Prelude.{◌≡◌, ◌≤◌, ◌++◌, ◌∷◌, ℕ, [], List, length};
 ghost use Rattle.nc_number.specs.declared.value.Var.{Var};
 ghost use Rattle.common_vars.specs.Variables.{IsVariable};
 ghost use Rattle.macro_expr.specs.Tree.{IfGoto, IfThen, WhileDo, variable_of, test_of, aim_of, sentence_of, evaluated_name, evaluated_test, evaluated_aim};
-ghost use Rattle.macro_eval.specs.Meaning.{variable_number, whole_number};
 ghost use Rattle.block_order.specs.declared.program.ControlProgram.{ControlProgram};
 ghost use Rattle.block_order.specs.PlaceSteps.{MayPass};
 ghost use Rattle.path_state.specs.View.{PathView};
-ghost use Rattle.path_state.specs.Looks.{is_shared, variable_in};
-ghost use Rattle.path_state.specs.Outcomes.{reading_none, evaluated};
-ghost use Rattle.path_state.specs.Seen.{outcome_of};
-ghost use Rattle.path_state.specs.Routes.{led};
-ghost use Rattle.path_state.specs.Statements.{existing, number_named, named, length_of, with_common, written, assigned_next, tested, sequence_number, aimed, moved, gone_to, standing_of, statement_effect};
+ghost use Rattle.path_state.specs.Looks.{is_shared};
+ghost use Rattle.block_values.specs.Seen.{outcome_of};
+ghost use Rattle.block_order.specs.Moves.{place_to};
+ghost use Rattle.block_values.specs.Operands.{length_of};
+ghost use Rattle.path_state.specs.Statements.{named, with_common, written, assigned_next, aimed, move_effect, jump_effect, statement_effect};
 ghost use Rattle.path_state.specs.Effect.{of_after};
-ghost use Rattle.path_state.specs.Writings.{after_change};
-ghost use Rattle.path_state.specs.StatementSteps.{after_writing, after_step, step_seen, write_seen, taken_next, compared};
+ghost use Rattle.path_state.specs.StatementSteps.{after_writing, after_step, step_seen, write_seen, taken_next};
 
-use crate::outcome::Stop;
 use crate::path::PathState;
-use crate::route::Route;
-use crate::scope::variable_in;
-use crate::standing::Standing;
 use crate::writing::{Change, StatementStep, Writing};
 use block_forms::FlowStatement;
 use block_order::BlockOrder;
+use block_values::{Stop, condition_taken, length_of, sequence_taken, value_taken, variable_taken};
 use common_vars::{AxisLetter, Variable};
-use macro_eval::{Code, Eval, evaluate, holds, variable_number, whole_number};
-use macro_expr::{Cond, Rel, Statement, Target, VarRef};
-use modal_state::Modal;
-use nc_number::{Axis, Cause, Value, Var, to_increment};
+use macro_eval::Code;
+use macro_expr::{Cond, Statement, Target, VarRef};
+use nc_number::{Axis, Cause, Var};
 use offset_store::{Slot, WorkNumber};
 
-/// The variable of a number, or alarm 30.
-fn existing(modal: &Modal, number: u32) -> Result<Variable, Cause>
-    ensures existing { result ≡ existing (variable_in modal.now number) }
-    ensures exists { IfOk result IsVariable }
-{
-    match variable_in(modal, number) {
-        Some(variable) => Ok(variable),
-        None => Err(Cause::VariableRange),
-    }
-}
-
-/// The variable whose number was computed, or alarm 4 or 30.
-fn number_named(modal: &Modal, value: &Var) -> Result<Variable, Cause>
-    ensures named { result ≡ number_named modal.now (variable_number value.now) }
-    ensures exists { IfOk result IsVariable }
-{
-    match variable_number(value) {
-        Ok(number) => existing(modal, number),
-        Err(cause) => Err(cause),
-    }
-}
-
-/// A variable, or the alarm of the cause.
-fn variable_or_stop(variable: Result<Variable, Cause>) -> Result<Variable, Stop>
-    ensures same { (left : List Var) → outcome_of (λ found. found) result left ≡ reading_none variable left }
-    ensures exists { IfOk variable IsVariable → IfOk result IsVariable }
-{
-    match variable {
-        Ok(variable) => Ok(variable),
-        Err(cause) => Err(Stop::of(cause)),
-    }
-}
-
-/// A computed sequence number: alarm 4 where it is not whole, and 50 where it is below 0.
-fn sequence_number(value: &Var) -> Result<u32, Cause>
-    ensures { result ≡ sequence_number (whole_number value.now) }
-{
-    match whole_number(value) {
-        Ok(number) if number < 0 => Err(Cause::NoSequence),
-        Ok(number) => Ok(number.unsigned_abs() as u32),
-        Err(cause) => Err(cause),
-    }
-}
-
-fn sequence_or_stop(number: Result<u32, Cause>) -> Result<u32, Stop>
-    ensures { (left : List Var) → outcome_of (λ found. found) result left ≡ reading_none number left }
-{
-    match number {
-        Ok(number) => Ok(number),
-        Err(cause) => Err(Stop::of(cause)),
-    }
-}
-
-/// A value in millimetres as a length in 0.001 mm, halves away from zero; a vacant one counts as 0.
-fn length_of(value: &Var) -> i64
-    ensures { result ≡ length_of value.now }
-{
-    to_increment(value.or_zero())
-}
-
-fn step_by(route: Result<Route, Cause>) -> Result<StatementStep, Stop>
+/// A step to a block of the running program, or the alarm of why there is none.
+fn step_to(block: Result<u32, Cause>) -> Result<StatementStep, Stop>
     ensures { (path : PathView) (left : List Var)
-        → step_seen path result ≡ of_after (moved path (led (standing_of path) None route) left) }
+        → step_seen path result ≡ of_after (move_effect path (place_to path.place block) left) }
 {
-    match route {
-        Ok(route) => Ok(StatementStep::Go(route)),
+    match block {
+        Ok(block) => Ok(StatementStep::To(block)),
         Err(cause) => Err(Stop::of(cause)),
     }
 }
@@ -111,43 +46,6 @@ fn parted(codes: &[Code]) -> (&[Code], &Code)
 }
 
 impl PathState {
-    /// The value of an expression, and the reads that are left.
-    fn evaluated<'a>(&self, code: &Code, reads: &'a [Var]) -> (Result<Var, Stop>, &'a [Var])
-        ensures { outcome_of (λ value. value) result.0 result.1.now
-            ≡ evaluated self.now.fixed self.now code.now reads.now }
-    {
-        let (answer, left) = evaluate(code, self, reads);
-        match answer {
-            Eval::Got(value) => (Ok(value), left),
-            Eval::Need(variable) => (Err(Stop::Needs(variable)), left),
-            Eval::Fault(number) => (Err(Stop::fault(number)), left),
-        }
-    }
-
-    /// The variable on the left side, whose number is computed where it is not written out.
-    fn named<'a>(
-        &self,
-        name: &VarRef,
-        number: &[Code],
-        reads: &'a [Var],
-    ) -> (Result<Variable, Stop>, &'a [Var])
-        requires { number.now ≡ evaluated_name (variable_of name.now) }
-        ensures named { outcome_of (λ found. found) result.0 result.1.now
-            ≡ named self.now.fixed self.now (variable_of name.now) reads.now }
-        ensures exists { IfOk result.0 IsVariable }
-    {
-        match name {
-            VarRef::Fixed(n) => (variable_or_stop(existing(&self.modal, *n)), reads),
-            VarRef::Computed(_) => {
-                let (answer, left) = self.evaluated(&number[0], reads);
-                match answer {
-                    Ok(value) => (variable_or_stop(number_named(&self.modal, &value)), left),
-                    Err(stop) => (Err(stop), left),
-                }
-            }
-        }
-    }
-
     /// A common variable takes a value, its own or a shared one.
     fn common_written(&self, v: u32, value: &Var) -> Writing
         requires { IsVariable (Variable.Common v) }
@@ -211,7 +109,7 @@ impl PathState {
         ensures { step_seen self.now result
             ≡ of_after (taken_next self.now.fixed self.now variable value.now reads.now) }
     {
-        let (answer, _) = self.evaluated(value, reads);
+        let (answer, _) = value_taken(value, self, reads);
         match answer {
             Ok(value) => match self.written(variable, value) {
                 Ok(writing) => Ok(StatementStep::Write(writing)),
@@ -233,74 +131,15 @@ impl PathState {
         ensures { step_seen self.now result
             ≡ of_after (assigned_next self.now.fixed self.now (variable_of name.now) value.now reads.now) }
     {
-        let (named, behind_name) = self.named(name, number, reads);
+        let (named, behind_name) = variable_taken(&self.modal, name, number, self, reads);
         match named {
             Ok(variable) => self.takes(variable, value, behind_name),
             Err(stop) => Err(stop),
         }
     }
 
-    /// A condition whose left side is evaluated.
-    fn compared<'a>(
-        &self,
-        rel: Rel,
-        left: Var,
-        right: &Code,
-        reads: &'a [Var],
-    ) -> (Result<bool, Stop>, &'a [Var])
-        ensures { outcome_of (λ holds. holds) result.0 result.1.now
-            ≡ compared self.now.fixed self.now rel left right.now reads.now }
-    {
-        let (answer, rest) = self.evaluated(right, reads);
-        match answer {
-            Ok(right) => (Ok(holds(rel, left, right)), rest),
-            Err(stop) => (Err(stop), rest),
-        }
-    }
-
-    /// A condition, left and then right.
-    fn tested<'a>(
-        &self,
-        condition: &Cond,
-        codes: &[Code],
-        reads: &'a [Var],
-    ) -> (Result<bool, Stop>, &'a [Var])
-        requires { codes.now ≡ evaluated_test (test_of condition.now) }
-        ensures { outcome_of (λ holds. holds) result.0 result.1.now
-            ≡ tested self.now.fixed self.now (test_of condition.now) reads.now }
-    {
-        let (answer, behind_left) = self.evaluated(&codes[0], reads);
-        match answer {
-            Ok(left) => self.compared(condition.rel, left, &codes[1], behind_left),
-            Err(stop) => (Err(stop), behind_left),
-        }
-    }
-
-    /// The sequence number to which a jump goes.
-    fn aimed<'a>(
-        &self,
-        target: &Target,
-        number: &[Code],
-        reads: &'a [Var],
-    ) -> (Result<u32, Stop>, &'a [Var])
-        requires { number.now ≡ evaluated_aim (aim_of target.now) }
-        ensures { outcome_of (λ found. found) result.0 result.1.now
-            ≡ aimed self.now.fixed self.now (aim_of target.now) reads.now }
-    {
-        match target {
-            Target::Fixed(n) => (Ok(*n), reads),
-            Target::Computed(_) => {
-                let (answer, left) = self.evaluated(&number[0], reads);
-                match answer {
-                    Ok(value) => (sequence_or_stop(sequence_number(&value)), left),
-                    Err(stop) => (Err(stop), left),
-                }
-            }
-        }
-    }
-
     /// A jump.
-    fn gone_to(
+    fn jump(
         &self,
         order: &BlockOrder,
         target: &Target,
@@ -309,17 +148,17 @@ impl PathState {
     ) -> Result<StatementStep, Stop>
         requires { number.now ≡ evaluated_aim (aim_of target.now) }
         ensures { step_seen self.now result
-            ≡ of_after (gone_to order.now self.now.fixed self.now (aim_of target.now) reads.now) }
+            ≡ of_after (jump_effect order.now self.now.fixed self.now (aim_of target.now) reads.now) }
     {
-        let (aimed, _) = self.aimed(target, number, reads);
+        let (aimed, _) = sequence_taken(target, number, self, reads);
         match aimed {
-            Ok(number) => step_by(self.standing().jump(order, number)),
+            Ok(number) => step_to(self.place().jump(order, number)),
             Err(stop) => Err(stop),
         }
     }
 
     /// A jump behind IF, whose target is evaluated only where the condition holds.
-    fn gone_if(
+    fn jump_if(
         &self,
         order: &BlockOrder,
         condition: &Cond,
@@ -332,10 +171,10 @@ impl PathState {
             (IfGoto (test_of condition.now) (aim_of target.now)) reads.now) }
     {
         let (test, number) = codes.split_at(2);
-        let (answer, left) = self.tested(condition, test, reads);
+        let (answer, left) = condition_taken(condition, test, self, reads);
         match answer {
-            Ok(true) => self.gone_to(order, target, number, left),
-            Ok(false) => Ok(StatementStep::Go(Route::Next)),
+            Ok(true) => self.jump(order, target, number, left),
+            Ok(false) => Ok(StatementStep::Next),
             Err(stop) => Err(stop),
         }
     }
@@ -355,10 +194,10 @@ impl PathState {
             (IfThen (test_of condition.now) (variable_of name.now) value.now) reads.now) }
     {
         let (test, behind_test) = codes.split_at(2);
-        let (answer, left) = self.tested(condition, test, reads);
+        let (answer, left) = condition_taken(condition, test, self, reads);
         match answer {
             Ok(true) => self.assigned(name, behind_test, value, left),
-            Ok(false) => Ok(StatementStep::Go(Route::Next)),
+            Ok(false) => Ok(StatementStep::Next),
             Err(stop) => Err(stop),
         }
     }
@@ -375,10 +214,10 @@ impl PathState {
         ensures { (name : ℕ) → step_seen self.now result ≡ of_after (statement_effect order.now self.now.fixed self.now
             (WhileDo (test_of condition.now) name) reads.now) }
     {
-        let (answer, _) = self.tested(condition, codes, reads);
+        let (answer, _) = condition_taken(condition, codes, self, reads);
         match answer {
-            Ok(true) => Ok(StatementStep::Go(Route::Next)),
-            Ok(false) => step_by(self.standing().leave_loop(order)),
+            Ok(true) => Ok(StatementStep::Next),
+            Ok(false) => step_to(self.place().loop_exit(order)),
             Err(stop) => Err(stop),
         }
     }
@@ -403,8 +242,8 @@ impl PathState {
                 let (number, value) = parted(codes);
                 self.assigned(name, number, value, reads)
             }
-            Statement::Goto(target) => self.gone_to(order, target, codes, reads),
-            Statement::IfGoto(condition, target) => self.gone_if(
+            Statement::Goto(target) => self.jump(order, target, codes, reads),
+            Statement::IfGoto(condition, target) => self.jump_if(
                 order, condition, target, codes, reads,
             ),
             Statement::IfThen(condition, name, _) => {
@@ -412,8 +251,8 @@ impl PathState {
                 self.assigned_if(condition, name, before, value, reads)
             }
             Statement::WhileDo(condition, _) => self.looped(order, condition, codes, reads),
-            Statement::DoOnly(_) => Ok(StatementStep::Go(Route::Next)),
-            Statement::EndLoop(_) => step_by(self.standing().begin_again(order)),
+            Statement::DoOnly(_) => Ok(StatementStep::Next),
+            Statement::EndLoop(_) => step_to(self.place().loop_head(order)),
         }
     }
 
@@ -426,11 +265,15 @@ impl PathState {
         match step {
             StatementStep::Write(writing) => {
                 let shared = self.change(&writing);
-                self.go(Route::Next);
+                self.standing.pass();
                 shared
             }
-            StatementStep::Go(route) => {
-                self.go(route);
+            StatementStep::Next => {
+                self.standing.pass();
+                None
+            }
+            StatementStep::To(block) => {
+                self.standing.to(block);
                 None
             }
         }

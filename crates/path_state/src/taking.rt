@@ -11,10 +11,10 @@ ghost use Rattle.path_state.specs.View.{PathView};
 
 use crate::advance::Advance;
 use crate::decision::Decision;
-use crate::outcome::Stop;
 use crate::path::PathState;
 use crate::words_step::WordsStep;
 use crate::writing::{Change, StatementStep};
+use block_values::Stop;
 use nc_moves::{MoveList, Moves};
 use nc_number::Var;
 use tape_flow::Flow;
@@ -171,7 +171,8 @@ fn shared_write(step: &StatementStep) -> Option<(u32, Var)>
             Change::Shared(v, value) => Some((v, value)),
             _ => None,
         },
-        StatementStep::Go(_) => None,
+        StatementStep::Next => None,
+        StatementStep::To(_) => None,
     }
 }
 

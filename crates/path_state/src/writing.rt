@@ -2,7 +2,6 @@
 ghost use Rattle.std.specs.Prelude.{IsTrue};
 ghost use Rattle.path_state.specs.Writings.{is_possible};
 
-use crate::route::Route;
 use nc_number::{Point, Var};
 
 /// What is written, and its new value.
@@ -30,6 +29,8 @@ pub struct Writing {
 pub enum StatementStep {
     /// A variable takes a value, and the next block follows.
     Write(Writing),
-    /// Control goes somewhere.
-    Go(Route),
+    /// The next block follows.
+    Next,
+    /// Control goes to a block of the running program.
+    To(u32),
 }

@@ -1,12 +1,12 @@
 //! What the parts of a block come to: its modal state, its motion and its moves in their order.
 use crate::lone_path::{put_var, units};
 use crate::move_text::put_move;
+use block_values::{MotionWords, all_moves, modal_after, motion_of};
 use code_tables::{CodeKind, Row, System, system_a, system_b};
 use modal_state::Modal;
 use nc_moves::{Move, MoveList};
 use nc_number::{Point, Var};
 use offset_store::Offsets;
-use path_state::{MotionWords, all_moves, modal_after, motion_of};
 use std::alloc::{AllocError, Global};
 use std::test::Fail;
 

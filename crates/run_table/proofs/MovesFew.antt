@@ -33,25 +33,28 @@ use Rattle.turn_cycles.specs.End.{cycle_end_of}
 use Rattle.turn_cycles.specs.Pass.{cycle_kind_of, pass_to_end, pass_of}
 use Rattle.offset_store.specs.declared.fault.OffsetFault.{OffsetFault}
 use Rattle.offset_store.specs.declared.slot.Slot.{Slot}
+use Rattle.offset_store.specs.Table.{OffsetTable}
 use Rattle.block_order.specs.declared.control.Control.{Control}
 use Rattle.block_order.specs.declared.control.Control.TheVariants as control
 use Rattle.block_order.specs.declared.program.ControlProgram.{ControlProgram}
-use Rattle.block_forms.specs.declared.word.FlowWord.{FlowWord}
+use Rattle.block_words.specs.declared.word.FlowWord.{FlowWord}
 use Rattle.block_forms.specs.declared.block.FlowBlock.{FlowBlock}
 use Rattle.block_forms.specs.declared.body.FlowBody.{FlowBody}
 use Rattle.block_forms.specs.declared.body.FlowBody.TheVariants.{Words, Statement}
-use Rattle.block_forms.specs.declared.purpose.Purpose.{Purpose}
-use Rattle.block_forms.specs.declared.purpose.Purpose.TheVariants.{MacroCall}
-use Rattle.block_forms.specs.Codes.{gives, is_limit, m_code}
+use Rattle.block_words.specs.declared.purpose.Purpose.{Purpose}
+use Rattle.block_words.specs.declared.purpose.Purpose.TheVariants.{MacroCall}
+use Rattle.block_words.specs.Codes.{gives, is_limit, m_code}
 use Rattle.tape_flow.specs.declared.flow.Flow.{Flow}
 use Rattle.path_state.specs.View.{Fixed, PathView}
-use Rattle.path_state.specs.Outcomes.{Outcome, Gives, Needs, Alarms}
-use Rattle.path_state.specs.Values.{Values, nothing_said, sense_of, words_taken}
-use Rattle.path_state.specs.Moves.{speed_moves, tool_moves, is_auxiliary, auxiliary_moves, all_moves}
-use Rattle.path_state.specs.Motion.{Motion, motion_number, offset_number, setting_of, set_motion, passed_motion, tracked, cut_motion, block_motion, turret_motion, unless_incremental, motion_of}
-use Rattle.path_state.specs.Places.{Standing, goes_on}
-use Rattle.path_state.specs.Statements.{After, standing_of}
-use Rattle.path_state.specs.Effect.{Effect, Need, Done, AtWait, AtEnd, Moved, moved_by, after_motion, motion_with, modal_after, acted, done_by, controlled, of_moved, of_values, of_arguments, of_purpose, block_of_words, of_after, effect_of_body, effect_of_block, block_at, effect_of}
+use Rattle.block_values.specs.Outcomes.{Outcome, Gives, Needs, Alarms}
+use Rattle.block_values.specs.Values.{Values, nothing_said}
+use Rattle.path_state.specs.Said.{sense_of, words_taken}
+use Rattle.block_values.specs.Moves.{speed_moves, tool_moves, is_auxiliary, auxiliary_moves, all_moves}
+use Rattle.block_values.specs.Motion.{Motion, motion_number, offset_number, setting_of, set_motion, passed_motion, tracked, cut_motion, block_motion, turret_motion, unless_incremental, motion_of}
+use Rattle.path_state.specs.Standing.{Standing, standing_of, standing_behind}
+use Rattle.path_state.specs.Statements.{After}
+use Rattle.block_values.specs.InForce.{modal_after}
+use Rattle.path_state.specs.Effect.{Effect, Need, Done, AtWait, AtEnd, Moved, after_motion, motion_with, acted, done_by, controlled, of_moved, of_values, of_arguments, of_purpose, block_of_words, of_after, effect_of_body, effect_of_block, block_at, effect_of}
 use Rattle.path_state.specs.Effect as effect
 use Rattle.run_records.specs.Entries.{Entry, edit_of}
 use Rattle.run_records.specs.declared.edit.Edit.{Edit}
@@ -150,18 +153,18 @@ numbered_few : (r : Result Motion MotionFault) → FewMotion r → FewMotion (mo
 numbered_few (Ok motion) few = few
 numbered_few (Err fault) few = tt
 
-turret_few : (fixed : Fixed) (path : PathView) (modal : ModalView) (k : CodeKind) (values : Values) → FewMotion (turret_motion fixed path modal k values)
-turret_few fixed path modal k values = numbered_few _ (cut_few (cycle_kind_of k) k modal.cycle (block_motion fixed path modal values))
+turret_few : (home position : Point) (offsets : OffsetTable) (modal : ModalView) (k : CodeKind) (values : Values) → FewMotion (turret_motion home position offsets modal k values)
+turret_few home position offsets modal k values = numbered_few _ (cut_few (cycle_kind_of k) k modal.cycle (block_motion home position offsets modal values))
 
 incremental_few : (incremental : Bool) (motion : Result Motion ℕ) → FewMotion motion → FewMotion (unless_incremental incremental motion)
 incremental_few true motion few = tt
 incremental_few false motion few = few
 
-motion_few : (fixed : Fixed) (path : PathView) (modal : ModalView) (k : CodeKind) (has_l : Bool) (values : Values) → FewMotion (motion_of fixed path modal k has_l values)
-motion_few fixed path modal kind.Dwell has_l values = omega arith
-motion_few fixed path modal kind.Setting has_l values = set_few modal.cycle (setting_of path.offsets modal has_l values)
-motion_few fixed path modal kind.Machine has_l values = incremental_few modal.incremental _ (turret_few fixed path modal kind.Machine values)
-motion_few fixed path modal k has_l values = turret_few fixed path modal k values
+motion_few : (home position : Point) (offsets : OffsetTable) (modal : ModalView) (k : CodeKind) (has_l : Bool) (values : Values) → FewMotion (motion_of home position offsets modal k has_l values)
+motion_few home position offsets modal kind.Dwell has_l values = omega arith
+motion_few home position offsets modal kind.Setting has_l values = set_few modal.cycle (setting_of offsets modal has_l values)
+motion_few home position offsets modal kind.Machine has_l values = incremental_few modal.incremental _ (turret_few home position offsets modal kind.Machine values)
+motion_few home position offsets modal k has_l values = turret_few home position offsets modal k values
 
 -- beside the motion there are three at most
 speed_few : (limits : Bool) (modal : ModalView) (speed : Var) → length (speed_moves limits modal speed) ≤ 1
@@ -214,7 +217,7 @@ after_few path modal system words values (Ok motion) few = all_few (gives system
 after_few path modal system words values (Err number) few = tt
 
 with_few : (fixed : Fixed) (path : PathView) (system : System) (words : List FlowWord) (values : Values) (modal : Result ModalView ℕ) → FewMoved (motion_with fixed path system words values modal)
-with_few fixed path system words values (Ok modal) = after_few path modal system words values _ (motion_few fixed path modal _ _ values)
+with_few fixed path system words values (Ok modal) = after_few path modal system words values _ (motion_few fixed.home path.position path.offsets modal _ _ values)
 with_few fixed path system words values (Err number) = tt
 
 module _ (tape : List ControlProgram) (fixed : Fixed) (path : PathView) where
@@ -224,7 +227,7 @@ module _ (tape : List ControlProgram) (fixed : Fixed) (path : PathView) where
 
   controlled_few : (moved : Moved) (arguments : Option (List Var)) (c : Control) → length moved.moves ≤ 7 → FewMoves (controlled tape moved arguments c)
   controlled_few moved arguments control.End few = few
-  controlled_few moved arguments c few = done_few moved (goes_on tape (standing_of moved.path) arguments c) few
+  controlled_few moved arguments c few = done_few moved (standing_behind tape (standing_of moved.path) arguments c) few
 
   moved_few : (c : Control) (moved : Result Moved ℕ) → FewMoved moved → FewMoves (of_moved tape c moved)
   moved_few c (Ok moved) few = controlled_few moved None c few

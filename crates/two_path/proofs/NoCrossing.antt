@@ -18,7 +18,8 @@ use Rattle.macro_eval.specs.declared.scope.Eval.TheVariants.{Got, Need, Fault}
 use Rattle.macro_eval.specs.Meaning.{Answer, made, function_value, operator_value, whole_or_alarm, whole_number, named_by, variable_number, seen, looked_by, looked_up, then_with, meaning}
 use Rattle.path_state.specs.View.{Fixed, PathView}
 use Rattle.path_state.specs.Looks.{look_of}
-use Rattle.path_state.specs.Outcomes.{Outcome, Gives, Needs, Alarms, ◌>>=◌, reading_none, answered, evaluated}
+use Rattle.block_values.specs.Outcomes.{Outcome, Gives, Needs, Alarms, ◌>>=◌, reading_none, answered}
+use Rattle.path_state.specs.Said.{evaluated}
 
 -- the number of another alarm
 abbrev pub IsOther : ℕ → Type 0

@@ -15,32 +15,35 @@ use Rattle.modal_state.specs.Words.{has_tool_offset, with_words}
 use Rattle.block_order.specs.declared.control.Control.{Control}
 use Rattle.block_order.specs.declared.control.Control.TheVariants as control
 use Rattle.block_order.specs.declared.program.ControlProgram.{ControlProgram}
-use Rattle.block_forms.specs.declared.word.FlowWord.{FlowWord}
-use Rattle.block_forms.specs.declared.word.WordValue.{WordValue}
-use Rattle.block_forms.specs.declared.word.WordValue.TheVariants.{Fixed as Written, Computed}
+use Rattle.block_words.specs.declared.word.FlowWord.{FlowWord}
+use Rattle.block_words.specs.declared.word.WordValue.{WordValue}
+use Rattle.block_words.specs.declared.word.WordValue.TheVariants.{Fixed as Written, Computed}
 use Rattle.block_forms.specs.declared.block.FlowBlock.{FlowBlock}
 use Rattle.block_forms.specs.declared.body.FlowBody.{FlowBody}
 use Rattle.block_forms.specs.declared.body.FlowBody.TheVariants.{Words, Statement}
-use Rattle.block_forms.specs.declared.purpose.Purpose.{Purpose}
-use Rattle.block_forms.specs.declared.purpose.Purpose.TheVariants.{MacroCall}
-use Rattle.block_forms.specs.Codes.{rows, one_shot, gives, is_limit}
-use Rattle.block_forms.specs.Ranges.{range_of, fits}
-use Rattle.block_forms.specs.Words.{has}
+use Rattle.block_words.specs.declared.purpose.Purpose.{Purpose}
+use Rattle.block_words.specs.declared.purpose.Purpose.TheVariants.{MacroCall}
+use Rattle.block_words.specs.Codes.{rows, one_shot, gives, is_limit}
+use Rattle.block_words.specs.Ranges.{range_of, fits}
+use Rattle.block_words.specs.Words.{has}
 use Rattle.macro_expr.specs.Tree.{sentence_of}
 use Rattle.tape_flow.specs.declared.flow.Flow.{Flow}
 use Rattle.path_state.specs.View.{Fixed, PathView}
-use Rattle.path_state.specs.Outcomes.{Outcome, Gives, Needs, Alarms, evaluated}
-use Rattle.path_state.specs.Values.{Values, Sense, nothing_said, sense_of, is_meant, with_word, taken, computed, taken_var, word_taken, words_taken}
-use Rattle.path_state.specs.Arguments.{argument_taken, arguments_taken}
-use Rattle.path_state.specs.Motion.{Motion, motion_kind, motion_of}
-use Rattle.path_state.specs.Places.{Standing, goes_on}
-use Rattle.path_state.specs.Statements.{After, standing_of, statement_effect}
-use Rattle.path_state.specs.Effect.{Effect, Moved, modal_words, unless_fault, modal_after, after_motion, motion_with, acted, done_by, controlled, of_moved, of_values, of_arguments, of_purpose, block_of_words, of_after, effect_of_body, effect_of_block, block_at, effect_of}
+use Rattle.block_values.specs.Outcomes.{Outcome, Gives, Needs, Alarms}
+use Rattle.path_state.specs.Said.{evaluated}
+use Rattle.block_values.specs.Values.{Values, Sense, nothing_said, is_meant, with_word, taken, computed, taken_var}
+use Rattle.path_state.specs.Said.{sense_of, word_taken, words_taken}
+use Rattle.path_state.specs.Said.{argument_taken, arguments_taken}
+use Rattle.block_values.specs.Motion.{Motion, motion_kind, motion_of}
+use Rattle.path_state.specs.Standing.{Standing, standing_of, standing_behind}
+use Rattle.path_state.specs.Statements.{After, statement_effect}
+use Rattle.block_values.specs.InForce.{modal_words, unless_fault, modal_after}
+use Rattle.path_state.specs.Effect.{Effect, Moved, after_motion, motion_with, acted, done_by, controlled, of_moved, of_values, of_arguments, of_purpose, block_of_words, of_after, effect_of_body, effect_of_block, block_at}
 use Rattle.path_state.specs.Effect as effect
 use Rattle.two_path.specs.Turns.{blocks_of}
 use Rattle.two_path.specs.Stuck.{RaisesNoCrossing}
 use Rattle.two_path.proofs.NoCrossing.{IsOther, IsOtherError, IsOtherCause, IsOtherAlarm, either, alarm_behind, none_other, tree_other}
-use Rattle.two_path.proofs.NoCrossingPlaces.{goes_on_other}
+use Rattle.two_path.proofs.NoCrossingPlaces.{behind_other}
 use Rattle.two_path.proofs.NoCrossingStatements.{statement_other}
 use Rattle.two_path.proofs.NoCrossingMotion.{itself, motion_other}
 
@@ -81,8 +84,8 @@ motion_with_other : (fixed : Fixed) (path : PathView) (system : System) (words :
     → IsOtherNumber modal → IsOtherNumber (motion_with fixed path system words values modal)
 motion_with_other fixed path system words values (Ok modal) other =
     after_motion_other path modal system words values
-    (motion_of fixed path modal (motion_kind modal (one_shot system words)) (has (codes "L") words) values)
-    (motion_other fixed path modal (motion_kind modal (one_shot system words)) (has (codes "L") words) values)
+    (motion_of fixed.home path.position path.offsets modal (motion_kind modal (one_shot system words)) (has (codes "L") words) values)
+    (motion_other fixed.home path.position path.offsets modal (motion_kind modal (one_shot system words)) (has (codes "L") words) values)
 motion_with_other fixed path system words values (Err number) other = other
 
 acted_other : (fixed : Fixed) (path : PathView) (system : System) (words : List FlowWord) (values : Values)
@@ -129,7 +132,7 @@ module _ (tape : List ControlProgram) where
       → IsOtherEffect (controlled tape moved arguments c)
   controlled_other moved arguments control.End = tt
   controlled_other moved arguments c =
-      done_other moved (goes_on tape (standing_of moved.path) arguments c) (goes_on_other tape (standing_of moved.path) arguments c)
+      done_other moved (standing_behind tape (standing_of moved.path) arguments c) (behind_other tape (standing_of moved.path) arguments c)
 
   moved_other : (c : Control) (moved : Result Moved ℕ) → IsOtherNumber moved → IsOtherEffect (of_moved tape c moved)
   moved_other c (Ok moved) other = controlled_other moved None c

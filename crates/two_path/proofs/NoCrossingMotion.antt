@@ -29,9 +29,8 @@ use Rattle.offset_store.specs.Changes.{point_at, changed_point, in_range}
 use Rattle.offset_store.specs.Faults.{fault as offset_fault}
 use Rattle.offset_store.specs.Slots.{slot_of, slot_named}
 use Rattle.offset_store.specs.Table.{OffsetTable}
-use Rattle.path_state.specs.View.{Fixed, PathView}
-use Rattle.path_state.specs.Values.{Values}
-use Rattle.path_state.specs.Motion.{Motion, motion_number, offset_number, x_axis, z_axis, block_motion, form_of, setting_of, set_motion, passed_motion, tracked, cut_motion, turret_motion, unless_incremental, motion_of}
+use Rattle.block_values.specs.Values.{Values}
+use Rattle.block_values.specs.Motion.{Motion, motion_number, offset_number, x_axis, z_axis, block_motion, form_of, setting_of, set_motion, passed_motion, tracked, cut_motion, turret_motion, unless_incremental, motion_of}
 use Rattle.two_path.proofs.NoCrossing.{IsOtherError, either}
 use Rattle.two_path.proofs.NoCrossingStatements.{offset_alarm, in_range_other}
 
@@ -142,10 +141,10 @@ set_number_other cycle (Ok set) other = tt
 set_number_other cycle (Err f) other = other
 
 -- a motion that leads the turret, also where the machine's own coordinates have no increments
-turret_other : (fixed : Fixed) (path : PathView) (modal : ModalView) (k : CodeKind) (values : Values)
-    → IsOtherError itself (turret_motion fixed path modal k values)
-turret_other fixed path modal k values =
-    let block : BlockMotion = block_motion fixed path modal values in
+turret_other : (home position : Point) (offsets : OffsetTable) (modal : ModalView) (k : CodeKind) (values : Values)
+    → IsOtherError itself (turret_motion home position offsets modal k values)
+turret_other home position offsets modal k values =
+    let block : BlockMotion = block_motion home position offsets modal values in
     motion_number_other (cut_motion (cycle_kind_of k) k modal.cycle block) (cut_other (cycle_kind_of k) k modal.cycle block)
 
 incremental_other : (incremental : Bool) (motion : Result Motion ℕ) → IsOtherError itself motion
@@ -154,12 +153,13 @@ incremental_other true motion other = refl
 incremental_other false motion other = other
 
 -- the motion of a block
-pub motion_other : (fixed : Fixed) (path : PathView) (modal : ModalView) (k : CodeKind) (has_l : Bool) (values : Values)
-    → IsOtherError itself (motion_of fixed path modal k has_l values)
-motion_other fixed path modal kind.Dwell has_l values = tt
-motion_other fixed path modal kind.Setting has_l values =
-    set_number_other modal.cycle (setting_of path.offsets modal has_l values) (setting_other path.offsets modal has_l values)
-motion_other fixed path modal kind.Machine has_l values =
-    incremental_other modal.incremental (turret_motion fixed path modal kind.Machine values)
-    (turret_other fixed path modal kind.Machine values)
-motion_other fixed path modal k has_l values = turret_other fixed path modal k values
+pub motion_other : (home position : Point) (offsets : OffsetTable) (modal : ModalView) (k : CodeKind) (has_l : Bool)
+    (values : Values)
+    → IsOtherError itself (motion_of home position offsets modal k has_l values)
+motion_other home position offsets modal kind.Dwell has_l values = tt
+motion_other home position offsets modal kind.Setting has_l values =
+    set_number_other modal.cycle (setting_of offsets modal has_l values) (setting_other offsets modal has_l values)
+motion_other home position offsets modal kind.Machine has_l values =
+    incremental_other modal.incremental (turret_motion home position offsets modal kind.Machine values)
+    (turret_other home position offsets modal kind.Machine values)
+motion_other home position offsets modal k has_l values = turret_other home position offsets modal k values

@@ -1,5 +1,5 @@
 -- Where control goes raises no alarm of waits that differ.
-use Rattle.std.proofs.Common.{ℕ, zero, suc, nat_lt, List, [], ◌∷◌, length, Option, Some, None, Result, Ok, Err, refl}
+use Rattle.std.proofs.Common.{ℕ, ◌-◌, ◌==◌, ◌||◌, nat_lt, List, [], ◌∷◌, length, Option, Some, None, Result, Ok, Err, refl}
 use Rattle.nc_number.specs.declared.cause.Cause.{Cause}
 use Rattle.nc_number.specs.declared.cause.Cause.TheVariants.{TooDeep, IntoLoop}
 use Rattle.nc_number.specs.declared.value.Var.{Var}
@@ -8,9 +8,9 @@ use Rattle.block_order.specs.declared.control.Control.TheVariants as control
 use Rattle.block_order.specs.declared.frame.Frame.{Frame}
 use Rattle.block_order.specs.declared.program.ControlBlock.{ControlBlock}
 use Rattle.block_order.specs.declared.program.ControlProgram.{ControlProgram}
-use Rattle.block_order.specs.Order.{blocks, seek}
-use Rattle.path_state.specs.Jumps.{end_of_loop, head_of_loop, permits, permitted_target, target_of}
-use Rattle.path_state.specs.Places.{Standing, went, jumped_from, jumped, found, behind, left_from, loop_left, again_from, loop_again, with_call, called, returned_at, returned_to_from, goes_on}
+use Rattle.block_order.specs.Order.{blocks, seek, end_of_loop, head_of_loop, permits, permitted_target, target_of}
+use Rattle.block_order.specs.Moves.{place_to, place_by, place_of_jump, behind_end, place_behind_loop, at_head, place_of_head, place_in, place_of_call, place_of_caller, place_of_jump_back}
+use Rattle.path_state.specs.Standing.{Standing, standing_at, with_call, without_call, standing_behind}
 use Rattle.two_path.proofs.NoCrossing.{IsOtherCause, either}
 
 permitted_other : (bs : List ControlBlock) (block : ℕ) (target : Option ℕ) → IsOtherCause (permitted_target bs block target)
@@ -21,74 +21,55 @@ permitted_other bs block (Some target) =
 target_other : (bs : List ControlBlock) (block n : ℕ) → IsOtherCause (target_of bs block n)
 target_other bs block n = permitted_other bs block (seek bs block n)
 
-went_other : (standing : Standing) (f : Frame) (stack : List Frame) (target : Result ℕ Cause) → IsOtherCause target
-    → IsOtherCause (went standing f stack target)
-went_other standing f stack (Ok target) other = tt
-went_other standing f stack (Err cause) other = other
-
-jumped_from_other : (tape : List ControlProgram) (standing : Standing) (stack : List Frame) (n : ℕ)
-    → IsOtherCause (jumped_from tape standing stack n)
-jumped_from_other tape standing [] n = tt
-jumped_from_other tape standing (f ∷ stack) n =
-    went_other standing f stack (target_of (blocks tape f.program) f.block n)
-    (target_other (blocks tape f.program) f.block n)
+place_by_other : (target : Frame → Result ℕ Cause) → ((f : Frame) → IsOtherCause (target f)) → (place : List Frame)
+    → IsOtherCause (place_by target place)
+place_by_other target others [] = tt
+place_by_other target others (f ∷ stack) = go (target f) (others f)
+  where
+    go : (block : Result ℕ Cause) → IsOtherCause block → IsOtherCause (place_to (f ∷ stack) block)
+    go (Ok block) other = tt
+    go (Err cause) other = other
 
 -- a jump
-pub jumped_other : (tape : List ControlProgram) (standing : Standing) (n : ℕ) → IsOtherCause (jumped tape standing n)
-jumped_other tape standing n = jumped_from_other tape standing standing.place n
+pub jump_other : (tape : List ControlProgram) (n : ℕ) (place : List Frame) → IsOtherCause (place_of_jump tape n place)
+jump_other tape n place =
+    place_by_other (λ f. target_of (blocks tape f.program) f.block n)
+    (λ f. target_other (blocks tape f.program) f.block n) place
 
-found_other : (standing : Standing) (f : Frame) (stack : List Frame) (block : Option ℕ)
-    → IsOtherCause (found standing f stack block)
-found_other standing f stack None = refl
-found_other standing f stack (Some block) = tt
-
-left_from_other : (tape : List ControlProgram) (standing : Standing) (stack : List Frame)
-    → IsOtherCause (left_from tape standing stack)
-left_from_other tape standing [] = tt
-left_from_other tape standing (f ∷ stack) =
-    found_other standing f stack (behind (end_of_loop (blocks tape f.program) f.block))
+behind_end_other : (end : Option ℕ) → IsOtherCause (behind_end end)
+behind_end_other None = refl
+behind_end_other (Some close) = tt
 
 -- behind a loop, and back to its head
-pub left_other : (tape : List ControlProgram) (standing : Standing) → IsOtherCause (loop_left tape standing)
-left_other tape standing = left_from_other tape standing standing.place
+pub exit_other : (tape : List ControlProgram) (place : List Frame) → IsOtherCause (place_behind_loop tape place)
+exit_other tape place =
+    place_by_other (λ f. behind_end (end_of_loop (blocks tape f.program) f.block))
+    (λ f. behind_end_other (end_of_loop (blocks tape f.program) f.block)) place
 
-again_from_other : (tape : List ControlProgram) (standing : Standing) (stack : List Frame)
-    → IsOtherCause (again_from tape standing stack)
-again_from_other tape standing [] = tt
-again_from_other tape standing (f ∷ stack) =
-    found_other standing f stack (head_of_loop (blocks tape f.program) f.block)
+at_head_other : (head : Option ℕ) → IsOtherCause (at_head head)
+at_head_other None = refl
+at_head_other (Some head) = tt
 
-pub again_other : (tape : List ControlProgram) (standing : Standing) → IsOtherCause (loop_again tape standing)
-again_other tape standing = again_from_other tape standing standing.place
+pub head_other : (tape : List ControlProgram) (place : List Frame) → IsOtherCause (place_of_head tape place)
+head_other tape place =
+    place_by_other (λ f. at_head (head_of_loop (blocks tape f.program) f.block))
+    (λ f. at_head_other (head_of_loop (blocks tape f.program) f.block)) place
 
-call_other : (standing : Standing) (arguments : Option (List Var)) (program repeats : ℕ)
-    → IsOtherCause (with_call standing arguments program repeats)
-call_other standing arguments program zero = refl
-call_other standing arguments program (suc more) = tt
+call_other : (program repeats : ℕ) (place : List Frame) → IsOtherCause (place_of_call program repeats place)
+call_other program repeats place =
+    either (λ (r : Result (List Frame) Cause). IsOtherCause r) (repeats == 0 || nat_lt 8 (length place)) (Err TooDeep)
+    (Ok (place_in program (repeats - 1) place)) refl tt
 
-called_other : (standing : Standing) (arguments : Option (List Var)) (program repeats : ℕ)
-    → IsOtherCause (called standing arguments program repeats)
-called_other standing arguments program repeats =
-    either (λ (r : Result Standing Cause). IsOtherCause r) (nat_lt 8 (length standing.place)) (Err TooDeep)
-    (with_call standing arguments program repeats) refl (call_other standing arguments program repeats)
-
-returned_at_other : (standing : Standing) (g : Frame) (stack : List Frame) (target : Result ℕ Cause) → IsOtherCause target
-    → IsOtherCause (returned_at standing g stack target)
-returned_at_other standing g stack (Ok target) other = tt
-returned_at_other standing g stack (Err cause) other = other
-
-returned_from_other : (tape : List ControlProgram) (standing : Standing) (stack : List Frame) (n : ℕ)
-    → IsOtherCause (returned_to_from tape standing stack n)
-returned_from_other tape standing [] n = tt
-returned_from_other tape standing (f ∷ []) n = jumped_other tape standing n
-returned_from_other tape standing (f ∷ g ∷ stack) n =
-    returned_at_other standing g stack (target_of (blocks tape g.program) g.block n)
-    (target_other (blocks tape g.program) g.block n)
+standing_at_other : (s : Standing) (to : Result (List Frame) Cause) → IsOtherCause to → IsOtherCause (standing_at s to)
+standing_at_other s (Ok there) other = tt
+standing_at_other s (Err cause) other = other
 
 -- behind a block of words
-pub goes_on_other : (tape : List ControlProgram) (standing : Standing) (arguments : Option (List Var)) (c : Control)
-    → IsOtherCause (goes_on tape standing arguments c)
-goes_on_other tape standing arguments (control.Call program repeats) = called_other standing arguments program repeats
-goes_on_other tape standing arguments control.Back = tt
-goes_on_other tape standing arguments (control.BackTo n) = returned_from_other tape standing standing.place n
-goes_on_other tape standing arguments _ = tt
+pub behind_other : (tape : List ControlProgram) (s : Standing) (arguments : Option (List Var)) (c : Control)
+    → IsOtherCause (standing_behind tape s arguments c)
+behind_other tape s arguments (control.Call program repeats) =
+    standing_at_other (with_call arguments s) (place_of_call program repeats s.place) (call_other program repeats s.place)
+behind_other tape s arguments control.Back = tt
+behind_other tape s arguments (control.BackTo n) =
+    standing_at_other (without_call s) (place_of_jump_back tape n s.place) (jump_other tape n (place_of_caller s.place))
+behind_other tape s arguments _ = tt

@@ -16,13 +16,16 @@ use Rattle.block_order.specs.declared.program.ControlProgram.{ControlProgram}
 use Rattle.macro_expr.specs.Tree.{Tree, Named, Fixed as Numbered, Computed, Test, Aim, ToNumber, ToNumberOf, Sentence, Assign, Goto, IfGoto, IfThen, WhileDo, DoOnly, EndLoop}
 use Rattle.macro_eval.specs.Meaning.{whole_number, variable_number}
 use Rattle.modal_state.specs.View.{ModalView}
+use Rattle.block_order.specs.declared.frame.Frame.{Frame}
+use Rattle.block_order.specs.Moves.{place_of_jump, place_behind_loop, place_of_head}
 use Rattle.path_state.specs.View.{Fixed, PathView}
-use Rattle.path_state.specs.Looks.{variable_in}
-use Rattle.path_state.specs.Outcomes.{Outcome, ◌>>=◌, evaluated}
-use Rattle.path_state.specs.Places.{Standing, jumped, loop_left, loop_again}
-use Rattle.path_state.specs.Statements.{After, standing_of, existing, number_named, length_of, along, with_offset, written_path, written, named, assigned, tested, sequence_number, aimed, moved, gone_to, gone_next, assigned_next, statement_effect}
+use Rattle.block_values.specs.Readings.{variable_in}
+use Rattle.block_values.specs.Outcomes.{Outcome, ◌>>=◌}
+use Rattle.path_state.specs.Said.{evaluated}
+use Rattle.block_values.specs.Operands.{existing, number_named, length_of, sequence_number}
+use Rattle.path_state.specs.Statements.{After, along, with_offset, written_path, written, named, assigned, tested, aimed, move_effect, jump_effect, next_effect, assigned_next, statement_effect}
 use Rattle.two_path.proofs.NoCrossing.{IsOtherError, IsOtherCause, IsOtherAlarm, either, alarm_behind, none_other, whole_number_other, variable_number_other, tree_other}
-use Rattle.two_path.proofs.NoCrossingPlaces.{jumped_other, left_other, again_other}
+use Rattle.two_path.proofs.NoCrossingPlaces.{jump_other, exit_other, head_other}
 
 abbrev pub offset_alarm : OffsetFault → ℕ
 offset_alarm f = f.number
@@ -92,15 +95,15 @@ module _ (fixed : Fixed) (path : PathView) where
       (λ value left. none_other (sequence_number (whole_number value))
       (sequence_other (whole_number value) (whole_number_other value)) left)
 
-  moved_other : (to : Result Standing Cause) → IsOtherCause to → (left : List Var) → IsOtherAlarm (moved path to left)
-  moved_other (Ok to) other left = tt
-  moved_other (Err cause) other left = other
+  move_other : (to : Result (List Frame) Cause) → IsOtherCause to → (left : List Var) → IsOtherAlarm (move_effect path to left)
+  move_other (Ok to) other left = tt
+  move_other (Err cause) other left = other
 
-  gone_to_other : (tape : List ControlProgram) (aim : Aim) (reads : List Var)
-      → IsOtherAlarm (gone_to tape fixed path aim reads)
-  gone_to_other tape aim reads =
+  jump_effect_other : (tape : List ControlProgram) (aim : Aim) (reads : List Var)
+      → IsOtherAlarm (jump_effect tape fixed path aim reads)
+  jump_effect_other tape aim reads =
       alarm_behind (aimed fixed path aim reads) _ (aimed_other aim reads)
-      (λ n left. moved_other (jumped tape (standing_of path) n) (jumped_other tape (standing_of path) n) left)
+      (λ n left. move_other (place_of_jump tape n path.place) (jump_other tape n path.place) left)
 
   -- by what a condition comes to
   test_other : (test : Test) (reads : List Var) (one other : List Var → Outcome After)
@@ -114,14 +117,14 @@ module _ (fixed : Fixed) (path : PathView) where
   pub statement_other : (tape : List ControlProgram) (sentence : Sentence) (reads : List Var)
       → IsOtherAlarm (statement_effect tape fixed path sentence reads)
   statement_other tape (Assign name tree) reads = assigned_next_other name tree reads
-  statement_other tape (Goto aim) reads = gone_to_other tape aim reads
+  statement_other tape (Goto aim) reads = jump_effect_other tape aim reads
   statement_other tape (IfGoto test aim) reads =
-      test_other test reads (gone_to tape fixed path aim) (gone_next path) (gone_to_other tape aim) (λ left. tt)
+      test_other test reads (jump_effect tape fixed path aim) (next_effect path) (jump_effect_other tape aim) (λ left. tt)
   statement_other tape (IfThen test name tree) reads =
-      test_other test reads (assigned_next fixed path name tree) (gone_next path) (assigned_next_other name tree) (λ left. tt)
+      test_other test reads (assigned_next fixed path name tree) (next_effect path) (assigned_next_other name tree) (λ left. tt)
   statement_other tape (WhileDo test name) reads =
-      test_other test reads (gone_next path) (λ left. moved path (loop_left tape (standing_of path)) left) (λ left. tt)
-      (moved_other (loop_left tape (standing_of path)) (left_other tape (standing_of path)))
+      test_other test reads (next_effect path) (λ left. move_effect path (place_behind_loop tape path.place) left) (λ left. tt)
+      (move_other (place_behind_loop tape path.place) (exit_other tape path.place))
   statement_other tape (DoOnly name) reads = tt
   statement_other tape (EndLoop name) reads =
-      moved_other (loop_again tape (standing_of path)) (again_other tape (standing_of path)) reads
+      move_other (place_of_head tape path.place) (head_other tape path.place) reads

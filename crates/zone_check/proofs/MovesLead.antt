@@ -15,24 +15,30 @@ use Rattle.offset_store.specs.Changes.{in_range, point_at}
 use Rattle.block_order.specs.declared.control.Control.{Control}
 use Rattle.block_order.specs.declared.control.Control.TheVariants as control
 use Rattle.block_order.specs.declared.program.ControlProgram.{ControlProgram}
-use Rattle.block_forms.specs.declared.word.FlowWord.{FlowWord}
+use Rattle.block_words.specs.declared.word.FlowWord.{FlowWord}
 use Rattle.block_forms.specs.declared.block.FlowBlock.{FlowBlock}
 use Rattle.block_forms.specs.declared.body.FlowBody.{FlowBody}
 use Rattle.block_forms.specs.declared.body.FlowBody.TheVariants.{Words, Statement}
-use Rattle.block_forms.specs.declared.purpose.Purpose.{Purpose}
-use Rattle.block_forms.specs.declared.purpose.Purpose.TheVariants.{MacroCall}
+use Rattle.block_words.specs.declared.purpose.Purpose.{Purpose}
+use Rattle.block_words.specs.declared.purpose.Purpose.TheVariants.{MacroCall}
 use Rattle.macro_expr.specs.Tree.{Tree, Named, Aim, Sentence, Assign, Goto, IfGoto, IfThen, WhileDo, DoOnly, EndLoop, sentence_of}
 use Rattle.tape_flow.specs.declared.flow.Flow.{Flow}
+use Rattle.block_order.specs.declared.frame.Frame.{Frame}
+use Rattle.block_order.specs.Moves.{place_of_jump, place_behind_loop, place_of_head}
 use Rattle.path_state.specs.View.{Fixed, PathView}
-use Rattle.path_state.specs.Outcomes.{Outcome, Gives, Needs, Alarms, ◌>>=◌, evaluated}
-use Rattle.path_state.specs.Values.{Values, nothing_said, sense_of, words_taken}
-use Rattle.path_state.specs.Arguments.{arguments_taken}
+use Rattle.block_values.specs.Outcomes.{Outcome, Gives, Needs, Alarms, ◌>>=◌}
+use Rattle.path_state.specs.Said.{evaluated}
+use Rattle.block_values.specs.Values.{Values, nothing_said}
+use Rattle.path_state.specs.Said.{sense_of, words_taken}
+use Rattle.path_state.specs.Said.{arguments_taken}
 use Rattle.path_state.specs.Looks.{is_shared}
-use Rattle.path_state.specs.Motion.{Motion}
-use Rattle.path_state.specs.Moves.{last_end}
-use Rattle.path_state.specs.Places.{Standing, goes_on, jumped, loop_left, loop_again}
-use Rattle.path_state.specs.Statements.{After, standing_of, length_of, along, with_offset, written_path, with_common, written, named, assigned, tested, aimed, moved, gone_to, gone_next, and_next, assigned_next, statement_effect}
-use Rattle.path_state.specs.Effect.{Effect, Moved, modal_after, after_motion, motion_with, acted, done_by, controlled, of_moved, of_values, of_arguments, of_purpose, block_of_words, of_after, effect_of_body, effect_of_block, block_at, effect_of}
+use Rattle.block_values.specs.Motion.{Motion}
+use Rattle.block_values.specs.Moves.{last_end}
+use Rattle.path_state.specs.Standing.{Standing, standing_of, standing_behind}
+use Rattle.block_values.specs.Operands.{length_of}
+use Rattle.path_state.specs.Statements.{After, along, with_offset, written_path, with_common, written, named, assigned, tested, aimed, move_effect, jump_effect, next_effect, then_next, assigned_next, statement_effect}
+use Rattle.block_values.specs.InForce.{modal_after}
+use Rattle.path_state.specs.Effect.{Effect, Moved, after_motion, motion_with, acted, done_by, controlled, of_moved, of_values, of_arguments, of_purpose, block_of_words, of_after, effect_of_body, effect_of_block, block_at, effect_of}
 use Rattle.path_state.specs.Effect as effect
 
 -- what holds of both holds of either
@@ -52,7 +58,7 @@ stays_behind path (Gives value left) then_on further = further value left
 stays_behind path (Needs variable) then_on further = tt
 stays_behind path (Alarms number value) then_on further = tt
 
-stays_on : (path : PathView) (step : Outcome After) → StaysAt path step → StaysAt path (step >>= λ after left. Gives (and_next after) left)
+stays_on : (path : PathView) (step : Outcome After) → StaysAt path step → StaysAt path (step >>= λ after left. Gives (then_next after) left)
 stays_on path (Gives after left) stays = stays
 stays_on path (Needs variable) stays = tt
 stays_on path (Alarms number value) stays = tt
@@ -81,29 +87,29 @@ module _ (fixed : Fixed) (path : PathView) where
   assigned_next_stays : (name : Named) (tree : Tree) (reads : List Var) → StaysAt path (assigned_next fixed path name tree reads)
   assigned_next_stays name tree reads = stays_on path (assigned fixed path name tree reads) (assigned_stays name tree reads)
 
-  moved_stays : (to : Result Standing Cause) (left : List Var) → StaysAt path (moved path to left)
-  moved_stays (Ok standing) left = refl
-  moved_stays (Err cause) left = tt
+  move_stays : (to : Result (List Frame) Cause) (left : List Var) → StaysAt path (move_effect path to left)
+  move_stays (Ok standing) left = refl
+  move_stays (Err cause) left = tt
 
-  gone_stays : (tape : List ControlProgram) (aim : Aim) (reads : List Var) → StaysAt path (gone_to tape fixed path aim reads)
-  gone_stays tape aim reads =
-      stays_behind path (aimed fixed path aim reads) _ (λ n left. moved_stays (jumped tape (standing_of path) n) left)
+  jump_stays : (tape : List ControlProgram) (aim : Aim) (reads : List Var) → StaysAt path (jump_effect tape fixed path aim reads)
+  jump_stays tape aim reads =
+      stays_behind path (aimed fixed path aim reads) _ (λ n left. move_stays (place_of_jump tape n path.place) left)
 
   statement_stays : (tape : List ControlProgram) (sentence : Sentence) (reads : List Var) → StaysAt path (statement_effect tape fixed path sentence reads)
   statement_stays tape (Assign name tree) reads = assigned_next_stays name tree reads
-  statement_stays tape (Goto aim) reads = gone_stays tape aim reads
+  statement_stays tape (Goto aim) reads = jump_stays tape aim reads
   statement_stays tape (IfGoto test aim) reads =
       stays_behind path (tested fixed path test reads) _
-      (λ holds left. either (λ (o : Outcome After). StaysAt path o) holds (gone_to tape fixed path aim left) (gone_next path left) (gone_stays tape aim left) refl)
+      (λ holds left. either (λ (o : Outcome After). StaysAt path o) holds (jump_effect tape fixed path aim left) (next_effect path left) (jump_stays tape aim left) refl)
   statement_stays tape (IfThen test name tree) reads =
       stays_behind path (tested fixed path test reads) _
-      (λ holds left. either (λ (o : Outcome After). StaysAt path o) holds (assigned_next fixed path name tree left) (gone_next path left) (assigned_next_stays name tree left) refl)
+      (λ holds left. either (λ (o : Outcome After). StaysAt path o) holds (assigned_next fixed path name tree left) (next_effect path left) (assigned_next_stays name tree left) refl)
   statement_stays tape (WhileDo test name) reads =
       stays_behind path (tested fixed path test reads) _
-      (λ holds left. either (λ (o : Outcome After). StaysAt path o) holds (gone_next path left) (moved path (loop_left tape (standing_of path)) left) refl
-      (moved_stays (loop_left tape (standing_of path)) left))
+      (λ holds left. either (λ (o : Outcome After). StaysAt path o) holds (next_effect path left) (move_effect path (place_behind_loop tape path.place) left) refl
+      (move_stays (place_behind_loop tape path.place) left))
   statement_stays tape (DoOnly name) reads = refl
-  statement_stays tape (EndLoop name) reads = moved_stays (loop_again tape (standing_of path)) reads
+  statement_stays tape (EndLoop name) reads = move_stays (place_of_head tape path.place) reads
 
 -- what a block comes to leaves its path, which stood there, at the end of its moves
 abbrev pub LeadsOn : Point → Effect → Type 0
@@ -138,7 +144,7 @@ module _ (tape : List ControlProgram) where
   controlled_leads : (at : Point) (moved : Moved) (arguments : Option (List Var)) (c : Control) → IsMovedFrom at moved
       → LeadsOn at (controlled tape moved arguments c)
   controlled_leads at moved arguments control.End is = is
-  controlled_leads at moved arguments c is = done_leads at moved (goes_on tape (standing_of moved.path) arguments c) is
+  controlled_leads at moved arguments c is = done_leads at moved (standing_behind tape (standing_of moved.path) arguments c) is
 
   moved_leads : (at : Point) (c : Control) (moved : Result Moved ℕ) → AreMovedFrom at moved → LeadsOn at (of_moved tape c moved)
   moved_leads at c (Ok moved) is = controlled_leads at moved None c is

@@ -11,7 +11,7 @@ use Rattle.nc_outside.specs.declared.lined_move.LinedMove.{LinedMove}
 use Rattle.run_records.specs.Entries.{Entry, edit_of}
 use Rattle.run_records.specs.declared.edit.Edit.{Edit}
 use Rattle.tape_flow.specs.declared.flow.Flow.{Flow}
-use Rattle.path_state.specs.Moves.{last_end}
+use Rattle.block_values.specs.Moves.{last_end}
 use Rattle.path_state.specs.Effect.{Effect}
 use Rattle.path_state.specs.Effect as effect
 use Rattle.two_path.specs.Machine.{MachineView, own_first}

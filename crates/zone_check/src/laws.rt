@@ -6,7 +6,7 @@ ghost use Rattle.zone_cell.specs.Zones.{ZonesView};
 ghost use Rattle.nc_number.specs.declared.path.Path.{Path};
 ghost use Rattle.run_records.specs.Entries.{Entry};
 ghost use Rattle.tape_flow.specs.declared.flow.Flow.{Flow};
-ghost use Rattle.path_state.specs.Moves.{last_end};
+ghost use Rattle.block_values.specs.Moves.{last_end};
 ghost use Rattle.two_path.specs.Machine.{MachineView, own_first};
 ghost use Rattle.two_path.specs.Turns.{tapes_of};
 ghost use Rattle.two_path.specs.Histories.{fold};

@@ -1,8 +1,9 @@
-use Rattle.std.proofs.Common.{sym, ap, subst, ◌≡◌, ◌∙◌}
-use Rattle.common_vars.specs.declared.variable.Variable.{Variable}
+use Rattle.std.proofs.Common.{sym, ap, ◌≡◌, ◌∙◌}
 use Rattle.macro_expr.specs.Tree.{variable_of}
+use Rattle.block_values.specs.Operands.{variable_with}
+use Rattle.block_values.specs.Outcomes.{Gives}
 use Rattle.path_state.specs.Effect.{of_after}
-use Rattle.path_state.specs.Outcomes.{Outcome, Gives}
+use Rattle.path_state.specs.Looks.{look_of}
 use Rattle.path_state.specs.Statements.{named}
 use Rattle.path_state.proofs.AssignedNext.{assigned_by}
 use Rattle.path_state.proofs.path.PathState.assigned.Goals as goal
@@ -10,8 +11,9 @@ use Rattle.path_state.proofs.path.PathState.assigned.Goals as goal
 pub returns-in-Ok : goal.returns-in-Ok
 returns-in-Ok c =
     let path = c.args.self.now in
-    let left = c.named-named.result.1.now in
+    let left = c.variable_taken-named.result.1.now in
     let is : named path.fixed path (variable_of c.args.name.now) c.args.reads.now ≡ Gives c.in-Ok.variable left =
-    sym (rw c.in-Ok.is at c.named-named.ensures.named) in
+    ap (λ p. variable_with (look_of path.fixed path) p.modal (variable_of c.args.name.now) c.args.reads.now) (sym c.self.view_is)
+    ∙ sym (rw c.in-Ok.is at c.variable_taken-named.ensures.named) in
     c.takes.ensures
     ∙ ap of_after (sym (assigned_by path.fixed path (variable_of c.args.name.now) c.args.value.now c.args.reads.now left c.in-Ok.variable is))

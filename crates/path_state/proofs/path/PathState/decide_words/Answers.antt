@@ -1,4 +1,4 @@
-use Rattle.std.proofs.Common.{rules, sym, ◌∙◌}
+use Rattle.std.proofs.Common.{sym, ◌∙◌}
 use Rattle.path_state.proofs.Decided.{unwaiting}
 use Rattle.path_state.proofs.path.PathState.decide_words.Goals as goal
 

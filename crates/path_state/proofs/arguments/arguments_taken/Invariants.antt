@@ -1,8 +1,0 @@
-use Rattle.std.proofs.Common.{◌≡◌, drop}
-use Rattle.path_state.specs.Seen.{arguments_with}
-use Rattle.path_state.proofs.arguments.arguments_taken.Given as goal
-
--- what the arguments are so far, and the rest of the words, come to what all come to
-abbrev pub invariant-loop-word : goal.invariant-loop-word
-invariant-loop-word g l =
-    arguments_with (g.S.Scope.table l.scope) (drop l.word-index l.words) l.arguments l.left ≡ arguments_with (g.S.Scope.table l.scope) l.words l.fn.arguments l.fn.reads

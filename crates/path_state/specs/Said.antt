@@ -1,0 +1,42 @@
+-- What a block says, evaluated by what its path holds of each variable.
+use Rattle.std.specs.Prelude.{ℕ, List}
+use Rattle.nc_number.specs.declared.value.Var.{Var}
+use Rattle.code_tables.specs.declared.system.System.{System}
+use Rattle.code_tables.specs.Kinds.{is_arc}
+use Rattle.macro_expr.specs.Tree.{Tree}
+use Rattle.modal_state.specs.Modal.{motion_after}
+use Rattle.block_words.specs.declared.purpose.Purpose.{Purpose}
+use Rattle.block_words.specs.declared.word.FlowWord.{FlowWord}
+use Rattle.block_words.specs.declared.word.WordValue.{WordValue}
+use Rattle.block_words.specs.Codes.{gives, is_setting, rows}
+use Rattle.block_values.specs.Outcomes.{Outcome, value_with}
+use Rattle.block_values.specs.Values.{Values, Sense, word_with, words_with}
+use Rattle.block_values.specs.Arguments.{argument_with, arguments_with}
+use Rattle.path_state.specs.View.{Fixed, PathView}
+use Rattle.path_state.specs.Looks.{look_of}
+
+-- the sense of a block: the motion code in force is that behind the block's own G codes
+abbrev pub sense_of : PathView → Purpose → System → List FlowWord → Sense
+sense_of path purpose system words = record {
+  purpose = purpose;
+  arc = is_arc (motion_after path.modal (rows system words));
+  setting = gives system is_setting words;
+}
+
+-- the value of an expression
+abbrev pub evaluated : Fixed → PathView → Tree → List Var → Outcome Var
+evaluated fixed path tree reads = value_with (look_of fixed path) tree reads
+
+-- the words of a block that calls no macro, one by one
+abbrev pub word_taken : Fixed → PathView → Sense → ℕ → WordValue → Values → List Var → Outcome Values
+word_taken fixed path sense letter value values reads = word_with (look_of fixed path) sense letter value values reads
+
+abbrev pub words_taken : Fixed → PathView → Sense → List FlowWord → Values → List Var → Outcome Values
+words_taken fixed path sense words values reads = words_with (look_of fixed path) sense words values reads
+
+-- the arguments of a macro call, one by one
+abbrev pub argument_taken : Fixed → PathView → ℕ → WordValue → List Var → List Var → Outcome (List Var)
+argument_taken fixed path letter value arguments reads = argument_with (look_of fixed path) letter value arguments reads
+
+abbrev pub arguments_taken : Fixed → PathView → List FlowWord → List Var → List Var → Outcome (List Var)
+arguments_taken fixed path words arguments reads = arguments_with (look_of fixed path) words arguments reads

@@ -1,0 +1,107 @@
+-- Where a path stands: its place, with its calls and their levels of local variables; and where it stands behind a block of words.
+use Rattle.std.specs.Prelude.{◌≡◌, ℕ, zero, suc, ◌+◌, List, [], ◌∷◌, length, Option, Some, None, Result, Ok, Err}
+use Rattle.nc_number.specs.declared.cause.Cause.{Cause}
+use Rattle.nc_number.specs.declared.value.Var.{Var}
+use Rattle.block_forms.specs.declared.called.CallKind.{CallKind}
+use Rattle.block_forms.specs.declared.called.CallKind.TheVariants.{Macro, Subprogram}
+use Rattle.block_order.specs.declared.control.Control.{Control}
+use Rattle.block_order.specs.declared.control.Control.TheVariants.{Call, Back, BackTo}
+use Rattle.block_order.specs.declared.frame.Frame.{Frame}
+use Rattle.block_order.specs.declared.program.ControlProgram.{ControlProgram}
+use Rattle.block_order.specs.Moves.{passed, place_of_call, place_of_return, place_of_jump_back}
+use Rattle.local_levels.specs.declared.stack.Level.{Level}
+use Rattle.local_levels.specs.Stack.{opened, reopened, closed}
+use Rattle.path_state.specs.View.{PathView}
+
+-- a place, with what belongs to its calls
+pub record Standing : Type 0 where
+  pub place : List Frame
+  pub calls : List CallKind
+  pub levels : List Level
+
+abbrev pub standing_of : PathView → Standing
+standing_of path = record { place = path.place; calls = path.calls; levels = path.levels }
+
+abbrev pub with_standing : PathView → Standing → PathView
+with_standing path standing = record path { place = standing.place; calls = standing.calls; levels = standing.levels }
+
+-- at another place, with the same calls
+abbrev pub elsewhere : Standing → List Frame → Standing
+elsewhere standing place = record standing { place = place }
+
+-- at another place, or why there is none
+abbrev pub standing_at : Standing → Result (List Frame) Cause → Result Standing Cause
+standing_at standing (Ok place) = Ok (elsewhere standing place)
+standing_at standing (Err cause) = Err cause
+
+-- a call with arguments is that of a macro, and opens a level that holds them
+abbrev pub kind_with : Option (List Var) → CallKind
+kind_with None = Subprogram
+kind_with (Some arguments) = Macro
+
+abbrev pub levels_with : Option (List Var) → List Level → List Level
+levels_with None levels = levels
+levels_with (Some arguments) levels = opened arguments ∷ levels
+
+abbrev pub with_call : Option (List Var) → Standing → Standing
+with_call arguments standing =
+    record standing { calls = kind_with arguments ∷ standing.calls; levels = levels_with arguments standing.levels }
+
+-- without the latest call, and without its level if it is that of a macro
+abbrev pub calls_below : List CallKind → List CallKind
+calls_below [] = []
+calls_below (call ∷ calls) = calls
+
+abbrev pub levels_below : List CallKind → List Level → List Level
+levels_below (Macro ∷ calls) levels = closed levels
+levels_below _ levels = levels
+
+abbrev pub without_call : Standing → Standing
+without_call standing =
+    record standing { calls = calls_below standing.calls; levels = levels_below standing.calls standing.levels }
+
+-- the latest call once more: the level of a macro is opened anew with the same arguments
+abbrev pub levels_anew : List CallKind → List Level → List Level
+levels_anew (Macro ∷ calls) levels = reopened levels
+levels_anew _ levels = levels
+
+abbrev pub with_repeat : Standing → Standing
+with_repeat standing = record standing { levels = levels_anew standing.calls standing.levels }
+
+-- a return begins the next repeat, and where none is left takes the call away
+abbrev pub behind_return : ℕ → Standing → Standing
+behind_return zero standing = without_call standing
+behind_return (suc left) standing = with_repeat standing
+
+abbrev pub repeats_left : List Frame → ℕ
+repeats_left [] = 0
+repeats_left (f ∷ stack) = f.left
+
+-- in a program that is called; a macro call has its arguments
+abbrev pub standing_of_call : Option (List Var) → ℕ → ℕ → Standing → Result Standing Cause
+standing_of_call arguments program repeats standing =
+    standing_at (with_call arguments standing) (place_of_call program repeats standing.place)
+
+-- where M99 leads
+abbrev pub standing_of_return : Standing → Standing
+standing_of_return standing =
+    elsewhere (behind_return (repeats_left standing.place) standing) (place_of_return standing.place)
+
+-- behind a block of words of this control
+abbrev pub standing_behind : List ControlProgram → Standing → Option (List Var) → Control → Result Standing Cause
+standing_behind tape standing arguments (Call program repeats) = standing_of_call arguments program repeats standing
+standing_behind tape standing arguments Back = Ok (standing_of_return standing)
+standing_behind tape standing arguments (BackTo n) =
+    standing_at (without_call standing) (place_of_jump_back tape n standing.place)
+standing_behind tape standing arguments other = Ok (elsewhere standing (passed standing.place))
+
+-- how many of these calls are calls of macros
+abbrev pub macros : List CallKind → ℕ
+macros [] = 0
+macros (Macro ∷ calls) = suc (macros calls)
+macros (Subprogram ∷ calls) = macros calls
+
+-- each frame but the main program's has its kind of call, and each call of a macro its level above the base level
+pub record IsMatched (standing : Standing) : Type 0 where
+  pub calls : length standing.calls + 1 ≡ length standing.place
+  pub levels : macros standing.calls + 1 ≡ length standing.levels
