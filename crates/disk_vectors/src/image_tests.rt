@@ -5,8 +5,8 @@ use gate_file::{BodyList, GateFault, GateFile, LONGEST_BODY};
 use std::alloc::{AllocError, Global};
 use std::test::Fail;
 
-/// `BODIES|FAILING|DONE|TIME LEFT, ..`: a file of gates is begun on an empty disk with the first body, and the others are appended. The
-/// calls of these numbers fail. So many bodies were acknowledged. Of each image that a crash since the time may have left the file has
+/// `BODIES|FAILING|DONE|TIME LEFT, ..`: a file of gates is begun on an empty disk with the first body, or with all up to the one with a
+/// `;` at once, and the others are appended. The calls of these numbers fail. So many bodies were acknowledged. Of each image that a crash since the time may have left the file has
 /// that many bodies, or `-`, no run: all of these occur, and no other; and they are the first ones. A beginning makes 8 calls, of which the
 /// last ones sync, write the gate and sync. An append writes, syncs, writes the gate and syncs.
 const ROWS: &str = "\
@@ -20,7 +20,17 @@ a bcd ef|16|2|0 - 1 2 3, 12 2 3, 16 2 3
 a bcd ef|14|2|0 - 1 2, 8 1 2, 12 2, 14 2
 a|7|0|0 - 1, 7 - 1
 a|8|0|0 - 1, 8 - 1
-a|6|0|0 -, 6 -";
+a|6|0|0 -, 6 -
+a bcd;||2|0 - 2, 7 - 2, 8 2
+a bcd ef; g||4|0 - 3 4, 7 - 3 4, 8 3 4, 11 3 4, 12 4
+a bcd;|1|0|0 -, 1 -
+a bcd;|2|0|0 -, 2 -
+a bcd;|3|0|0 -, 3 -
+a bcd;|4|0|0 -, 4 -
+a bcd;|5|0|0 -, 5 -
+a bcd;|6|0|0 -, 6 -
+a bcd;|7|0|0 - 2, 7 - 2
+a bcd;|8|0|0 - 2, 8 - 2";
 
 /// The parts between the strokes of a row. Those that are not there are empty.
 fn columns(row: &str) -> [&str; 4] {
@@ -41,9 +51,9 @@ fn is_appended(file: &mut GateFile<ImagesDisk>, body: &[u8]) -> bool {
     file.is_live() && body.len() <= LONGEST_BODY && file.append(body).is_ok()
 }
 
-/// Appends the other bodies: how many were acknowledged, the first one among them.
-fn append_each(file: &mut GateFile<ImagesDisk>, bodies: &str) -> u64 {
-    let mut done = 1u64;
+/// Appends the other bodies: how many were acknowledged, those that are there among them.
+fn append_each(file: &mut GateFile<ImagesDisk>, there: u64, bodies: &str) -> u64 {
+    let mut done = there;
     for body in bodies.split_whitespace() {
         if is_appended(file, body.as_bytes()) {
             done = done.saturating_add(1);
@@ -52,8 +62,35 @@ fn append_each(file: &mut GateFile<ImagesDisk>, bodies: &str) -> u64 {
     done
 }
 
+/// The bodies as a list.
+fn list_of(alloc: Global, bodies: &str) -> Result<BodyList, AllocError> {
+    let mut list = BodyList::empty(alloc);
+    for body in bodies.split_whitespace() {
+        let body = body.as_bytes();
+        if body.len() <= LONGEST_BODY {
+            list.push(body)?;
+        }
+    }
+    Ok(list)
+}
+
+/// Begins a file of the first bodies at once and appends the others: the disk then, and how many were acknowledged.
+fn filled(alloc: Global, disk: ImagesDisk, list: &BodyList, others: &str) -> (ImagesDisk, u64) {
+    if list.is_empty() {
+        return (disk, 0);
+    }
+    match GateFile::create_filled(alloc, disk, list) {
+        Ok(file) => {
+            let mut file = file;
+            let done = append_each(&mut file, list.len() as u64, others);
+            (file.into_disk(), done)
+        }
+        Err((disk, _)) => (disk, 0),
+    }
+}
+
 /// Begins a file of the first body and appends the others: the disk then, and how many were acknowledged.
-fn used(alloc: Global, disk: ImagesDisk, bodies: &str) -> (ImagesDisk, u64) {
+fn created(alloc: Global, disk: ImagesDisk, bodies: &str) -> (ImagesDisk, u64) {
     let (first, others) = bodies.split_once(' ').unwrap_or((bodies, ""));
     let first = first.as_bytes();
     if first.len() > LONGEST_BODY {
@@ -62,19 +99,35 @@ fn used(alloc: Global, disk: ImagesDisk, bodies: &str) -> (ImagesDisk, u64) {
     match GateFile::create(alloc, disk, first) {
         Ok(file) => {
             let mut file = file;
-            let done = append_each(&mut file, others);
+            let done = append_each(&mut file, 1, others);
             (file.into_disk(), done)
         }
         Err((disk, _)) => (disk, 0),
     }
 }
 
+/// Begins a file as the row says: the disk then, and how many bodies were acknowledged.
+fn used(alloc: Global, disk: ImagesDisk, bodies: &str) -> Result<(ImagesDisk, u64), AllocError> {
+    match bodies.split_once(";") {
+        Some((first, others)) => {
+            let list = list_of(alloc, first)?;
+            Ok(filled(alloc, disk, &list, others))
+        }
+        None => Ok(created(alloc, disk, bodies)),
+    }
+}
+
+/// The bytes of a body, without the `;` behind it.
+fn body_of(word: &str) -> &[u8] {
+    word.strip_suffix(";").unwrap_or(word).as_bytes()
+}
+
 /// Whether the bodies are the first ones of the row.
 fn are_first(list: &BodyList, bodies: &str) -> bool {
     let mut number = 0usize;
     let mut are_all = list.len() <= bodies.split_whitespace().count();
-    for body in bodies.split_whitespace() {
-        are_all &= list.get(number).unwrap_or(body.as_bytes()) == body.as_bytes();
+    for word in bodies.split_whitespace() {
+        are_all &= list.get(number).unwrap_or(body_of(word)) == body_of(word);
         number = number.saturating_add(1);
     }
     are_all
@@ -152,7 +205,7 @@ fn leaves_each(alloc: Global, disk: &ImagesDisk, bodies: &str, parts: &str) -> R
 fn holds(alloc: Global, row: &str) -> Result<bool, Fail> {
     let [bodies, failing, wanted, left] = columns(row);
     let disk = ImagesDisk::new(alloc, Vec::new(alloc), &[number(failing)])?;
-    let (disk, done) = used(alloc, disk, bodies);
+    let (disk, done) = used(alloc, disk, bodies)?;
     Ok(done == number(wanted) && leaves_each(alloc, &disk, bodies, left)?)
 }
 

@@ -1,41 +1,41 @@
 -- An append, call by call.
-use Rattle.std.proofs.Common.{◌≡◌, inl, ℕ, ◌+◌, ◌^◌, ◌<◌, List, [], ◌∷◌, ◌++◌, length, Some, ◌∙◌, ap, subst}
+use Rattle.std.proofs.Common.{inl, ℕ, ◌+◌, List, [], ◌∷◌, ◌++◌, length, Some, ◌∙◌, ap, subst}
 use Rattle.disk_model.specs.Device.{DiskState, Torn, Tears, Looks, Reads, Only, written_over}
 use Rattle.disk_model.specs.Moments.{LeavesOnly}
-use Rattle.gate_file.specs.Chain.{entry, IsBeforeOrAfter}
+use Rattle.gate_file.specs.Chain.{IsBeforeOrAfter, IsStaged}
 use Rattle.gate_file.specs.Gate.{Keeps}
 use Rattle.disk_model.proofs.Runs.{begun, goes_on}
 use Rattle.gate_file.proofs.Staged.{torn_behind, torn_gate, with_gate, written_behind, written_gate, opened, opened_place}
 
-module _ (bodies : List (List ℕ)) (body staged : List ℕ) (end : ℕ) (first : DiskState) (short : length body < 2 ^ 32) (is : staged ≡ entry body ++ 0 ∷ []) (keeps : Keeps bodies first end) where
+module _ (bodies more : List (List ℕ)) (staged : List ℕ) (end : ℕ) (first : DiskState) (is : IsStaged more staged) (keeps : Keeps bodies first end) where
   abbrev gated : ℕ → List ℕ
-  gated = with_gate bodies end body keeps.bytes keeps.behind short keeps.opens keeps.place
+  gated = with_gate bodies end staged keeps.bytes keeps.behind keeps.opens keeps.place
 
   -- the first write leaves the bodies as they were
-  pub moment_1 : (wrote : DiskState) → Tears (end + 1) (length staged) first wrote → LeavesOnly (IsBeforeOrAfter bodies body) first wrote
+  pub moment_1 : (wrote : DiskState) → Tears (end + 1) (length staged) first wrote → LeavesOnly (IsBeforeOrAfter bodies more) first wrote
   moment_1 wrote tears =
-      begun (IsBeforeOrAfter bodies body) (Torn (end + 1) (length staged)) first wrote tears.time
-      (λ b c image torn. inl (torn_behind bodies end body keeps.bytes keeps.behind short keeps.opens keeps.place (length staged) c (subst (λ (f : List ℕ). Torn (end + 1) (length staged) f c) (keeps.only b image) torn)))
+      begun (IsBeforeOrAfter bodies more) (Torn (end + 1) (length staged)) first wrote tears.time
+      (λ b c image torn. inl (torn_behind bodies end staged keeps.bytes keeps.behind keeps.opens keeps.place (length staged) c (subst (λ (f : List ℕ). Torn (end + 1) (length staged) f c) (keeps.only b image) torn)))
 
   -- and so it is on the disk after the sync
   pub reads_2 : (wrote synced : DiskState) → ((old : List ℕ) → Reads first old → Reads wrote (written_over old (end + 1) staged)) → Looks wrote synced → Reads synced (gated 0)
   reads_2 wrote synced written looks =
-      looks.same ∙ written keeps.bytes keeps.reads ∙ ap (λ (l : List ℕ). Some l) (written_behind bodies end body keeps.bytes keeps.behind short keeps.opens keeps.place staged is)
+      looks.same ∙ written keeps.bytes keeps.reads ∙ ap (λ (l : List ℕ). Some l) (written_behind bodies end staged keeps.bytes keeps.behind keeps.opens keeps.place)
 
-  -- the second leaves them with the new body or without
-  pub moment_3 : (synced wrote : DiskState) → Reads synced (gated 0) → ((b : List ℕ) → Reads synced b → Only b synced.image) → LeavesOnly (IsBeforeOrAfter bodies body) first synced → Tears end 1 synced wrote → LeavesOnly (IsBeforeOrAfter bodies body) first wrote
+  -- the second leaves them with the staged ones or without
+  pub moment_3 : (synced wrote : DiskState) → Reads synced (gated 0) → ((b : List ℕ) → Reads synced b → Only b synced.image) → LeavesOnly (IsBeforeOrAfter bodies more) first synced → Tears end 1 synced wrote → LeavesOnly (IsBeforeOrAfter bodies more) first wrote
   moment_3 synced wrote reads durable so_far tears =
-      goes_on (IsBeforeOrAfter bodies body) (Torn end 1) first synced wrote so_far tears.time
-      (λ b c image torn. torn_gate bodies end body keeps.bytes keeps.behind short keeps.opens keeps.place c (subst (λ (f : List ℕ). Torn end 1 f c) (durable (gated 0) reads b image) torn))
+      goes_on (IsBeforeOrAfter bodies more) (Torn end 1) first synced wrote so_far tears.time
+      (λ b c image torn. torn_gate bodies end staged keeps.bytes keeps.behind keeps.opens keeps.place more is c (subst (λ (f : List ℕ). Torn end 1 f c) (durable (gated 0) reads b image) torn))
 
-  pub kept_4 : (synced wrote last : DiskState) → Reads synced (gated 0) → ((old : List ℕ) → Reads synced old → Reads wrote (written_over old end (1 ∷ []))) → Looks wrote last → ((b : List ℕ) → Reads last b → Only b last.image) → Keeps (bodies ++ body ∷ []) last (end + 5 + length body)
+  pub kept_4 : (synced wrote last : DiskState) → Reads synced (gated 0) → ((old : List ℕ) → Reads synced old → Reads wrote (written_over old end (1 ∷ []))) → Looks wrote last → ((b : List ℕ) → Reads last b → Only b last.image) → Keeps (bodies ++ more) last (end + length staged)
   kept_4 synced wrote last reads written looks durable =
-      let now : Reads last (gated 1) = looks.same ∙ written (gated 0) reads ∙ ap (λ (l : List ℕ). Some l) (written_gate bodies end body keeps.bytes keeps.behind short keeps.opens keeps.place) in
+      let now : Reads last (gated 1) = looks.same ∙ written (gated 0) reads ∙ ap (λ (l : List ℕ). Some l) (written_gate bodies end staged keeps.bytes keeps.behind keeps.opens keeps.place) in
       record {
         bytes = gated 1;
         behind = _;
         reads = now;
-        opens = opened bodies end body keeps.bytes keeps.behind short keeps.opens keeps.place;
-        place = opened_place bodies end body keeps.bytes keeps.behind short keeps.opens keeps.place;
+        opens = opened bodies end staged keeps.bytes keeps.behind keeps.opens keeps.place more is;
+        place = opened_place bodies end staged keeps.bytes keeps.behind keeps.opens keeps.place;
         only = durable (gated 1) now;
       }

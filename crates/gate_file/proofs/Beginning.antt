@@ -1,12 +1,13 @@
 -- How a file is begun.
-use Rattle.std.proofs.Common.{◌≡◌, inl, inr, ℕ, ◌-◌, ◌≤◌, ◌<◌, min, List, [], ◌∷◌, ◌++◌, length, take, drop, get_or, ◌∙◌, ap, arith}
+use Rattle.std.proofs.Common.{◌≡◌, inl, inr, ℕ, ◌+◌, ◌-◌, ◌≤◌, ◌<◌, min, List, [], ◌∷◌, ◌++◌, length, take, drop, get_or, ◌∙◌, ap, subst, arith}
 use Rattle.std.proofs.lemmas.List.{drop_all}
 use Rattle.disk_model.specs.Device.{DiskState, Reads, Only, written_over}
-use Rattle.disk_model.specs.Moments.{LeavesOnly, Unwritten}
-use Rattle.disk_model.proofs.Runs.{joined}
-use Rattle.gate_file.specs.Chain.{IsNoRun, IsRunThere, IsShut, IsBeforeOrAfter}
+use Rattle.disk_model.specs.Moments.{LeavesOnly, Unwritten, Uses}
+use Rattle.disk_model.proofs.Runs.{joined, uses_add, uses_widened}
+use Rattle.gate_file.specs.Chain.{IsNoRun, IsRunThere, IsShut, IsBeforeOrAfter, IsStaged, ends_at}
 use Rattle.gate_file.specs.Gate.{Keeps}
 use Rattle.gate_file.specs.First.{StandsFirst, IsBeginning}
+use Rattle.gate_file.proofs.Ends.{opens_length}
 use Rattle.gate_file.specs.declared.create.FirstGate.{FirstGate}
 use Rattle.gate_file.specs.declared.create.FirstGate.TheVariants.{Missing, Shut}
 
@@ -30,22 +31,40 @@ not_there Missing bytes short there = absurd (omega (arith, there.0))
 not_there Shut bytes shut there = there.1 shut
 
 -- the images of a beginning: those of its first part, and those of its append
-from_old : (image : List ℕ → Type 0) (body c : List ℕ) → image c → IsBeginning image body c
-from_old image body c old = inl old
+from_old : (image : List ℕ → Type 0) (bodies : List (List ℕ)) (c : List ℕ) → image c → IsBeginning image bodies c
+from_old image bodies c old = inl old
 
-from_none : (image : List ℕ → Type 0) (body c : List ℕ) → IsNoRun c → IsBeginning image body c
-from_none image body c none = inr (inl none)
+from_none : (image : List ℕ → Type 0) (bodies : List (List ℕ)) (c : List ℕ) → IsNoRun c → IsBeginning image bodies c
+from_none image bodies c none = inr (inl none)
 
-from_append : (image : List ℕ → Type 0) (body c : List ℕ) → IsBeforeOrAfter [] body c → IsBeginning image body c
-from_append image body c (inl (rest, same, (behind, shut))) = inr (inl (inr (behind, same ∙ shut)))
-from_append image body c (inr spelled) = inr (inr spelled)
+from_append : (image : List ℕ → Type 0) (bodies : List (List ℕ)) (c : List ℕ) → IsBeforeOrAfter [] bodies c → IsBeginning image bodies c
+from_append image bodies c (inl (rest, same, (behind, shut))) = inr (inl (inr (behind, same ∙ shut)))
+from_append image bodies c (inr spelled) = inr (inr spelled)
 
 -- a beginning, as far as its gate is shut, and with its append
-pub moments_shut : (body : List ℕ) (a b c : DiskState) → Unwritten a b → LeavesOnly IsNoRun b c → LeavesOnly (IsBeginning a.image body) a c
-moments_shut body a b c first second = joined a.image IsNoRun (IsBeginning a.image body) a b c first.moments second (from_old a.image body) (from_none a.image body)
+pub moments_shut : (bodies : List (List ℕ)) (a b c : DiskState) → Unwritten a b → LeavesOnly IsNoRun b c → LeavesOnly (IsBeginning a.image bodies) a c
+moments_shut bodies a b c first second = joined a.image IsNoRun (IsBeginning a.image bodies) a b c first.moments second (from_old a.image bodies) (from_none a.image bodies)
 
-pub moments_added : (body : List ℕ) (a b c : DiskState) → LeavesOnly (IsBeginning a.image body) a b → LeavesOnly (IsBeforeOrAfter [] body) b c → LeavesOnly (IsBeginning a.image body) a c
-moments_added body a b c so_far added = joined (IsBeginning a.image body) (IsBeforeOrAfter [] body) (IsBeginning a.image body) a b c so_far added (λ x begun. begun) (from_append a.image body)
+pub moments_added : (bodies : List (List ℕ)) (a b c : DiskState) → LeavesOnly (IsBeginning a.image bodies) a b → LeavesOnly (IsBeforeOrAfter [] bodies) b c → LeavesOnly (IsBeginning a.image bodies) a c
+moments_added bodies a b c so_far added = joined (IsBeginning a.image bodies) (IsBeforeOrAfter [] bodies) (IsBeginning a.image bodies) a b c so_far added (λ x begun. begun) (from_append a.image bodies)
+
+-- staged entries take as many bytes as their bodies' places say
+pub staged_length : (bodies : List (List ℕ)) (staged : List ℕ) → IsStaged bodies staged → length staged ≡ ends_at bodies
+staged_length bodies staged is = omega (arith, opens_length bodies (1 ∷ staged) (0 ∷ []) is)
+
+pub kept_anew : (bodies : List (List ℕ)) (staged : List ℕ) (disk : DiskState) → IsStaged bodies staged → Keeps ([] ++ bodies) disk (0 + length staged) → Keeps bodies disk (ends_at bodies)
+kept_anew bodies staged disk is keeps =
+    let same : 0 + length staged ≡ ends_at bodies = omega (arith, staged_length bodies staged is) in
+    subst (Keeps bodies disk) same keeps
+
+-- what a beginning uses: three calls to look, two to shut the first gate, and four to write and open
+pub begun_used : (bodies : List (List ℕ)) (staged : List ℕ) (a b c d : DiskState) → IsStaged bodies staged → Uses 3 0 a b → Uses 2 1 b c → Uses 4 (0 + 1 + length staged) c d → Uses 12 (ends_at bodies + 1) a d
+begun_used bodies staged a b c d is looked shut added =
+    let all = uses_add 5 4 1 (0 + 1 + length staged) a c d (uses_add 3 2 0 1 a b c looked shut) added in
+    uses_widened 9 12 _ (ends_at bodies + 1) a d all (omega arith) (omega (arith, staged_length bodies staged is))
+
+pub shut_used : (bodies : List (List ℕ)) (a b c : DiskState) → Uses 3 0 a b → Uses 2 1 b c → Uses 12 (ends_at bodies + 1) a c
+shut_used bodies a b c looked shut = uses_widened 5 12 1 (ends_at bodies + 1) a c (uses_add 3 2 0 1 a b c looked shut) (omega arith) (omega arith)
 
 -- the first byte, as it is read
 pub first_read : (bytes into : List ℕ) (n : ℕ) → 1 < length bytes → n ≡ min 1 (length bytes - 0) → into ≡ take n (drop 0 bytes) ++ drop n (0 ∷ []) → get_or into 0 0 ≡ get_or bytes 0 0

@@ -1,8 +1,11 @@
 -- Bodies in one list of bytes: how many there are, each of them, and one more.
-use Rattle.std.proofs.Common.{◌≡◌, ℕ, ◌+◌, ◌-◌, ◌≤◌, ◌<◌, List, [], ◌∷◌, ◌++◌, length, get_or, take, drop, refl, sym, ◌∙◌, ap, arith, zero, suc, append_assoc, length-append, length-drop, length-take-le}
-use Rattle.std.proofs.lemmas.List.{take-append-le, drop-append-le, take_all, drop_at}
-use Rattle.gate_file.specs.Bodies.{between, bodies_from, AreEnds}
-use Rattle.gate_file.specs.Chain.{ends_at}
+use Rattle.std.proofs.Common.{◌≡◌, ℕ, ◌+◌, ◌-◌, ◌^◌, ◌≤◌, ◌<◌, List, [], ◌∷◌, ◌++◌, length, get_or, take, drop, refl, sym, ◌∙◌, ap, subst, arith, zero, suc, append_assoc, length-append, length-drop, length-take, length-take-le, take-append-drop}
+use Rattle.std.proofs.lemmas.List.{append-nil, take-append-le, drop-append-le, take_all, drop_at}
+use Rattle.std.specs.Int.{w32, to_be_bytes}
+use Rattle.gate_file.specs.Bodies.{between, bodies_from, AreEnds, AreBodies}
+use Rattle.gate_file.specs.Chain.{entry, Opens, IsStaged, ends_at}
+use Rattle.gate_file.proofs.Chains.{length-entry, opens_push, opens_before, opens_alone, opens_anew}
+use Rattle.gate_file.proofs.Ends.{opens_length}
 
 pub length_bodies : (start : ℕ) (ends bytes : List ℕ) → length (bodies_from start ends bytes) ≡ length ends
 length_bodies start [] bytes = refl
@@ -63,3 +66,49 @@ bodies_more start (first ∷ ends) bytes frame body end are five is_end =
     let front : between (start + 5) first (bytes ++ new) ≡ between (start + 5) first bytes = ap (take (first - (start + 5))) behind ∙ take-append-le (first - (start + 5)) (drop (start + 5) bytes) new (omega (arith, length-drop (start + 5) bytes, within)) in
     let more = bodies_more first ends bytes frame body end are.1 five is_end in
     ap (λ (l : List ℕ). l ∷ bodies_from first (ends ++ end ∷ []) (bytes ++ new)) front ∙ ap (λ (l : List (List ℕ)). between (start + 5) first bytes ∷ l) more
+
+-- the bodies with one more, behind its entry's frame
+pub more_bodies : (ends bytes body : List ℕ) (end : ℕ) → AreBodies ends bytes → end ≡ length bytes + 5 + length body → bodies_from 0 (ends ++ end ∷ []) (bytes ++ (1 ∷ entry body)) ≡ bodies_from 0 ends bytes ++ body ∷ []
+more_bodies ends bytes body end are is_end =
+    let frame : List ℕ = 1 ∷ to_be_bytes w32 (length body) in
+    bodies_more 0 ends bytes frame body end are.are_ends (omega (arith, length-entry body, length-append (to_be_bytes w32 (length body)) body)) is_end
+
+-- a list of bodies with the entry of one more
+pub are_more : (ends bytes body : List ℕ) (end : ℕ) → AreBodies ends bytes → length body < 2 ^ 32 → end ≡ length bytes + 5 + length body → AreBodies (ends ++ end ∷ []) (bytes ++ (1 ∷ entry body))
+are_more ends bytes body end are short is_end =
+    let frame : List ℕ = 1 ∷ to_be_bytes w32 (length body) in
+    let five : length frame ≡ 5 = omega (arith, length-entry body, length-append (to_be_bytes w32 (length body)) body) in
+    let size : length (bytes ++ (frame ++ body)) ≡ end = omega (arith, is_end, five, length-append bytes (frame ++ body), length-append frame body) in
+    let whole = opens_before (bodies_from 0 ends bytes) bytes [] (frame ++ body) are.opens in
+    let more = opens_push (bodies_from 0 ends bytes) (bytes ++ (frame ++ body)) (frame ++ body) [] body whole (record { gate = 1; is_open = λ (e : 1 ≡ 0). cc; short = short; bytes = sym (append-nil (frame ++ body)) }) in
+    record {
+      are_ends = subst (AreEnds 0 (ends ++ end ∷ [])) (sym size) (ends_more 0 ends (length bytes) end are.are_ends (omega (arith, is_end)));
+      opens = subst (λ (b : List (List ℕ)). Opens b (bytes ++ (frame ++ body)) []) (sym (more_bodies ends bytes body end are is_end)) more;
+    }
+
+-- a list of bodies with the entries that were taken of what was seen
+pub are_taken : (ends more bytes seen : List ℕ) (n : ℕ) → AreBodies ends bytes → n ≤ length seen → AreEnds 0 more (length bytes + n)
+    → ((file behind : List ℕ) → Opens (bodies_from 0 ends bytes) file (seen ++ behind) → Opens (bodies_from 0 more (bytes ++ take n seen)) file (drop n seen ++ behind)) → AreBodies more (bytes ++ take n seen)
+are_taken ends more bytes seen n are within are_ends marks =
+    let bodies : List (List ℕ) = bodies_from 0 more (bytes ++ take n seen) in
+    let size : length bytes + n ≡ length (bytes ++ take n seen) = omega (arith, within, length-append bytes (take n seen), length-take n seen) in
+    let whole : Opens (bodies_from 0 ends bytes) (bytes ++ seen) (seen ++ []) = subst (Opens (bodies_from 0 ends bytes) (bytes ++ seen)) (sym (append-nil seen)) (opens_before (bodies_from 0 ends bytes) bytes [] seen are.opens) in
+    let halves : bytes ++ seen ≡ (bytes ++ take n seen) ++ drop n seen = ap (λ (l : List ℕ). bytes ++ l) (sym (take-append-drop n seen)) ∙ sym (append_assoc bytes (take n seen) (drop n seen)) in
+    let left : Opens bodies (bytes ++ seen) (drop n seen) = subst (Opens bodies (bytes ++ seen)) (append-nil (drop n seen)) (marks (bytes ++ seen) [] whole) in
+    record {
+      are_ends = subst (AreEnds 0 more) size are_ends;
+      opens = opens_alone bodies (bytes ++ take n seen) (drop n seen) (subst (λ (l : List ℕ). Opens bodies l (drop n seen)) halves left);
+    }
+
+-- the bytes of a list of bodies end where its bodies do
+pub bytes_end : (ends bytes : List ℕ) → AreBodies ends bytes → length bytes ≡ ends_at (bodies_from 0 ends bytes)
+bytes_end ends bytes are = omega (arith, opens_length (bodies_from 0 ends bytes) bytes [] are.opens)
+
+pub some_bytes : (bodies : List (List ℕ)) → 0 < length bodies → 5 ≤ ends_at bodies
+some_bytes [] some = absurd (omega (arith, some))
+some_bytes (body ∷ bodies) some = omega arith
+
+-- the entries of some bodies, without the first gate and with a shut one behind
+pub chain_staged : (bodies : List (List ℕ)) (bytes : List ℕ) → 0 < length bodies → Opens bodies bytes [] → IsStaged bodies (drop 1 bytes ++ 0 ∷ [])
+chain_staged bodies [] some opens = absurd (omega (arith, some_bytes bodies some, opens_length bodies [] [] opens))
+chain_staged bodies (gate ∷ rest) some opens = opens_anew bodies gate 1 (rest ++ 0 ∷ []) (0 ∷ []) some (λ (e : 1 ≡ 0). cc) (opens_before bodies (gate ∷ rest) [] (0 ∷ []) opens)

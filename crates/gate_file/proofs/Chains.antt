@@ -1,8 +1,9 @@
 -- Files of gates, cut at the end of their entries.
-use Rattle.std.proofs.Common.{◌≡◌, inl, inr, ℕ, ◌+◌, ◌^◌, ◌<◌, List, [], ◌∷◌, ◌++◌, length, refl, sym, ◌∙◌, ap, arith, append_assoc, length-append}
+use Rattle.std.proofs.Common.{◌≡◌, ◌≢◌, inl, inr, ℕ, ◌+◌, ◌<◌, List, [], ◌∷◌, ◌++◌, length, take, drop, get_or, refl, sym, ◌∙◌, ap, subst, arith, append_assoc, length-append}
 use Rattle.std.proofs.lemmas.Bool.{cases_eq}
+use Rattle.std.proofs.lemmas.List.{append-nil, take_at}
 use Rattle.std.specs.Int.{w32, to_be_bytes}
-use Rattle.gate_file.specs.Chain.{entry, IsEntry, Opens, IsBeforeOrAfter}
+use Rattle.gate_file.specs.Chain.{entry, IsEntry, Opens, IsBeforeOrAfter, IsStaged}
 
 pub length-entry : (body : List ℕ) → length (entry body) ≡ length body + 4
 length-entry body = omega (arith, length-append (to_be_bytes w32 (length body)) body)
@@ -30,15 +31,56 @@ pub opens_push : (bodies : List (List ℕ)) (file rest after body : List ℕ) �
 opens_push [] file rest after body same is = (after, record { gate = is.gate; is_open = is.is_open; short = is.short; bytes = same ∙ is.bytes }, refl)
 opens_push (first ∷ bodies) file rest after body (next, here, opens) is = (next, here, opens_push bodies next rest after body opens is)
 
--- whatever byte the gate of a whole entry is, the file spells the bodies before it, or those and it
-pub either_gate : (bodies : List (List ℕ)) (file front body behind : List ℕ) (gate : ℕ) → ((other : List ℕ) → Opens bodies (front ++ other) other) → length body < 2 ^ 32
-    → file ≡ front ++ gate ∷ (entry body ++ 0 ∷ behind) → IsBeforeOrAfter bodies body file
-either_gate bodies file front body behind gate anew short is = elim (cases_eq gate 0) [
+-- more entries
+pub opens_append : (bodies more : List (List ℕ)) (file rest after : List ℕ) → Opens bodies file rest → Opens more rest after → Opens (bodies ++ more) file after
+opens_append [] more file rest after same opens = subst (λ (l : List ℕ). Opens more l after) (sym same) opens
+opens_append (body ∷ bodies) more file rest after (next, is, here) opens = (next, is, opens_append bodies more next rest after here opens)
+
+-- what stands whole in the front of a file stands whole in the file
+pub entry_before : (body file rest behind : List ℕ) → IsEntry body file rest → IsEntry body (file ++ behind) (rest ++ behind)
+entry_before body file rest behind is = record {
+  gate = is.gate;
+  is_open = is.is_open;
+  short = is.short;
+  bytes = ap (λ (l : List ℕ). l ++ behind) is.bytes ∙ ap (λ (l : List ℕ). is.gate ∷ l) (append_assoc (entry body) rest behind);
+}
+
+pub opens_before : (bodies : List (List ℕ)) (file rest behind : List ℕ) → Opens bodies file rest → Opens bodies (file ++ behind) (rest ++ behind)
+opens_before [] file rest behind same = ap (λ (l : List ℕ). l ++ behind) same
+opens_before (body ∷ bodies) file rest behind (next, is, opens) = (next ++ behind, entry_before body file next behind is, opens_before bodies next rest behind opens)
+
+-- what is left where nothing stands behind the entries
+pub opens_alone : (bodies : List (List ℕ)) (file rest : List ℕ) → Opens bodies (file ++ rest) rest → Opens bodies file []
+opens_alone bodies file rest opens =
+    let cut = front_of bodies (file ++ rest) rest opens in
+    let size : length cut.front ≡ length file = omega (arith, ap length cut.split, length-append file rest, length-append cut.front rest) in
+    let same : cut.front ≡ file = sym (take_at cut.front rest (length file) size) ∙ ap (take (length file)) (sym cut.split) ∙ take_at file rest (length file) refl in
+    subst (λ (l : List ℕ). Opens bodies l []) (append-nil cut.front ∙ same) (cut.anew [])
+
+-- the first gate may be any that is open
+pub opens_anew : (bodies : List (List ℕ)) (gate other : ℕ) (file rest : List ℕ) → 0 < length bodies → other ≢ 0 → Opens bodies (gate ∷ file) rest → Opens bodies (other ∷ file) rest
+opens_anew [] gate other file rest some is_open opens = absurd (omega (arith, some))
+opens_anew (body ∷ bodies) gate other file rest some is_open (next, is, opens) =
+    (next, record { gate = other; is_open = is_open; short = is.short; bytes = ap (λ (l : List ℕ). other ∷ drop 1 l) is.bytes }, opens)
+
+-- some bodies are staged
+pub staged_some : (bodies : List (List ℕ)) (staged : List ℕ) → IsStaged bodies staged → 0 < length bodies
+staged_some [] staged is = absurd (omega (arith, ap (λ (l : List ℕ). get_or l 0 0) is))
+staged_some (body ∷ bodies) staged is = omega arith
+
+pub staged_open : (bodies : List (List ℕ)) (staged behind : List ℕ) (gate : ℕ) → IsStaged bodies staged → gate ≢ 0 → Opens bodies (gate ∷ (staged ++ behind)) (0 ∷ behind)
+staged_open bodies staged behind gate is is_open =
+    opens_anew bodies 1 gate (staged ++ behind) (0 ∷ behind) (staged_some bodies staged is) is_open (opens_before bodies (1 ∷ staged) (0 ∷ []) behind is)
+
+-- whatever byte the gate before staged entries is, the file spells the bodies before it, or those and the staged ones
+pub either_gate : (bodies more : List (List ℕ)) (file front staged behind : List ℕ) (gate : ℕ) → ((other : List ℕ) → Opens bodies (front ++ other) other) → IsStaged more staged
+    → file ≡ front ++ gate ∷ (staged ++ behind) → IsBeforeOrAfter bodies more file
+either_gate bodies more file front staged behind gate anew staged_is is = elim (cases_eq gate 0) [
   | inl shut ↦
-      let rest : List ℕ = gate ∷ (entry body ++ 0 ∷ behind) in
-      inl (rest, rw is (anew rest), (entry body ++ 0 ∷ behind, ap (λ (g : ℕ). g ∷ (entry body ++ 0 ∷ behind)) shut))
+      let rest : List ℕ = gate ∷ (staged ++ behind) in
+      inl (rest, rw is (anew rest), (staged ++ behind, ap (λ (g : ℕ). g ∷ (staged ++ behind)) shut))
   | inr is_open ↦
-      let rest : List ℕ = gate ∷ (entry body ++ 0 ∷ behind) in
+      let rest : List ℕ = gate ∷ (staged ++ behind) in
       let opens : Opens bodies file rest = rw is (anew rest) in
-      inr (0 ∷ behind, opens_push bodies file rest (0 ∷ behind) body opens (record { gate = gate; is_open = is_open; short = short; bytes = refl }), (behind, refl))
+      inr (0 ∷ behind, opens_append bodies more file rest (0 ∷ behind) opens (staged_open more staged behind gate staged_is is_open), (behind, refl))
 ]

@@ -5,7 +5,7 @@ use Rattle.gate_file.specs.Chain.{Opens, ends_at}
 use Rattle.gate_file.specs.Gate.{Keeps}
 use Rattle.gate_file.proofs.Unique.{length-file}
 
-opens_length : (bodies : List (List ℕ)) (file rest : List ℕ) → Opens bodies file rest → length file ≡ ends_at bodies + length rest
+pub opens_length : (bodies : List (List ℕ)) (file rest : List ℕ) → Opens bodies file rest → length file ≡ ends_at bodies + length rest
 opens_length [] file rest same = omega (arith, ap length same)
 opens_length (body ∷ bodies) file rest (after, is, opens) = omega (arith, length-file body file after is, opens_length bodies after rest opens)
 

@@ -10,17 +10,17 @@ use Rattle.gate_file.specs.Run.{after}
 module _ {D : Type 0} (state : D → DiskState) (disk : ℕ → D) (end : ℕ → ℕ) (body : ℕ → List ℕ) (first : List (List ℕ)) (count : ℕ)
     (start : Keeps first (state (disk 0)) (end 0))
     (acknowledged : (k : ℕ) → k < count → (bodies : List (List ℕ)) → Keeps bodies (state (disk k)) (end k) → Keeps (bodies ++ body k ∷ []) (state (disk (k + 1))) (end (k + 1)))
-    (moments : (k : ℕ) → k ≤ count → (bodies : List (List ℕ)) → Keeps bodies (state (disk k)) (end k) → LeavesOnly (IsBeforeOrAfter bodies (body k)) (state (disk k)) (state (disk (k + 1)))) where
+    (moments : (k : ℕ) → k ≤ count → (bodies : List (List ℕ)) → Keeps bodies (state (disk k)) (end k) → LeavesOnly (IsBeforeOrAfter bodies (body k ∷ [])) (state (disk k)) (state (disk (k + 1)))) where
   keeps_at : (k : ℕ) → k ≤ count → Keeps (after first body k) (state (disk k)) (end k)
   keeps_at zero le = start
   keeps_at (suc k) le =
       let e : k + 1 ≡ suc k = omega arith in
       subst (λ (i : ℕ). Keeps (after first body k ++ body k ∷ []) (state (disk i)) (end i)) e (acknowledged k (omega arith) (after first body k) (keeps_at k (omega arith)))
 
-  step : (k : ℕ) → k ≤ count → LeavesOnly (IsBeforeOrAfter (after first body k) (body k)) (state (disk k)) (state (disk (suc k)))
+  step : (k : ℕ) → k ≤ count → LeavesOnly (IsBeforeOrAfter (after first body k) (body k ∷ [])) (state (disk k)) (state (disk (suc k)))
   step k le =
       let e : k + 1 ≡ suc k = omega arith in
-      subst (λ (i : ℕ). LeavesOnly (IsBeforeOrAfter (after first body k) (body k)) (state (disk k)) (state (disk i))) e (moments k le (after first body k) (keeps_at k le))
+      subst (λ (i : ℕ). LeavesOnly (IsBeforeOrAfter (after first body k) (body k ∷ [])) (state (disk k)) (state (disk i))) e (moments k le (after first body k) (keeps_at k le))
 
   clock_at : ℕ → ℕ
   clock_at k = (state (disk k)).clock
@@ -39,7 +39,7 @@ module _ {D : Type 0} (state : D → DiskState) (disk : ℕ → D) (end : ℕ �
   Prefix : ℕ → ℕ → List ℕ → Type 0
   Prefix j n c = (m : ℕ) × (j ≤ m) × (m ≤ suc n) × Spells (after first body m) c
 
-  spelled : (j n : ℕ) (c : List ℕ) → j ≤ n → IsBeforeOrAfter (after first body n) (body n) c → Prefix j n c
+  spelled : (j n : ℕ) (c : List ℕ) → j ≤ n → IsBeforeOrAfter (after first body n) (body n ∷ []) c → Prefix j n c
   unfolding Prefix
   spelled j n c jn (inl same) = (n, jn, omega arith, same)
   spelled j n c jn (inr more) = (suc n, omega arith, omega arith, more)

@@ -1,10 +1,10 @@
 -- What a crash leaves in each of the two steps of an append.
-use Rattle.std.proofs.Common.{◌≡◌, inl, inr, ℕ, ◌+◌, ◌^◌, ◌-◌, ◌≤◌, ◌<◌, List, [], ◌∷◌, ◌++◌, length, take, drop, replicate, get_or, refl, sym, ◌∙◌, ap, subst, arith, append_assoc, length-append, length-drop, take-append-drop}
+use Rattle.std.proofs.Common.{◌≡◌, inl, inr, ℕ, ◌+◌, ◌-◌, ◌≤◌, ◌<◌, List, [], ◌∷◌, ◌++◌, length, take, drop, replicate, get_or, refl, sym, ◌∙◌, ap, subst, arith, append_assoc, length-append, length-drop, take-append-drop}
 use Rattle.std.proofs.lemmas.List.{take_at, drop_at, drop-drop, take-append-le, drop_more, length-take, get_or-take, get_or-drop}
 use Rattle.std.proofs.lemmas.Grind.{same_number_lists}
 use Rattle.disk_model.specs.Device.{Torn, written_over}
-use Rattle.gate_file.specs.Chain.{entry, Opens, Spells, IsBeforeOrAfter}
-use Rattle.gate_file.proofs.Chains.{Front, front_of, opens_push, either_gate, length-entry}
+use Rattle.gate_file.specs.Chain.{Opens, Spells, IsBeforeOrAfter, IsStaged}
+use Rattle.gate_file.proofs.Chains.{Front, front_of, opens_append, staged_open, either_gate}
 
 -- a torn write leaves what stands before it, and what stands behind it
 module _ (at n : ℕ) (old new : List ℕ) (torn : Torn at n old new) where
@@ -24,7 +24,7 @@ module _ (at n : ℕ) (old new : List ℕ) (torn : Torn at n old new) where
 pub written_within : (old : List ℕ) (at : ℕ) (bytes : List ℕ) → at ≤ length old → written_over old at bytes ≡ take at old ++ bytes ++ drop (at + length bytes) old
 written_within old at bytes within = ap (λ (l : List ℕ). l ++ bytes ++ drop (at + length bytes) old) (take-append-le at old (replicate (at - length old) 0) within)
 
-module _ (bodies : List (List ℕ)) (end : ℕ) (body bytes behind : List ℕ) (short : length body < 2 ^ 32) (opens : Opens bodies bytes (0 ∷ behind)) (place : end + 1 + length behind ≡ length bytes) where
+module _ (bodies : List (List ℕ)) (end : ℕ) (staged bytes behind : List ℕ) (opens : Opens bodies bytes (0 ∷ behind)) (place : end + 1 + length behind ≡ length bytes) where
   cut : Front bodies bytes (0 ∷ behind)
   cut = front_of bodies bytes (0 ∷ behind) opens
 
@@ -60,55 +60,52 @@ module _ (bodies : List (List ℕ)) (end : ℕ) (body bytes behind : List ℕ) (
       let whole : c ≡ front ++ 0 ∷ rest = sym (take-append-drop (end + 1) c) ∙ ap (λ (l : List ℕ). l ++ rest) begins ∙ append_assoc front (0 ∷ []) rest in
       (0 ∷ rest, subst (λ (file : List ℕ). Opens bodies file (0 ∷ rest)) (sym whole) (anew (0 ∷ rest)), (rest, refl))
 
-  -- what stands behind the new body's gate
+  -- what stands behind the staged entries
   pub beyond : List ℕ
-  beyond = drop (length body + 5) behind
+  beyond = drop (length staged) behind
 
   pub with_gate : ℕ → List ℕ
-  with_gate gate = front ++ gate ∷ (entry body ++ 0 ∷ beyond)
+  with_gate gate = front ++ gate ∷ (staged ++ beyond)
 
-  length-with_gate : (gate : ℕ) → length (with_gate gate) ≡ end + 6 + length body + length beyond
+  length-with_gate : (gate : ℕ) → length (with_gate gate) ≡ end + 1 + length staged + length beyond
   unfolding with_gate
-  length-with_gate gate = omega (arith, size, length-append front (gate ∷ (entry body ++ 0 ∷ beyond)), length-append (entry body) (0 ∷ beyond), length-entry body)
+  length-with_gate gate = omega (arith, size, length-append front (gate ∷ (staged ++ beyond)), length-append staged beyond)
 
-  pub written_behind : (staged : List ℕ) → staged ≡ entry body ++ 0 ∷ [] → written_over bytes (end + 1) staged ≡ with_gate 0
+  pub written_behind : written_over bytes (end + 1) staged ≡ with_gate 0
   unfolding with_gate beyond
-  written_behind staged is =
-      let long : length staged ≡ length body + 5 = omega (arith, ap length is, length-append (entry body) (0 ∷ []), length-entry body) in
-      let later : drop (end + 1 + length staged) bytes ≡ drop (length body + 5) behind =
-      ap (λ (n : ℕ). drop (end + 1 + n) bytes) long ∙ sym (drop-drop (length body + 5) (end + 1) bytes) ∙ ap (drop (length body + 5)) (ap (drop (end + 1)) halves ∙ drop_at (front ++ 0 ∷ []) behind (end + 1) size_shut) in
+  written_behind =
+      let later : drop (end + 1 + length staged) bytes ≡ drop (length staged) behind =
+      sym (drop-drop (length staged) (end + 1) bytes) ∙ ap (drop (length staged)) (ap (drop (end + 1)) halves ∙ drop_at (front ++ 0 ∷ []) behind (end + 1) size_shut) in
       written_within bytes (end + 1) staged (omega (arith, place))
       ∙ ap (λ (l : List ℕ). l ++ staged ++ drop (end + 1 + length staged) bytes) shut_front
       ∙ ap (λ (l : List ℕ). front ++ 0 ∷ [] ++ staged ++ l) later
-      ∙ ap (λ (l : List ℕ). front ++ 0 ∷ [] ++ l ++ drop (length body + 5) behind) is
-      ∙ append_assoc (front ++ 0 ∷ []) (entry body ++ 0 ∷ []) (drop (length body + 5) behind)
-      ∙ append_assoc front (0 ∷ []) (entry body ++ 0 ∷ [] ++ drop (length body + 5) behind)
-      ∙ ap (λ (l : List ℕ). front ++ 0 ∷ l) (append_assoc (entry body) (0 ∷ []) (drop (length body + 5) behind))
+      ∙ append_assoc (front ++ 0 ∷ []) staged (drop (length staged) behind)
+      ∙ append_assoc front (0 ∷ []) (staged ++ drop (length staged) behind)
 
   gate_front : (gate : ℕ) → take end (with_gate gate) ≡ front
   unfolding with_gate
-  gate_front gate = take_at front (gate ∷ (entry body ++ 0 ∷ beyond)) end size
+  gate_front gate = take_at front (gate ∷ (staged ++ beyond)) end size
 
-  gate_back : (gate : ℕ) → drop (end + 1) (with_gate gate) ≡ entry body ++ 0 ∷ beyond
+  gate_back : (gate : ℕ) → drop (end + 1) (with_gate gate) ≡ staged ++ beyond
   unfolding with_gate
   gate_back gate =
       let sizes : length (front ++ gate ∷ []) ≡ end + 1 = omega (arith, size, length-append front (gate ∷ [])) in
-      ap (drop (end + 1)) (sym (append_assoc front (gate ∷ []) (entry body ++ 0 ∷ beyond))) ∙ drop_at (front ++ gate ∷ []) (entry body ++ 0 ∷ beyond) (end + 1) sizes
+      ap (drop (end + 1)) (sym (append_assoc front (gate ∷ []) (staged ++ beyond))) ∙ drop_at (front ++ gate ∷ []) (staged ++ beyond) (end + 1) sizes
 
-  -- the body stands whole in each outcome of the second write
-  pub torn_gate : (c : List ℕ) → Torn end 1 (with_gate 0) c → IsBeforeOrAfter bodies body c
-  torn_gate c torn =
+  -- the staged entries stand whole in each outcome of the second write
+  pub torn_gate : (more : List (List ℕ)) → IsStaged more staged → (c : List ℕ) → Torn end 1 (with_gate 0) c → IsBeforeOrAfter bodies more c
+  torn_gate more is c torn =
       let long = length-with_gate 0 in
       let gate = get_or c end 0 in
       let begins : take end c ≡ front = torn_front end 1 (with_gate 0) c torn (omega (arith, long)) ∙ gate_front 0 in
-      let ends : drop (end + 1) c ≡ entry body ++ 0 ∷ beyond = torn_back end 1 (with_gate 0) c torn (omega (arith, long)) ∙ gate_back 0 in
-      let rest : drop end c ≡ gate ∷ (entry body ++ 0 ∷ beyond) = drop_more c end 0 (omega (arith, long, torn.no_shorter)) ∙ ap (λ (l : List ℕ). gate ∷ l) ends in
-      let whole : c ≡ front ++ gate ∷ (entry body ++ 0 ∷ beyond) = sym (take-append-drop end c) ∙ ap (λ (l : List ℕ). l ++ drop end c) begins ∙ ap (λ (l : List ℕ). front ++ l) rest in
-      either_gate bodies c front body beyond gate anew short whole
+      let ends : drop (end + 1) c ≡ staged ++ beyond = torn_back end 1 (with_gate 0) c torn (omega (arith, long)) ∙ gate_back 0 in
+      let rest : drop end c ≡ gate ∷ (staged ++ beyond) = drop_more c end 0 (omega (arith, long, torn.no_shorter)) ∙ ap (λ (l : List ℕ). gate ∷ l) ends in
+      let whole : c ≡ front ++ gate ∷ (staged ++ beyond) = sym (take-append-drop end c) ∙ ap (λ (l : List ℕ). l ++ drop end c) begins ∙ ap (λ (l : List ℕ). front ++ l) rest in
+      either_gate bodies more c front staged beyond gate anew is whole
 
-  joined : front ++ (1 ∷ []) ++ (entry body ++ 0 ∷ beyond) ≡ with_gate 1
+  joined : front ++ (1 ∷ []) ++ (staged ++ beyond) ≡ with_gate 1
   unfolding with_gate
-  joined = append_assoc front (1 ∷ []) (entry body ++ 0 ∷ beyond)
+  joined = append_assoc front (1 ∷ []) (staged ++ beyond)
 
   pub written_gate : written_over (with_gate 0) end (1 ∷ []) ≡ with_gate 1
   written_gate =
@@ -117,10 +114,12 @@ module _ (bodies : List (List ℕ)) (end : ℕ) (body bytes behind : List ℕ) (
       ∙ ap (λ (l : List ℕ). front ++ (1 ∷ []) ++ l) (gate_back 0)
       ∙ joined
 
-  -- and then the file has it, with a shut gate behind
-  pub opened : Opens (bodies ++ body ∷ []) (with_gate 1) (0 ∷ beyond)
+  -- and then the file has their bodies, with a shut gate behind
+  pub opened : (more : List (List ℕ)) → IsStaged more staged → Opens (bodies ++ more) (with_gate 1) (0 ∷ beyond)
   unfolding with_gate
-  opened = opens_push bodies (front ++ 1 ∷ (entry body ++ 0 ∷ beyond)) (1 ∷ (entry body ++ 0 ∷ beyond)) (0 ∷ beyond) body (anew (1 ∷ (entry body ++ 0 ∷ beyond))) (record { gate = 1; is_open = λ (e : 1 ≡ 0). cc; short = short; bytes = refl })
+  opened more is =
+      let rest : List ℕ = 1 ∷ (staged ++ beyond) in
+      opens_append bodies more (front ++ rest) rest (0 ∷ beyond) (anew rest) (staged_open more staged beyond 1 is (λ (e : 1 ≡ 0). cc))
 
-  pub opened_place : end + 5 + length body + 1 + length beyond ≡ length (with_gate 1)
+  pub opened_place : end + length staged + 1 + length beyond ≡ length (with_gate 1)
   opened_place = omega (arith, length-with_gate 1)

@@ -7,22 +7,13 @@ use Rattle.std.specs.Int.{w32, to_be_bytes}
 use Rattle.gate_file.specs.Bodies.{bodies_from, AreEnds}
 use Rattle.gate_file.specs.Chain.{entry, IsEntry, Opens}
 use Rattle.gate_file.proofs.Bodies.{ends_more, bodies_more}
-use Rattle.gate_file.proofs.Chains.{opens_push, length-entry}
+use Rattle.gate_file.proofs.Chains.{opens_push, entry_before, length-entry}
 
 pub take_front : (xs : List ℕ) → take (min (length xs) 5) xs ≡ take 5 xs
 take_front xs = elim (cases_lt (length xs) 5) [
   | inl short ↦ let n : min (length xs) 5 ≡ length xs = omega arith in ap (λ (k : ℕ). take k xs) n ∙ take_all (length xs) xs (omega arith) ∙ sym (take_all 5 xs (omega arith))
   | inr long ↦ let n : min (length xs) 5 ≡ 5 = omega arith in ap (λ (k : ℕ). take k xs) n
 ]
-
--- what stands whole in a window stands whole in the file
-pub entry_before : (body file rest behind : List ℕ) → IsEntry body file rest → IsEntry body (file ++ behind) (rest ++ behind)
-entry_before body file rest behind is = record {
-  gate = is.gate;
-  is_open = is.is_open;
-  short = is.short;
-  bytes = ap (λ (l : List ℕ). l ++ behind) is.bytes ∙ ap (λ (l : List ℕ). is.gate ∷ l) (append_assoc (entry body) rest behind);
-}
 
 pub taken_more : (bodies more : List (List ℕ)) (file body window rest behind : List ℕ) → more ≡ bodies ++ body ∷ [] → Opens bodies file (window ++ behind) → IsEntry body window rest → Opens more file (rest ++ behind)
 taken_more bodies more file body window rest behind is opens found =

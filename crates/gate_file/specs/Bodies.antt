@@ -1,6 +1,7 @@
 -- Bodies that are kept in one list of bytes as a file has them, each behind a gate and its length, five bytes, with the offsets
 -- where they end.
-use Rattle.std.specs.Prelude.{◌≡◌, ℕ, ◌+◌, ◌-◌, ◌≤◌, List, [], ◌∷◌, take, drop}
+use Rattle.std.specs.Prelude.{◌≡◌, ℕ, ◌+◌, ◌-◌, ◌≤◌, List, [], ◌∷◌, length, take, drop}
+use Rattle.gate_file.specs.Chain.{Opens}
 
 -- the bytes between two offsets
 abbrev pub between : ℕ → ℕ → List ℕ → List ℕ
@@ -15,3 +16,8 @@ bodies_from start (end ∷ ends) bytes = between (start + 5) end bytes ∷ bodie
 abbrev pub AreEnds : ℕ → List ℕ → ℕ → Type 0
 AreEnds start [] len = start ≡ len
 AreEnds start (end ∷ ends) len = (start + 5 ≤ end) × AreEnds end ends len
+
+-- the offsets are those of the bodies' ends, and the bytes are the bodies' entries, each behind an open gate
+pub record AreBodies (ends bytes : List ℕ) : Type 0 where
+  pub are_ends : AreEnds 0 ends (length bytes)
+  pub opens : Opens (bodies_from 0 ends bytes) bytes []

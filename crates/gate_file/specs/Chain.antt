@@ -53,9 +53,13 @@ pub record IsCutAt (at : ℕ) (file : List ℕ) : Type 0 where
   pub place : at + length rest ≡ length file
   pub cut : IsCutShort rest
 
--- the file spells these bodies, or these and one more
-abbrev pub IsBeforeOrAfter : List (List ℕ) → List ℕ → List ℕ → Type 0
-IsBeforeOrAfter bodies body file = Spells bodies file ⊎ Spells (bodies ++ body ∷ []) file
+-- the file spells these bodies, or these and more, all of them
+abbrev pub IsBeforeOrAfter : List (List ℕ) → List (List ℕ) → List ℕ → Type 0
+IsBeforeOrAfter bodies more file = Spells bodies file ⊎ Spells (bodies ++ more) file
+
+-- the bytes to be written behind a shut gate: once it is open, these bodies stand there, and a shut gate behind them
+abbrev pub IsStaged : List (List ℕ) → List ℕ → Type 0
+IsStaged bodies bytes = Opens bodies (1 ∷ bytes) (0 ∷ [])
 
 -- where the shut gate stands behind these bodies: each takes a gate, four bytes of length, and its own
 abbrev pub ends_at : List (List ℕ) → ℕ

@@ -1,10 +1,10 @@
 -- How a file of gates is begun.
-use Rattle.std.specs.Prelude.{ℕ, ◌+◌, ◌≤◌, List, [], ◌∷◌, length, Result, Ok, Err, OnOk, IfErr}
+use Rattle.std.specs.Prelude.{ℕ, ◌+◌, ◌≤◌, List, Result, Ok, Err, OnOk, IfErr}
 use Rattle.disk_model.specs.Device.{DiskState, Reads, Rose, IsSettled}
 use Rattle.disk_model.specs.Moments.{LeavesOnly, Unwritten, Uses}
 use Rattle.gate_file.specs.declared.fault.GateFault.{GateFault}
 use Rattle.gate_file.specs.declared.fault.GateFault.TheVariants.{DiskFault, NoRun, RunThere, Cut, NoMemory}
-use Rattle.gate_file.specs.Chain.{IsRunThere}
+use Rattle.gate_file.specs.Chain.{IsRunThere, ends_at}
 use Rattle.gate_file.specs.Gate.{Keeps, IsCalm}
 use Rattle.gate_file.specs.First.{IsBeginning}
 
@@ -17,18 +17,19 @@ RefusesBeginning NoMemory old new = Unwritten old new
 RefusesBeginning NoRun old new = ⊥
 RefusesBeginning (Cut at) old new = ⊥
 
--- What a call that begins a file with this body promises.
-pub record Begins {A : Type 0} (body : List ℕ) (old new : DiskState) (result : Result A GateFault) : Type 0 where
-  pub kept : OnOk result ((bytes : List ℕ) → Reads old bytes → Keeps (body ∷ []) new (5 + length body))
+-- What a call that begins a file with these bodies promises.
+pub record Begins {A : Type 0} (bodies : List (List ℕ)) (old new : DiskState) (result : Result A GateFault)
+    : Type 0 where
+  pub kept : OnOk result ((bytes : List ℕ) → Reads old bytes → Keeps bodies new (ends_at bodies))
   pub vacant : OnOk result ((bytes : List ℕ) → Reads old bytes → IsRunThere bytes → ⊥)
   -- a run that is there stays as it is, whatever the answer
   pub spares : (bytes : List ℕ) → Reads old bytes → IsRunThere bytes → Unwritten old new
   pub refused : IfErr result (λ fault. RefusesBeginning fault old new)
   pub later : old.faults ≤ new.faults
   pub calm : IsCalm old new result
-  -- a crash at any moment of the call leaves an image from before it, or no run, or the one body
-  pub any_moment : (bytes : List ℕ) → Reads old bytes → LeavesOnly (IsBeginning old.image body) old new
-  pub uses : Uses 12 (length body + 6) old new
+  -- a crash at any moment of the call leaves an image from before it, or no run, or all the bodies
+  pub any_moment : (bytes : List ℕ) → Reads old bytes → LeavesOnly (IsBeginning old.image bodies) old new
+  pub uses : Uses 12 (ends_at bodies + 1) old new
 
 -- an answer whose error gives the disk back, without it
 abbrev pub without_disk : {A D : Type 0} → Result A (D × GateFault) → Result A GateFault

@@ -1,5 +1,5 @@
 -- What stands at the gates of a file, one by one.
-use Rattle.std.specs.Prelude.{◌≡◌, ◌≢◌, ◌⊎◌, ℕ, ◌^◌, ◌≤◌, ◌<◌, List, [], ◌∷◌, length}
+use Rattle.std.specs.Prelude.{◌≡◌, ◌≢◌, ◌⊎◌, ℕ, ◌^◌, ◌≤◌, ◌<◌, List, ◌∷◌, length}
 use Rattle.std.specs.Int.{w32, to_be_bytes}
 use Rattle.gate_file.specs.declared.create.FirstGate.{FirstGate}
 use Rattle.gate_file.specs.declared.create.FirstGate.TheVariants.{Missing, Shut}
@@ -18,6 +18,6 @@ IsHead ShutHead bytes = IsShut bytes
 IsHead (OpenHead size) bytes = (gate : ℕ) × (gate ≢ 0) × (size < 2 ^ 32) × (bytes ≡ gate ∷ to_be_bytes w32 size)
 IsHead CutHead bytes = (length bytes < 5) × (IsShut bytes → ⊥)
 
--- while a file is begun: an image from before, or no run, or the one body
-abbrev pub IsBeginning : (List ℕ → Type 0) → List ℕ → List ℕ → Type 0
-IsBeginning image body file = image file ⊎ (IsNoRun file ⊎ Spells (body ∷ []) file)
+-- while a file is begun: an image from before, or no run, or all its bodies
+abbrev pub IsBeginning : (List ℕ → Type 0) → List (List ℕ) → List ℕ → Type 0
+IsBeginning image bodies file = image file ⊎ (IsNoRun file ⊎ Spells bodies file)

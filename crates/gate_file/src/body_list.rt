@@ -1,31 +1,31 @@
 // A list of bodies.
 ghost use Rattle.std.specs.Prelude.{◌≡◌, ◌+◌, ◌*◌, ◌^◌, ◌<◌, ◌≤◌, ◌++◌, ◌==◌, [], ◌∷◌, List, ℕ, length, take, drop, get_or, IfOk, IfSome, IfNone, OnOk, OnErr, vec_capacity};
 ghost use Rattle.gate_file.specs.Bodies.{between, bodies_from, AreEnds};
-ghost use Rattle.gate_file.specs.Chain.{Opens, ends_at};
+ghost use Rattle.gate_file.specs.Chain.{entry, Opens, IsStaged, ends_at};
 
 use crate::open::{FRAME, entry_in};
 use std::alloc::{AllocError, Global};
 use std::marker::Model;
 
-/// A list of bodies, the first one first. All of them stand in one list of bytes, as a file has them, so that none takes memory
-/// of its own.
+/// A list of bodies, each of fewer than 2^32 bytes, the first one first. All of them stand in one list of bytes, as a file has
+/// them, so that none takes memory of its own.
 #[derive(Drop)]
 pub struct BodyList {
-    // Each body, and before it the five bytes of its gate and its length.
+    // Each body's entry behind its open gate, as a file has it.
     bytes: Vec<u8>,
     // Where each body ends and the gate of the next one stands.
     ends: Vec<usize>,
 }
 
 impl Model for BodyList {
-    ghost use Rattle.std.specs.Prelude.{List, ℕ, length};
-    ghost use Rattle.gate_file.specs.Bodies.{bodies_from, AreEnds};
+    ghost use Rattle.std.specs.Prelude.{List, ℕ};
+    ghost use Rattle.gate_file.specs.Bodies.{bodies_from, AreBodies};
 
     ghost Value = { List (List ℕ) };
 
     ghost view = { λ l. bodies_from 0 l.ends.items l.bytes.items };
 
-    ghost invariant = { λ l. AreEnds 0 l.ends.items (length l.bytes.items) };
+    ghost invariant = { λ l. AreBodies l.ends.items l.bytes.items };
 }
 
 impl BodyList {
@@ -37,6 +37,34 @@ impl BodyList {
             bytes: Vec::new(alloc),
             ends: Vec::new(alloc),
         }
+    }
+
+    /// Makes room for so many bodies more, which have so many bytes together.
+    pub fn reserve(&mut self, bodies: usize, bytes: usize) -> Result<(), AllocError>
+        ensures { self.new ≡ self.old }
+    {
+        let Some(frames) = bodies.checked_mul(FRAME as usize) else {
+            return Err(AllocError);
+        };
+        let Some(room) = frames.checked_add(bytes) else {
+            return Err(AllocError);
+        };
+        self.ends.reserve(bodies)?;
+        self.bytes.reserve(room)
+    }
+
+    /// Puts one body more behind those that are there. Where there is no memory left the list stays as it is.
+    pub fn push(&mut self, body: &[u8]) -> Result<(), AllocError>
+        requires { length body.now < 2 ^ 32 }
+        ensures ok { OnOk result (self.new ≡ self.old ++ body.now ∷ []) }
+        ensures err { OnErr result (self.new ≡ self.old) }
+    {
+        self.ends.reserve(1)?;
+        self.bytes.reserve(FRAME as usize + body.len())?;
+        self.bytes.push_reserved(1);
+        put_entry(&mut self.bytes, body);
+        self.ends.push_reserved(self.bytes.len());
+        Ok(())
     }
 
     /// How many bodies there are.
@@ -102,21 +130,37 @@ impl BodyList {
         Ok(taken)
     }
 
-    // One body more, behind five bytes that stand for its gate and its length.
-    pub(crate) fn add(&mut self, body: &[u8]) -> Result<(), AllocError>
-        ensures ok { OnOk result (self.new ≡ self.old ++ body.now ∷ []) }
-        ensures err { OnErr result (self.new ≡ self.old) }
+    // Where the shut gate stands behind these bodies in a file.
+    pub(crate) fn end(&self) -> u64
+        ensures { result ≡ ends_at self.now }
     {
-        let start = self.bytes.len();
-        self.ends.reserve(1)?;
-        self.bytes.extend_from_slice(&[1, 0, 0, 0, 0])?;
-        if self.bytes.extend_from_slice(body).is_err() {
-            self.bytes.truncate(start);
-            return Err(AllocError);
-        }
-        self.ends.push_reserved(self.bytes.len());
-        Ok(())
+        self.bytes.len() as u64
     }
+
+    // What is to be written behind a shut first gate, so that a file has these bodies once that gate is open.
+    pub(crate) fn staged(&self, alloc: Global) -> Result<Vec<u8>, AllocError>
+        requires { 0 < length self.now }
+        ensures staged { IfOk result (λ staged. IsStaged self.now staged.items) }
+        ensures size { IfOk result (λ staged. length staged.items ≡ ends_at self.now) }
+    {
+        let (_, entries) = self.bytes.split_at(1);
+        let mut staged = Vec::with_capacity(alloc, self.bytes.len())?;
+        staged.extend_from_slice(entries)?;
+        staged.push_reserved(0);
+        Ok(staged)
+    }
+}
+
+// Puts a body behind its length behind what is there.
+pub(crate) fn put_entry(room: &mut Vec<u8>, body: &[u8])
+    requires fits { length room.old.items + (length body.now + 4) ≤ vec_capacity room.old }
+    requires short { length body.now < 2 ^ 32 }
+    ensures items { room.new.items ≡ room.old.items ++ entry body.now }
+    ensures capacity { vec_capacity room.old ≤ vec_capacity room.new }
+{
+    let size = body.len() as u32;
+    room.extend_from_slice(&size.to_be_bytes()).unwrap();
+    room.extend_from_slice(body).unwrap();
 }
 
 // Notes where each entry ends that lies whole in these bytes, the first of which stands at an offset, and answers how many of the

@@ -1,8 +1,8 @@
 // How a file of gates is begun.
-ghost use Rattle.std.specs.Prelude.{◌≡◌, ◌+◌, ◌^◌, ◌≤◌, ◌<◌, ◌++◌, [], ◌∷◌, List, ℕ, length, OnOk, IfOk, IfErr};
+ghost use Rattle.std.specs.Prelude.{◌≡◌, ◌+◌, ◌^◌, ◌≤◌, ◌<◌, [], List, ℕ, length, OnOk, IfOk, IfErr};
 ghost use Rattle.disk_model.specs.Device.{Reads, HasCause, IsSettled, Only};
 ghost use Rattle.disk_model.specs.Moments.{LeavesOnly, Peeks, Uses};
-ghost use Rattle.gate_file.specs.Chain.{entry, IsNoRun};
+ghost use Rattle.gate_file.specs.Chain.{IsNoRun, IsStaged};
 ghost use Rattle.gate_file.specs.Creation.{Begins, RefusesBeginning};
 ghost use Rattle.gate_file.specs.Gate.{Keeps, IsCalm};
 ghost use Rattle.gate_file.specs.First.{StandsFirst};
@@ -19,10 +19,11 @@ pub(crate) enum FirstGate {
     Shut,
 }
 
-// Begins a file on the disk, with this staged entry as its first body.
+// Begins a file on the disk, with the staged entries as its first bodies.
 pub(crate) fn begin<D: Disk>(disk: &mut D, staged: &[u8]) -> Result<(), GateFault>
-    ensures { (body : List ℕ) → length body < 2 ^ 32 → staged.now ≡ entry body ++ 0 ∷ []
-        → Begins body (D.state disk.old) (D.state disk.new) result }
+    ensures begun { (bodies : List (List ℕ)) → IsStaged bodies staged.now
+        → Begins bodies (D.state disk.old) (D.state disk.new) result }
+    ensures small { OnOk result (1 + length staged.now < 2 ^ 62) }
 {
     let first = look_first(disk)?;
     shut_first(disk, first)?;

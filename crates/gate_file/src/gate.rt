@@ -2,11 +2,12 @@
 ghost use Rattle.std.specs.Prelude.{◌≡◌, ◌*◌, ◌+◌, ◌^◌, ◌≤◌, ◌<◌, ◌++◌, [], ◌∷◌, List, ℕ, length, true, IsTrue, OnOk, IfOk, is_ok, vec_capacity, Bool};
 ghost use Rattle.disk_model.specs.Device.{HasCause};
 ghost use Rattle.disk_model.specs.Moments.{LeavesOnly, Uses};
-ghost use Rattle.gate_file.specs.Chain.{entry, IsBeforeOrAfter};
+ghost use Rattle.gate_file.specs.Chain.{IsBeforeOrAfter, IsStaged, ends_at};
 ghost use Rattle.gate_file.specs.Creation.{Begins, without_disk};
 ghost use Rattle.gate_file.specs.Gate.{Gate, Keeps, disk_of, disk_opened};
 ghost use Rattle.gate_file.specs.Opening.{Finds, found_with};
 
+use crate::body_list::put_entry;
 use crate::create::begin;
 use crate::open::{Contents, FRAME, read_all};
 use crate::{BodyList, DiskFault, GateFault};
@@ -47,7 +48,7 @@ impl<D: Disk> GateFile<D> {
     /// before that was seen. An error gives the disk back, and unless it is `DiskFault` nothing was written.
     pub fn create(alloc: Global, disk: D, body: &[u8]) -> Result<GateFile<D>, (D, GateFault)>
         requires { length body.now < 2 ^ 32 }
-        ensures begun { Begins body.now (D.state disk) (D.state (disk_of result)) (without_disk result) }
+        ensures begun { Begins (body.now ∷ []) (D.state disk) (D.state (disk_of result)) (without_disk result) }
         ensures live { IfOk result (λ file. IsTrue file.live) }
         ensures end { IfOk result (λ file. file.end ≡ 5 + length body.now) }
     {
@@ -56,6 +57,31 @@ impl<D: Disk> GateFile<D> {
             Ok(room) => Ok(GateFile {
                 disk,
                 end: FRAME + body.len() as u64,
+                live: true,
+                room,
+            }),
+            Err(fault) => Err((disk, fault)),
+        }
+    }
+
+    /// Begins a file on the disk, with all these bodies at once: a crash at any moment of the call leaves what was there before, or
+    /// no run, or all of them. It writes them behind a shut first gate, each later gate open, and then opens the first. It refuses,
+    /// and writes over no run, as `create` does.
+    pub fn create_filled(
+        alloc: Global,
+        disk: D,
+        bodies: &BodyList,
+    ) -> Result<GateFile<D>, (D, GateFault)>
+        requires { 0 < length bodies.now }
+        ensures begun { Begins bodies.now (D.state disk) (D.state (disk_of result)) (without_disk result) }
+        ensures live { IfOk result (λ file. IsTrue file.live) }
+        ensures end { IfOk result (λ file. file.end ≡ ends_at bodies.now) }
+    {
+        let mut disk = disk;
+        match fill_with(alloc, &mut disk, bodies) {
+            Ok(room) => Ok(GateFile {
+                disk,
+                end: bodies.end(),
                 live: true,
                 room,
             }),
@@ -95,7 +121,7 @@ impl<D: Disk> GateFile<D> {
             → Keeps (bodies ++ body.now ∷ []) (D.state self.new.disk) self.new.end) }
         // A crash at any moment of the call leaves those, or those and the body.
         ensures any_moment { (bodies : List (List ℕ)) → Keeps bodies (D.state self.old.disk) self.old.end
-            → LeavesOnly (IsBeforeOrAfter bodies body.now) (D.state self.old.disk) (D.state self.new.disk) }
+            → LeavesOnly (IsBeforeOrAfter bodies (body.now ∷ [])) (D.state self.old.disk) (D.state self.new.disk) }
         ensures moved { OnOk result (self.new.end ≡ self.old.end + 5 + length body.now) }
         ensures live { self.new.live ≡ is_ok result }
         ensures cause { HasCause (D.state self.old.disk) (D.state self.new.disk) result }
@@ -139,7 +165,7 @@ impl<D: Disk> GateFile<D> {
 fn begin_with<D: Disk>(alloc: Global, disk: &mut D, body: &[u8]) -> Result<Vec<u8>, GateFault>
     requires { length body.now < 2 ^ 32 }
     ensures room { IfOk result (λ room. 8390 ≤ vec_capacity room) }
-    ensures begun { Begins body.now (D.state disk.old) (D.state disk.new) result }
+    ensures begun { Begins (body.now ∷ []) (D.state disk.old) (D.state disk.new) result }
 {
     let room = Vec::with_capacity(alloc, BATCH_ROOM)?;
     let mut staged = Vec::with_capacity(alloc, body.len() + FRAME as usize)?;
@@ -150,34 +176,46 @@ fn begin_with<D: Disk>(alloc: Global, disk: &mut D, body: &[u8]) -> Result<Vec<u
     }
 }
 
+// The room of one whole batch, behind a beginning of the file with all these bodies.
+fn fill_with<D: Disk>(alloc: Global, disk: &mut D, bodies: &BodyList) -> Result<Vec<u8>, GateFault>
+    requires { 0 < length bodies.now }
+    ensures room { IfOk result (λ room. 8390 ≤ vec_capacity room) }
+    ensures small { OnOk result (ends_at bodies.now < 2 ^ 62) }
+    ensures begun { Begins bodies.now (D.state disk.old) (D.state disk.new) result }
+{
+    let room = Vec::with_capacity(alloc, BATCH_ROOM)?;
+    let staged = bodies.staged(alloc)?;
+    match begin(disk, &staged) {
+        Ok(()) => Ok(room),
+        Err(fault) => Err(fault),
+    }
+}
+
 // Puts a body's entry into the room, and a shut gate behind it.
 fn stage(room: &mut Vec<u8>, body: &[u8])
     requires fits { length body.now + 5 ≤ vec_capacity room.old }
     requires short { length body.now < 2 ^ 32 }
-    ensures items { room.new.items ≡ entry body.now ++ 0 ∷ [] }
+    ensures staged { IsStaged (body.now ∷ []) room.new.items }
+    ensures size { length room.new.items ≡ 5 + length body.now }
     ensures capacity { vec_capacity room.old ≤ vec_capacity room.new }
 {
     room.clear();
-    room.extend_from_slice(&(body.len() as u32).to_be_bytes())
-        .unwrap();
-    room.extend_from_slice(body).unwrap();
+    put_entry(room, body);
     room.push(0).unwrap();
 }
 
-// Writes a staged entry behind the shut gate, and then opens the gate: each of the two is on the disk before the next begins.
+// Writes staged entries behind the shut gate, and then opens the gate: each of the two is on the disk before the next begins.
 pub(crate) fn add_staged<D: Disk>(disk: &mut D, end: u64, staged: &[u8]) -> Result<(), Failed>
     requires { end < 2 ^ 62 }
     ensures small { OnOk result (end + 1 + length staged.now < 2 ^ 62) }
     ensures cause { HasCause (D.state disk.old) (D.state disk.new) result }
     ensures uses { Uses 4 (end + 1 + length staged.now) (D.state disk.old) (D.state disk.new) }
-    ensures acknowledged { OnOk result ((bodies : List (List ℕ)) (body : List ℕ) → length body < 2 ^ 32
-        → staged.now ≡ entry body ++ 0 ∷ []
+    ensures acknowledged { OnOk result ((bodies more : List (List ℕ)) → IsStaged more staged.now
         → Keeps bodies (D.state disk.old) end
-        → Keeps (bodies ++ body ∷ []) (D.state disk.new) (end + 5 + length body)) }
-    ensures any_moment { (bodies : List (List ℕ)) (body : List ℕ) → length body < 2 ^ 32
-        → staged.now ≡ entry body ++ 0 ∷ []
+        → Keeps (bodies ++ more) (D.state disk.new) (end + length staged.now)) }
+    ensures any_moment { (bodies more : List (List ℕ)) → IsStaged more staged.now
         → Keeps bodies (D.state disk.old) end
-        → LeavesOnly (IsBeforeOrAfter bodies body) (D.state disk.old) (D.state disk.new) }
+        → LeavesOnly (IsBeforeOrAfter bodies more) (D.state disk.old) (D.state disk.new) }
 {
     disk.write_at(end + 1, staged)?;
     disk.sync()?;

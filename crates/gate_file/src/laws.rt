@@ -25,7 +25,7 @@ pub fn appends_leave_prefixes<D: Disk>()
         → ((k : ℕ) → k < n → (bodies : List (List ℕ)) → Keeps bodies (D.state (disk k)) (end k)
         → Keeps (bodies ++ body k ∷ []) (D.state (disk (k + 1))) (end (k + 1)))
         → ((k : ℕ) → k ≤ n → (bodies : List (List ℕ)) → Keeps bodies (D.state (disk k)) (end k)
-        → LeavesOnly (IsBeforeOrAfter bodies (body k)) (D.state (disk k)) (D.state (disk (k + 1))))
+        → LeavesOnly (IsBeforeOrAfter bodies (body k ∷ [])) (D.state (disk k)) (D.state (disk (k + 1))))
         → (j : ℕ) → j ≤ n → (c : List ℕ) → (D.state (disk (n + 1))).image_since (D.state (disk j)).clock c
         → (m : ℕ) × (j ≤ m) × (m ≤ n + 1) × Spells (after first body m) c }
 {}

@@ -136,7 +136,7 @@ fn read_on<D: Disk>(
     match read_entry(alloc, disk, at, len, seen)? {
         Some(body) => {
             let next = at + FRAME + body.len() as u64;
-            bodies.add(&body)?;
+            bodies.push(&body)?;
             Ok(Some(next))
         }
         None => Ok(None),
@@ -206,6 +206,7 @@ fn read_entry<D: Disk>(
         → IsSeen seen.now at len (D.state disk.old) bytes
         → IsEntry body.items (drop at bytes) (drop (at + 5 + length body.items) bytes))) }
     ensures fits { IfOk result (λ found. IfSome found (λ body. at + 5 + length body.items < len)) }
+    ensures short { IfOk result (λ found. IfSome found (λ body. length body.items < 2 ^ 32)) }
     ensures refused { IfErr result (λ fault. RefusesEntry seen.now at len fault (D.state disk.old) (D.state disk.new)) }
     ensures calm { IsCalm (D.state disk.old) (D.state disk.new) result }
     ensures peeks { Peeks 1 (D.state disk.old) (D.state disk.new) }

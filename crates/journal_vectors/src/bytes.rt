@@ -21,6 +21,12 @@ const HEADER: &str =
 const HEADER2: &str =
     "01000000405457494e00020000000000000017250a4f310a233530303d233530302b310a4d33300a250a00000017250a4f310a233530303d233530302b310a4d33300a250a";
 
+/// What stands in a header of short texts behind its mark: the settings `s`, and the tapes `l1` and `r22`.
+const SHORT: &str = "0000000173000000026c3100000003723232";
+
+/// The entry of that header in version 2, of 24 bytes.
+const BRANCHED: &str = "01000000185457494e00020000000173000000026c3100000003723232";
+
 /// Two edits of path 1: its work offset 1, that of G54, gets X-1. Z5., and #500 gets 7.
 const G54: &str = "0106010001fffffffffffffc180000000000001388";
 
@@ -59,6 +65,8 @@ fn digits_of(word: &str) -> &str {
         "FOUR" => FOUR,
         "HEADER" => HEADER,
         "HEADER2" => HEADER2,
+        "SHORT" => SHORT,
+        "BRANCHED" => BRANCHED,
         "G54" => G54,
         "SEVEN" => SEVEN,
         "TEXTS" => TEXTS,

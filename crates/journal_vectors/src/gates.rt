@@ -6,8 +6,9 @@ use gate_file::{BodyList, GateFile, LONGEST_BODY};
 use std::alloc::{AllocError, Global};
 use std::test::Fail;
 
-/// `HELD|DISK|CALLS|ANSWERS|LOOK CRASH FOUND, ..`. `create BODY, BODY` begins a file of the first body and appends the others, and
-/// `append BODY` opens the file and appends one. An opening makes 4 calls of the disk, and an append a write, a sync, the write of the
+/// `HELD|DISK|CALLS|ANSWERS|LOOK CRASH FOUND, ..`. `create BODY, BODY` begins a file of the first body and appends the others, `fill
+/// BODY, BODY; BODY` begins one of all bodies before the `;` at once and appends those behind it, and `append BODY` opens the file and
+/// appends one. An opening makes 4 calls of the disk, and an append a write, a sync, the write of the
 /// gate, and a sync. Of a `list` each body has its length, and its bytes where they are few. The sizes of the long bodies end just
 /// before, at and behind the end of a window of 65,536 bytes, and one is longer than two.
 const ROWS: &str = "\
@@ -63,7 +64,36 @@ FOUR 00||create 41|run there|bodies still 4
 |room 300000|create 65532x41, 0102, 0304|done done done|list still 3 bodies 65532: 2:0102 2:0304 faults 0
 |room 300000|create 140000x41, 0102, 0304|done done done|list still 3 bodies 140000: 2:0102 2:0304 faults 0
 |room 300000|create 0x41, 0102, 0304|done done done|list still 3 bodies 0: 2:0102 2:0304 faults 0
-|room 300000|create 1x41, 0102, 0304|done done done|list still 3 bodies 1:41 2:0102 2:0304 faults 0";
+|room 300000|create 1x41, 0102, 0304|done done done|list still 3 bodies 1:41 2:0102 2:0304 faults 0
+|room 7|fill 41|done|bytes still 01 00000001 41 00
+|room 16|fill 41, 01010100|done|bytes still 01 00000001 41 01 00000004 01010100 00
+|room 25|fill 41, 01010100, 01020100|done|bytes still THREE 00
+|room 38|fill 41, 01010100, 01020100, 0101010100000001|done|bytes still FOUR 00
+|room 38|fill 41, 01010100; 01020100, 0101010100000001|done done done|bytes still FOUR 00
+|room 37|fill 41, 01010100, 01020100, 0101010100000001|disk fault|bodies still no run
+||fill 41, 01010100, 01020100|done|list still 3 bodies 1:41 4:01010100 4:01020100 faults 0
+09||fill 41, 42|done|bytes still 01 00000001 41 01 00000001 42 00
+00ffff||fill 41, 42|done|bytes still 01 00000001 41 01 00000001 42 00
+FOUR 00||fill 41, 42|run there|bytes still FOUR 00
+0700||fill 41, 42|run there|bytes still 0700
+|fails 1|fill 41, 42|disk fault|bodies kept no run, lost no run, sevens no run
+|fails 2|fill 41, 42|disk fault|bodies kept no run, lost no run, sevens no run
+|fails 3|fill 41, 42|disk fault|bodies kept no run, lost no run, sevens no run
+|fails 4|fill 41, 42|disk fault|bodies kept no run, lost no run, sevens no run
+|fails 5|fill 41, 42|disk fault|bodies kept no run, lost no run, sevens no run
+|fails 6|fill 41, 42|disk fault|bodies kept no run, lost no run, sevens no run
+|fails 7|fill 41, 42|disk fault|bodies kept no run, lost no run, sevens 2
+|fails 8|fill 41, 42|disk fault|bodies kept 2, lost no run, sevens 2
+|fails 7|fill 41, 42|disk fault|bytes sevens 07 00000001 41 01 00000001 42 00
+00ffff|fails 5|fill 41, 42|disk fault|bodies kept no run, lost no run, sevens no run
+00ffff|fails 6|fill 41, 42|disk fault|bodies kept no run, lost no run, sevens 2
+00ffff|fails 7|fill 41, 42|disk fault|bodies kept 2, lost no run, sevens 2
+FOUR 00|fails 1|fill 41, 42|disk fault|bytes kept FOUR 00, lost FOUR 00, sevens FOUR 00
+FOUR 00|fails 3|fill 41, 42|disk fault|bytes kept FOUR 00, lost FOUR 00, sevens FOUR 00
+|room 300000|fill 65532x41, 140000x41, 0x41, 0102|done|list still 4 bodies 65532: 140000: 0: 2:0102 faults 0";
+
+/// The most bytes of a body of a row that a file is begun with.
+const MOST_BYTES: usize = 200_000;
 
 /// Appends a body as far as the file is live, and tells whether that was done. A file stays live exactly where it was.
 fn append(file: &mut GateFile<FuseDisk>, body: &[u8]) -> &'static str {
@@ -122,18 +152,60 @@ pub(crate) fn created(
 ) -> Result<FuseDisk, Fail> {
     let (first, others) = bodies.split_once(", ").unwrap_or((bodies, ""));
     let body = bytes_of(alloc, first)?;
-    if body.len() > 200_000 {
+    if body.len() > MOST_BYTES {
         return Ok(disk);
     }
     match GateFile::create(alloc, disk, body.as_slice()) {
-        Ok(file) => {
-            let mut file = file;
-            said.push_str("done")?;
-            if !others.is_empty() {
-                append_all(alloc, said, &mut file, others)?;
-            }
-            Ok(file.into_disk())
+        Ok(file) => gone_on(alloc, said, file, others),
+        Err((disk, fault)) => {
+            write!(said, "{fault}")?;
+            Ok(disk)
         }
+    }
+}
+
+/// Tells that the file was begun, appends the other bodies, and gives the disk back.
+fn gone_on(
+    alloc: Global,
+    said: &mut String,
+    file: GateFile<FuseDisk>,
+    others: &str,
+) -> Result<FuseDisk, Fail> {
+    let mut file = file;
+    said.push_str("done")?;
+    if !others.is_empty() {
+        append_all(alloc, said, &mut file, others)?;
+    }
+    Ok(file.into_disk())
+}
+
+/// The bodies as a list.
+fn list_of(alloc: Global, texts: &str) -> Result<BodyList, AllocError> {
+    let mut bodies = BodyList::empty(alloc);
+    bodies.reserve(2, 16)?;
+    for text in texts.split(", ") {
+        let body = bytes_of(alloc, text)?;
+        if body.len() <= MOST_BYTES {
+            bodies.push(body.as_slice())?;
+        }
+    }
+    Ok(bodies)
+}
+
+/// Begins a file of all bodies before the `;` at once, and appends those behind it.
+pub(crate) fn filled(
+    alloc: Global,
+    said: &mut String,
+    disk: FuseDisk,
+    bodies: &str,
+) -> Result<FuseDisk, Fail> {
+    let (first, others) = bodies.split_once("; ").unwrap_or((bodies, ""));
+    let list = list_of(alloc, first)?;
+    if list.is_empty() {
+        return Ok(disk);
+    }
+    match GateFile::create_filled(alloc, disk, &list) {
+        Ok(file) => gone_on(alloc, said, file, others),
         Err((disk, fault)) => {
             write!(said, "{fault}")?;
             Ok(disk)

@@ -1,8 +1,9 @@
 //! A row of a disk, and whether what it says holds.
+use crate::branches::branched;
 use crate::bytes::bytes_of;
 use crate::devices::{disk_of, left_of};
 use crate::disks::put_answers;
-use crate::gates::{appended, created, put_bodies};
+use crate::gates::{appended, created, filled, put_bodies};
 use crate::journals::{put_records, recorded};
 use disk_model::{Disk, FuseDisk, MemoryDisk};
 use std::alloc::{AllocError, Global};
@@ -23,7 +24,9 @@ fn used(alloc: Global, said: &mut String, disk: FuseDisk, calls: &str) -> Result
     let (name, rest) = calls.split_once(' ').unwrap_or((calls, ""));
     match name {
         "append" => appended(alloc, said, disk, rest),
+        "branch" => branched(alloc, said, disk, rest),
         "create" => created(alloc, said, disk, rest),
+        "fill" => filled(alloc, said, disk, rest),
         "journal" => recorded(alloc, said, disk, rest),
         _ => {
             let mut disk = disk;

@@ -72,12 +72,12 @@ module _ (header : Header) (version : Version) (entries : List Entry) (old new :
   pub kept : (now : ℕ) → ((bodies : List (List ℕ)) → Keeps bodies old end → Keeps (bodies ++ body ∷ []) new now) → Holds header (version_after version piece) (entries ++ records_in piece) new now
   kept now step = (_, run, behind, subst (λ (l : List (List ℕ)). Keeps l new now) (sym bodies) (step (bodies_of header holds.0) holds.3))
 
-  stands : (c : List ℕ) → IsBeforeOrAfter (bodies_of header holds.0) body c → StandsEither header entries (records_in piece) c
+  stands : (c : List ℕ) → IsBeforeOrAfter (bodies_of header holds.0) (body ∷ []) c → StandsEither header entries (records_in piece) c
   stands c (inl before) = inl (holds.0, holds.1, before)
   stands c (inr after) = inr (_, run, (after.0, subst (λ (l : List (List ℕ)). Opens l c after.0) (sym bodies) after.1, after.2))
 
-  pub moments : ((bodies : List (List ℕ)) → Keeps bodies old end → LeavesOnly (IsBeforeOrAfter bodies body) old new) → LeavesOnly (StandsEither header entries (records_in piece)) old new
-  moments step = widened (IsBeforeOrAfter (bodies_of header holds.0) body) (StandsEither header entries (records_in piece)) old new (step (bodies_of header holds.0) holds.3) stands
+  pub moments : ((bodies : List (List ℕ)) → Keeps bodies old end → LeavesOnly (IsBeforeOrAfter bodies (body ∷ [])) old new) → LeavesOnly (StandsEither header entries (records_in piece)) old new
+  moments step = widened (IsBeforeOrAfter (bodies_of header holds.0) (body ∷ [])) (StandsEither header entries (records_in piece)) old new (step (bodies_of header holds.0) holds.3) stands
 
 -- the records that are to be written are a batch
 pub is_batch : (version : Version) (pending : List Entry) (batch : List ℕ) → Pends version pending batch → pending_in batch ≤ 64 → 1 ≤ pending_in batch → IsBatch version pending
@@ -94,5 +94,5 @@ module _ (header : Header) (entries : List Entry) (old new : DiskState) (end : �
   still c (inl before) = before
   still c (inr after) = subst (λ (l : List Entry). Stands header l c) (append-nil entries) after
 
-  pub raising : ((bodies : List (List ℕ)) → Keeps bodies old end → LeavesOnly (IsBeforeOrAfter bodies raising_mark) old new) → LeavesOnly (Stands header entries) old new
+  pub raising : ((bodies : List (List ℕ)) → Keeps bodies old end → LeavesOnly (IsBeforeOrAfter bodies (raising_mark ∷ [])) old new) → LeavesOnly (Stands header entries) old new
   raising step = widened (StandsEither header entries []) (Stands header entries) old new (moments header One entries old new end holds the_mark refl raising_mark refl step) still

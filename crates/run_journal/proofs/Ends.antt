@@ -22,7 +22,7 @@ small_mark : (version : Version) → mark_size version ≤ 8
 small_mark One = omega arith
 small_mark Two = omega arith
 
-pieces_end : (version : Version) (pieces : List Piece) → ArePieces version pieces → ends_at (map piece_bytes pieces) ≤ length (records_bytes (records_of pieces)) + 6 * length (records_of pieces) + mark_size version
+pub pieces_end : (version : Version) (pieces : List Piece) → ArePieces version pieces → ends_at (map piece_bytes pieces) ≤ length (records_bytes (records_of pieces)) + 6 * length (records_of pieces) + mark_size version
 pieces_end version [] are = omega arith
 pieces_end version (a_batch batch ∷ pieces) are =
     let joined = ap length (flat_map-append entry_bytes batch (records_of pieces)) in

@@ -6,3 +6,4 @@ pub mod PieceByPiece
 pub mod Openings
 pub mod OneMeaning
 pub mod Ends
+pub mod Fillings

@@ -1,6 +1,7 @@
 pub mod Bad
 pub mod Batches
 pub mod Beginning
+pub mod Filled
 pub mod Kept
 pub mod Meaning
 pub mod Opening

@@ -4,11 +4,12 @@
 //! version 1 to version 2: edits stand in version 2 alone. [`Journal::flush`] writes all
 //! records that are to be written as one batch, so that a crash at any moment leaves the records from before the call, or those
 //! and the whole batch. The layer above leans on that, and on what [`open_journal`] gives: exactly the header and the records that
-//! the file stands for, or the one reason why it stands for none.
+//! the file stands for, or the one reason why it stands for none. [`journal_bodies`] gives all bodies of a journal at once.
 #![tactic(auto)]
 
 mod batch;
 mod fault;
+mod filling;
 mod journal;
 mod laws;
 mod offsets;
@@ -16,6 +17,7 @@ mod opening;
 mod reading;
 
 pub use fault::{JournalFault, JournalFull};
+pub use filling::journal_bodies;
 pub use journal::{Journal, MOST_RECORDS};
 pub use laws::{
     a_held_journal_is_small, a_held_journal_leaves_its_records, a_journal_stands_for_one_thing,

@@ -1,18 +1,15 @@
-use Rattle.std.proofs.Common.{rules, ◌≡◌, ◌+◌, [], ◌∷◌, length, refl, ap, ◌∙◌, arith, length-append}
+use Rattle.std.proofs.Common.{rules, [], refl, ◌∙◌, arith}
 use Rattle.std.proofs.lemmas.Result.{err_from_is_err_and}
-use Rattle.gate_file.specs.Chain.{entry}
-use Rattle.disk_model.proofs.Runs.{uses_add, uses_widened}
-use Rattle.gate_file.proofs.Chains.{length-entry}
-use Rattle.gate_file.proofs.Beginning.{not_there, moments_shut, moments_added}
+use Rattle.gate_file.proofs.Beginning.{not_there, moments_shut, moments_added, kept_anew, begun_used, shut_used}
 use Rattle.gate_file.proofs.create.begin.Goals as goal
 
-pub returns-in_err-shut_first : goal.returns-in_err-shut_first
-returns-in_err-shut_first g c =
+pub returns-in_err-shut_first-clause-begun : goal.returns-in_err-shut_first-clause-begun
+returns-in_err-shut_first-clause-begun g c =
     let d = g.D.Disk.state in
     let p = err_from_is_err_and c.from_residual-in_err-shut_first.result c.from_residual-in_err-shut_first.ensures.1 in
     let peeks = c.look_first.ensures.peeks in
     let shut = c.shut_first.ensures in
-    rw (p.1, p.2) (λ body short is. record {
+    rw (p.1, p.2) (λ bodies is. record {
       kept = search rules;
       vacant = search rules;
       spares = λ bytes reads there. absurd (not_there c.in_ok-first.first bytes (c.in_ok-first.ensures.first bytes reads) there);
@@ -22,20 +19,18 @@ returns-in_err-shut_first g c =
       any_moment = λ bytes reads.
           let here = peeks.unwritten.same ∙ reads in
           let none = shut.any_moment bytes here (c.in_ok-first.ensures.settled bytes here) (c.in_ok-first.ensures.first bytes reads) in
-          moments_shut body (d c.args.disk.now) (d c.look_first.new.disk) (d c.shut_first.new.disk) peeks.unwritten none;
-      uses =
-          let both = uses_add 3 2 0 1 (d c.args.disk.now) (d c.look_first.new.disk) (d c.shut_first.new.disk) peeks.uses shut.uses in
-          uses_widened 5 12 1 (length body + 6) (d c.args.disk.now) (d c.shut_first.new.disk) both (omega arith) (omega arith);
+          moments_shut bodies (d c.args.disk.now) (d c.look_first.new.disk) (d c.shut_first.new.disk) peeks.unwritten none;
+      uses = shut_used bodies (d c.args.disk.now) (d c.look_first.new.disk) (d c.shut_first.new.disk) peeks.uses shut.uses;
     })
 
-pub returns-in_err-add_staged : goal.returns-in_err-add_staged
-returns-in_err-add_staged g c =
+pub returns-in_err-add_staged-clause-begun : goal.returns-in_err-add_staged-clause-begun
+returns-in_err-add_staged-clause-begun g c =
     let d = g.D.Disk.state in
     let p = err_from_is_err_and c.from_residual-in_err-add_staged.result c.from_residual-in_err-add_staged.ensures.1 in
     let peeks = c.look_first.ensures.peeks in
     let shut = c.shut_first.ensures in
     let added = c.add_staged.ensures in
-    rw (p.1, p.2) (λ body short is. record {
+    rw (p.1, p.2) (λ bodies is. record {
       kept = search rules;
       vacant = search rules;
       spares = λ bytes reads there. absurd (not_there c.in_ok-first.first bytes (c.in_ok-first.ensures.first bytes reads) there);
@@ -46,17 +41,13 @@ returns-in_err-add_staged g c =
           let here = peeks.unwritten.same ∙ reads in
           let settled = c.in_ok-first.ensures.settled bytes here in
           let stands = c.in_ok-first.ensures.first bytes reads in
-          let none = moments_shut body (d c.args.disk.now) (d c.look_first.new.disk) (d c.shut_first.new.disk) peeks.unwritten (shut.any_moment bytes here settled stands) in
-          moments_added body (d c.args.disk.now) (d c.shut_first.new.disk) (d c.add_staged.new.disk) none (added.any_moment [] body short is (c.in_ok-shut_first.ensures.shut bytes here settled stands));
-      uses =
-          let long : length c.args.staged.now ≡ length body + 5 = omega (arith, ap length is, length-append (entry body) (0 ∷ []), length-entry body) in
-          let both = uses_add 3 2 0 1 (d c.args.disk.now) (d c.look_first.new.disk) (d c.shut_first.new.disk) peeks.uses shut.uses in
-          let all = uses_add 5 4 1 (1 + length c.args.staged.now) (d c.args.disk.now) (d c.shut_first.new.disk) (d c.add_staged.new.disk) both added.uses in
-          uses_widened 9 12 _ (length body + 6) (d c.args.disk.now) (d c.add_staged.new.disk) all (omega arith) (omega (arith, long));
+          let none = moments_shut bodies (d c.args.disk.now) (d c.look_first.new.disk) (d c.shut_first.new.disk) peeks.unwritten (shut.any_moment bytes here settled stands) in
+          moments_added bodies (d c.args.disk.now) (d c.shut_first.new.disk) (d c.add_staged.new.disk) none (added.any_moment [] bodies is (c.in_ok-shut_first.ensures.shut bytes here settled stands));
+      uses = begun_used bodies c.args.staged.now (d c.args.disk.now) (d c.look_first.new.disk) (d c.shut_first.new.disk) (d c.add_staged.new.disk) is peeks.uses shut.uses added.uses;
     })
 
-pub returns : goal.returns
-returns g c = λ body short is.
+pub returns-clause-begun : goal.returns-clause-begun
+returns-clause-begun g c = λ bodies is.
     let d = g.D.Disk.state in
     let peeks = c.look_first.ensures.peeks in
     let shut = c.shut_first.ensures in
@@ -65,7 +56,7 @@ returns g c = λ body short is.
       kept = λ bytes reads.
           let here = peeks.unwritten.same ∙ reads in
           let keeps = c.in_ok-shut_first.ensures.shut bytes here (c.in_ok-first.ensures.settled bytes here) (c.in_ok-first.ensures.first bytes reads) in
-          c.in_ok-add_staged.ensures.acknowledged [] body short is keeps;
+          kept_anew bodies c.args.staged.now (d c.add_staged.new.disk) is (c.in_ok-add_staged.ensures.acknowledged [] bodies is keeps);
       vacant = λ bytes reads there. not_there c.in_ok-first.first bytes (c.in_ok-first.ensures.first bytes reads) there;
       spares = λ bytes reads there. absurd (not_there c.in_ok-first.first bytes (c.in_ok-first.ensures.first bytes reads) there);
       refused = search rules;
@@ -75,11 +66,7 @@ returns g c = λ body short is.
           let here = peeks.unwritten.same ∙ reads in
           let settled = c.in_ok-first.ensures.settled bytes here in
           let stands = c.in_ok-first.ensures.first bytes reads in
-          let none = moments_shut body (d c.args.disk.now) (d c.look_first.new.disk) (d c.shut_first.new.disk) peeks.unwritten (shut.any_moment bytes here settled stands) in
-          moments_added body (d c.args.disk.now) (d c.shut_first.new.disk) (d c.add_staged.new.disk) none (added.any_moment [] body short is (c.in_ok-shut_first.ensures.shut bytes here settled stands));
-      uses =
-          let long : length c.args.staged.now ≡ length body + 5 = omega (arith, ap length is, length-append (entry body) (0 ∷ []), length-entry body) in
-          let both = uses_add 3 2 0 1 (d c.args.disk.now) (d c.look_first.new.disk) (d c.shut_first.new.disk) peeks.uses shut.uses in
-          let all = uses_add 5 4 1 (1 + length c.args.staged.now) (d c.args.disk.now) (d c.shut_first.new.disk) (d c.add_staged.new.disk) both added.uses in
-          uses_widened 9 12 _ (length body + 6) (d c.args.disk.now) (d c.add_staged.new.disk) all (omega arith) (omega (arith, long));
+          let none = moments_shut bodies (d c.args.disk.now) (d c.look_first.new.disk) (d c.shut_first.new.disk) peeks.unwritten (shut.any_moment bytes here settled stands) in
+          moments_added bodies (d c.args.disk.now) (d c.shut_first.new.disk) (d c.add_staged.new.disk) none (added.any_moment [] bodies is (c.in_ok-shut_first.ensures.shut bytes here settled stands));
+      uses = begun_used bodies c.args.staged.now (d c.args.disk.now) (d c.look_first.new.disk) (d c.shut_first.new.disk) (d c.add_staged.new.disk) is peeks.uses shut.uses added.uses;
     }

@@ -46,15 +46,15 @@ returns-in_err-body-clause-refused g c =
     record { reads = c.read_at.ensures.looks.same ∙ b.reads; size = b.size; front = s.front })
     c.in_err-body.ensures.refused)
 
-pub returns-in_err-add-in-Some-clause-opens : goal.returns-in_err-add-in-Some-clause-opens
-returns-in_err-add-in-Some-clause-opens g c = λ bytes b.
+pub returns-in_err-push-in-Some-clause-opens : goal.returns-in_err-push-in-Some-clause-opens
+returns-in_err-push-in-Some-clause-opens g c = λ bytes b.
     let s = seen_of bytes c.args.window.now c.read_at.new.into c.front-seen.result.now c.args.at c.args.len c.in_ok-count.count b.size c.requires.within.0 (c.in_ok-count.ensures.count bytes b.reads) (c.in_ok-count.ensures.got bytes b.reads) c.front-seen.ensures c.requires.window in
     let window = opens_window c.args.bodies.now bytes c.front-seen.result.now c.args.at s b.opens in
     let mid = none_taken c.take_entries.new.self bytes c.front-seen.result.now c.args.at c.in_ok-taken.taken s c.if-taken-gt0.false (c.in_ok-taken.ensures.reads bytes s.behind window) in
-    (drop c.args.at bytes, subst (λ (l : List (List ℕ)). Opens l bytes (drop c.args.at bytes)) (sym c.in_err-add-in-Some.ensures.err) mid)
+    (drop c.args.at bytes, subst (λ (l : List (List ℕ)). Opens l bytes (drop c.args.at bytes)) (sym c.in_err-push-in-Some.ensures.err) mid)
 
-pub returns-in_ok-add-in-Some-clause-reads : goal.returns-in_ok-add-in-Some-clause-reads
-returns-in_ok-add-in-Some-clause-reads g c = λ bytes b.
+pub returns-in_ok-push-in-Some-clause-reads : goal.returns-in_ok-push-in-Some-clause-reads
+returns-in_ok-push-in-Some-clause-reads g c = λ bytes b.
     let s = seen_of bytes c.args.window.now c.read_at.new.into c.front-seen.result.now c.args.at c.args.len c.in_ok-count.count b.size c.requires.within.0 (c.in_ok-count.ensures.count bytes b.reads) (c.in_ok-count.ensures.got bytes b.reads) c.front-seen.ensures c.requires.window in
     let window = opens_window c.args.bodies.now bytes c.front-seen.result.now c.args.at s b.opens in
     let mid = none_taken c.take_entries.new.self bytes c.front-seen.result.now c.args.at c.in_ok-taken.taken s c.if-taken-gt0.false (c.in_ok-taken.ensures.reads bytes s.behind window) in
@@ -63,13 +63,13 @@ returns-in_ok-add-in-Some-clause-reads g c = λ bytes b.
     let entry = rw c.in-Some.is at c.in_ok-body.ensures.entry in
     let size : c.len.result ≡ length items = search rules in
     let step = opens_push c.take_entries.new.self bytes (drop c.args.at bytes) (drop (c.args.at + 5 + length items) bytes) items mid (entry bytes known) in
-    let more = c.in_ok-add-in-Some.ensures.ok ∙ ap (λ (l : List ℕ). c.take_entries.new.self ++ l ∷ []) c.deref.ensures.value in
+    let more = c.in_ok-push-in-Some.ensures.ok ∙ ap (λ (l : List ℕ). c.take_entries.new.self ++ l ∷ []) c.deref.ensures.value in
     let all = subst (λ (l : List (List ℕ)). Opens l bytes (drop (c.args.at + 5 + length items) bytes)) (sym more) step in
-    let on : Opens c.add.new.self bytes (drop (c.args.at + 5 + c.len.result) bytes) = subst (λ (n : ℕ). Opens c.add.new.self bytes (drop (c.args.at + 5 + n) bytes)) (sym size) all in
+    let on : Opens c.push.new.self bytes (drop (c.args.at + 5 + c.len.result) bytes) = subst (λ (n : ℕ). Opens c.push.new.self bytes (drop (c.args.at + 5 + n) bytes)) (sym size) all in
     on
 
-pub returns-in_ok-add-in-Some-clause-opens : goal.returns-in_ok-add-in-Some-clause-opens
-returns-in_ok-add-in-Some-clause-opens g c = λ bytes b.
+pub returns-in_ok-push-in-Some-clause-opens : goal.returns-in_ok-push-in-Some-clause-opens
+returns-in_ok-push-in-Some-clause-opens g c = λ bytes b.
     let s = seen_of bytes c.args.window.now c.read_at.new.into c.front-seen.result.now c.args.at c.args.len c.in_ok-count.count b.size c.requires.within.0 (c.in_ok-count.ensures.count bytes b.reads) (c.in_ok-count.ensures.got bytes b.reads) c.front-seen.ensures c.requires.window in
     let window = opens_window c.args.bodies.now bytes c.front-seen.result.now c.args.at s b.opens in
     let mid = none_taken c.take_entries.new.self bytes c.front-seen.result.now c.args.at c.in_ok-taken.taken s c.if-taken-gt0.false (c.in_ok-taken.ensures.reads bytes s.behind window) in
@@ -78,9 +78,9 @@ returns-in_ok-add-in-Some-clause-opens g c = λ bytes b.
     let entry = rw c.in-Some.is at c.in_ok-body.ensures.entry in
     let size : c.len.result ≡ length items = search rules in
     let step = opens_push c.take_entries.new.self bytes (drop c.args.at bytes) (drop (c.args.at + 5 + length items) bytes) items mid (entry bytes known) in
-    let more = c.in_ok-add-in-Some.ensures.ok ∙ ap (λ (l : List ℕ). c.take_entries.new.self ++ l ∷ []) c.deref.ensures.value in
+    let more = c.in_ok-push-in-Some.ensures.ok ∙ ap (λ (l : List ℕ). c.take_entries.new.self ++ l ∷ []) c.deref.ensures.value in
     let all = subst (λ (l : List (List ℕ)). Opens l bytes (drop (c.args.at + 5 + length items) bytes)) (sym more) step in
-    let on : Opens c.add.new.self bytes (drop (c.args.at + 5 + c.len.result) bytes) = subst (λ (n : ℕ). Opens c.add.new.self bytes (drop (c.args.at + 5 + n) bytes)) (sym size) all in
+    let on : Opens c.push.new.self bytes (drop (c.args.at + 5 + c.len.result) bytes) = subst (λ (n : ℕ). Opens c.push.new.self bytes (drop (c.args.at + 5 + n) bytes)) (sym size) all in
     (drop (c.args.at + 5 + c.len.result) bytes, on)
 
 pub returns-in-None-clause-reads : goal.returns-in-None-clause-reads

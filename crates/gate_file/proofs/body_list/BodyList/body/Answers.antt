@@ -23,7 +23,7 @@ overflow_add-gate c =
     let i = c.args.index in
     let within : i < length l.ends.items = omega (arith, c.requires, ap length c.self.view_is, length_bodies 0 l.ends.items l.bytes.items) in
     let start : c.start_of-gate.result ≡ get_or (0 ∷ l.ends.items) i 0 = c.start_of-gate.ensures ∙ ap (λ (e : List ℕ). get_or (0 ∷ e) i 0) c.deref.ensures.value in
-    let inside = body_within 0 l.ends.items (length l.bytes.items) i c.self.invariant within in
+    let inside = body_within 0 l.ends.items (length l.bytes.items) i c.self.invariant.are_ends within in
     let size : length l.bytes.items < 2 ^ 63 = search rules in
     omega (arith, start, inside.0, inside.1, size)
 
@@ -34,7 +34,7 @@ stretch-requires c =
     let within : i < length l.ends.items = omega (arith, c.requires, ap length c.self.view_is, length_bodies 0 l.ends.items l.bytes.items) in
     let start : c.start_of-gate.result ≡ get_or (0 ∷ l.ends.items) i 0 = c.start_of-gate.ensures ∙ ap (λ (e : List ℕ). get_or (0 ∷ e) i 0) c.deref.ensures.value in
     let end : c.index-end.result.now ≡ get_or l.ends.items i 0 = get_or_read l.ends.items i c.index-end.result.now within c.index-end.ensures 0 in
-    let inside = body_within 0 l.ends.items (length l.bytes.items) i c.self.invariant within in
+    let inside = body_within 0 l.ends.items (length l.bytes.items) i c.self.invariant.are_ends within in
     (omega (arith, start, end, inside.0), omega (arith, end, inside.1, ap length c.deref-2.ensures.value))
 
 pub returns : goal.returns

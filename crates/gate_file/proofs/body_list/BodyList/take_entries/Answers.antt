@@ -1,9 +1,25 @@
 use Rattle.std.proofs.Common.{rules, ◌≡◌, ◌+◌, ◌++◌, List, ℕ, length, take, drop, sym, subst, ◌∙◌, ap, arith}
 use Rattle.std.proofs.Math.Seq.{take-append-add}
-use Rattle.gate_file.specs.Bodies.{bodies_from, AreEnds}
+use Rattle.gate_file.specs.Bodies.{bodies_from, AreEnds, AreBodies}
 use Rattle.gate_file.specs.Chain.{Opens}
-use Rattle.gate_file.proofs.Bodies.{length_bodies}
+use Rattle.gate_file.proofs.Bodies.{length_bodies, are_taken}
 use Rattle.gate_file.proofs.body_list.BodyList.take_entries.Goals as goal
+
+pub invariant_of-self-2 : goal.invariant_of-self-2
+invariant_of-self-2 c =
+    let old = c.self.inside.bytes.items in
+    let ends = c.self.inside.ends.items in
+    let seen = c.args.seen.now in
+    let n = c.mark_entries-taken.result in
+    let start : c.len-start.result ≡ length old = search rules in
+    let extended : c.extend_from_slice.new.self.items ≡ old ++ seen = search rules in
+    let bytes_are : c.truncate.new.self.items ≡ old ++ take n seen = c.truncate.ensures.items ∙ ap (take (c.len-start.result + n)) extended ∙ ap (λ (k : ℕ). take (k + n) (old ++ seen)) start ∙ take-append-add old seen n in
+    let same = c.reserve.ensures.items in
+    let are : AreBodies c.reserve.new.self.items old = subst (λ (l : List ℕ). AreBodies l old) (sym same) c.self.invariant in
+    let before : AreEnds 0 c.reserve.new.self.items c.len-start.result = subst (AreEnds 0 c.reserve.new.self.items) (sym start) are.are_ends in
+    let after : AreEnds 0 c.mark_entries-taken.new.ends.items (length old + n) = subst (λ (k : ℕ). AreEnds 0 c.mark_entries-taken.new.ends.items (k + n)) start (c.mark_entries-taken.ensures.ends before) in
+    subst (AreBodies c.mark_entries-taken.new.ends.items) (sym bytes_are)
+    (are_taken c.reserve.new.self.items c.mark_entries-taken.new.ends.items old seen n are c.mark_entries-taken.ensures.within after (λ file behind opens. c.mark_entries-taken.ensures.marks old file behind (sym start) before opens))
 
 pub returns-clause-reads : goal.returns-clause-reads
 returns-clause-reads c = λ file behind opens.
@@ -16,7 +32,7 @@ returns-clause-reads c = λ file behind opens.
     let bytes_are : c.truncate.new.self.items ≡ old ++ take n seen = c.truncate.ensures.items ∙ ap (take (c.len-start.result + n)) extended ∙ ap (λ (k : ℕ). take (k + n) (old ++ seen)) start ∙ take-append-add old seen n in
     let same = c.reserve.ensures.items in
     let before : Opens (bodies_from 0 ends old) file (seen ++ behind) = subst (λ (l : List ℕ). Opens (bodies_from 0 l old) file (seen ++ behind)) (sym same) (subst (λ (b : List (List ℕ)). Opens b file (seen ++ behind)) (sym c.self.view_is) opens) in
-    let are : AreEnds 0 ends c.len-start.result = subst (AreEnds 0 ends) (sym start) (subst (λ (l : List ℕ). AreEnds 0 l (length old)) (sym same) c.self.invariant) in
+    let are : AreEnds 0 ends c.len-start.result = subst (AreEnds 0 ends) (sym start) (subst (λ (l : List ℕ). AreEnds 0 l (length old)) (sym same) c.self.invariant.are_ends) in
     subst (λ (l : List ℕ). Opens (bodies_from 0 c.mark_entries-taken.new.ends.items l) file (drop n seen ++ behind)) (sym bytes_are) (c.mark_entries-taken.ensures.marks old file behind (sym start) are before)
 
 pub returns-clause-moved : goal.returns-clause-moved

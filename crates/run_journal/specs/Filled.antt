@@ -1,0 +1,23 @@
+-- A journal that is written at once: a header, and records in batches of 64.
+use Rattle.std.specs.Prelude.{◌≡◌, ℕ, List, [], ◌∷◌, length}
+use Rattle.run_records.specs.declared.header.Header.{Header}
+use Rattle.run_records.specs.declared.version.Version.TheVariants.{Two}
+use Rattle.run_records.specs.Entries.{Entry}
+use Rattle.run_journal.specs.Batches.{Piece, bodies_of, records_in, IsRun}
+
+-- the header with the same three texts, of a journal of version 2
+abbrev pub newest : Header → Header
+newest header = record header { version = Two }
+
+-- each piece but the last has 64 records
+abbrev pub AreFull : List Piece → Type 0
+AreFull [] = Unit {0}
+AreFull (last ∷ []) = Unit {0}
+AreFull (piece ∷ next ∷ pieces) = (length (records_in piece) ≡ 64) × AreFull (next ∷ pieces)
+
+-- the bodies are those of this header and these records, of which each batch but the last has 64
+pub record IsFilled (header : Header) (entries : List Entry) (bodies : List (List ℕ)) : Type 0 where
+  pub pieces : List Piece
+  pub run : IsRun header pieces entries
+  pub full : AreFull pieces
+  pub are : bodies ≡ bodies_of header pieces
