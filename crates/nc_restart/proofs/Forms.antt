@@ -11,7 +11,7 @@ use Rattle.block_forms.specs.declared.block.FlowBlock.{FlowBlock}
 use Rattle.block_forms.specs.declared.body.FlowBody.{FlowBody}
 use Rattle.block_forms.specs.declared.body.FlowBody.TheVariants.{Words, Statement}
 use Rattle.block_forms.specs.Blocks.{block_form}
-use Rattle.block_forms.specs.Codes.{purpose_of}
+use Rattle.block_words.specs.Codes.{purpose_of}
 use Rattle.block_forms.specs.Forms.{Form, OfWords, OfSentence, BlockForm}
 use Rattle.block_forms.specs.Views.{form_of}
 use Rattle.tape_flow.specs.declared.flow.Flow.{Flow}

@@ -1,5 +1,6 @@
 //! The recovery of a run.
 ghost use Rattle.std.specs.Prelude.{IfOk};
+ghost use Rattle.run_records.specs.Headers.{IsShort};
 ghost use Rattle.nc_restart.specs.Recovered.{IsRecovered, Recovers, disk_recovered, run_found};
 
 use crate::RestartFault;
@@ -36,6 +37,7 @@ pub struct Recovered<D: Disk> {
 /// disk back.
 pub fn recover<D: Disk>(alloc: Global, disk: D) -> Result<Recovered<D>, (D, RestartFault)>
     ensures recovers { Recovers (D.state disk) (D.state (disk_recovered result)) (run_found result) }
+    ensures short { IfOk result (λ run. IsShort run.header) }
     ensures run { IfOk result (λ run. IsRecovered D.state run.header run.verified run.machine.machine run.entries.items run.journal) }
 {
     match open_journal(alloc, disk) {

@@ -18,6 +18,9 @@ returns-in-Ok-rebuild-clause-recovers g c =
     rebuilt (g.D.Disk.state c.args.disk) (g.D.Disk.state opened.journal.file.disk) found c.in-Ok.ensures.finds c.in-Ok-rebuild.field-0.pair
     c.in-Ok-rebuild.ensures.pair c.in-Ok-rebuild.ensures.behind.history
 
+pub returns-in-Ok-rebuild-clause-short : goal.returns-in-Ok-rebuild-clause-short
+returns-in-Ok-rebuild-clause-short g c = c.in-Ok.ensures.finds.found.1.run.short
+
 pub returns-in-Ok-rebuild-clause-run : goal.returns-in-Ok-rebuild-clause-run
 returns-in-Ok-rebuild-clause-run g c =
     let opened = c.in-Ok.field-0 in

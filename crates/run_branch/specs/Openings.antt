@@ -1,0 +1,21 @@
+-- How a branch is opened.
+use Rattle.std.specs.Prelude.{◌≡◌, ◌⊎◌, ℕ, List, take, Some, Result, Ok, Err}
+use Rattle.run_records.specs.declared.header.Header.{Header}
+use Rattle.run_records.specs.Entries.{Entry}
+use Rattle.run_journal.specs.declared.fault.JournalFault.{JournalFault}
+use Rattle.run_journal.specs.declared.fault.JournalFault.TheVariants.{DiskFault, NoMemory}
+use Rattle.run_journal.specs.Filled.{newest}
+use Rattle.run_journal.specs.Opening.{Found}
+use Rattle.run_branch.specs.Meetings.{branch_point}
+
+-- what is found is the branch
+pub record IsBranchFound (header : Header) (entries : List Entry) (n : ℕ) (found : Found) : Type 0 where
+  pub k : ℕ
+  pub point : branch_point n entries ≡ Some k
+  pub header_is : found.header ≡ newest header
+  pub entries_are : found.entries ≡ take k entries
+
+-- An opening finds the branch, or is refused for a fault of the disk or for want of memory: there is a run, and it is whole.
+abbrev pub OpensAsBranch : Header → List Entry → ℕ → Result Found JournalFault → Type 0
+OpensAsBranch header entries n (Ok found) = IsBranchFound header entries n found
+OpensAsBranch header entries n (Err fault) = (fault ≡ DiskFault) ⊎ (fault ≡ NoMemory)
