@@ -44,7 +44,7 @@ built_program = record {
       ∷ leaf (codes "trace") (pair_rules block_options) ∷ leaf (codes "run") (pair_rules run_options) ∷ leaf (codes "resume") (option_rules run_options)
       ∷ leaf (codes "edit") (one_rules (codes "edits") [])
       ∷ leaf (codes "moves") (option_rules []) ∷ leaf (codes "state") (option_rules []) ∷ leaf (codes "zones") (one_rules (codes "zones") [])
-      ∷ leaf (codes "make") (one_rules (codes "number") turret_options)
+      ∷ leaf (codes "branch") (one_rules (codes "meetings") []) ∷ leaf (codes "make") (one_rules (codes "number") turret_options)
       ∷ leaf (codes "expand") (one_rules (codes "tape") []) ∷ [];
 }
 
@@ -120,7 +120,7 @@ IsUnknown word (row ∷ rows) = (bytes_eq row.name word ≡ false) × IsUnknown 
 
 meets_none : (word : Text) → IsUnknown word listings → subcommand_met names_top idle word ≡ None
 unfolding listings
-meets_none word u = rw (u.0, u.1.0, u.1.1.0, u.1.1.1.0, u.1.1.1.1.0, u.1.1.1.1.1.0, u.1.1.1.1.1.1.0, u.1.1.1.1.1.1.1.0, u.1.1.1.1.1.1.1.1.0, u.1.1.1.1.1.1.1.1.1.0, u.1.1.1.1.1.1.1.1.1.1.0, u.1.1.1.1.1.1.1.1.1.1.1.0) refl
+meets_none word u = rw (u.0, u.1.0, u.1.1.0, u.1.1.1.0, u.1.1.1.1.0, u.1.1.1.1.1.0, u.1.1.1.1.1.1.0, u.1.1.1.1.1.1.1.0, u.1.1.1.1.1.1.1.1.0, u.1.1.1.1.1.1.1.1.1.0, u.1.1.1.1.1.1.1.1.1.1.0, u.1.1.1.1.1.1.1.1.1.1.1.0, u.1.1.1.1.1.1.1.1.1.1.1.1.0) refl
 
 unknown_turn_fails : (word : Text) → subcommand_met names_top idle word ≡ None → WordKind [] word → bytes_eq word (codes "--") ≡ false
     → is_empty (turn_fault top_shape names_top start word) ≡ false
@@ -248,10 +248,13 @@ all_known = (
                   (
                     one_is (codes "zones") (codes "zones") [] journal.Look task.Zones (record { own = refl; free = refl }) (record { first = refl; none = refl; found = refl }) (λ given. refl),
                     (
-                      one_is (codes "make") (codes "number") turret_options journal.Write task.Make (record { own = refl; free = refl }) (record { first = refl; none = refl; found = refl }) (λ given. refl),
+                      one_is (codes "branch") (codes "meetings") [] journal.Look task.Branch (record { own = refl; free = refl }) (record { first = refl; none = refl; found = refl }) (λ given. refl),
                       (
-                        one_is (codes "expand") (codes "tape") [] journal.None task.Expand (record { own = refl; free = refl }) (record { first = refl; none = refl; found = refl }) (λ given. refl),
-                        tt,
+                        one_is (codes "make") (codes "number") turret_options journal.Write task.Make (record { own = refl; free = refl }) (record { first = refl; none = refl; found = refl }) (λ given. refl),
+                        (
+                          one_is (codes "expand") (codes "tape") [] journal.None task.Expand (record { own = refl; free = refl }) (record { first = refl; none = refl; found = refl }) (λ given. refl),
+                          tt,
+                        ),
                       ),
                     ),
                   ),

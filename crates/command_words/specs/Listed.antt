@@ -149,6 +149,7 @@ command_with task.Edit (edits ∷ []) limits files = Some (command.Edit edits)
 command_with task.Moves [] limits files = Some command.Moves
 command_with task.State [] limits files = Some command.State
 command_with task.Zones (zones ∷ []) limits files = Some (command.Zones zones)
+command_with task.Branch (meetings ∷ []) limits files = option_map command.Branch (number_of 0 4000000 meetings)
 command_with task.Make (number ∷ []) limits files = option_map (λ n. command.Make n files) (number_of 0 999999 number)
 command_with task.Expand (tape ∷ []) limits files = Some (command.Expand tape)
 command_with _ _ _ _ = None
@@ -209,6 +210,7 @@ files_in (command.Edit edits) = None
 files_in command.Moves = None
 files_in command.State = None
 files_in (command.Zones zones) = None
+files_in (command.Branch meetings) = None
 files_in (command.Make number files) = Some files
 files_in (command.Expand tape) = None
 

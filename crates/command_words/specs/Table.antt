@@ -5,7 +5,7 @@ use Rattle.command_words.specs.declared.table.Journal.{Journal}
 use Rattle.command_words.specs.declared.table.Journal.TheVariants as journal
 use Rattle.command_words.specs.declared.table.Row.{Row}
 use Rattle.command_words.specs.declared.table.Task.{Task}
-use Rattle.command_words.specs.declared.table.Task.TheVariants.{Verify, Waits, Races, Trace, Run, Resume, Edit, Moves, State, Zones, Make, Expand}
+use Rattle.command_words.specs.declared.table.Task.TheVariants.{Verify, Waits, Races, Trace, Run, Resume, Edit, Moves, State, Zones, Branch, Make, Expand}
 
 -- The commands of the program.
 
@@ -58,6 +58,7 @@ listings =
     ∷ listing (codes "moves") [] [] journal.Look Moves
     ∷ listing (codes "state") [] [] journal.Look State
     ∷ listing (codes "zones") (codes "zones" ∷ []) [] journal.Look Zones
+    ∷ listing (codes "branch") (codes "meetings" ∷ []) [] journal.Look Branch
     ∷ listing (codes "make") (codes "number" ∷ []) turret_options journal.Write Make
     ∷ listing (codes "expand") (codes "tape" ∷ []) [] journal.None Expand ∷ []
 

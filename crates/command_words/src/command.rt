@@ -74,6 +74,8 @@ pub enum Command {
     State,
     /// Judge by these zones where both turrets of the run in the journal may come to one place.
     Zones(Name),
+    /// Write the run in the journal up to its meeting of this number into a second journal.
+    Branch(u32),
     /// Make the pair of tapes of this number and run it.
     Make(u32, TurretFiles),
     /// Write out the roughing cycles of a tape as plain blocks.
@@ -99,6 +101,7 @@ impl Command {
             Command::Moves => None,
             Command::State => None,
             Command::Zones(_) => None,
+            Command::Branch(_) => None,
             Command::Expand(_) => None,
         }
     }

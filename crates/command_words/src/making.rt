@@ -19,6 +19,8 @@ const MOST_BLOCKS: u32 = 1_000_000;
 const MOST_PROGRAMS: u32 = 9_999;
 /// The greatest number of a made pair.
 const MOST_MADE: u32 = 999_999;
+/// The most meetings of a branch, which are as many as a journal may have records.
+const MOST_MEETINGS: u32 = 4_000_000;
 
 /// What the options of numbers say.
 #[derive(Clone, Copy)]
@@ -209,6 +211,10 @@ fn command_with(
             [zones] => Ok(Command::Zones(Name::new(alloc, zones)?)),
             _ => Err(WordsFault::Usage),
         },
+        Task::Branch => match words {
+            [meetings] => branched(meetings),
+            _ => Err(WordsFault::Usage),
+        },
         Task::Make => match words {
             [number] => made(number, files),
             _ => Err(WordsFault::Usage),
@@ -217,6 +223,16 @@ fn command_with(
             [tape] => Ok(Command::Expand(Name::new(alloc, tape)?)),
             _ => Err(WordsFault::Usage),
         },
+    }
+}
+
+/// The command that branches at the meeting of this number.
+fn branched(meetings: &str) -> Result<Command, WordsFault>
+    ensures { Answers (option_map Command.Branch (number_of 0 4000000 meetings.now)) result }
+{
+    match read_number(meetings, 0, MOST_MEETINGS) {
+        Some(meetings) => Ok(Command::Branch(meetings)),
+        None => Err(WordsFault::Usage),
     }
 }
 

@@ -16,6 +16,7 @@ pub enum Task {
     Moves,
     State,
     Zones,
+    Branch,
     Make,
     Expand,
 }
@@ -59,7 +60,7 @@ macro_rules! command_rows {
 }
 
 /// The commands of the program.
-const ROWS: [Row; 12] = command_rows! {
+const ROWS: [Row; 13] = command_rows! {
     "verify" ["left", "right", "settings"] [] None Verify;
     "waits" ["left", "right", "settings"] ["outside"] None Waits;
     "races" ["left", "right", "settings"] [] None Races;
@@ -70,6 +71,7 @@ const ROWS: [Row; 12] = command_rows! {
     "moves" [] [] Look Moves;
     "state" [] [] Look State;
     "zones" ["zones"] [] Look Zones;
+    "branch" ["meetings"] [] Look Branch;
     "make" ["number"] ["turret1", "turret2"] Write Make;
     "expand" ["tape"] [] None Expand;
 };

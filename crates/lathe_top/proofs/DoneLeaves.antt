@@ -11,6 +11,8 @@ use Rattle.lathe_looks.specs.Fetched.{IsOfFiles, not_had, unread, answers}
 use Rattle.lathe_looks.specs.Named.{Named, alone, edits_named, listed, zones_named}
 use Rattle.edit_texts.specs.declared.edit_list.PathEdit.{PathEdit}
 use Rattle.lathe_looks.specs.Shown.{IsShown, shown, unshown}
+use Rattle.lathe_top.specs.Branched as branch
+use Rattle.lathe_top.specs.Branched.{IsBranched}
 use Rattle.lathe_top.specs.Done as done
 use Rattle.lathe_top.specs.Done.{Call, TopState, command_of, IsDone, IsDue, IsDueTo}
 use Rattle.lathe_top.specs.Edited as edit
@@ -52,7 +54,7 @@ module _ {D : Type 0} (state : D → DiskState) where
   run_left limit text_of texts old new answer (ran s is same opened report) =
       inr (session_left anew limit text_of s old new answer is opened report)
 
-  files_left : (limit : ℕ) (text_of : TextOf) (files : List Named) (old new : TopState) (answer : Answer)
+  files_left : {E : Type 0} (limit : ℕ) (text_of : TextOf) (files : List Named) (old new : TopState E) (answer : Answer)
       → IsOfFiles listed files (RestsWhole old.lathe new.lathe) (λ texts. IsRun state limit text_of texts old.lathe new.lathe) old.shelf new.shelf answer
       → Leaves state (begins limit) old.lathe new.lathe
   files_left limit text_of files old new answer (not_had missing rests) = inl (record { disk = inl rests.disk; turrets = rests.turrets })
@@ -70,7 +72,7 @@ module _ {D : Type 0} (state : D → DiskState) where
   zoned_left text old new answer (unread_zones rests) = record { disk = inl rests.disk; turrets = rests.turrets }
   zoned_left text old new answer (zoned is told rest) = look_left _ old new answer told rest
 
-  zones_left : (files : List Named) (old new : TopState) (answer : Answer)
+  zones_left : {E : Type 0} (files : List Named) (old new : TopState E) (answer : Answer)
       → IsOfFiles alone files (RestsWhole old.lathe new.lathe) (IsZoned old.lathe new.lathe) old.shelf new.shelf answer
       → OnlyLooks old.lathe new.lathe
   zones_left files old new answer (not_had missing rests) = record { disk = inl rests.disk; turrets = rests.turrets }
@@ -104,7 +106,7 @@ module _ {D : Type 0} (state : D → DiskState) where
   edited_left text old new answer (edit.unread_edits rests) = inl (record { disk = inl rests.disk; turrets = rests.turrets })
   edited_left text old new answer (edit.edited {edits} is told rest) = edit_left edits old new answer told rest
 
-  edits_left : (files : List Named) (old new : TopState) (answer : Answer)
+  edits_left : {E : Type 0} (files : List Named) (old new : TopState E) (answer : Answer)
       → IsOfFiles alone files (RestsWhole old.lathe new.lathe) (IsEdited old.lathe new.lathe) old.shelf new.shelf answer
       → Leaves state kind.edits old.lathe new.lathe
   edits_left files old new answer (not_had missing rests) = inl (record { disk = inl rests.disk; turrets = rests.turrets })
@@ -117,37 +119,46 @@ module _ {D : Type 0} (state : D → DiskState) where
       inl (record { disk = inr (record { result = Err fault; recovers = recovers }); turrets = rest })
   resumed_left limit old new answer (resumed s is opened report) = inr (session_left again limit _ s old new answer is opened report)
 
-  due_left : (asked : Command) (old new : TopState) (answer : Answer) → IsDueTo state asked old new answer
+  branch_left : {E : Type 0} (second : E → DiskState) (n : ℕ) (old new : LatheState) (onto left : E) (answer : Answer)
+      → IsBranched second n old.disk new.disk onto left answer → AreAtRest old new → OnlyLooks old new
+  branch_left second n old new onto left answer (branch.not_found fault recovers same) rest =
+      record { disk = inr (record { result = Err fault; recovers = recovers }); turrets = rest }
+  branch_left second n old new onto left answer (branch.branched run pair is history recovers of_run) rest =
+      record { disk = inr (record { result = Ok run; recovers = recovers }); turrets = rest }
+
+  due_left : {E : Type 0} (second : E → DiskState) (asked : Command) (old new : TopState E) (answer : Answer) → IsDueTo state second asked old new answer
       → Leaves state (kind_of (Some asked)) old.lathe new.lathe
-  due_left (command.Verify left right settings) old new answer due = due.1
-  due_left (command.Waits left right settings outside) old new answer due = due.1
-  due_left (command.Races left right settings) old new answer due = due.1
-  due_left (command.Trace left right settings limit) old new answer due = due.1
-  due_left (command.Run left right settings limit turrets) old new answer due = files_left limit _ _ old new answer due
-  due_left (command.Resume limit turrets) old new answer due = resumed_left limit old.lathe new.lathe answer due.0
-  due_left (command.Edit name) old new answer due = edits_left (edits_named name) old new answer due
-  due_left command.Moves old new answer due = look_left _ old.lathe new.lathe answer due.0 due.1
-  due_left command.State old new answer due = look_left _ old.lathe new.lathe answer due.0 due.1
-  due_left (command.Make number turrets) old new answer due = run_left _ _ _ old.lathe new.lathe answer due.0
-  due_left (command.Zones name) old new answer due = zones_left (zones_named name) old new answer due
-  due_left (command.Expand tape) old new answer due = due.1
+  due_left second (command.Verify left right settings) old new answer due = due.1
+  due_left second (command.Waits left right settings outside) old new answer due = due.1
+  due_left second (command.Races left right settings) old new answer due = due.1
+  due_left second (command.Trace left right settings limit) old new answer due = due.1
+  due_left second (command.Run left right settings limit turrets) old new answer due = files_left limit _ _ old new answer due
+  due_left second (command.Resume limit turrets) old new answer due = resumed_left limit old.lathe new.lathe answer due.0
+  due_left second (command.Edit name) old new answer due = edits_left (edits_named name) old new answer due
+  due_left second command.Moves old new answer due = look_left _ old.lathe new.lathe answer due.0 due.1
+  due_left second command.State old new answer due = look_left _ old.lathe new.lathe answer due.0 due.1
+  due_left second (command.Make number turrets) old new answer due = run_left _ _ _ old.lathe new.lathe answer due.0
+  due_left second (command.Zones name) old new answer due = zones_left (zones_named name) old new answer due
+  due_left second (command.Branch n) old new answer due = branch_left second n old.lathe new.lathe old.second new.second answer due.0 due.1
+  due_left second (command.Expand tape) old new answer due = due.1
 
   -- who calls nothing does what any kind may
   rests_left : (asked : Kind) (old new : LatheState) → RestsWhole old new → Leaves state asked old new
   rests_left kind.rests old new calm = calm
   rests_left kind.looks old new calm = record { disk = inl calm.disk; turrets = calm.turrets }
+  rests_left kind.branches old new calm = record { disk = inl calm.disk; turrets = calm.turrets }
   rests_left kind.edits old new calm = inl (record { disk = inl calm.disk; turrets = calm.turrets })
   rests_left (kind.begins limit) old new calm = inl (record { disk = inl calm.disk; turrets = calm.turrets })
   rests_left (kind.goes_on limit) old new calm = inl (record { disk = inl calm.disk; turrets = calm.turrets })
 
-  call_left : (call : Call) (answer : Answer) → IsDue state call answer → Leaves state (kind_of (command_of call)) call.before.lathe call.after.lathe
-  call_left call answer (done.usage none rests still) = rests_left (kind_of (command_of call)) call.before.lathe call.after.lathe rests
-  call_left call answer (done.unread rests still) = rests_left (kind_of (command_of call)) call.before.lathe call.after.lathe rests
-  call_left call answer (done.commanded {command = asked} is due) =
-      subst (λ c. Leaves state (kind_of c) call.before.lathe call.after.lathe) (sym is) (due_left asked call.before call.after answer due)
+  call_left : {E : Type 0} (second : E → DiskState) (call : Call E) (answer : Answer) → IsDue state second call answer → Leaves state (kind_of (command_of call)) call.before.lathe call.after.lathe
+  call_left second call answer (done.usage none rests still same) = rests_left (kind_of (command_of call)) call.before.lathe call.after.lathe rests
+  call_left second call answer (done.unread rests still same) = rests_left (kind_of (command_of call)) call.before.lathe call.after.lathe rests
+  call_left second call answer (done.commanded {command = asked} is due left) =
+      subst (λ c. Leaves state (kind_of c) call.before.lathe call.after.lathe) (sym is) (due_left second asked call.before call.after answer due)
 
-  pub done_left : (call : Call) (status : ℕ) → IsDone state call status → Leaves state (kind_of (command_of call)) call.before.lathe call.after.lathe
-  done_left call status (whole due written) = call_left call _ due
-  done_left call status (cut due rose n written) = call_left call _ due
-  done_left call status (unwritten due n written) = call_left call _ due
-  done_left call status (untold due written) = call_left call _ due
+  pub done_left : {E : Type 0} (second : E → DiskState) (call : Call E) (status : ℕ) → IsDone state second call status → Leaves state (kind_of (command_of call)) call.before.lathe call.after.lathe
+  done_left second call status (whole due written) = call_left second call _ due
+  done_left second call status (cut due rose n written) = call_left second call _ due
+  done_left second call status (unwritten due n written) = call_left second call _ due
+  done_left second call status (untold due written) = call_left second call _ due

@@ -46,7 +46,7 @@ use Rattle.nc_restart.specs.declared.fault.RestartFault.{RestartFault}
 use Rattle.nc_restart.specs.declared.fault.RestartFault.TheVariants as restart
 use Rattle.nc_restart.specs.Pair.{texts_of, IsPairOf, IsSamePair, machine_behind, opening_of, tapes_in}
 use Rattle.nc_restart.specs.Meaning.{StandsForRun}
-use Rattle.nc_restart.specs.Recovered.{Recovers}
+use Rattle.nc_restart.specs.Recovered.{FoundRun, Recovers}
 use Rattle.lathe_calls.specs.Answers.{Answer, tells, nothing}
 use Rattle.lathe_looks.specs.declared.showing.Showing.{Showing}
 use Rattle.lathe_looks.specs.declared.showing.Showing.TheVariants.{Moves, State}
@@ -60,6 +60,9 @@ use Rattle.lathe_calls.specs.Judged.{IsJudged}
 use Rattle.lathe_looks.specs.Named.{Named, alone, edits_named, files_of, listed, tape_named, zones_named}
 use Rattle.edit_texts.specs.declared.edit_list.PathEdit.{PathEdit}
 use Rattle.lathe_looks.specs.Edited.{bad_edit_text}
+use Rattle.lathe_top.specs.Branched as branch
+use Rattle.lathe_top.specs.Branched.{IsBranched, IsBranchOf}
+use Rattle.lathe_top.proofs.BranchesDue.{branch_once}
 use Rattle.lathe_top.specs.Edited as edit
 use Rattle.lathe_top.specs.Edited.{IsEdited, IsEditedRun, IsEditOf}
 use Rattle.lathe_top.proofs.EditsDue.{agree_told, found_there, one_told, pair_there, same_told}
@@ -413,6 +416,24 @@ module _ (one_run : OneRun) (one_machine : OneMachine) (old new : DiskState) (by
   same_zones zones other a b same one two =
       shown_by_once (zones_text other) (zones_hang other) a b (subst (λ (z : ZonesView). IsShown (zones_text z) old new a) same one) two
 
+  -- and of a branch, over a second disk that told its bytes and did not fail
+  branched_once : {E : Type 0} (second : E → DiskState) (n : ℕ) (onto left : E) (there : List ℕ) → Reads (second onto) there
+      → (DiskRose (second onto).faults (second left).faults → ⊥)
+      → (a b : Answer) → IsBranched second n old new onto left a → IsBranched second n old new onto left b → Agree a b
+  branched_once second n onto left there tells_it well a b (branch.not_found f one same) (branch.not_found g two same') = unfound_once f g one two
+  branched_once second n onto left there tells_it well a b (branch.not_found f one same) (branch.branched run pair is history two of_run) =
+      subst (λ x. Agree x b) (sym (none_found f run.header run.entries one (two.found.means bytes holds))) tt
+  branched_once second n onto left there tells_it well a b (branch.branched run pair is history one of_run) (branch.not_found g two same) =
+      subst (Agree a) (sym (none_found g run.header run.entries two (one.found.means bytes holds))) (agree_nothing a)
+  branched_once second n onto left there tells_it well a b (branch.branched run pair is history one of_run)
+      (branch.branched run' pair' is' history' two of_run') =
+      let same : a_run run.header run.entries ≡ a_run run'.header run'.entries =
+      one_run bytes (a_run run.header run.entries) (a_run run'.header run'.entries) (one.found.means bytes holds) (two.found.means bytes holds) in
+      let header : run.header ≡ run'.header = ap (header_in run.header) same in
+      let entries : run.entries ≡ run'.entries = ap (entries_in run.entries) same in
+      let runs : run ≡ run' = λ i. record { header = header i; entries = entries i } in
+      branch_once second run' n onto left there tells_it well a b (subst (λ (r : FoundRun). IsBranchOf second r n onto left a) runs of_run) of_run'
+
 -- and of a run, while no turret failed
 module _ {D : Type 0} (state : D → DiskState) (both : NotBoth) (one_refusal : OneRefusal) (one_run : OneRun) (one_journal : OneJournal)
     (one_machine : OneMachine) (old new : LatheState) (coherent : IsCoherent new.disk) (bytes : List ℕ) (holds : Reads old.disk bytes)
@@ -585,10 +606,10 @@ module _ (one_run : OneRun) (one_machine : OneMachine) (old new : LatheState) (b
       edited_run_once others a b (subst (λ (l : List PathEdit). IsEditedRun l old.disk new.disk a) same told) told'
 
 -- one answer is due to a command, and to a call
-module _ {D : Type 0} (state : D → DiskState) (both : NotBoth) (one_refusal : OneRefusal) (one_run : OneRun) (one_journal : OneJournal)
-    (one_machine : OneMachine) (in_turn : OneInTurn) (waits_apart : WaitsApart) (one_wait_refusal : OneWaitRefusal) (call : Call) (coherent : IsCoherent call.after.lathe.disk) where
-  due_to_once : (asked : Command) (a b : Answer) → ServesFiles (named_by (Some asked)) call → ServesKind (kind_of (Some asked)) call
-      → IsDueTo state asked call.before call.after a → IsDueTo state asked call.before call.after b → Agree a b
+module _ {D E : Type 0} (state : D → DiskState) (second : E → DiskState) (both : NotBoth) (one_refusal : OneRefusal) (one_run : OneRun) (one_journal : OneJournal)
+    (one_machine : OneMachine) (in_turn : OneInTurn) (waits_apart : WaitsApart) (one_wait_refusal : OneWaitRefusal) (call : Call E) (coherent : IsCoherent call.after.lathe.disk) where
+  due_to_once : (asked : Command) (a b : Answer) → ServesFiles (named_by (Some asked)) call → ServesKind second (kind_of (Some asked)) call
+      → IsDueTo state second asked call.before call.after a → IsDueTo state second asked call.before call.after b → Agree a b
   due_to_once (command.Verify l r c) a b files others one two =
       files_once listed same_texts files.0.0 (files_of l r c) (Unit {0}) IsJudged call.before.shelf call.after.shelf files.0.1 files.1 (judged_once both one_refusal) a b one.0 two.0
   due_to_once (command.Waits l r c o) a b files others one two =
@@ -624,25 +645,29 @@ module _ {D : Type 0} (state : D → DiskState) (both : NotBoth) (one_refusal : 
       files_once alone same_text files.0.0 (zones_named name) (RestsWhole call.before.lathe call.after.lathe) (IsZoned call.before.lathe call.after.lathe)
       call.before.shelf call.after.shelf files.0.1 files.1
       (zoned_once one_run one_machine call.before.lathe call.after.lathe others.bytes others.tells others.calm) a b one two
+  due_to_once (command.Branch n) a b files others one two =
+      branched_once one_run one_machine call.before.lathe.disk call.after.lathe.disk others.0.bytes others.0.tells others.0.calm second n
+      call.before.second call.after.second others.1.bytes others.1.tells others.1.calm a b one.0 two.0
   due_to_once (command.Expand tape) a b files others one two =
       files_once alone same_text files.0.0 (tape_named tape) (Unit {0}) IsExpanded call.before.shelf call.after.shelf files.0.1 files.1 expanded_once
       a b one.0 two.0
 
-  pub due_once : Serves call → (a b : Answer) → IsDue state call a → IsDue state call b → Agree a b
-  due_once serves a b (done.usage none rests still) (done.usage again rests' still') = (refl, refl)
-  due_once serves a b (done.usage none rests still) (done.unread rests' still') = tt
-  due_once serves a b (done.usage none rests still) (done.commanded some due) = absurd (cc)
-  due_once serves a b (done.unread rests still) other = tt
-  due_once serves a b (done.commanded some due) (done.usage none rests still) = absurd (cc)
-  due_once serves a b (done.commanded some due) (done.unread rests still) = agree_nothing a
-  due_once serves a b (done.commanded {command = one} is due) (done.commanded {command = two} is' due') =
+  pub due_once : Serves second call → (a b : Answer) → IsDue state second call a → IsDue state second call b → Agree a b
+  due_once serves a b (done.usage none rests still same) (done.usage again rests' still' same') = (refl, refl)
+  due_once serves a b (done.usage none rests still same) (done.unread rests' still' same') = tt
+  due_once serves a b (done.usage none rests still same) (done.commanded some due left) = absurd (cc)
+  due_once serves a b (done.unread rests still same) other = tt
+  due_once serves a b (done.commanded some due left) (done.usage none rests still same) = absurd (cc)
+  due_once serves a b (done.commanded some due left) (done.unread rests still same) = agree_nothing a
+  due_once serves a b (done.commanded {command = one} is due left) (done.commanded {command = two} is' due' left') =
       let same : one ≡ two = cc in
-      due_to_once two a b (subst (λ c. ServesFiles (named_by c) call) is' serves.files) (subst (λ c. ServesKind (kind_of c) call) is' serves.others)
-      (subst (λ (c : Command). IsDueTo state c call.before call.after a) same due) due'
+      due_to_once two a b (subst (λ c. ServesFiles (named_by c) call) is' serves.files) (subst (λ c. ServesKind second (kind_of c) call) is' serves.others)
+      (subst (λ (c : Command). IsDueTo state second c call.before call.after a) same due) due'
 
 -- words that are no command are due usage alone
-pub usage_once : {D : Type 0} (state : D → DiskState) (call : Call) (a : Answer) → command_of call ≡ None → IsDue state call a
+pub usage_once : {D E : Type 0} (state : D → DiskState) (second : E → DiskState) (call : Call E) (a : Answer) → command_of call ≡ None
+    → IsDue state second call a
     → Agree a (tells exit.usage (codes "usage\n"))
-usage_once state call a none (done.usage again rests still) = (refl, refl)
-usage_once state call a none (done.unread rests still) = tt
-usage_once state call a none (done.commanded some due) = absurd (cc)
+usage_once state second call a none (done.usage again rests still same) = (refl, refl)
+usage_once state second call a none (done.unread rests still same) = tt
+usage_once state second call a none (done.commanded some due left) = absurd (cc)

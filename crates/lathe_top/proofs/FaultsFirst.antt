@@ -1,5 +1,5 @@
 -- A fault of the disk goes before one of a turret, and that before all other causes, whatever the outside tells.
-use Rattle.std.proofs.Common.{◌≡◌, ℕ, ◌<◌, List, refl, ap, arith, Err}
+use Rattle.std.proofs.Common.{◌≡◌, ℕ, ◌<◌, List, Some, refl, ap, arith, Err}
 use Rattle.command_words.specs.declared.command.Command.{Command}
 use Rattle.command_words.specs.declared.command.Command.TheVariants as command
 use Rattle.disk_model.specs.Device.{DiskState}
@@ -16,7 +16,7 @@ use Rattle.run_records.specs.Entries.{Entry}
 use Rattle.turret_run.specs.Runs.{Turrets, turret_for}
 use Rattle.nc_restart.specs.declared.fault.RestartFault.{RestartFault}
 use Rattle.nc_restart.specs.declared.fault.RestartFault.TheVariants as restart
-use Rattle.nc_restart.specs.Recovered.{Recovers}
+use Rattle.nc_restart.specs.Recovered.{FoundRun, Recovers}
 use Rattle.lathe_calls.specs.Answers.{Answer}
 use Rattle.lathe_looks.specs.Fetched.{IsOfFiles, not_had, unread, answers}
 use Rattle.lathe_looks.specs.Named.{Named, alone, edits_named, listed, zones_named}
@@ -24,9 +24,12 @@ use Rattle.edit_texts.specs.declared.edit_list.PathEdit.{PathEdit}
 use Rattle.lathe_looks.specs.Shown.{IsShown, shown, unshown, unfound}
 use Rattle.lathe_calls.specs.Statuses as exit
 use Rattle.lathe_top.specs.Done as done
-use Rattle.lathe_top.specs.Done.{Call, TopState, IsDue, IsDueTo}
+use Rattle.lathe_top.specs.Branched as branch
+use Rattle.lathe_top.specs.Branched.{IsBranched, IsBranchOf}
+use Rattle.lathe_top.specs.Done.{Call, IsDue, IsDueTo, LeavesSecond}
 use Rattle.lathe_top.specs.Edited as edit
 use Rattle.lathe_top.specs.Edited.{IsEdited, IsEditedRun, IsEditOf, IsOnlyFound}
+use Rattle.lathe_top.specs.Kinds.{kind_of}
 use Rattle.lathe_top.specs.Kept.{Editing, Opening, IsRefusedBeginning, RestsWhole}
 use Rattle.lathe_top.specs.Lathe.{LatheState, AreAtRest}
 use Rattle.lathe_top.specs.Ran as run
@@ -132,8 +135,13 @@ module _ {D : Type 0} (state : D → DiskState) (wanted : ℕ) (old new : LatheS
   edits_first files shelf shelf' a (unread all rests) = tt
   edits_first files shelf shelf' a (answers text are from) = edited_first text a from
 
+  branched_first : {E : Type 0} (second : E → DiskState) (n : ℕ) (onto left : E) (a : Answer) → IsBranched second n old.disk new.disk onto left a
+      → AreAtRest old new → HasStatus wanted a
+  branched_first second n onto left a (branch.not_found f r same) rest = unfound_first f r rest
+  branched_first second n onto left a (branch.branched run pair is history r of_run) rest = absurd (not_calm rest (r.calm (λ fault. fault)))
+
 -- and so of a command, and of a call
-module _ {D : Type 0} (state : D → DiskState) (wanted : ℕ) (call : Call) (some : NoneFailed call.before.lathe call.after.lathe → ⊥)
+module _ {D E : Type 0} (state : D → DiskState) (second : E → DiskState) (wanted : ℕ) (call : Call E) (some : NoneFailed call.before.lathe call.after.lathe → ⊥)
     (of_disk : DiskRose call.before.lathe.disk.faults call.after.lathe.disk.faults → exit.disk_fault ≡ wanted)
     (of_turret : (path : Path) → Rose (turret_for path call.before.lathe.turrets).faults (turret_for path call.after.lathe.turrets).faults
     → call.after.lathe.disk.faults ≡ call.before.lathe.disk.faults → exit.turret_fault ≡ wanted) where
@@ -143,7 +151,7 @@ module _ {D : Type 0} (state : D → DiskState) (wanted : ℕ) (call : Call) (so
   abbrev new : LatheState
   new = call.after.lathe
 
-  command_first : (asked : Command) (a : Answer) → IsDueTo state asked call.before call.after a → HasStatus wanted a
+  command_first : (asked : Command) (a : Answer) → IsDueTo state second asked call.before call.after a → HasStatus wanted a
   command_first (command.Verify l r c) a due = absurd (not_rested state wanted old new some of_disk of_turret due.1)
   command_first (command.Trace l r c n) a due = absurd (not_rested state wanted old new some of_disk of_turret due.1)
   command_first (command.Races l r c) a due = absurd (not_rested state wanted old new some of_disk of_turret due.1)
@@ -158,25 +166,68 @@ module _ {D : Type 0} (state : D → DiskState) (wanted : ℕ) (call : Call) (so
   command_first (command.Make n turrets) a due = run_first state wanted old new some of_disk of_turret _ _ _ a due.0
   command_first (command.Zones name) a due =
       zones_first state wanted old new some of_disk of_turret (zones_named name) call.before.shelf call.after.shelf a due
+  command_first (command.Branch n) a due = branched_first state wanted old new some of_disk of_turret second n _ _ a due.0 due.1
   command_first (command.Expand tape) a due = absurd (not_rested state wanted old new some of_disk of_turret due.1)
 
-  call_first : (a : Answer) → IsDue state call a → HasStatus wanted a
-  call_first a (done.usage none rests still) = absurd (not_rested state wanted old new some of_disk of_turret rests)
-  call_first a (done.unread rests still) = tt
-  call_first a (done.commanded {command = asked} is due) = command_first asked a due
+  call_first : (a : Answer) → IsDue state second call a → HasStatus wanted a
+  call_first a (done.usage none rests still same) = absurd (not_rested state wanted old new some of_disk of_turret rests)
+  call_first a (done.unread rests still same) = tt
+  call_first a (done.commanded {command = asked} is due left) = command_first asked a due
 
 -- where the disk's count rose
-pub disk_first : {D : Type 0} (state : D → DiskState) (call : Call) → call.before.lathe.disk.faults < call.after.lathe.disk.faults
-    → (a : Answer) → IsDue state call a → HasStatus exit.disk_fault a
-disk_first state call rose =
-    call_first state exit.disk_fault call (λ well. absurd (omega (arith, rose, well.disk))) (λ again. refl)
+pub disk_first : {D E : Type 0} (state : D → DiskState) (second : E → DiskState) (call : Call E) → call.before.lathe.disk.faults < call.after.lathe.disk.faults
+    → (a : Answer) → IsDue state second call a → HasStatus exit.disk_fault a
+disk_first state second call rose =
+    call_first state second exit.disk_fault call (λ well. absurd (omega (arith, rose, well.disk))) (λ again. refl)
     (λ path turret same. absurd (omega (arith, rose, same)))
 
 -- and where only that of a turret did
-pub turret_first : {D : Type 0} (state : D → DiskState) (call : Call)
+pub turret_first : {D E : Type 0} (state : D → DiskState) (second : E → DiskState) (call : Call E)
     → (DiskRose call.before.lathe.disk.faults call.after.lathe.disk.faults → ⊥) → (path : Path)
     → (turret_for path call.before.lathe.turrets).faults < (turret_for path call.after.lathe.turrets).faults
-    → (a : Answer) → IsDue state call a → HasStatus exit.turret_fault a
-turret_first state call calm path rose =
-    call_first state exit.turret_fault call (λ well. absurd (omega (arith, rose, well.turrets path))) (λ again. absurd (calm again))
+    → (a : Answer) → IsDue state second call a → HasStatus exit.turret_fault a
+turret_first state second call calm path rose =
+    call_first state second exit.turret_fault call (λ well. absurd (omega (arith, rose, well.turrets path))) (λ again. absurd (calm again))
     (λ other turret same. refl)
+
+-- The count of the second disk rose: only a branch calls it, and this status is 6.
+module _ {D E : Type 0} (state : D → DiskState) (second : E → DiskState) (call : Call E)
+    (rose : (second call.before.second).faults < (second call.after.second).faults) where
+  called : call.after.second ≡ call.before.second → ⊥
+  called same = omega (arith, rose, ap (λ (e : E). (second e).faults) same)
+
+  calm_not : (second call.after.second).faults ≡ (second call.before.second).faults → ⊥
+  calm_not well = omega (arith, rose, well)
+
+  branch_second : (run : FoundRun) (n : ℕ) (a : Answer) → IsBranchOf second run n call.before.second call.after.second a → HasStatus exit.disk_fault a
+  branch_second run n a (branch.no_meeting few same) = absurd (called same)
+  branch_second run n a (branch.made k enough is keeps) = absurd (calm_not is.calm)
+  branch_second run n a (branch.run_seen enough seen keeps) = absurd (calm_not seen.calm)
+  branch_second run n a (branch.failed enough more keeps) = refl
+  branch_second run n a (branch.unmade stays well keeps) = tt
+
+  branched_second : (n : ℕ) (old new : DiskState) (a : Answer) → IsBranched second n old new call.before.second call.after.second a
+      → HasStatus exit.disk_fault a
+  branched_second n old new a (branch.not_found f r same) = absurd (called same)
+  branched_second n old new a (branch.branched run pair is history r of_run) = branch_second run n a of_run
+
+  command_second : (asked : Command) (a : Answer) → IsDueTo state second asked call.before call.after a
+      → LeavesSecond (kind_of (Some asked)) call.before.second call.after.second → HasStatus exit.disk_fault a
+  command_second (command.Verify l r c) a due same = absurd (called same)
+  command_second (command.Waits l r c o) a due same = absurd (called same)
+  command_second (command.Races l r c) a due same = absurd (called same)
+  command_second (command.Trace l r c n) a due same = absurd (called same)
+  command_second (command.Run l r c n turrets) a due same = absurd (called same)
+  command_second (command.Resume n turrets) a due same = absurd (called same)
+  command_second (command.Edit name) a due same = absurd (called same)
+  command_second command.Moves a due same = absurd (called same)
+  command_second command.State a due same = absurd (called same)
+  command_second (command.Zones name) a due same = absurd (called same)
+  command_second (command.Branch n) a due same = branched_second n _ _ a due.0
+  command_second (command.Make n turrets) a due same = absurd (called same)
+  command_second (command.Expand tape) a due same = absurd (called same)
+
+  pub second_first : (a : Answer) → IsDue state second call a → HasStatus exit.disk_fault a
+  second_first a (done.usage none rests still same) = absurd (called same)
+  second_first a (done.unread rests still same) = tt
+  second_first a (done.commanded {command = asked} is due left) = command_second asked a due left

@@ -9,6 +9,8 @@ mod OneRaces
 mod ZonesDue
 mod EditsDue
 mod EditsMade
+mod BranchesDue
+mod BranchesMade
 pub mod DueOnce
 pub mod FaultsFirst
 pub mod RowsSay

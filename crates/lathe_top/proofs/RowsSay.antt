@@ -28,6 +28,7 @@ journal_by task.Edit = journal.Write
 journal_by task.Moves = journal.Look
 journal_by task.State = journal.Look
 journal_by task.Zones = journal.Look
+journal_by task.Branch = journal.Look
 journal_by task.Make = journal.Write
 journal_by task.Expand = journal.None
 
@@ -40,6 +41,11 @@ made_number : (files : TurretFiles) (number : Option ℕ) (asked : Command) → 
 made_number files None asked is = absurd cc
 made_number files (Some n) asked is =
     let same : command.Make n files ≡ asked = cc in subst (λ c. Does c journal.Write) same refl
+
+branch_number : (number : Option ℕ) (asked : Command) → option_map command.Branch number ≡ Some asked → Does asked journal.Look
+branch_number None asked is = absurd cc
+branch_number (Some n) asked is =
+    let same : command.Branch n ≡ asked = cc in subst (λ c. Does c journal.Look) same refl
 
 -- the command that a task makes does with the journal what the task does
 does_as : (what : Task) (names : List Text) (blocks : ℕ) (outside : Option ProgramRange) (files : TurretFiles) (asked : Command)
@@ -87,6 +93,9 @@ does_as task.Edit (a ∷ b ∷ rest) blocks outside files asked is = absurd cc
 does_as task.Zones [] blocks outside files asked is = absurd cc
 does_as task.Zones (a ∷ []) blocks outside files asked is = let same : command.Zones a ≡ asked = cc in subst (λ x. Does x journal.Look) same refl
 does_as task.Zones (a ∷ b ∷ rest) blocks outside files asked is = absurd cc
+does_as task.Branch [] blocks outside files asked is = absurd cc
+does_as task.Branch (a ∷ []) blocks outside files asked is = branch_number (number_of 0 4000000 a) asked is
+does_as task.Branch (a ∷ b ∷ rest) blocks outside files asked is = absurd cc
 does_as task.Make [] blocks outside files asked is = absurd cc
 does_as task.Make (a ∷ []) blocks outside files asked is = made_number files (number_of 0 999999 a) asked is
 does_as task.Make (a ∷ b ∷ rest) blocks outside files asked is = absurd cc
@@ -128,7 +137,7 @@ Say (row ∷ rows) = (row.journal ≡ journal_by row.task) × Say rows
 
 listings_say : Say listings
 unfolding listings
-listings_say = (refl, (refl, (refl, (refl, (refl, (refl, (refl, (refl, (refl, (refl, (refl, (refl, tt))))))))))))
+listings_say = (refl, (refl, (refl, (refl, (refl, (refl, (refl, (refl, (refl, (refl, (refl, (refl, (refl, tt)))))))))))))
 
 found_says : (rows : List Listing) (name : Text) (row : Listing) → Say rows → row_in rows name ≡ Some row → row.journal ≡ journal_by row.task
 found_says [] name row say is = absurd cc

@@ -134,6 +134,7 @@ module _ (never_bad : NeverBad) where
       → new.disk.image_since old.disk.clock c → IsNoneOrRun c
   none_or_run state kind.rests old new bytes reads held leaves c since = of_rest IsNoneOrRun old new held leaves c since
   none_or_run state kind.looks old new bytes reads held leaves c since = of_looks IsNoneOrRun old new held leaves c since
+  none_or_run state kind.branches old new bytes reads held leaves c since = of_looks IsNoneOrRun old new held leaves c since
   none_or_run state kind.edits old new bytes reads held (inl only) c since = of_looks IsNoneOrRun old new held only c since
   none_or_run state kind.edits old new bytes reads held (inr has) c since = edits_none old new bytes reads held has c since
   none_or_run state (kind.begins limit) old new bytes reads held (inl only) c since = begins_none old new bytes reads held only c since
@@ -195,6 +196,7 @@ module _ {D : Type 0} (state : D → DiskState) (one_run : OneRun) (never_bad : 
       → new.disk.image_since old.disk.clock c → GoesOnAs header base c
   kept_by kind.rests old new bytes reads held goes leaves c since = of_rest (GoesOnAs header base) old new held leaves c since
   kept_by kind.looks old new bytes reads held goes leaves c since = of_looks (GoesOnAs header base) old new held leaves c since
+  kept_by kind.branches old new bytes reads held goes leaves c since = of_looks (GoesOnAs header base) old new held leaves c since
   kept_by kind.edits old new bytes reads held goes (inl only) c since = of_looks (GoesOnAs header base) old new held only c since
   kept_by kind.edits old new bytes reads held goes (inr has) c since = edits_kept old new bytes reads held goes has c since
   kept_by (kind.begins limit) old new bytes reads held goes (inl only) c since =

@@ -163,7 +163,7 @@ unfound_status (restart.Cut at) uncut = no_mid 9 (omega arith) (omega arith) unc
 unfound_status (restart.BadRecord offset cause) uncut = no_mid 9 (omega arith) (omega arith) uncut
 unfound_status restart.NoMemory uncut = no_high 12 (omega arith) (omega arith) uncut
 
-module _ {D : Type 0} (state : D → DiskState) (call : Call) where
+module _ {D E : Type 0} (state : D → DiskState) (second : E → DiskState) (call : Call E) where
   -- the turrets got all that is due to them
   abbrev AllGot : Session → ℕ → Type 0
   AllGot s least = (path : Path) → GetsAll (due_to s least path) (turret_for path call.before.lathe.turrets) (turret_for path call.after.lathe.turrets)
@@ -228,7 +228,7 @@ module _ {D : Type 0} (state : D → DiskState) (call : Call) where
   resumed_streams limit answer (not_found fault recovers rest) uncut = absurd (unfound_status fault uncut)
   resumed_streams limit answer (resumed s is opened report) uncut = told_of_session again limit _ s answer is opened report uncut
 
-  due_streams : (asked : Command) (answer : Answer) → IsDueTo state asked call.before call.after answer → MakesRecords (kind_of (Some asked))
+  due_streams : (asked : Command) (answer : Answer) → IsDueTo state second asked call.before call.after answer → MakesRecords (kind_of (Some asked))
       → IsUncut (answer_status answer) → HasStreams state call (answer_status answer)
   due_streams (command.Verify left right settings) answer due makes uncut = absurd makes
   due_streams (command.Trace left right settings limit) answer due makes uncut = absurd makes
@@ -242,15 +242,16 @@ module _ {D : Type 0} (state : D → DiskState) (call : Call) where
   due_streams (command.Zones zones) answer due makes uncut = absurd makes
   due_streams (command.Expand tape) answer due makes uncut = absurd makes
   due_streams (command.Edit edits) answer due makes uncut = absurd makes
+  due_streams (command.Branch meetings) answer due makes uncut = absurd makes
 
-  call_streams : (answer : Answer) → IsDue state call answer → MakesRecords (kind_of (command_of call)) → IsUncut (answer_status answer)
+  call_streams : (answer : Answer) → IsDue state second call answer → MakesRecords (kind_of (command_of call)) → IsUncut (answer_status answer)
       → HasStreams state call (answer_status answer)
-  call_streams answer (done.usage none rests still) makes uncut = absurd (no_low 2 (omega arith) (omega arith) uncut)
-  call_streams answer (done.unread rests still) makes uncut = absurd (no_high 12 (omega arith) (omega arith) uncut)
-  call_streams answer (done.commanded {command = asked} is due) makes uncut =
+  call_streams answer (done.usage none rests still same) makes uncut = absurd (no_low 2 (omega arith) (omega arith) uncut)
+  call_streams answer (done.unread rests still same) makes uncut = absurd (no_high 12 (omega arith) (omega arith) uncut)
+  call_streams answer (done.commanded {command = asked} is due left) makes uncut =
       due_streams asked answer due (subst (λ c. MakesRecords (kind_of c)) is makes) uncut
 
-  pub streams_of : (status : ℕ) → IsDone state call status → MakesRecords (kind_of (command_of call)) → IsUncut status → HasStreams state call status
+  pub streams_of : (status : ℕ) → IsDone state second call status → MakesRecords (kind_of (command_of call)) → IsUncut status → HasStreams state call status
   streams_of status (whole due written) makes uncut = call_streams _ due makes uncut
   streams_of status (cut due rose n written) makes uncut = absurd (no_mid 5 (omega arith) (omega arith) uncut)
   streams_of status (unwritten due n written) makes uncut = absurd (no_high 12 (omega arith) (omega arith) uncut)

@@ -23,80 +23,99 @@ use Rattle.lathe_calls.specs.Statuses as exit
 use Rattle.lathe_calls.specs.Traced.{IsTraced}
 use Rattle.lathe_calls.specs.Waited.{AreWaits}
 use Rattle.turret_run.specs.Runs.{turret_for}
-use Rattle.lathe_top.specs.Kinds.{Kind, rests, looks, edits, begins, goes_on, kind_of, named_by}
+use Rattle.lathe_top.specs.Kinds.{Kind, rests, looks, branches, edits, begins, goes_on, kind_of, named_by}
 use Rattle.lathe_top.specs.Lathe.{LatheState, AreAtRest}
 use Rattle.lathe_top.specs.Made.{made_limit, made_texts, made_text}
 use Rattle.lathe_top.specs.Outside.{outside_in}
+use Rattle.lathe_top.specs.Branched.{IsBranched}
 use Rattle.lathe_top.specs.Edited.{IsEdited}
 use Rattle.lathe_top.specs.Kept.{RestsWhole}
 use Rattle.lathe_top.specs.Ran.{IsRun, IsResumed}
 use Rattle.lathe_top.specs.Zoned.{IsZoned}
 
--- What the program works on, at one moment: the shelf of the files, the disk of the journal with the turrets of both paths, and
--- the sink of the answer.
-pub record TopState : Type 1 where
+-- What the program works on, at one moment: the shelf of the files, the disk of the journal with the turrets of both paths, the second
+-- disk, and the sink of the answer.
+pub record TopState (E : Type 0) : Type 1 where
   pub shelf : ShelfState
   pub lathe : LatheState
+  pub second : E
   pub sink : SinkState
 
-abbrev pub at : ShelfState → LatheState → SinkState → TopState
-at shelf lathe sink = record { shelf = shelf; lathe = lathe; sink = sink }
+abbrev pub at : {E : Type 0} → ShelfState → LatheState → E → SinkState → TopState E
+at shelf lathe second sink = record { shelf = shelf; lathe = lathe; second = second; sink = sink }
 
 -- All that is known of a call: its words, and what it works on before and after it.
-pub record Call : Type 1 where
+pub record Call (E : Type 0) : Type 1 where
   pub words : List (List ℕ)
-  pub before : TopState
-  pub after : TopState
+  pub before : TopState E
+  pub after : TopState E
 
 -- the command of a call, if its words are one
-abbrev pub command_of : Call → Option Command
+abbrev pub command_of : {E : Type 0} → Call E → Option Command
 command_of call = listed_command call.words
 
 -- the shelf is as it was
-abbrev pub AsksNothing : TopState → TopState → Type 0
+abbrev pub AsksNothing : {E : Type 0} → TopState E → TopState E → Type 0
 AsksNothing old new = new.shelf ≡ old.shelf
 
--- What there is to tell of a command, and what it did to the disk and to the turrets. Who names no file asks the shelf for none.
-abbrev pub IsDueTo : {D : Type 0} → (D → DiskState) → Command → TopState → TopState → Answer → Type 0
-IsDueTo state (command.Verify left right settings) old new answer =
+-- the second disk is the one that it was, with all that it holds and had been asked for
+abbrev pub SparesSecond : {E : Type 0} → TopState E → TopState E → Type 0
+SparesSecond old new = new.second ≡ old.second
+
+-- what a command of a kind does to the second disk: nothing, unless it branches
+abbrev pub LeavesSecond : {E : Type 0} → Kind → E → E → Type 0
+LeavesSecond rests old new = new ≡ old
+LeavesSecond looks old new = new ≡ old
+LeavesSecond branches old new = Unit {0}
+LeavesSecond edits old new = new ≡ old
+LeavesSecond (begins limit) old new = new ≡ old
+LeavesSecond (goes_on limit) old new = new ≡ old
+
+-- What there is to tell of a command, and what it did to the disks and to the turrets. Who names no file asks the shelf for none.
+abbrev pub IsDueTo : {D E : Type 0} → (D → DiskState) → (E → DiskState) → Command → TopState E → TopState E → Answer → Type 0
+IsDueTo state second (command.Verify left right settings) old new answer =
     IsOfFiles listed (files_of left right settings) (Unit {0}) IsJudged old.shelf new.shelf answer × RestsWhole old.lathe new.lathe
-IsDueTo state (command.Waits left right settings outside) old new answer =
+IsDueTo state second (command.Waits left right settings outside) old new answer =
     IsOfFiles listed (files_of left right settings) (Unit {0}) (AreWaits (outside_in outside)) old.shelf new.shelf answer
     × RestsWhole old.lathe new.lathe
-IsDueTo state (command.Races left right settings) old new answer =
+IsDueTo state second (command.Races left right settings) old new answer =
     IsOfFiles listed (files_of left right settings) (Unit {0}) (IsOfPair AreRacesOf) old.shelf new.shelf answer × RestsWhole old.lathe new.lathe
-IsDueTo state (command.Trace left right settings limit) old new answer =
+IsDueTo state second (command.Trace left right settings limit) old new answer =
     IsOfFiles listed (files_of left right settings) (Unit {0}) (IsTraced limit) old.shelf new.shelf answer × RestsWhole old.lathe new.lathe
-IsDueTo state (command.Run left right settings limit turrets) old new answer =
+IsDueTo state second (command.Run left right settings limit turrets) old new answer =
     IsOfFiles listed (files_of left right settings) (RestsWhole old.lathe new.lathe)
     (λ texts. IsRun state limit report_of texts old.lathe new.lathe) old.shelf new.shelf answer
-IsDueTo state (command.Make number turrets) old new answer =
+IsDueTo state second (command.Make number turrets) old new answer =
     IsRun state made_limit (made_text number) (made_texts number) old.lathe new.lathe answer × AsksNothing old new
-IsDueTo state (command.Resume limit turrets) old new answer = IsResumed state limit old.lathe new.lathe answer × AsksNothing old new
-IsDueTo state (command.Edit name) old new answer =
+IsDueTo state second (command.Resume limit turrets) old new answer = IsResumed state limit old.lathe new.lathe answer × AsksNothing old new
+IsDueTo state second (command.Edit name) old new answer =
     IsOfFiles alone (edits_named name) (RestsWhole old.lathe new.lathe) (IsEdited old.lathe new.lathe) old.shelf new.shelf answer
-IsDueTo state command.Moves old new answer =
+IsDueTo state second command.Moves old new answer =
     IsShown (shown_text showing.Moves) old.lathe.disk new.lathe.disk answer × AreAtRest old.lathe new.lathe × AsksNothing old new
-IsDueTo state command.State old new answer =
+IsDueTo state second command.State old new answer =
     IsShown (shown_text showing.State) old.lathe.disk new.lathe.disk answer × AreAtRest old.lathe new.lathe × AsksNothing old new
-IsDueTo state (command.Zones zones) old new answer =
+IsDueTo state second (command.Zones zones) old new answer =
     IsOfFiles alone (zones_named zones) (RestsWhole old.lathe new.lathe) (IsZoned old.lathe new.lathe) old.shelf new.shelf answer
-IsDueTo state (command.Expand tape) old new answer =
+IsDueTo state second (command.Branch meetings) old new answer =
+    IsBranched second meetings old.lathe.disk new.lathe.disk old.second new.second answer × AreAtRest old.lathe new.lathe × AsksNothing old new
+IsDueTo state second (command.Expand tape) old new answer =
     IsOfFiles alone (tape_named tape) (Unit {0}) IsExpanded old.shelf new.shelf answer × RestsWhole old.lathe new.lathe
 
 -- What there is to tell of a call, and what it did: its words are no command; or there was no memory to read them; or it is what
--- its command does.
-pub data IsDue {D : Type 0} (state : D → DiskState) (call : Call) : Answer → Type 0 where
+-- its command does. Only who branches calls the second disk.
+pub data IsDue {D E : Type 0} (state : D → DiskState) (second : E → DiskState) (call : Call E) : Answer → Type 0 where
   usage : command_of call ≡ None → RestsWhole call.before.lathe call.after.lathe → AsksNothing call.before call.after
-      → IsDue state call (tells exit.usage (codes "usage\n"))
-  unread : RestsWhole call.before.lathe call.after.lathe → AsksNothing call.before call.after → IsDue state call nothing
+      → SparesSecond call.before call.after → IsDue state second call (tells exit.usage (codes "usage\n"))
+  unread : RestsWhole call.before.lathe call.after.lathe → AsksNothing call.before call.after → SparesSecond call.before call.after
+      → IsDue state second call nothing
   commanded : {command : Command} {answer : Answer} → command_of call ≡ Some command
-      → IsDueTo state command call.before call.after answer → IsDue state call answer
+      → IsDueTo state second command call.before call.after answer
+      → LeavesSecond (kind_of (Some command)) call.before.second call.after.second → IsDue state second call answer
 
 -- The call did this and ended with this status: what there is to tell was told, or cut off by a fault of the sink, or memory ran out
--- for it; and the disk and the turrets are as their command leaves them, whichever it is.
-abbrev pub IsDone : {D : Type 0} → (D → DiskState) → Call → ℕ → Type 0
-IsDone state call status = Ends (IsDue state call) call.before.sink call.after.sink status
+-- for it; and the disks and the turrets are as their command leaves them, whichever it is.
+abbrev pub IsDone : {D E : Type 0} → (D → DiskState) → (E → DiskState) → Call E → ℕ → Type 0
+IsDone state second call status = Ends (IsDue state second call) call.before.sink call.after.sink status
 
 -- the status, or a fault of the sink where it rose, or want of memory
 pub data IsOr (old new : SinkState) (status : ℕ) : ℕ → Type 0 where
@@ -111,43 +130,50 @@ pub data IsTold (old new : SinkState) (status : ℕ) (text : List ℕ) : ℕ →
   left_off : (n : ℕ) → Writes old new (take n text) → IsTold old new status text exit.no_memory
 
 -- where files are named the shelf tells what it holds, and did not fail
-abbrev pub ServesFiles : List Named → Call → Type 0
+abbrev pub ServesFiles : {E : Type 0} → List Named → Call E → Type 0
 ServesFiles [] call = Unit {0}
 ServesFiles (file ∷ files) call = ((told : Files) × (call.before.shelf.files ≡ Some told))
     × (Rose call.before.shelf.faults call.after.shelf.faults → ⊥)
 
 -- the disk tells its bytes, and did not fail
-pub record ServesJournal (call : Call) : Type 0 where
+pub record ServesDisk (old new : DiskState) : Type 0 where
   pub bytes : List ℕ
-  pub tells : Reads call.before.lathe.disk bytes
-  pub calm : DiskRose call.before.lathe.disk.faults call.after.lathe.disk.faults → ⊥
+  pub tells : Reads old bytes
+  pub calm : DiskRose old.faults new.faults → ⊥
+
+-- so does that of the journal
+abbrev pub ServesJournal : {E : Type 0} → Call E → Type 0
+ServesJournal call = ServesDisk call.before.lathe.disk call.after.lathe.disk
 
 -- no turret failed
-abbrev pub ServesTurrets : Call → Type 0
+abbrev pub ServesTurrets : {E : Type 0} → Call E → Type 0
 ServesTurrets call = (path : Path) → Rose (turret_for path call.before.lathe.turrets).faults
     (turret_for path call.after.lathe.turrets).faults → ⊥
 
 -- what a command of a kind uses besides files tells what it holds, and did not fail
-abbrev pub ServesKind : Kind → Call → Type 0
-ServesKind rests call = Unit {0}
-ServesKind looks call = ServesJournal call
-ServesKind edits call = ServesJournal call
-ServesKind (begins limit) call = ServesJournal call × ServesTurrets call
-ServesKind (goes_on limit) call = ServesJournal call × ServesTurrets call
+abbrev pub ServesKind : {E : Type 0} → (E → DiskState) → Kind → Call E → Type 0
+ServesKind second rests call = Unit {0}
+ServesKind second looks call = ServesJournal call
+ServesKind second branches call = ServesJournal call × ServesDisk (second call.before.second) (second call.after.second)
+ServesKind second edits call = ServesJournal call
+ServesKind second (begins limit) call = ServesJournal call × ServesTurrets call
+ServesKind second (goes_on limit) call = ServesJournal call × ServesTurrets call
 
 -- what the command of a call uses, and nothing else
-pub record Serves (call : Call) : Type 0 where
+pub record Serves {E : Type 0} (second : E → DiskState) (call : Call E) : Type 0 where
   pub files : ServesFiles (named_by (command_of call)) call
-  pub others : ServesKind (kind_of (command_of call)) call
+  pub others : ServesKind second (kind_of (command_of call)) call
 
--- The causes of a call have one order, whatever the outside tells. If the disk's count of faults rose, the status is 6. Else, if that of
--- a turret rose, it is 7. And where what the command uses tells what it holds and did not fail, what is due is told, with its text and
+-- The causes of a call have one order, whatever the outside tells. If the count of faults of either disk rose, the status is 6. Else, if that
+-- of a turret rose, it is 7. And where what the command uses tells what it holds and did not fail, what is due is told, with its text and
 -- its status. Instead of each the sink may have failed, or memory run out.
-pub record GetsItsStatus {D : Type 0} (state : D → DiskState) (call : Call) (result : ℕ) : Type 0 where
+pub record GetsItsStatus {D E : Type 0} (state : D → DiskState) (second : E → DiskState) (call : Call E) (result : ℕ) : Type 0 where
   pub usage : command_of call ≡ None → IsTold call.before.sink call.after.sink exit.usage (codes "usage\n") result
   pub disk : call.before.lathe.disk.faults < call.after.lathe.disk.faults → IsOr call.before.sink call.after.sink exit.disk_fault result
+  pub second_disk : (second call.before.second).faults < (second call.after.second).faults
+      → IsOr call.before.sink call.after.sink exit.disk_fault result
   pub turret : (DiskRose call.before.lathe.disk.faults call.after.lathe.disk.faults → ⊥) → (path : Path)
       → (turret_for path call.before.lathe.turrets).faults < (turret_for path call.after.lathe.turrets).faults
       → IsOr call.before.sink call.after.sink exit.turret_fault result
-  pub served : Serves call → (status : ℕ) (text : List ℕ) → IsDue state call (tells status text)
+  pub served : Serves second call → (status : ℕ) (text : List ℕ) → IsDue state second call (tells status text)
       → IsTold call.before.sink call.after.sink status text result

@@ -22,7 +22,7 @@ use Rattle.nc_restart.specs.Pair.{texts_of, IsPairOf}
 use Rattle.nc_restart.specs.History.{IsHistory}
 use Rattle.nc_restart.specs.Meaning.{StandsForRun}
 use Rattle.nc_restart.specs.Recovered.{FoundRun, Recovers}
-use Rattle.lathe_top.specs.Kinds.{Kind, rests, looks, edits, begins, goes_on}
+use Rattle.lathe_top.specs.Kinds.{Kind, rests, looks, branches, edits, begins, goes_on}
 use Rattle.lathe_top.specs.Lathe.{LatheState, AreAtRest}
 use Rattle.lathe_top.specs.Session.{Session, IsSession}
 use Rattle.lathe_top.specs.Turrets.{IsSessionEnd}
@@ -163,6 +163,7 @@ pub record HasEdits (old new : LatheState) : Type 0 where
 abbrev pub Leaves : {D : Type 0} → (D → DiskState) → Kind → LatheState → LatheState → Type 0
 Leaves state rests old new = RestsWhole old new
 Leaves state looks old new = OnlyLooks old new
+Leaves state branches old new = OnlyLooks old new
 Leaves state edits old new = OnlyLooks old new ⊎ HasEdits old new
 Leaves state (begins limit) old new = OnlyBegins old new ⊎ HasSession state anew limit old new
 Leaves state (goes_on limit) old new = OnlyLooks old new ⊎ HasSession state again limit old new

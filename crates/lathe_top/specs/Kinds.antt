@@ -7,11 +7,13 @@ use Rattle.command_words.specs.declared.table.Journal.TheVariants as journal
 use Rattle.lathe_looks.specs.Named.{Named, edits_named, files_of, tape_named, zones_named}
 use Rattle.lathe_top.specs.Made.{made_limit}
 
--- it calls neither the disk nor a turret; or it looks for a run on the disk; or it looks for a run and makes edits in it; or it begins
--- a journal and runs, for so many records at most; or it looks for a run and goes on with it, for so many records more
+-- it calls neither a disk nor a turret; or it looks for a run on the disk; or it looks for a run and branches it on the second disk; or it
+-- looks for a run and makes edits in it; or it begins a journal and runs, for so many records at most; or it looks for a run and goes on
+-- with it, for so many records more
 pub data Kind : Type 0 where
   rests : Kind
   looks : Kind
+  branches : Kind
   edits : Kind
   begins : (limit : ℕ) → Kind
   goes_on : (limit : ℕ) → Kind
@@ -29,6 +31,7 @@ kind_of (Some (command.Edit name)) = edits
 kind_of (Some command.Moves) = looks
 kind_of (Some command.State) = looks
 kind_of (Some (command.Zones zones)) = looks
+kind_of (Some (command.Branch meetings)) = branches
 kind_of (Some (command.Make number turrets)) = begins made_limit
 kind_of (Some (command.Expand tape)) = rests
 
@@ -48,6 +51,7 @@ named_by other = []
 abbrev pub journal_for : Kind → Journal
 journal_for rests = journal.None
 journal_for looks = journal.Look
+journal_for branches = journal.Look
 journal_for edits = journal.Write
 journal_for (begins limit) = journal.Write
 journal_for (goes_on limit) = journal.Write

@@ -3,7 +3,6 @@ use Rattle.std.specs.Prelude.{◌≡◌}
 use Rattle.disk_model.specs.Device.{DiskState}
 use Rattle.nc_outside.specs.Received.{TurretState}
 use Rattle.turret_run.specs.Runs.{Turrets, Missed, none_missed}
-use Rattle.lathe_top.specs.declared.outcome.Lathe.{Lathe}
 use Rattle.lathe_top.specs.declared.outcome.Outcome.{Outcome}
 
 -- What a run works on, at one moment: the disk of its journal, and the turrets of both paths; and how many moves of the call's
@@ -17,15 +16,11 @@ pub record LatheState : Type 1 where
 abbrev pub lathe_at : DiskState → TurretState → TurretState → LatheState
 lathe_at disk left right = record { disk = disk; turrets = record { left = left; right = right }; missed = none_missed }
 
--- the states of what the code holds
-abbrev pub lathe_of : {D T : Type 0} → (D → DiskState) → (T → TurretState) → Lathe D T → LatheState
-lathe_of disk turret lathe = lathe_at (disk lathe.disk) (turret lathe.left) (turret lathe.right)
-
 -- what a call leaves, with the moves that it counts as missed
-abbrev pub lathe_left : {D T : Type 0} → (D → DiskState) → (T → TurretState) → Outcome D T → LatheState
-lathe_left disk turret outcome = record {
-  disk = disk outcome.lathe.disk;
-  turrets = record { left = turret outcome.lathe.left; right = turret outcome.lathe.right };
+abbrev pub lathe_after : {D E T : Type 0} → (D → DiskState) → (T → TurretState) → Outcome D E T → LatheState
+lathe_after disk turret outcome = record {
+  disk = disk outcome.disk;
+  turrets = record { left = turret outcome.left; right = turret outcome.right };
   missed = record { left = outcome.left_missed; right = outcome.right_missed };
 }
 

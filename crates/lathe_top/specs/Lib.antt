@@ -8,10 +8,12 @@ pub mod Kept
 pub mod Ran
 pub mod Zoned
 pub mod Edited
+pub mod Branched
 pub mod Made
 pub mod Outside
 pub mod Stops
 pub mod Streams
 -- Words of the inside.
+pub mod Held
 pub mod Texts
 pub mod Going

@@ -45,20 +45,22 @@ lathe_before state call = record { disk = state call.disk; turrets = call.turret
 abbrev pub lathe_behind : {D : Type 0} → (D → DiskState) → CallOver D → LatheState
 lathe_behind state call = record { disk = state call.after; turrets = call.moved; missed = call.missed }
 
--- The words of a call, and the shelf and the sink before and after it.
-pub record Around : Type 0 where
+-- The words of a call, and the shelf, the second disk and the sink before and after it.
+pub record Around (E : Type 0) : Type 0 where
   pub words : List (List ℕ)
   pub shelf : ShelfState
   pub shelf_after : ShelfState
+  pub second : E
+  pub second_after : E
   pub sink : SinkState
   pub sink_after : SinkState
 
 -- all of the call
-abbrev pub call_in : {D : Type 0} → (D → DiskState) → Around → CallOver D → Call
+abbrev pub call_in : {D E : Type 0} → (D → DiskState) → Around E → CallOver D → Call E
 call_in state around call = record {
   words = around.words;
-  before = at around.shelf (lathe_before state call) around.sink;
-  after = at around.shelf_after (lathe_behind state call) around.sink_after;
+  before = at around.shelf (lathe_before state call) around.second around.sink;
+  after = at around.shelf_after (lathe_behind state call) around.second_after around.sink_after;
 }
 
 -- the disk tells that it reads as these bytes, and the call leaves it and the turrets as its kind of command does

@@ -18,7 +18,7 @@ use Rattle.lathe_looks.specs.Standing.{is_over}
 use Rattle.lathe_calls.specs.Statuses as exit
 use Rattle.lathe_top.specs.Done.{Call}
 use Rattle.lathe_top.specs.Kept.{IsOpened, KeepsSession, Opening}
-use Rattle.lathe_top.specs.Kinds.{Kind, rests, looks, edits, begins, goes_on}
+use Rattle.lathe_top.specs.Kinds.{Kind, rests, looks, branches, edits, begins, goes_on}
 use Rattle.lathe_top.specs.Lathe.{AreAtRest}
 use Rattle.lathe_top.specs.Session.{IsSession, Session, machine_found, reason_status}
 
@@ -26,6 +26,7 @@ use Rattle.lathe_top.specs.Session.{IsSession, Session, machine_found, reason_st
 abbrev pub MakesRecords : Kind → Type 0
 MakesRecords rests = ⊥
 MakesRecords looks = ⊥
+MakesRecords branches = ⊥
 MakesRecords edits = ⊥
 MakesRecords (begins limit) = Unit {0}
 MakesRecords (goes_on limit) = Unit {0}
@@ -64,7 +65,7 @@ pub record GetsStream (s : Session) (path : Path) (old new : TurretState) : Type
 
 -- What a call did that made its records: of one session, which the disk then holds whole, each turret got the stream of its path; none
 -- was called if the run was over when it was found.
-pub record HasStreams {D : Type 0} (state : D → DiskState) (call : Call) (status : ℕ) : Type 0 where
+pub record HasStreams {D E : Type 0} (state : D → DiskState) (call : Call E) (status : ℕ) : Type 0 where
   pub session : Session
   pub is : IsSession session
   pub opening : Opening

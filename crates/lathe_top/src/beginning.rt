@@ -6,7 +6,7 @@ ghost use Rattle.lathe_looks.specs.Named.{listed};
 ghost use Rattle.lathe_calls.specs.Reported.{report_of};
 ghost use Rattle.lathe_looks.specs.Texts.{files_in, texts_of};
 ghost use Rattle.lathe_top.specs.Kept.{RestsWhole};
-ghost use Rattle.lathe_top.specs.Lathe.{lathe_of, lathe_left};
+ghost use Rattle.lathe_top.specs.Held.{lathe_of, lathe_left};
 ghost use Rattle.lathe_top.specs.Ran.{IsRun};
 ghost use Rattle.lathe_top.specs.Texts.{text_by};
 ghost use Rattle.nc_restart.specs.Pair.{texts_of as texts_of_header, IsPairOf};
@@ -14,7 +14,7 @@ ghost use Rattle.run_records.specs.declared.version.Version.{Version};
 ghost use Rattle.run_records.specs.Headers.{IsShort};
 
 use crate::going::go_on;
-use crate::outcome::{Lathe, Outcome};
+use crate::held::{Ended, Lathe};
 use crate::refusing::tell_unbegun;
 use crate::telling::{Request, Telling};
 use disk_model::Disk;
@@ -40,7 +40,7 @@ pub(crate) fn run<R, H, D, T, K>(
     shelf: &mut H,
     lathe: Lathe<D, T>,
     out: &mut K,
-) -> Outcome<D, T>
+) -> Ended<D, T>
 where
     R: Threads + Wait + Sync,
     H: Shelf,
@@ -61,7 +61,7 @@ where
         Ok(texts) => run_texts(rt, alloc, texts, asked, lathe, out),
         Err(error) => {
             let status = tell_unfetched(alloc, &error, out);
-            Outcome {
+            Ended {
                 status,
                 lathe,
                 left_missed: 0,
@@ -79,7 +79,7 @@ pub(crate) fn run_texts<R, D, T, K>(
     asked: Request,
     lathe: Lathe<D, T>,
     out: &mut K,
-) -> Outcome<D, T>
+) -> Ended<D, T>
 where
     R: Threads + Wait + Sync,
     D: Disk + Send,
@@ -101,7 +101,7 @@ where
         Ok(pair) => run_pair(rt, alloc, pair, header_of(texts), asked, lathe, out),
         Err(error) => {
             let status = refuse(&error, out);
-            Outcome {
+            Ended {
                 status,
                 lathe,
                 left_missed: 0,
@@ -140,7 +140,7 @@ fn run_pair<R, D, T, K>(
     asked: Request,
     lathe: Lathe<D, T>,
     out: &mut K,
-) -> Outcome<D, T>
+) -> Ended<D, T>
 where
     R: Threads + Wait + Sync,
     D: Disk + Send,
@@ -157,7 +157,7 @@ where
     let Lathe { disk, left, right } = lathe;
     match Table::begin(alloc, pair, disk, &header) {
         Ok(table) => go_on(rt, alloc, table, asked, left, right, out),
-        Err((disk, fault)) => Outcome {
+        Err((disk, fault)) => Ended {
             status: tell_unbegun(fault, out),
             lathe: Lathe { disk, left, right },
             left_missed: 0,

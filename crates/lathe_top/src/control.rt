@@ -1,18 +1,22 @@
 //! The call that the program makes: words in, text and status out.
-ghost use Rattle.std.specs.Prelude.{◌≡◌, map};
+ghost use Rattle.std.specs.Prelude.{◌≡◌, Some, map};
 ghost use Rattle.std.specs.String.{string_bytes};
 ghost use Rattle.lathe_calls.specs.Answers.{Ends};
 ghost use Rattle.lathe_looks.specs.Named.{files_of};
 ghost use Rattle.lathe_looks.specs.Texts.{files_in};
-ghost use Rattle.lathe_top.specs.Done.{GetsItsStatus, IsDone, IsDueTo, at};
-ghost use Rattle.lathe_top.specs.Lathe.{lathe_of, lathe_left};
+ghost use Rattle.lathe_top.specs.Done.{GetsItsStatus, IsDone, IsDueTo, LeavesSecond, at};
+ghost use Rattle.lathe_top.specs.Held.{lathe_of, lathe_left};
+ghost use Rattle.lathe_top.specs.Kinds.{kind_of};
+ghost use Rattle.lathe_top.specs.Lathe.{lathe_at, lathe_after};
 ghost use Rattle.lathe_top.specs.Outside.{outside_in};
 
 use crate::beginning::run;
+use crate::branching::branch_off;
 use crate::editing::edit;
+use crate::held::{Ended, Lathe};
 use crate::looking::{answer_pair, look, show_zoned, write_out};
 use crate::making::make;
-use crate::outcome::{Lathe, Outcome};
+use crate::outcome::Outcome;
 use crate::resuming::resume;
 use clap_reading::read_words;
 use command_words::{Command, Name, ProgramRange, WordsFault};
@@ -30,44 +34,48 @@ use std::thread::Threads;
 use turn_order::one_run_in_turn;
 use wait_verify::{accepted_pairs_are_not_refused, pairs_have_one_refusal};
 
-/// Does what the words say with the files of the shelf, the journal on the disk and the turrets of both paths,
-/// writes the answer to `out`, and gives the status, the disk and the turrets.
+/// Does what the words say with the files of the shelf, the journal on the disk, the second disk and the turrets of both paths,
+/// writes the answer to `out`, and gives the status, both disks and the turrets.
 ///
-/// 0: the tapes are accepted, both paths ran to their ends, the edits were made, or the text was written. 1: the tapes, the
-/// settings or the edits are refused. 2: the words are no command. 3: a path raised an alarm. 4: the shelf failed. 5: the
-/// sink failed. 6: the disk failed. 7: the turret of a path failed. 8: there is a run on the disk, or for all
-/// commands but `run` and `make` there is none. 9: the journal on the disk is bad. 10: as many blocks were
-/// recorded as the call allows. 12: out of memory. 13: a file is missing or too long. 14: the journal has as
+/// 0: the tapes are accepted, both paths ran to their ends, the edits or the branch were made, or the text was written. 1: the tapes,
+/// the settings or the edits are refused, or there is no such meeting. 2: the words are no command. 3: a path raised an alarm. 4: the
+/// shelf failed. 5: the sink failed. 6: a disk failed. 7: the turret of a path failed. 8: there is a run on the disk, or for all
+/// commands but `run` and `make` there is none; or one on the second disk. 9: the journal on the disk is bad. 10: as many blocks
+/// were recorded as the call allows. 12: out of memory. 13: a file is missing or too long. 14: the journal has as
 /// many records as it may have. Of 6, 7, 3, 0, 14 and 10 the first is answered that holds of a run.
 ///
-/// `run`, `make` and `resume` run both paths at once, in four threads: it waits for them, and where none can be
-/// made it may not return.
-pub fn top<R, H, D, T, K>(
+/// `branch` alone calls the second disk. `run`, `make` and `resume` run both paths at once, in four threads: it waits for them, and
+/// where none can be made it may not return.
+pub fn top<R, H, D, E, T, K>(
     rt: &R,
     alloc: Global,
     words: &[String],
     shelf: &mut H,
-    lathe: Lathe<D, T>,
+    disk: D,
+    second: E,
+    left: T,
+    right: T,
     out: &mut K,
-) -> Outcome<D, T>
+) -> Outcome<D, E, T>
 where
     R: Threads + Wait + Sync,
     H: Shelf,
     D: Disk + Send,
+    E: Disk,
     T: Turret + Send,
     K: Sink,
-    // What was told and its status, each for its cause; what the disk is now, and what a stop at any moment leaves of it; and what
+    // What was told and its status, each for its cause; what both disks are now, and what a stop at any moment leaves of them; and what
     // the turrets got. All of one command and of the texts of its files, whatever the status.
-    ensures done { IsDone D.state (record {
+    ensures done { IsDone D.state E.state (record {
       words = map string_bytes words.now;
-      before = at (H.state shelf.old) (lathe_of D.state T.state lathe) (K.state out.old);
-      after = at (H.state shelf.new) (lathe_left D.state T.state result) (K.state out.new);
+      before = at (H.state shelf.old) (lathe_at (D.state disk) (T.state left) (T.state right)) second (K.state out.old);
+      after = at (H.state shelf.new) (lathe_after D.state T.state result) result.second (K.state out.new);
     }) result.status }
     // Where a cause holds its status comes.
-    ensures due { GetsItsStatus D.state (record {
+    ensures due { GetsItsStatus D.state E.state (record {
       words = map string_bytes words.now;
-      before = at (H.state shelf.old) (lathe_of D.state T.state lathe) (K.state out.old);
-      after = at (H.state shelf.new) (lathe_left D.state T.state result) (K.state out.new);
+      before = at (H.state shelf.old) (lathe_at (D.state disk) (T.state left) (T.state right)) second (K.state out.old);
+      after = at (H.state shelf.new) (lathe_after D.state T.state result) result.second (K.state out.new);
     }) result.status }
 {
     accepted_texts_are_not_refused();
@@ -78,96 +86,140 @@ where
     one_run_in_turn();
     accepted_pairs_are_not_refused();
     pairs_have_one_refusal();
-    respond(rt, alloc, words, shelf, lathe, out)
+    let lathe = Lathe { disk, left, right };
+    let (ended, second) = respond(rt, alloc, words, shelf, lathe, second, out);
+    let Ended {
+        status,
+        lathe: Lathe { disk, left, right },
+        left_missed,
+        right_missed,
+    } = ended;
+    Outcome {
+        status,
+        disk,
+        second,
+        left,
+        right,
+        left_missed,
+        right_missed,
+    }
 }
 
-/// Does what the words say, and gives the status, the disk and the turrets.
-fn respond<R, H, D, T, K>(
+/// Does what the words say, and gives the status, both disks and the turrets.
+fn respond<R, H, D, E, T, K>(
     rt: &R,
     alloc: Global,
     words: &[String],
     shelf: &mut H,
     lathe: Lathe<D, T>,
+    second: E,
     out: &mut K,
-) -> Outcome<D, T>
+) -> (Ended<D, T>, E)
 where
     R: Threads + Wait + Sync,
     H: Shelf,
     D: Disk + Send,
+    E: Disk,
     T: Turret + Send,
     K: Sink,
-    ensures { IsDone D.state (record {
+    ensures { IsDone D.state E.state (record {
       words = map string_bytes words.now;
-      before = at (H.state shelf.old) (lathe_of D.state T.state lathe) (K.state out.old);
-      after = at (H.state shelf.new) (lathe_left D.state T.state result) (K.state out.new);
-    }) result.status }
+      before = at (H.state shelf.old) (lathe_of D.state T.state lathe) second (K.state out.old);
+      after = at (H.state shelf.new) (lathe_left D.state T.state result.0) result.1 (K.state out.new);
+    }) result.0.status }
 {
     match read_words(alloc, words) {
-        Ok(command) => perform(rt, alloc, &command, shelf, lathe, out),
-        Err(WordsFault::Usage) => Outcome {
-            status: tell_usage(out),
-            lathe,
-            left_missed: 0,
-            right_missed: 0,
-        },
-        Err(WordsFault::NoMemory) => Outcome {
-            status: Status::NoMemory as u8,
-            lathe,
-            left_missed: 0,
-            right_missed: 0,
-        },
+        Ok(command) => perform(rt, alloc, &command, shelf, lathe, second, out),
+        Err(WordsFault::Usage) => {
+            (
+                Ended {
+                    status: tell_usage(out),
+                    lathe,
+                    left_missed: 0,
+                    right_missed: 0,
+                },
+                second,
+            )
+        }
+        Err(WordsFault::NoMemory) => {
+            (
+                Ended {
+                    status: Status::NoMemory as u8,
+                    lathe,
+                    left_missed: 0,
+                    right_missed: 0,
+                },
+                second,
+            )
+        }
     }
 }
 
-/// Does what a command says.
-fn perform<R, H, D, T, K>(
+/// Does what a command says. Who does not branch hands the second disk back.
+fn perform<R, H, D, E, T, K>(
     rt: &R,
     alloc: Global,
     command: &Command,
     shelf: &mut H,
     lathe: Lathe<D, T>,
+    second: E,
     out: &mut K,
-) -> Outcome<D, T>
+) -> (Ended<D, T>, E)
 where
     R: Threads + Wait + Sync,
     H: Shelf,
     D: Disk + Send,
+    E: Disk,
     T: Turret + Send,
     K: Sink,
-    ensures { Ends (IsDueTo D.state command.now
-        (at (H.state shelf.old) (lathe_of D.state T.state lathe) (K.state out.old))
-        (at (H.state shelf.new) (lathe_left D.state T.state result) (K.state out.new)))
-        (K.state out.old) (K.state out.new) result.status }
+    ensures { Ends (λ answer. IsDueTo D.state E.state command.now
+        (at (H.state shelf.old) (lathe_of D.state T.state lathe) second (K.state out.old))
+        (at (H.state shelf.new) (lathe_left D.state T.state result.0) result.1 (K.state out.new)) answer
+        × LeavesSecond (kind_of (Some command.now)) second result.1)
+        (K.state out.old) (K.state out.new) result.0.status }
 {
     match command {
         Command::Verify(left, right, settings) => {
             let names = names_of(left, right, settings);
-            answer_pair(alloc, &names, Question::Verify, shelf, lathe, out)
+            (
+                answer_pair(alloc, &names, Question::Verify, shelf, lathe, out),
+                second,
+            )
         }
         Command::Waits(left, right, settings, outside) => {
             let names = names_of(left, right, settings);
             let range = outside_in(*outside);
-            answer_pair(alloc, &names, Question::Waits(range), shelf, lathe, out)
+            (
+                answer_pair(alloc, &names, Question::Waits(range), shelf, lathe, out),
+                second,
+            )
         }
         Command::Races(left, right, settings) => {
             let names = names_of(left, right, settings);
-            answer_pair(alloc, &names, Question::Races, shelf, lathe, out)
+            (
+                answer_pair(alloc, &names, Question::Races, shelf, lathe, out),
+                second,
+            )
         }
         Command::Trace(left, right, settings, blocks) => {
             let names = names_of(left, right, settings);
-            answer_pair(alloc, &names, Question::Trace(*blocks), shelf, lathe, out)
+            (
+                answer_pair(alloc, &names, Question::Trace(*blocks), shelf, lathe, out),
+                second,
+            )
         }
         Command::Run(left, right, settings, blocks, _) => {
             let names = names_of(left, right, settings);
-            run(rt, alloc, &names, *blocks, shelf, lathe, out)
+            (run(rt, alloc, &names, *blocks, shelf, lathe, out), second)
         }
-        Command::Resume(blocks, _) => resume(rt, alloc, *blocks, lathe, out),
-        Command::Edit(edits) => edit(alloc, edits.as_str(), shelf, lathe, out),
-        Command::Moves => look(alloc, Showing::Moves, lathe, out),
-        Command::State => look(alloc, Showing::State, lathe, out),
-        Command::Zones(zones) => show_zoned(alloc, zones.as_str(), shelf, lathe, out),
-        Command::Make(number, _) => make(rt, alloc, *number, lathe, out),
-        Command::Expand(tape) => write_out(alloc, tape.as_str(), shelf, lathe, out),
+        Command::Resume(blocks, _) => (resume(rt, alloc, *blocks, lathe, out), second),
+        Command::Edit(edits) => (edit(alloc, edits.as_str(), shelf, lathe, out), second),
+        Command::Moves => (look(alloc, Showing::Moves, lathe, out), second),
+        Command::State => (look(alloc, Showing::State, lathe, out), second),
+        Command::Zones(zones) => (show_zoned(alloc, zones.as_str(), shelf, lathe, out), second),
+        Command::Branch(meetings) => branch_off(alloc, *meetings, lathe, second, out),
+        Command::Make(number, _) => (make(rt, alloc, *number, lathe, out), second),
+        Command::Expand(tape) => (write_out(alloc, tape.as_str(), shelf, lathe, out), second),
     }
 }
 

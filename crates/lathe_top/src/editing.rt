@@ -10,10 +10,11 @@ ghost use Rattle.lathe_looks.specs.Named.{alone, edits_named};
 ghost use Rattle.lathe_looks.specs.Standing.{reason_of};
 ghost use Rattle.lathe_top.specs.Edited.{IsEdited, IsEditedRun, edited_text, told_of_failure, told_of_writing};
 ghost use Rattle.lathe_top.specs.Kept.{RestsWhole};
-ghost use Rattle.lathe_top.specs.Lathe.{AreAtRest, lathe_of, lathe_left};
+ghost use Rattle.lathe_top.specs.Held.{lathe_of, lathe_left};
+ghost use Rattle.lathe_top.specs.Lathe.{AreAtRest};
 ghost use Rattle.lathe_top.specs.Session.{reason_status};
 
-use crate::outcome::{Lathe, Outcome};
+use crate::held::{Ended, Lathe};
 use crate::telling::{Telling, tell_end};
 use disk_model::Disk;
 use edit_texts::EditList;
@@ -35,7 +36,7 @@ pub(crate) fn edit<H: Shelf, D: Disk, T: Turret, K: Sink>(
     shelf: &mut H,
     lathe: Lathe<D, T>,
     out: &mut K,
-) -> Outcome<D, T>
+) -> Ended<D, T>
     ensures { Ends (IsOfFiles alone (edits_named name.now)
         (RestsWhole (lathe_of D.state T.state lathe) (lathe_left D.state T.state result))
         (IsEdited (lathe_of D.state T.state lathe) (lathe_left D.state T.state result))
@@ -43,7 +44,7 @@ pub(crate) fn edit<H: Shelf, D: Disk, T: Turret, K: Sink>(
 {
     match edits_of_file(alloc, name, shelf, out) {
         Ok(edits) => edit_by(alloc, &edits, lathe, out),
-        Err(status) => Outcome {
+        Err(status) => Ended {
             status,
             lathe,
             left_missed: 0,
@@ -58,14 +59,14 @@ fn edit_by<D: Disk, T: Turret, K: Sink>(
     edits: &EditList,
     lathe: Lathe<D, T>,
     out: &mut K,
-) -> Outcome<D, T>
+) -> Ended<D, T>
     ensures { Ends (λ answer. IsEditedRun edits.now (D.state lathe.disk) (D.state result.lathe.disk) answer
         × AreAtRest (lathe_of D.state T.state lathe) (lathe_left D.state T.state result))
         (K.state out.old) (K.state out.new) result.status }
 {
     let Lathe { disk, left, right } = lathe;
     let Shown { status, disk } = edit_run(alloc, edits, disk, out);
-    Outcome {
+    Ended {
         status,
         lathe: Lathe { disk, left, right },
         left_missed: 0,

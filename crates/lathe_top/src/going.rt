@@ -8,10 +8,11 @@ ghost use Rattle.nc_restart.specs.Pair.{tapes_in, opening_of, machine_behind};
 ghost use Rattle.lathe_calls.specs.Answers.{Ends, IsJust};
 ghost use Rattle.lathe_looks.specs.Standing.{is_over};
 ghost use Rattle.lathe_top.specs.Going.{IsReport, told_of};
-ghost use Rattle.lathe_top.specs.Lathe.{lathe_at, lathe_left};
+ghost use Rattle.lathe_top.specs.Held.{lathe_left};
+ghost use Rattle.lathe_top.specs.Lathe.{lathe_at};
 ghost use Rattle.lathe_top.specs.Texts.{end_reason, run_reason, text_by};
 
-use crate::outcome::{Lathe, Outcome};
+use crate::held::{Ended, Lathe};
 use crate::telling::{Request, Telling, tell_end};
 use disk_model::Disk;
 use lathe_calls::Status;
@@ -35,7 +36,7 @@ pub(crate) fn go_on<R, D, T, K>(
     left: T,
     right: T,
     out: &mut K,
-) -> Outcome<D, T>
+) -> Ended<D, T>
 where
     R: Threads + Wait + Sync,
     D: Disk + Send,
@@ -68,7 +69,7 @@ where
         end,
         out,
     );
-    Outcome {
+    Ended {
         status,
         lathe: Lathe {
             disk: parts.disk,

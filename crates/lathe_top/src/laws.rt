@@ -21,9 +21,9 @@ use nc_restart::{an_image_of_a_run_is_never_bad, an_image_stands_for_one_run};
 use run_table::a_record_makes_seven_moves_at_most;
 
 /// What a call does it may do by its kind of command: what `top` promises is what the laws over calls and stops ask for.
-pub fn a_call_leaves_as_its_kind_may<D: Disk>()
-    ensures { (call : CallOver D) (around : Around) (status : ℕ) → call.asked ≡ listed_command around.words
-        → IsDone D.state (call_in D.state around call) status
+pub fn a_call_leaves_as_its_kind_may<D: Disk, E: Disk>()
+    ensures { (call : CallOver D) (around : Around E) (status : ℕ) → call.asked ≡ listed_command around.words
+        → IsDone D.state E.state (call_in D.state around call) status
         → Leaves D.state (kind_of call.asked) (lathe_before D.state call) (lathe_behind D.state call) }
 {}
 

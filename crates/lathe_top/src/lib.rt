@@ -1,17 +1,20 @@
-//! The command of the program, over a shelf of files, a disk for the journal, a turret for each path, and a sink
+//! The command of the program, over a shelf of files, a disk for the journal and a second one, a turret for each path, and a sink
 //! for its text.
 //!
 //! [`top`] reads the words, does what they say, writes the answer and gives the status. `verify` is the
 //! verdict of crate `nc_verify`. `run` begins a journal on the disk and runs both paths at once, each with its
 //! turret, and `resume` goes on with the run that the journal holds; both end with the report of all its records.
-//! `make` runs a made pair, and ends with a summary. `edit` makes an operator's edits in the run that the journal holds. `moves` and
-//! `state` show what it holds, and write nothing to it. Each turret gets its place and then the moves of its path's records that the call made.
+//! `make` runs a made pair, and ends with a summary. `edit` makes an operator's edits in the run that the journal holds. `branch`
+//! writes that run up to a meeting onto the second disk, which no other command calls. `moves` and `state` show what the journal holds, and
+//! write nothing to it. Each turret gets its place and then the moves of its path's records that the call made.
 #![tactic(auto)]
 
 mod beginning;
+mod branching;
 mod control;
 mod editing;
 mod going;
+mod held;
 mod laws;
 mod looking;
 mod making;
@@ -27,6 +30,6 @@ pub use laws::{
     a_call_leaves_as_its_kind_may, a_session_hands_eight_moves_a_record_at_most,
     a_stop_leaves_one_history, calls_make_one_history,
 };
-pub use outcome::{Lathe, Outcome};
+pub use outcome::Outcome;
 pub use rows::a_row_says_what_its_kind_does;
 pub use stream_laws::a_stream_has_the_reports_lines;

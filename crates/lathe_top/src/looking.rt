@@ -8,10 +8,11 @@ ghost use Rattle.lathe_looks.specs.Shown.{IsShown, shown_text};
 ghost use Rattle.lathe_looks.specs.Zoned.{zones_text};
 ghost use Rattle.lathe_looks.specs.Texts.{files_in};
 ghost use Rattle.lathe_top.specs.Kept.{RestsWhole};
-ghost use Rattle.lathe_top.specs.Lathe.{AreAtRest, lathe_of, lathe_left};
+ghost use Rattle.lathe_top.specs.Held.{lathe_of, lathe_left};
+ghost use Rattle.lathe_top.specs.Lathe.{AreAtRest};
 ghost use Rattle.lathe_top.specs.Zoned.{IsZoned};
 
-use crate::outcome::{Lathe, Outcome};
+use crate::held::{Ended, Lathe};
 use disk_model::Disk;
 use lathe_calls::Question;
 use lathe_looks::{FileNames, Showing, Shown, ask, expand, show, show_zones, zones_of_file};
@@ -27,13 +28,13 @@ pub(crate) fn answer_pair<H: Shelf, D: Disk, T: Turret, K: Sink>(
     shelf: &mut H,
     lathe: Lathe<D, T>,
     out: &mut K,
-) -> Outcome<D, T>
+) -> Ended<D, T>
     ensures { Ends (λ answer. IsOfFiles listed (files_in names.now) (Unit {0}) (IsDueTo question)
         (H.state shelf.old) (H.state shelf.new) answer
         × RestsWhole (lathe_of D.state T.state lathe) (lathe_left D.state T.state result))
         (K.state out.old) (K.state out.new) result.status }
 {
-    Outcome {
+    Ended {
         status: ask(alloc, names, question, shelf, out),
         lathe,
         left_missed: 0,
@@ -48,13 +49,13 @@ pub(crate) fn write_out<H: Shelf, D: Disk, T: Turret, K: Sink>(
     shelf: &mut H,
     lathe: Lathe<D, T>,
     out: &mut K,
-) -> Outcome<D, T>
+) -> Ended<D, T>
     ensures { Ends (λ answer. IsOfFiles alone (tape_named tape.now) (Unit {0}) IsExpanded
         (H.state shelf.old) (H.state shelf.new) answer
         × RestsWhole (lathe_of D.state T.state lathe) (lathe_left D.state T.state result))
         (K.state out.old) (K.state out.new) result.status }
 {
-    Outcome {
+    Ended {
         status: expand(alloc, tape, shelf, out),
         lathe,
         left_missed: 0,
@@ -68,14 +69,14 @@ pub(crate) fn look<D: Disk, T: Turret, K: Sink>(
     showing: Showing,
     lathe: Lathe<D, T>,
     out: &mut K,
-) -> Outcome<D, T>
+) -> Ended<D, T>
     ensures { Ends (λ answer. IsShown (shown_text showing) (D.state lathe.disk) (D.state result.lathe.disk) answer
         × AreAtRest (lathe_of D.state T.state lathe) (lathe_left D.state T.state result))
         (K.state out.old) (K.state out.new) result.status }
 {
     let Lathe { disk, left, right } = lathe;
     let Shown { status, disk } = show(alloc, showing, disk, out);
-    Outcome {
+    Ended {
         status,
         lathe: Lathe { disk, left, right },
         left_missed: 0,
@@ -91,7 +92,7 @@ pub(crate) fn show_zoned<H: Shelf, D: Disk, T: Turret, K: Sink>(
     shelf: &mut H,
     lathe: Lathe<D, T>,
     out: &mut K,
-) -> Outcome<D, T>
+) -> Ended<D, T>
     ensures { Ends (IsOfFiles alone (zones_named name.now)
         (RestsWhole (lathe_of D.state T.state lathe) (lathe_left D.state T.state result))
         (IsZoned (lathe_of D.state T.state lathe) (lathe_left D.state T.state result))
@@ -99,7 +100,7 @@ pub(crate) fn show_zoned<H: Shelf, D: Disk, T: Turret, K: Sink>(
 {
     match zones_of_file(alloc, name, shelf, out) {
         Ok(zones) => look_by(alloc, &zones, lathe, out),
-        Err(status) => Outcome {
+        Err(status) => Ended {
             status,
             lathe,
             left_missed: 0,
@@ -114,14 +115,14 @@ fn look_by<D: Disk, T: Turret, K: Sink>(
     zones: &Zones,
     lathe: Lathe<D, T>,
     out: &mut K,
-) -> Outcome<D, T>
+) -> Ended<D, T>
     ensures { Ends (λ answer. IsShown (zones_text zones.now) (D.state lathe.disk) (D.state result.lathe.disk) answer
         × AreAtRest (lathe_of D.state T.state lathe) (lathe_left D.state T.state result))
         (K.state out.old) (K.state out.new) result.status }
 {
     let Lathe { disk, left, right } = lathe;
     let Shown { status, disk } = show_zones(alloc, zones, disk, out);
-    Outcome {
+    Ended {
         status,
         lathe: Lathe { disk, left, right },
         left_missed: 0,

@@ -1,11 +1,11 @@
 //! The command `make`: the made pair of a number, run anew.
 ghost use Rattle.lathe_calls.specs.Answers.{Ends};
-ghost use Rattle.lathe_top.specs.Lathe.{lathe_of, lathe_left};
+ghost use Rattle.lathe_top.specs.Held.{lathe_of, lathe_left};
 ghost use Rattle.lathe_top.specs.Made.{made_limit, made_text, made_texts};
 ghost use Rattle.lathe_top.specs.Ran.{IsRun};
 
 use crate::beginning::run_texts;
-use crate::outcome::{Lathe, Outcome};
+use crate::held::{Ended, Lathe};
 use crate::telling::{Request, Telling};
 use disk_model::Disk;
 use lathe_calls::Status;
@@ -27,7 +27,7 @@ pub(crate) fn make<R, D, T, K>(
     number: u32,
     lathe: Lathe<D, T>,
     out: &mut K,
-) -> Outcome<D, T>
+) -> Ended<D, T>
 where
     R: Threads + Wait + Sync,
     D: Disk + Send,
@@ -50,7 +50,7 @@ where
             };
             run_texts(rt, alloc, texts, asked, lathe, out)
         }
-        Err(_) => Outcome {
+        Err(_) => Ended {
             status: Status::NoMemory as u8,
             lathe,
             left_missed: 0,

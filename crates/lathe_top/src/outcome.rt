@@ -1,4 +1,4 @@
-//! What a call works on and leaves.
+//! How a call ended.
 ghost use Rattle.std.specs.Prelude.{◌≡◌};
 ghost use Rattle.turret_run.specs.Runs.{missed_by};
 
@@ -6,26 +6,24 @@ use disk_model::Disk;
 use nc_number::Path;
 use nc_outside::Turret;
 
-/// What a call works on besides files and text: the disk of the journal, and the turrets of both paths.
+/// How a call ended: its status, both disks and the turrets that were handed in, and how many moves each turret missed. Only this
+/// crate makes one.
 #[derive(Drop)]
-pub struct Lathe<D: Disk, T: Turret> {
+pub struct Outcome<D: Disk, E: Disk, T: Turret> {
+    pub(crate) status: u8,
+    /// The disk of the journal.
     pub disk: D,
+    /// The disk of the branch.
+    pub second: E,
     /// The turret of path 1.
     pub left: T,
     /// The turret of path 2.
     pub right: T,
-}
-
-/// How a call ended: its status, what it worked on, and how many moves each turret missed. Only this crate makes one.
-#[derive(Drop)]
-pub struct Outcome<D: Disk, T: Turret> {
-    pub(crate) status: u8,
-    pub(crate) lathe: Lathe<D, T>,
     pub(crate) left_missed: u64,
     pub(crate) right_missed: u64,
 }
 
-impl<D: Disk, T: Turret> Outcome<D, T> {
+impl<D: Disk, E: Disk, T: Turret> Outcome<D, E, T> {
     /// The status of the call.
     pub fn status(&self) -> u8
         ensures { result ≡ self.now.status }
@@ -43,12 +41,5 @@ impl<D: Disk, T: Turret> Outcome<D, T> {
             Path::One => self.left_missed,
             Path::Two => self.right_missed,
         }
-    }
-
-    /// The disk and the turrets that were handed in.
-    pub fn into_parts(self) -> Lathe<D, T>
-        ensures { result ≡ self.lathe }
-    {
-        self.lathe
     }
 }

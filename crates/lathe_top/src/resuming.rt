@@ -2,12 +2,13 @@
 ghost use Rattle.lathe_calls.specs.Answers.{Ends};
 ghost use Rattle.lathe_calls.specs.Reported.{report_of};
 ghost use Rattle.lathe_top.specs.Going.{IsReport};
-ghost use Rattle.lathe_top.specs.Lathe.{lathe_at, lathe_of, lathe_left};
+ghost use Rattle.lathe_top.specs.Held.{lathe_of, lathe_left};
+ghost use Rattle.lathe_top.specs.Lathe.{lathe_at};
 ghost use Rattle.lathe_top.specs.Ran.{IsResumed};
 ghost use Rattle.nc_restart.specs.Recovered.{IsRecovered};
 
 use crate::going::go_on;
-use crate::outcome::{Lathe, Outcome};
+use crate::held::{Ended, Lathe};
 use crate::telling::{Request, Telling, tell_end};
 use disk_model::Disk;
 use lathe_looks::{is_over, reason_of, tell_unfound};
@@ -27,7 +28,7 @@ pub(crate) fn resume<R, D, T, K>(
     limit: u32,
     lathe: Lathe<D, T>,
     out: &mut K,
-) -> Outcome<D, T>
+) -> Ended<D, T>
 where
     R: Threads + Wait + Sync,
     D: Disk + Send,
@@ -40,7 +41,7 @@ where
     let Lathe { disk, left, right } = lathe;
     match recover(alloc, disk) {
         Ok(found) => resume_found(rt, alloc, found, limit, left, right, out),
-        Err((disk, fault)) => Outcome {
+        Err((disk, fault)) => Ended {
             status: tell_unfound(alloc, fault, out),
             lathe: Lathe { disk, left, right },
             left_missed: 0,
@@ -58,7 +59,7 @@ fn resume_found<R, D, T, K>(
     left: T,
     right: T,
     out: &mut K,
-) -> Outcome<D, T>
+) -> Ended<D, T>
 where
     R: Threads + Wait + Sync,
     D: Disk + Send,
@@ -83,7 +84,7 @@ where
     if is_over(&machine) {
         let reason = reason_of(&machine);
         let status = tell_end(alloc, telling, &verified, &entries, reason, out);
-        return Outcome {
+        return Ended {
             status,
             lathe: Lathe {
                 disk: journal.into_disk(),

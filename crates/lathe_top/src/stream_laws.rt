@@ -13,8 +13,8 @@ use disk_model::Disk;
 /// That holds of `run`, `make` and `resume` under the statuses 0 (both paths ended), 3 (an alarm), 10 (as many blocks as were allowed)
 /// and 14 (a full journal). Of one session, all of whose records are on the disk then, each turret got what is written so, in order, and
 /// nothing else; a new `LineTurret` has just these bytes in its sink. If the run was over when it was found, no turret was called.
-pub fn a_stream_has_the_reports_lines<D: Disk>()
-    ensures { (call : CallOver D) (around : Around) (status : ℕ) → IsDone D.state (call_in D.state around call) status
+pub fn a_stream_has_the_reports_lines<D: Disk, E: Disk>()
+    ensures { (call : CallOver D) (around : Around E) (status : ℕ) → IsDone D.state E.state (call_in D.state around call) status
         → MakesRecords (kind_of (listed_command around.words)) → IsUncut status
         → HasStreams D.state (call_in D.state around call) status }
 {}

@@ -4,7 +4,7 @@
 //! before the path comes to a wait, and at the end. A call that fails stops the run, and is counted.
 #![tactic(auto)]
 
-use lathe_top::{Lathe, top};
+use lathe_top::top;
 use nc_number::Point;
 use nc_outside::{Failed, LinedMove, Turret};
 use real_outside::{Access, FileDisk, FileShelf, StdSink, SystemFolder};
@@ -54,23 +54,27 @@ fn main(rt: HostRuntime) -> Result<(), anyhow::Error> {
         String::from_str(alloc, "lower.nc")?,
         String::from_str(alloc, "cell.txt")?,
     ]?;
-    let lathe = Lathe {
-        disk: FileDisk::new(SystemFolder::new(&rt), "own.journal", Access::Write),
-        left: OwnTurret::new(),
-        right: OwnTurret::new(),
-    };
     let mut shelf = FileShelf::new(&rt);
     let mut report = StdSink::new(&rt);
-    let outcome = top(&rt, alloc, words.as_slice(), &mut shelf, lathe, &mut report);
+    let outcome = top(
+        &rt,
+        alloc,
+        words.as_slice(),
+        &mut shelf,
+        FileDisk::new(SystemFolder::new(&rt), "own.journal", Access::Write),
+        FileDisk::new(SystemFolder::new(&rt), "own_branch.journal", Access::Write),
+        OwnTurret::new(),
+        OwnTurret::new(),
+        &mut report,
+    );
     println!(rt; "status {}", outcome.status())?;
-    let lathe = outcome.into_parts();
     println!(rt;
         "turret 1: {} moves, the last of line {}",
-        lathe.left.moves, lathe.left.line
+        outcome.left.moves, outcome.left.line
     )?;
     println!(rt;
         "turret 2: {} moves, the last of line {}",
-        lathe.right.moves, lathe.right.line
+        outcome.right.moves, outcome.right.line
     )?;
     Ok(())
 }

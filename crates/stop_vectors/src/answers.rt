@@ -65,15 +65,10 @@ fn answered<R: Threads + Wait + Sync + Abort>(
     failing: Failing<'_>,
 ) -> (String, MemoryDisk) {
     let devices = devices_of(rt, alloc, 100, failing);
-    let Done {
-        status,
-        lathe,
-        sink,
-        ..
-    } = done_by(rt, alloc, line, shelf, disk, devices);
-    let turrets = (lathe.left.got(), lathe.right.got());
-    let text = answer_text(alloc, status, turrets, sink.bytes()).expect(rt, "a text");
-    (text, lathe.disk)
+    let Done { outcome, sink } = done_by(rt, alloc, line, shelf, disk, devices);
+    let turrets = (outcome.left.got(), outcome.right.got());
+    let text = answer_text(alloc, outcome.status(), turrets, sink.bytes()).expect(rt, "a text");
+    (text, outcome.disk)
 }
 
 /// Commands one behind the other over one disk, and the answer of each.

@@ -1,7 +1,6 @@
 //! A command over objects in memory.
 use disk_model::{Disk, MemoryDisk};
-use lathe_top::{Lathe, top};
-use nc_number::Path;
+use lathe_top::{Outcome, top};
 use nc_outside::{MemoryShelf, MemoryTurret, Turret, VecSink};
 use std::alloc::{AllocError, Global};
 use std::process::Abort;
@@ -72,12 +71,10 @@ pub(crate) fn devices_of<R: Abort>(
     }
 }
 
-/// What a command comes to, with its output, and how many moves the turrets of path 1 and path 2 missed.
+/// What a command comes to, with its output.
 #[derive(Drop)]
-pub(crate) struct Done<D: Disk + Drop, T: Turret + Drop> {
-    pub(crate) status: u8,
-    pub(crate) missed: (u64, u64),
-    pub(crate) lathe: Lathe<D, T>,
+pub(crate) struct Done<D: Disk + Drop, E: Disk + Drop, T: Turret + Drop> {
+    pub(crate) outcome: Outcome<D, E, T>,
     pub(crate) sink: VecSink,
 }
 
@@ -101,7 +98,7 @@ pub(crate) fn disk_of<R: Abort>(
     MemoryDisk::of_bytes(alloc, bytes, 10_000, failing).expect(rt, "a disk")
 }
 
-/// Does a command of these words.
+/// Does a command of these words, beside a second disk with nothing on it.
 pub(crate) fn done_by<R, D, T>(
     rt: &R,
     alloc: Global,
@@ -109,21 +106,45 @@ pub(crate) fn done_by<R, D, T>(
     shelf: &mut MemoryShelf,
     disk: D,
     devices: Devices<T>,
-) -> Done<D, T>
+) -> Done<D, MemoryDisk, T>
 where
     R: Threads + Wait + Sync + Abort,
     D: Disk + Send + Drop,
     T: Turret + Send + Drop,
 {
+    let second = disk_of(rt, alloc, &[], &[]);
+    done_beside(rt, alloc, line, shelf, disk, second, devices)
+}
+
+/// Does a command of these words, beside this second disk.
+pub(crate) fn done_beside<R, D, E, T>(
+    rt: &R,
+    alloc: Global,
+    line: &str,
+    shelf: &mut MemoryShelf,
+    disk: D,
+    second: E,
+    devices: Devices<T>,
+) -> Done<D, E, T>
+where
+    R: Threads + Wait + Sync + Abort,
+    D: Disk + Send + Drop,
+    E: Disk + Drop,
+    T: Turret + Send + Drop,
+{
     let words = words_of(alloc, line).expect(rt, "words");
     let Devices { left, right, sink } = devices;
     let mut sink = sink;
-    let lathe = Lathe { disk, left, right };
-    let outcome = top(rt, alloc, words.as_slice(), shelf, lathe, &mut sink);
-    Done {
-        status: outcome.status(),
-        missed: (outcome.missed(Path::One), outcome.missed(Path::Two)),
-        lathe: outcome.into_parts(),
-        sink,
-    }
+    let outcome = top(
+        rt,
+        alloc,
+        words.as_slice(),
+        shelf,
+        disk,
+        second,
+        left,
+        right,
+        &mut sink,
+    );
+    Done { outcome, sink }
 }

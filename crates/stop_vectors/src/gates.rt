@@ -69,7 +69,9 @@ fn status_of<R: Threads + Wait + Sync + Abort>(
     let mut shelf = shelf_of(rt, alloc, FILES, &[]);
     let disk = MemoryDisk::new(alloc, 10_000, 1_000, &[]).expect(rt, "a disk");
     let line = "run left right cell";
-    done_by(rt, alloc, line, &mut shelf, disk, devices).status
+    done_by(rt, alloc, line, &mut shelf, disk, devices)
+        .outcome
+        .status()
 }
 
 /// The status of a run whose turrets wait for each other.

@@ -1,6 +1,7 @@
 //! How many recorded moves a turret missed when it failed.
 use crate::command::{HONEST, Outside, devices_of, disk_of, done_by, failing_of};
 use crate::shelf::shelf_of;
+use nc_number::Path;
 use std::alloc::{AllocError, Global};
 use std::process::Abort;
 use std::sync::Wait;
@@ -57,8 +58,9 @@ fn missed_by<R: Threads + Wait + Sync + Abort>(
     let mut shelf = shelf_of(rt, alloc, FILES, HONEST.fetches);
     let disk = disk_of(rt, alloc, &[], HONEST.disk);
     let devices = devices_of(rt, alloc, 100, failing_of(turret_of(turret), &calls));
-    let done = done_by(rt, alloc, line, &mut shelf, disk, devices);
-    missed_text(alloc, done.status, done.missed).expect(rt, "a text")
+    let outcome = done_by(rt, alloc, line, &mut shelf, disk, devices).outcome;
+    let missed = (outcome.missed(Path::One), outcome.missed(Path::Two));
+    missed_text(alloc, outcome.status(), missed).expect(rt, "a text")
 }
 
 #[test]

@@ -187,7 +187,8 @@ fn status_of<R: Threads + Wait + Sync + Abort>(
         disk,
         Devices { left, right, sink },
     )
-    .status
+    .outcome
+    .status()
 }
 
 #[test]

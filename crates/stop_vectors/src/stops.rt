@@ -24,7 +24,7 @@ pub(crate) fn crash(number: u64) -> Crash {
 }
 
 /// The bytes of a disk behind a crash.
-fn crashed(alloc: Global, disk: MemoryDisk, pick: Crash) -> Result<Vec<u8>, AllocError> {
+pub(crate) fn crashed(alloc: Global, disk: MemoryDisk, pick: Crash) -> Result<Vec<u8>, AllocError> {
     disk.crash(pick).bytes().to_vec(alloc)
 }
 

@@ -1,5 +1,5 @@
 //! What the turrets hold behind a whole run.
-use crate::command::{Done, HONEST, devices_of, done_by};
+use crate::command::{HONEST, devices_of, done_by};
 use crate::pair::{FILES, RUN};
 use crate::shelf::shelf_of;
 use disk_model::MemoryDisk;
@@ -38,9 +38,9 @@ fn moves_of<R: Threads + Wait + Sync + Abort>(rt: &R, alloc: Global, line: &str)
     let mut shelf = shelf_of(rt, alloc, FILES, &[]);
     let disk = MemoryDisk::new(alloc, 1_048_576, 65_536, &[]).expect(rt, "a disk");
     let devices = devices_of(rt, alloc, 5_000, HONEST);
-    let Done { status, lathe, .. } = done_by(rt, alloc, line, &mut shelf, disk, devices);
-    let (left, right) = (lathe.left.got(), lathe.right.got());
-    moves_text(alloc, status, left, right).expect(rt, "a text")
+    let outcome = done_by(rt, alloc, line, &mut shelf, disk, devices).outcome;
+    let (left, right) = (outcome.left.got(), outcome.right.got());
+    moves_text(alloc, outcome.status(), left, right).expect(rt, "a text")
 }
 
 // The pair as a shop has it, and a made pair of ten thousand blocks.

@@ -18,7 +18,7 @@ pub struct Ending {
 
 impl Ending {
     /// The end of a command that came to this: its status.
-    pub fn behind<D: Disk, T: Turret>(outcome: &Outcome<D, T>) -> Ending
+    pub fn behind<D: Disk, E: Disk, T: Turret>(outcome: &Outcome<D, E, T>) -> Ending
         ensures { result.status ≡ outcome.now.status }
     {
         Ending {

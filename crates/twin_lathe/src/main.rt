@@ -9,7 +9,7 @@ use clap_reading::read_words;
 use command_words::{Command, Journal, Name, WordsFault, journal_of};
 use disk_model::Disk;
 use ending::Ending;
-use lathe_top::{Lathe, Outcome, top};
+use lathe_top::{Outcome, top};
 use nc_number::Path;
 use nc_outside::Turret;
 use real_outside::{Access, FileDisk, FileShelf, LineFile, StdSink, SystemFolder, Trouble};
@@ -21,6 +21,9 @@ use turret_lines::LineTurret;
 
 /// The file of the journal, in the current folder.
 const JOURNAL: &str = "twin.journal";
+
+/// The file of the journal that a branch makes, in the current folder.
+const BRANCH: &str = "branch.journal";
 
 fn main(rt: HostRuntime) -> Ending {
     let Ok(words) = words_given(&rt) else {
@@ -35,25 +38,21 @@ fn main(rt: HostRuntime) -> Ending {
     let mut shelf = FileShelf::new(&rt);
     let mut out = StdSink::new(&rt);
     let access = access_of(words.as_slice());
-    let lathe = Lathe {
-        disk: FileDisk::new(SystemFolder::new(&rt), JOURNAL, access),
-        left: LineTurret::new(LineFile::new(&rt, names.one)),
-        right: LineTurret::new(LineFile::new(&rt, names.two)),
-    };
     let outcome = top(
         &rt,
         rt.alloc(),
         words.as_slice(),
         &mut shelf,
-        lathe,
+        FileDisk::new(SystemFolder::new(&rt), JOURNAL, access),
+        FileDisk::new(SystemFolder::new(&rt), BRANCH, Access::Write),
+        LineTurret::new(LineFile::new(&rt, names.one)),
+        LineTurret::new(LineFile::new(&rt, names.two)),
         &mut out,
     );
     let end = Ending::behind(&outcome);
     tell_missed(&rt, &outcome);
-    let lathe = outcome.into_parts();
-    if let Some(trouble) = lathe.disk.trouble() {
-        complain(&rt, trouble);
-    }
+    complain(&rt, JOURNAL, outcome.disk.trouble());
+    complain(&rt, BRANCH, outcome.second.trouble());
     end
 }
 
@@ -98,7 +97,7 @@ fn access_of(words: &[String]) -> Access {
 }
 
 /// Says on standard error how many recorded moves each turret missed, if it missed any.
-fn tell_missed<R: Eprint, D: Disk, T: Turret>(rt: &R, outcome: &Outcome<D, T>) {
+fn tell_missed<R: Eprint, D: Disk, E: Disk, T: Turret>(rt: &R, outcome: &Outcome<D, E, T>) {
     for path in [Path::One, Path::Two] {
         let number = path.number();
         let _ = match outcome.missed(path) {
@@ -109,9 +108,12 @@ fn tell_missed<R: Eprint, D: Disk, T: Turret>(rt: &R, outcome: &Outcome<D, T>) {
     }
 }
 
-/// Says on standard error why the journal can't be used. Where that can't be said, the status still tells of it.
-fn complain<R: Eprint>(rt: &R, trouble: Trouble) {
-    let _ = eprintln!(rt; "{JOURNAL} {trouble}");
+/// Says on standard error why the file of a journal can't be used, if there is a reason. Where that can't be said, the status still tells
+/// of it.
+fn complain<R: Eprint>(rt: &R, journal: &str, trouble: Option<Trouble>) {
+    if let Some(trouble) = trouble {
+        let _ = eprintln!(rt; "{journal} {trouble}");
+    }
 }
 
 /// The words behind the program's name. Where one of them is no text they are no command, and none is given.

@@ -1,7 +1,7 @@
 //! Commands one after another over one disk: their words, their statuses, and the texts that they write.
 use crate::row::{is_text, lines_of};
 use disk_model::MemoryDisk;
-use lathe_top::{Lathe, Outcome, top};
+use lathe_top::{Outcome, top};
 use nc_number::NoMemory;
 use nc_outside::{MemoryShelf, MemoryTurret, VecSink};
 use std::alloc::{AllocError, Global};
@@ -24,7 +24,12 @@ const STORIES: &str = "\
 pair %~O0001 (UPPER TURRET)~N10 G21 G40 G97 G99~N20 G28 U0 W0~N30 G50 S2500~N40 T0101~N50 G97 S800 M03~N60 G00 X52. Z2. M08~N70 M101~N80 G90 X48. Z-30. F0.25~N90 X46.~N100 G00 X100. Z50. M09~N110 T0100~N120 M102~N130 M30~%~|%~O0002 (LOWER TURRET)~N10 G21 G40 G99~N20 G28 U0 W0~N30 T0202~N40 M101~N50 G97 S600 M03~N60 G00 X54. Z-10.~N70 G01 X40. F0.1~N80 G03 X46. Z-13. R3.~N90 G04 P500~N100 G00 X60.~N110 T0200~N120 M102~N130 M30~%~|place 1 X200. Z150.~place 2 X200. Z150.~home 1 X300. Z200.~home 2 X300. Z200.~work 1 54 X0 Z100.~work 2 54 X0 Z100.~tool 1 1 X-20. Z-10.~tool 2 2 X-10. Z5.~
 verify left right settings|0|accepted~
 run left right settings|0|path 1 moves 19~4 rapid X200.000 Z150.000~4 rapid X300.000 Z200.000~5 limit S2500~6 tool T0101~7 speed G97 S800~7 aux M03~8 rapid X32.000 Z92.000~8 aux M08~10 rapid X28.000 Z92.000~10 feed X28.000 Z60.000 F0.25 rev~10 feed X32.000 Z60.000 F0.25 rev~10 rapid X32.000 Z92.000~11 rapid X26.000 Z92.000~11 feed X26.000 Z60.000 F0.25 rev~11 feed X32.000 Z60.000 F0.25 rev~11 rapid X32.000 Z92.000~12 rapid X80.000 Z140.000~12 aux M09~13 tool T0100~path 2 moves 11~4 rapid X200.000 Z150.000~4 rapid X300.000 Z200.000~5 tool T0202~7 speed G97 S600~7 aux M03~8 rapid X44.000 Z95.000~9 feed X30.000 Z95.000 F0.1 rev~10 ccw X36.000 Z92.000 R3.000 F0.1 rev~11 dwell 500~12 rapid X50.000 Z92.000~13 tool T0200~records 26~end done~
+branch 0|0|branched 0 records 0~
+branch 1|0|branched 1 records 11~
+branch 2|0|branched 2 records 24~
+branch 3|1|refused 95 NoMeeting~
 pair %~O1~M30~%~|%~O1~M30~%~|
+branch 1|8|no run~
 resume|8|no run~
 moves|8|no run~
 state|8|no run~
@@ -47,6 +52,7 @@ run left right settings|8|run there~
 resume|9|bad journal at 5~
 bytes 010000
 resume|9|bad journal at 0~
+branch 0|9|bad journal at 0~
 state|9|bad journal at 0~
 bytes 00FFFF
 resume|8|no run~
@@ -114,6 +120,8 @@ run left b c|13|no file b~
 verify left right c|13|no file c~
 make 1000000|2|usage~
 resume 1|2|usage~
+branch|2|usage~
+branch 4000001|2|usage~
 ";
 
 /// A file of a text of a row.
@@ -197,13 +205,12 @@ fn bytes_on(alloc: Global, disk: &MemoryDisk) -> Result<Vec<u8>, AllocError> {
 /// The status, and the bytes that are on the disk.
 fn left_by(
     alloc: Global,
-    outcome: Outcome<MemoryDisk, MemoryTurret>,
+    outcome: &Outcome<MemoryDisk, MemoryDisk, MemoryTurret>,
 ) -> (u8, Result<Vec<u8>, AllocError>) {
-    let status = outcome.status();
-    (status, bytes_on(alloc, &outcome.into_parts().disk))
+    (outcome.status(), bytes_on(alloc, &outcome.disk))
 }
 
-/// Gives a command the disk and two turrets, and says what it leaves.
+/// Gives a command the disk, a second one of no bytes and two turrets, and says what it leaves.
 fn call<R: Threads + Wait + Sync + Abort>(
     rt: &R,
     alloc: Global,
@@ -214,8 +221,9 @@ fn call<R: Threads + Wait + Sync + Abort>(
 ) -> (u8, Result<Vec<u8>, AllocError>) {
     let left = MemoryTurret::new(alloc, TURRET_ROOM, &[]).expect(rt, "a turret");
     let right = MemoryTurret::new(alloc, TURRET_ROOM, &[]).expect(rt, "a turret");
-    let lathe = Lathe { disk, left, right };
-    left_by(alloc, top(rt, alloc, words, shelf, lathe, out))
+    let second = MemoryDisk::new(alloc, ROOM, 0, &[]).expect(rt, "a disk");
+    let outcome = top(rt, alloc, words, shelf, disk, second, left, right, out);
+    left_by(alloc, &outcome)
 }
 
 /// What a command answers over the files and the disk of a story.

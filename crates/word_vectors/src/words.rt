@@ -156,6 +156,22 @@ zones -> usage
 zones q r -> usage
 zones q --blocks 7 -> usage
 zones --q -> usage
+branch 0 -> branch 0
+branch 1 -> branch 1
+branch 4000000 -> branch 4000000
+branch 0000012 -> branch 12
+branch -- 3 -> branch 3
+branch -> usage
+branch 4000001 -> usage
+branch 00000001 -> usage
+branch x -> usage
+branch -1 -> usage
+branch +1 -> usage
+branch 1.0 -> usage
+branch 1 2 -> usage
+branch 1 --blocks 7 -> usage
+branch 1 --turret1 a -> usage
+branches 1 -> usage
 zone q -> usage
 make 0 -> make 0
 make 0000007 -> make 7
@@ -247,6 +263,7 @@ fn shown(alloc: Global, answer: Result<Command, WordsFault>) -> Result<String, A
         }
         Ok(Command::Moves) => String::from_str(alloc, "moves"),
         Ok(Command::State) => String::from_str(alloc, "state"),
+        Ok(Command::Branch(meetings)) => format!(in alloc; "branch {meetings}"),
         Ok(Command::Zones(zones)) => {
             let zones = zones.as_str();
             format!(in alloc; "zones [{zones}]")

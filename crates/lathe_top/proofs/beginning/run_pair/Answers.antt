@@ -2,7 +2,8 @@ use Rattle.std.proofs.Common.{refl}
 use Rattle.turret_run.specs.Runs.{Turrets, none_missed}
 use Rattle.lathe_calls.specs.Answers.{Ends}
 use Rattle.lathe_top.specs.Going.{IsReport}
-use Rattle.lathe_top.specs.Lathe.{LatheState, lathe_left}
+use Rattle.lathe_top.specs.Held.{lathe_left}
+use Rattle.lathe_top.specs.Lathe.{LatheState}
 use Rattle.lathe_top.specs.Ran.{not_begun}
 use Rattle.lathe_top.specs.Texts.{text_by}
 use Rattle.lathe_calls.proofs.Ended.{ends_by, ends_just}

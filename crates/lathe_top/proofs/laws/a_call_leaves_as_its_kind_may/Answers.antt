@@ -9,4 +9,4 @@ pub returns : goal.returns
 returns g c = λ call around status asked is.
     let state = g.D.Disk.state in
     subst (λ words. Leaves state (kind_of words) (lathe_before state call) (lathe_behind state call)) (sym asked)
-    (done_left state (call_in state around call) status is)
+    (done_left state g.E.Disk.state (call_in state around call) status is)

@@ -1,6 +1,7 @@
 use Rattle.std.proofs.Common.{refl}
 use Rattle.turret_run.specs.Runs.{Turrets}
-use Rattle.lathe_top.specs.Lathe.{LatheState, lathe_left}
+use Rattle.lathe_top.specs.Held.{lathe_left}
+use Rattle.lathe_top.specs.Lathe.{LatheState}
 use Rattle.lathe_top.specs.Ran.{not_found}
 use Rattle.lathe_calls.proofs.Ended.{ends_by, ends_just}
 use Rattle.lathe_top.proofs.RunsFound.{found_run}

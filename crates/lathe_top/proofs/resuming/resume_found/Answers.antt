@@ -8,7 +8,8 @@ use Rattle.lathe_calls.specs.Reported.{report_of}
 use Rattle.lathe_looks.specs.Standing.{is_over}
 use Rattle.lathe_calls.proofs.Ended.{ends_just}
 use Rattle.lathe_top.specs.Going.{IsReport, report}
-use Rattle.lathe_top.specs.Lathe.{LatheState, lathe_left}
+use Rattle.lathe_top.specs.Held.{lathe_left}
+use Rattle.lathe_top.specs.Lathe.{LatheState}
 use Rattle.lathe_top.proofs.GoingReported.{standing}
 use Rattle.lathe_top.proofs.RunsFound.{none_or_alarm, keeps_there, over_there, stays_there}
 use Rattle.lathe_top.proofs.resuming.resume_found.Goals as goal

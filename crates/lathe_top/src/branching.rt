@@ -1,0 +1,146 @@
+//! The command `branch`: the run up to a meeting, as a journal of its own on the second disk. The turrets rest.
+ghost use Rattle.std.specs.Prelude.{◌≡◌, Ok};
+ghost use Rattle.run_records.specs.Headers.{IsShort};
+ghost use Rattle.nc_restart.specs.Recovered.{IsRecovered, Recovers};
+ghost use Rattle.lathe_calls.specs.Answers.{Ends, IsJust, tells};
+ghost use Rattle.lathe_calls.specs.Statuses as exit;
+ghost use Rattle.lathe_top.specs.Branched.{IsBranched, branched_text, unbranched};
+ghost use Rattle.lathe_top.specs.Held.{lathe_of, lathe_left};
+ghost use Rattle.lathe_top.specs.Lathe.{AreAtRest};
+
+use crate::held::{Ended, Lathe};
+use disk_model::Disk;
+use lathe_calls::{Status, write_text};
+use lathe_looks::tell_unfound;
+use move_text::Piece;
+use nc_outside::{Sink, Turret};
+use nc_restart::{Recovered, an_image_of_a_run_is_never_bad, recover};
+use run_branch::{BranchFault, branch};
+use std::alloc::Global;
+
+/// Writes the run whose journal the disk has, up to its meeting of this number, as a journal onto the second disk. The turrets rest,
+/// and nothing is written to the disk of the run.
+pub(crate) fn branch_off<D: Disk, E: Disk, T: Turret, K: Sink>(
+    alloc: Global,
+    meetings: u32,
+    lathe: Lathe<D, T>,
+    second: E,
+    out: &mut K,
+) -> (Ended<D, T>, E)
+    ensures { Ends (λ answer. IsBranched E.state meetings (D.state lathe.disk) (D.state result.0.lathe.disk) second result.1 answer
+        × AreAtRest (lathe_of D.state T.state lathe) (lathe_left D.state T.state result.0))
+        (K.state out.old) (K.state out.new) result.0.status }
+{
+    let Lathe { disk, left, right } = lathe;
+    let Branched {
+        status,
+        disk,
+        second,
+    } = branch_run(alloc, meetings, disk, second, out);
+    let ended = Ended {
+        status,
+        lathe: Lathe { disk, left, right },
+        left_missed: 0,
+        right_missed: 0,
+    };
+    (ended, second)
+}
+
+/// How a branch ended: its status, and both disks.
+#[derive(Drop)]
+struct Branched<D: Disk, E: Disk> {
+    status: u8,
+    disk: D,
+    second: E,
+}
+
+/// Branches the run whose journal the disk has, and writes how many records the branch has, or why it is not made.
+fn branch_run<D: Disk, E: Disk, K: Sink>(
+    alloc: Global,
+    meetings: u32,
+    disk: D,
+    second: E,
+    out: &mut K,
+) -> Branched<D, E>
+    ensures { Ends (IsBranched E.state meetings (D.state disk) (D.state result.disk) second result.second)
+        (K.state out.old) (K.state out.new) result.status }
+{
+    match recover(alloc, disk) {
+        Ok(found) => branch_found(alloc, meetings, found, second, out),
+        Err((disk, fault)) => Branched {
+            status: tell_unfound(alloc, fault, out),
+            disk,
+            second,
+        },
+    }
+}
+
+/// Branches a run that was found.
+fn branch_found<D: Disk, E: Disk, K: Sink>(
+    alloc: Global,
+    meetings: u32,
+    found: Recovered<D>,
+    second: E,
+    out: &mut K,
+) -> Branched<D, E>
+    requires run { IsRecovered D.state found.header found.verified found.machine.machine found.entries.items
+        found.journal }
+    requires short { IsShort found.header }
+    ensures { (before : D) → Recovers (D.state before) (D.state found.journal.file.disk)
+        (Ok (record { header = found.header; entries = found.entries.items }))
+        → Ends (IsBranched E.state meetings (D.state before) (D.state result.disk) second result.second)
+        (K.state out.old) (K.state out.new) result.status }
+{
+    an_image_of_a_run_is_never_bad();
+    match branch(alloc, &found.header, &found.entries, second, meetings) {
+        Ok((second, records)) => Branched {
+            status: tell_branched(meetings, records, out),
+            disk: found.journal.into_disk(),
+            second,
+        },
+        Err((second, fault)) => Branched {
+            status: tell_unbranched(fault, out),
+            disk: found.journal.into_disk(),
+            second,
+        },
+    }
+}
+
+/// Writes how many records a branch has, and gives the status of that.
+fn tell_branched<K: Sink>(meetings: u32, records: u32, out: &mut K) -> u8
+    ensures { Ends (IsJust (tells exit.done (branched_text meetings records))) (K.state out.old) (K.state out.new) result }
+{
+    write_text(
+        out,
+        branched_line(meetings, records).as_slice(),
+        Status::Done as u8,
+    )
+}
+
+/// Writes why a branch was not made, and gives the status of that.
+fn tell_unbranched<K: Sink>(fault: BranchFault, out: &mut K) -> u8
+    ensures { Ends (IsJust (unbranched fault)) (K.state out.old) (K.state out.new) result }
+{
+    match fault {
+        BranchFault::NoMeeting => {
+            write_text(out, b"refused 95 NoMeeting\n", Status::Refused as u8)
+        }
+        BranchFault::RunThere => write_text(out, b"run there\n", Status::RunOrNone as u8),
+        BranchFault::NewDisk => write_text(out, b"disk fault\n", Status::DiskFault as u8),
+        BranchFault::NoMemory => Status::NoMemory as u8,
+    }
+}
+
+/// The line of a branch at this meeting, of so many records. It takes no memory.
+#[tactic(auto, unfolding(crate::specs::Branched::branched_text))]
+fn branched_line(meetings: u32, records: u32) -> Piece
+    ensures { result ≡ branched_text meetings records }
+{
+    let mut piece = Piece::empty();
+    piece.add(b"branched ");
+    piece.add_number(u64::from(meetings));
+    piece.add(b" records ");
+    piece.add_number(u64::from(records));
+    piece.add(b"\n");
+    piece
+}
