@@ -13,6 +13,7 @@ edit|EDITS||corrects offsets and variables of the run in the journal, before it 
 moves|||prints the moves that the journal has|moves
 state|||prints where both paths are, and their offsets and variables|state
 zones|FILE||says between which meetings of that run both turrets may come to one place|zones facing.txt
+branch|MEETINGS||writes that run up to a meeting to a second journal, branch.journal|branch 1
 make|N|turret1 turret2|runs a generated test job of some 10,000 blocks (N: 0 to 999999)|make 7
 expand|TAPE||writes a tape with its G71 and G70 over contours of lines as plain blocks|expand examples/roughing.nc'
 
@@ -113,6 +114,9 @@ judge_words() {
             return
         fi
     done
+    if [[ ${wanted[*]} == MEETINGS ]] && ! is_between 0 4000000 "${names[0]}"; then
+        printf '%s takes a number from 0 to 4000000, and not %s\n' "$name" "'${names[0]}'"
+    fi
     if [[ ${wanted[*]} == N ]] && ! is_between 0 999999 "${names[0]}"; then
         printf '%s takes a number from 0 to 999999, and not %s\n' "$name" "'${names[0]}'"
     fi
@@ -140,7 +144,8 @@ LEFT is the tape of path 1, RIGHT the tape of path 2. SETTINGS describes the mac
 positions, offsets (examples/cell.txt explains each line; an empty file takes the defaults). Options: --blocks N stops after N
 records; --turret1 FILE and --turret2 FILE write what each turret gets to a file or a named pipe, a line a call, during the run;
 --outside A-B: the tapes may lack the programs O A to O B. `waits` assumes something of the machine: see `help waits`.
-`run` and `make` begin the journal twin.journal in the current folder; `resume`, `edit`, `moves`, `state` and `zones` read it there.
+`run` and `make` begin the journal twin.journal in the current folder; `resume`, `edit`, `moves`, `state`, `zones` and `branch` read it
+there. `branch` alone writes branch.journal.
 
   twin_lathe try waits examples/upper.nc examples/lower.nc examples/cell.txt
 
@@ -186,6 +191,14 @@ END
 EDITS is a text of lines: `work p n X.. Z..`, `tool p n X.. Z..` and `wear p n X.. Z..` as in the settings, `var p v NUMBER` and
 `var p v vacant` for a common variable (#100 to #199, #500 to #999). p is the path. At most 64 edits; each line is one, in order.
 They become records of the journal, all at once or none, and nothing moves. Then `resume` goes on with them.
+END
+    fi
+    if [[ $name == branch ]]; then
+        cat <<'END'
+
+MEETINGS is how many meetings the branch has: 0 is the beginning of the run. The journal twin.journal stays as it is, also beside a run.
+The branch has the same tapes and settings. To go on with it, copy branch.journal as twin.journal into another folder; there `edit` and
+`resume` work on it. A journal that is there already is never written over.
 END
     fi
     if [[ $name == expand ]]; then
