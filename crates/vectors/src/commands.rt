@@ -221,7 +221,7 @@ fn call<R: Threads + Wait + Sync + Abort>(
 ) -> (u8, Result<Vec<u8>, AllocError>) {
     let left = MemoryTurret::new(alloc, TURRET_ROOM, &[]).expect(rt, "a turret");
     let right = MemoryTurret::new(alloc, TURRET_ROOM, &[]).expect(rt, "a turret");
-    let second = MemoryDisk::new(alloc, ROOM, 0, &[]).expect(rt, "a disk");
+    let second = MemoryDisk::new(alloc, ROOM, ROOM, &[]).expect(rt, "a disk");
     let outcome = top(rt, alloc, words, shelf, disk, second, left, right, out);
     left_by(alloc, &outcome)
 }
