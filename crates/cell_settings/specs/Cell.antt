@@ -1,16 +1,18 @@
 -- The settings that a text gives.
-use Rattle.std.specs.Prelude.{ℕ, ◌^◌, Bool, true, List, [], ◌∷◌, Result, pos, slice_index, slice_set, bit_or}
+use Rattle.std.specs.Prelude.{ℕ, ◌^◌, Bool, true, List, [], ◌∷◌, Result, slice_index, slice_set, bit_or}
 use Rattle.std.specs.Str.Lines.{lines}
 use Rattle.nc_number.specs.declared.path.Path.{Path}
 use Rattle.nc_number.specs.declared.point.Point.{Point}
+use Rattle.nc_number.specs.declared.limits.TheConstants.{MOST_RECORDS}
 use Rattle.nc_number.specs.Path.{index_of}
+use Rattle.nc_number.specs.Position.{origin}
 use Rattle.code_tables.specs.declared.system.System.{System}
 use Rattle.code_tables.specs.declared.system.System.TheVariants.{A}
 use Rattle.cell_settings.specs.declared.preset.Preset.{Preset}
 use Rattle.cell_settings.specs.declared.entry.Entry.{Entry}
 use Rattle.cell_settings.specs.declared.entry.Entry.TheVariants as says
-use Rattle.field_lines.specs.Line.{entries_of, first_refused, unless_refused}
-use Rattle.cell_settings.specs.Entry.{line_says}
+use Rattle.field_lines.specs.Line.{line_says, entries_of, first_refused, unless_refused}
+use Rattle.cell_settings.specs.Entry.{fields_say}
 use Rattle.cell_settings.specs.Preset.{with_preset}
 
 -- the settings without where they lie in memory
@@ -27,9 +29,6 @@ pub record Cell : Type 0 where
   pub records : ℕ
   pub presets : List Preset
 
-abbrev pub origin : Point
-origin = record { x = pos 0; z = pos 0 }
-
 -- the settings of an empty text
 abbrev pub standard : Cell
 standard = record {
@@ -42,7 +41,7 @@ standard = record {
   skips = 0 ∷ 0 ∷ [];
   place = origin ∷ origin ∷ [];
   home = origin ∷ origin ∷ [];
-  records = 4000000;
+  records = MOST_RECORDS;
   presets = [];
 }
 
@@ -50,25 +49,28 @@ standard = record {
 abbrev pub with_switch : Path → ℕ → List ℕ → List ℕ
 with_switch path switch skips = slice_set skips (index_of path) (bit_or (slice_index skips (index_of path)) (2 ^ switch))
 
--- one line more: it takes the place of an earlier one of its name and numbers, but a switch is added
-abbrev pub taken : Cell → Entry → Cell
-taken cell says.Nothing = cell
-taken cell (says.Wait low high) = record cell { wait_low = low; wait_high = high }
-taken cell (says.Shared100 n) = record cell { shared100 = n }
-taken cell (says.Shared500 n) = record cell { shared500 = n }
-taken cell (says.Paths bits) = record cell { bits = bits }
-taken cell (says.Codes system) = record cell { system = system }
-taken cell (says.Skip path switch) = record cell { skips = with_switch path switch cell.skips }
-taken cell (says.Place path to) = record cell { place = slice_set cell.place (index_of path) to }
-taken cell (says.Home path to) = record cell { home = slice_set cell.home (index_of path) to }
-taken cell (says.Offset preset) = record cell { presets = with_preset preset cell.presets }
-taken cell (says.Records n) = record cell { records = n }
+-- one line more: it takes the place of an earlier one of its name and numbers, but a switch is
+-- added
+abbrev pub with_entry : Cell → Entry → Cell
+with_entry cell says.Nothing = cell
+with_entry cell (says.Wait low high) = record cell { wait_low = low; wait_high = high }
+with_entry cell (says.Shared100 n) = record cell { shared100 = n }
+with_entry cell (says.Shared500 n) = record cell { shared500 = n }
+with_entry cell (says.Paths bits) = record cell { bits = bits }
+with_entry cell (says.Codes system) = record cell { system = system }
+with_entry cell (says.Skip path switch) = record cell { skips = with_switch path switch cell.skips }
+with_entry cell (says.Place path to) = record cell { place = slice_set cell.place (index_of path) to }
+with_entry cell (says.Home path to) = record cell { home = slice_set cell.home (index_of path) to }
+with_entry cell (says.Offset preset) = record cell { presets = with_preset preset cell.presets }
+with_entry cell (says.Records n) = record cell { records = n }
 
 -- what all lines say together
-abbrev pub all_taken : Cell → List Entry → Cell
-all_taken cell [] = cell
-all_taken cell (entry ∷ entries) = all_taken (taken cell entry) entries
+abbrev pub with_entries : Cell → List Entry → Cell
+with_entries cell [] = cell
+with_entries cell (entry ∷ entries) = with_entries (with_entry cell entry) entries
 
 -- the settings of a text, or the number of its first line that is not allowed
 unfoldable pub settings_of : List ℕ → Result Cell ℕ
-settings_of text = unless_refused (first_refused line_says 1 (lines text)) (all_taken standard (entries_of line_says (lines text)))
+settings_of text =
+    unless_refused (first_refused (line_says fields_say) 1 (lines text))
+    (with_entries standard (entries_of (line_says fields_say) (lines text)))

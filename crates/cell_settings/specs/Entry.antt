@@ -5,10 +5,10 @@ use Rattle.cell_settings.specs.declared.preset.Preset.{Preset}
 use Rattle.code_tables.specs.declared.system.System.TheVariants.{A, B}
 use Rattle.cell_settings.specs.declared.entry.Entry.{Entry}
 use Rattle.cell_settings.specs.declared.entry.Entry.TheVariants as says
+use Rattle.nc_number.specs.declared.limits.TheConstants.{MOST_RECORDS}
 use Rattle.nc_number.specs.Options.{◌>>=◌}
 use Rattle.field_lines.specs.Field.{number_in, path_of}
 use Rattle.field_lines.specs.Length.{point_of}
-use Rattle.field_lines.specs.Line.{line_fields}
 use Rattle.nc_number.specs.Position.{IsPosition}
 use Rattle.cell_settings.specs.Preset.{IsPreset}
 use Rattle.cell_settings.specs.PresetLine.{preset_of}
@@ -76,7 +76,7 @@ home_of _ = None
 -- how many records the journal may have
 unfoldable pub records_of : List (List ℕ) → Option Entry
 records_of (count ∷ []) = do
-  n ← number_in 1 4000000 count
+  n ← number_in 1 MOST_RECORDS count
   Some (says.Records n)
 records_of _ = None
 
@@ -108,12 +108,6 @@ unfoldable pub fields_say : List (List ℕ) → Option Entry
 fields_say [] = Some says.Nothing
 fields_say (name ∷ values) = named_point_of name values
 
--- a line says what its fields say
-unfoldable pub line_says : List ℕ → Option Entry
-line_says line = do
-  fields ← line_fields line
-  fields_say fields
-
 -- the conditions of a line
 abbrev pub IsAllowed : Entry → Type 0
 IsAllowed says.Nothing = Unit {0}
@@ -126,4 +120,4 @@ IsAllowed (says.Skip path switch) = (1 ≤ switch) × (switch ≤ 9)
 IsAllowed (says.Place path to) = IsPosition to
 IsAllowed (says.Home path to) = IsPosition to
 IsAllowed (says.Offset preset) = IsPreset preset
-IsAllowed (says.Records n) = (1 ≤ n) × (n ≤ 4000000)
+IsAllowed (says.Records n) = (1 ≤ n) × (n ≤ MOST_RECORDS)

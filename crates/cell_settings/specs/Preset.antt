@@ -1,19 +1,13 @@
 -- The offsets that the paths begin with.
 use Rattle.std.specs.Prelude.{ℕ, Bool, true, false, not, ◌&&◌, ◌==◌, ◌≤◌, List, [], ◌∷◌, ◌++◌, filter}
-use Rattle.nc_number.specs.declared.path.Path.{Path}
-use Rattle.nc_number.specs.declared.path.Path.TheVariants.{One, Two}
 use Rattle.cell_settings.specs.declared.preset.Preset.{Preset}
 use Rattle.cell_settings.specs.declared.preset.PresetKind.{PresetKind}
 use Rattle.cell_settings.specs.declared.preset.PresetKind.TheVariants.{Work, Geometry, Wear}
 use Rattle.nc_number.specs.declared.point.TheConstants.{TOOL_OFFSETS}
+use Rattle.nc_number.specs.Path.{is_same}
 use Rattle.nc_number.specs.Position.{IsPosition}
 
-abbrev pub is_path : Path → Path → Bool
-is_path One One = true
-is_path One Two = false
-is_path Two One = false
-is_path Two Two = true
-
+-- both are one kind
 abbrev pub is_kind : PresetKind → PresetKind → Bool
 is_kind Work Work = true
 is_kind Geometry Geometry = true
@@ -22,7 +16,7 @@ is_kind _ _ = false
 
 -- two offsets for the same path, kind and number
 abbrev pub is_same_place : Preset → Preset → Bool
-is_same_place a b = (is_path a.path b.path && is_kind a.kind b.kind) && a.number == b.number
+is_same_place a b = (is_same a.path b.path && is_kind a.kind b.kind) && a.number == b.number
 
 -- the offsets for other paths, kinds and numbers
 abbrev pub without_place : Preset → List Preset → List Preset

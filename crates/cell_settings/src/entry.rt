@@ -1,3 +1,4 @@
+//! A line of the settings, read.
 use crate::preset::Preset;
 use code_tables::System;
 use nc_number::{Path, Point};

@@ -1,9 +1,10 @@
-//! The settings of the cell: the waiting codes, the system of G codes, the shared variables, the skip switches, the
-//! opening and reference positions, the offsets that the paths begin with, and the size of the journal.
+//! The settings of the cell: the waiting codes, the system of G codes, the shared variables, the
+//! skip switches, the opening and reference positions, the offsets that the paths begin with, and
+//! the size of the journal.
 //!
-//! To the crates above it promises that [`Settings`] are what the text says, by the rules of the settings
-//! file, that they keep the conditions of those rules, and that a refusal names the first line that the
-//! rules don't allow.
+//! To the crates above it promises that [`Settings`] are what the text says, by the rules of the
+//! settings file, that they keep the conditions of those rules, and that a refusal names the first
+//! line that the rules don't allow.
 #![tactic(auto)]
 
 mod entry;

@@ -1,13 +1,17 @@
+//! What the fields of a line of the settings say, by its first word.
 ghost use Rattle.std.specs.Prelude.{◌≡◌, ◌≤◌, IfOk, IfSome};
 ghost use Rattle.field_lines.specs.Field.{texts};
-ghost use Rattle.cell_settings.specs.Entry.{wait_of, shared100_of, shared500_of, paths_of, codes_of, skip_of, place_of, home_of, records_of, named_of, named_point_of, fields_say, line_says, IsAllowed};
+ghost use Rattle.field_lines.specs.Line.{line_says};
+ghost use Rattle.cell_settings.specs.Entry.{wait_of, shared100_of, shared500_of, paths_of, codes_of, skip_of, place_of, home_of, records_of, named_of, named_point_of, fields_say, IsAllowed};
 
 use crate::entry::Entry;
 use crate::preset_line::read_preset;
 use code_tables::System;
 use field_lines::{line_fields, number_in, read_path, read_point};
+use nc_number::MOST_RECORDS;
 use std::alloc::{AllocError, Global};
 
+/// The first and the last waiting code.
 #[tactic(auto, unfolding(crate::specs::Entry::wait_of))]
 fn wait(values: &[&[u8]]) -> Option<Entry>
     ensures value { result ≡ wait_of (texts values.now) }
@@ -26,6 +30,7 @@ fn wait(values: &[&[u8]]) -> Option<Entry>
     }
 }
 
+/// How many variables from #100 on are shared.
 #[tactic(auto, unfolding(crate::specs::Entry::shared100_of))]
 fn shared100(values: &[&[u8]]) -> Option<Entry>
     ensures value { result ≡ shared100_of (texts values.now) }
@@ -37,6 +42,7 @@ fn shared100(values: &[&[u8]]) -> Option<Entry>
     }
 }
 
+/// How many variables from #500 on are shared.
 #[tactic(auto, unfolding(crate::specs::Entry::shared500_of))]
 fn shared500(values: &[&[u8]]) -> Option<Entry>
     ensures value { result ≡ shared500_of (texts values.now) }
@@ -48,6 +54,7 @@ fn shared500(values: &[&[u8]]) -> Option<Entry>
     }
 }
 
+/// Whether the P of a wait names the paths by bits or by numbers.
 #[tactic(auto, unfolding(crate::specs::Entry::paths_of))]
 fn paths(values: &[&[u8]]) -> Option<Entry>
     ensures value { result ≡ paths_of (texts values.now) }
@@ -67,6 +74,7 @@ fn paths(values: &[&[u8]]) -> Option<Entry>
     }
 }
 
+/// The system of the tapes' G codes.
 #[tactic(auto, unfolding(crate::specs::Entry::codes_of))]
 fn codes(values: &[&[u8]]) -> Option<Entry>
     ensures value { result ≡ codes_of (texts values.now) }
@@ -86,6 +94,7 @@ fn codes(values: &[&[u8]]) -> Option<Entry>
     }
 }
 
+/// A skip switch of a path.
 #[tactic(auto, unfolding(crate::specs::Entry::skip_of))]
 fn skip(values: &[&[u8]]) -> Option<Entry>
     ensures value { result ≡ skip_of (texts values.now) }
@@ -104,6 +113,7 @@ fn skip(values: &[&[u8]]) -> Option<Entry>
     }
 }
 
+/// The opening position of a path.
 #[tactic(auto, unfolding(crate::specs::Entry::place_of))]
 fn place(values: &[&[u8]]) -> Option<Entry>
     ensures value { result ≡ place_of (texts values.now) }
@@ -119,6 +129,7 @@ fn place(values: &[&[u8]]) -> Option<Entry>
     }
 }
 
+/// The reference position of a path.
 #[tactic(auto, unfolding(crate::specs::Entry::home_of))]
 fn home(values: &[&[u8]]) -> Option<Entry>
     ensures value { result ≡ home_of (texts values.now) }
@@ -134,17 +145,19 @@ fn home(values: &[&[u8]]) -> Option<Entry>
     }
 }
 
+/// How many records the journal may have.
 #[tactic(auto, unfolding(crate::specs::Entry::records_of))]
 fn records(values: &[&[u8]]) -> Option<Entry>
     ensures value { result ≡ records_of (texts values.now) }
     ensures allowed { IfSome result IsAllowed }
 {
     match values {
-        [count] => Some(Entry::Records(number_in(1, 4_000_000, count)?)),
+        [count] => Some(Entry::Records(number_in(1, MOST_RECORDS, count)?)),
         _ => None,
     }
 }
 
+/// What a name and its values say, if it is no name of points.
 #[tactic(auto, unfolding(crate::specs::Entry::named_of))]
 fn named(name: &[u8], values: &[&[u8]]) -> Option<Entry>
     ensures value { result ≡ named_of name.now (texts values.now) }
@@ -169,6 +182,7 @@ fn named(name: &[u8], values: &[&[u8]]) -> Option<Entry>
     }
 }
 
+/// What a name and its values say.
 #[tactic(auto, unfolding(crate::specs::Entry::named_point_of))]
 fn named_point(name: &[u8], values: &[&[u8]]) -> Option<Entry>
     ensures value { result ≡ named_point_of name.now (texts values.now) }
@@ -199,9 +213,9 @@ fn read_fields(fields: &[&[u8]]) -> Option<Entry>
 }
 
 /// What a line says, if it is allowed.
-#[tactic(auto, unfolding(crate::specs::Entry::line_says))]
+#[tactic(auto, unfolding(field_lines::specs::Line::line_says))]
 pub(crate) fn read_line(alloc: Global, line: &[u8]) -> Result<Option<Entry>, AllocError>
-    ensures value { IfOk result (λ entry. entry ≡ line_says line.now) }
+    ensures value { IfOk result (λ entry. entry ≡ line_says fields_say line.now) }
     ensures allowed { IfOk result (λ entry. IfSome entry IsAllowed) }
 {
     match line_fields(alloc, line)? {

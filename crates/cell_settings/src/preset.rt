@@ -1,3 +1,4 @@
+//! Offsets that a path begins with.
 ghost use Rattle.std.specs.Prelude.{◌≡◌, List, [], All, OnOk};
 ghost use Rattle.cell_settings.specs.Preset.{with_preset, without_place, is_same_place, IsPreset};
 

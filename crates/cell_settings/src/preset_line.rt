@@ -1,4 +1,5 @@
-ghost use Rattle.std.specs.Prelude.{◌≡◌, ◌≤◌, IfSome};
+//! The lines of the settings that give offsets.
+ghost use Rattle.std.specs.Prelude.{◌≡◌, ◌≢◌, ◌≤◌, IfSome};
 ghost use Rattle.field_lines.specs.Field.{texts};
 ghost use Rattle.cell_settings.specs.Preset.{IsPreset};
 ghost use Rattle.cell_settings.specs.PresetLine.{work_number, work_of, tool_of, preset_of};
@@ -20,6 +21,7 @@ fn work_number(text: &[u8]) -> Option<u8>
     Some((n - 53) as u8)
 }
 
+/// A work offset of a path.
 #[tactic(auto, unfolding(crate::specs::PresetLine::work_of))]
 fn work(values: &[&[u8]]) -> Option<Preset>
     ensures value { result ≡ work_of (texts values.now) }
@@ -41,9 +43,11 @@ fn work(values: &[&[u8]]) -> Option<Preset>
     }
 }
 
+/// A geometry or wear offset of a path.
 #[tactic(auto, unfolding(crate::specs::PresetLine::tool_of))]
-fn geometry(values: &[&[u8]]) -> Option<Preset>
-    ensures value { result ≡ tool_of PresetKind.Geometry (texts values.now) }
+fn tool(kind: PresetKind, values: &[&[u8]]) -> Option<Preset>
+    requires { kind ≢ PresetKind.Work }
+    ensures value { result ≡ tool_of kind (texts values.now) }
     ensures allowed { IfSome result IsPreset }
 {
     match values {
@@ -53,7 +57,7 @@ fn geometry(values: &[&[u8]]) -> Option<Preset>
             let to = read_point(x, z)?;
             Some(Preset {
                 path,
-                kind: PresetKind::Geometry,
+                kind,
                 number: number as u8,
                 to,
             })
@@ -62,29 +66,9 @@ fn geometry(values: &[&[u8]]) -> Option<Preset>
     }
 }
 
-#[tactic(auto, unfolding(crate::specs::PresetLine::tool_of))]
-fn wear(values: &[&[u8]]) -> Option<Preset>
-    ensures value { result ≡ tool_of PresetKind.Wear (texts values.now) }
-    ensures allowed { IfSome result IsPreset }
-{
-    match values {
-        [path, number, x, z] => {
-            let path = read_path(path)?;
-            let number = number_in(1, u32::from(TOOL_OFFSETS), number)?;
-            let to = read_point(x, z)?;
-            Some(Preset {
-                path,
-                kind: PresetKind::Wear,
-                number: number as u8,
-                to,
-            })
-        }
-        _ => None,
-    }
-}
-
-/// The offset that a name and its values set: `work p n X.. Z..`, `tool p n X.. Z..` or `wear p n X.. Z..`. The number of a work
-/// offset is 0 for the external one, or 54 to 59. None where they are none of these, or are out of their condition.
+/// The offset that a name and its values set: `work p n X.. Z..`, `tool p n X.. Z..` or `wear p n
+/// X.. Z..`. The number of a work offset is 0 for the external one, or 54 to 59. None where they
+/// are none of these, or are out of their condition.
 #[tactic(auto, unfolding(crate::specs::PresetLine::preset_of))]
 pub fn read_preset(name: &[u8], values: &[&[u8]]) -> Option<Preset>
     ensures value { result ≡ preset_of name.now (texts values.now) }
@@ -93,9 +77,9 @@ pub fn read_preset(name: &[u8], values: &[&[u8]]) -> Option<Preset>
     if name == b"work".as_slice() {
         work(values)
     } else if name == b"tool".as_slice() {
-        geometry(values)
+        tool(PresetKind::Geometry, values)
     } else if name == b"wear".as_slice() {
-        wear(values)
+        tool(PresetKind::Wear, values)
     } else {
         None
     }

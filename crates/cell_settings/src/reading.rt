@@ -1,3 +1,4 @@
+//! From a text to the settings of the cell.
 ghost use Rattle.std.specs.Prelude.{◌≡◌, ◌<◌, ◌^◌, length};
 ghost use Rattle.nc_number.specs.Answers.{GivesBy};
 ghost use Rattle.nc_number.specs.Causes.{cause_number};
@@ -32,7 +33,8 @@ impl SettingFault {
 /// A line is empty, a comment that begins with `(`, or a name with its values, separated by spaces.
 pub fn read_settings(alloc: Global, text: &[u8]) -> Result<Settings, Failing<SettingFault>>
     requires { length text.now < 2 ^ 32 }
-    // The settings that the text gives, or the first line that is not allowed, unless memory runs out.
+    // The settings that the text gives, or the first line that is not allowed, unless memory runs
+    // out.
     ensures exact { GivesBy view line_of result (settings_of text.now) }
 {
     let mut settings = Settings::standard(alloc);

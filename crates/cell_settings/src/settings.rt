@@ -1,12 +1,14 @@
+//! The settings of the cell.
 ghost use Rattle.std.specs.Prelude.{◌≡◌, ◌^◌, ◌<◌, ◌≤◌, bit_or, All, OnOk};
 ghost use Rattle.cell_settings.specs.Settings.{IsWaitRange, IsSwitches};
+ghost use Rattle.nc_number.specs.declared.limits.TheConstants.{MOST_RECORDS};
 ghost use Rattle.nc_number.specs.Position.{IsPosition};
 ghost use Rattle.cell_settings.specs.Preset.{IsPreset};
 
 use crate::entry::Entry;
 use crate::preset::{Preset, PresetList};
 use code_tables::System;
-use nc_number::Point;
+use nc_number::{MOST_RECORDS, Point};
 use std::alloc::{AllocFailed, Global};
 
 /// The settings of the cell. The path that a list of two speaks of is its place in the list.
@@ -41,12 +43,12 @@ pub struct Settings {
     ghost places: { All IsPosition place },
     ghost homes: { All IsPosition home },
     ghost fewest_records: { 1 ≤ records },
-    ghost most_records: { records ≤ 4000000 },
+    ghost most_records: { records ≤ MOST_RECORDS },
     ghost offsets: { All IsPreset presets },
 }
 
 impl Settings {
-    ghost use Rattle.cell_settings.specs.Cell.{standard, taken};
+    ghost use Rattle.cell_settings.specs.Cell.{standard, with_entry};
     ghost use Rattle.cell_settings.specs.View.{view};
     ghost use Rattle.cell_settings.specs.Entry.{IsAllowed};
 
@@ -65,7 +67,7 @@ impl Settings {
             skips: [0, 0],
             place: [origin, origin],
             home: [origin, origin],
-            records: 4_000_000,
+            records: MOST_RECORDS,
             presets: PresetList::empty(alloc),
         }
     }
@@ -73,7 +75,7 @@ impl Settings {
     /// Takes what a line says.
     pub(crate) fn take(&mut self, entry: Entry) -> Result<(), AllocFailed<Preset>>
         requires { IsAllowed entry }
-        ensures { OnOk result (view self.new ≡ taken (view self.old) entry) }
+        ensures { OnOk result (view self.new ≡ with_entry (view self.old) entry) }
     {
         match entry {
             Entry::Nothing => {}
@@ -98,6 +100,7 @@ impl Settings {
     }
 }
 
+/// The switches with one more.
 fn with_switch(mask: u16, switch: u8) -> u16
     requires mask { IsSwitches mask }
     requires least { 1 ≤ switch }

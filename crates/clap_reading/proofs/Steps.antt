@@ -43,7 +43,8 @@ pub record IsOnce (a : Rule) : Type 0 where
   pub most : most_values a ≡ 1
   pub closed : a.trailing_var_arg ≡ false
 
--- where the walk stands between two words: the uses that are settled, and the last one, which is not
+-- where the walk stands between two words: the uses that are settled, and the last one, which is
+-- not
 abbrev pub pending_text : Option Used → Option (Text × List Text)
 pending_text None = None
 pending_text (Some one) = Some (one.0, one.1 ∷ [])

@@ -1,4 +1,5 @@
--- What the words behind a subcommand come to: the names and options that are read, and the uses that the parse holds.
+-- What the words behind a subcommand come to: the names and options that are read, and the uses
+-- that the parse holds.
 use Rattle.std.proofs.Common.{◌≡◌, ℕ, zero, suc, ◌<◌, ◌≤◌, true, false, List, [], ◌∷◌, ◌++◌, map, filter, length, Option, Some, None, refl, sym, ap, ◌∙◌, arith, append_assoc, length-append, inl, inr}
 use Rattle.std.specs.Prelude.{◌⊎◌}
 use Rattle.std.specs.List.{slice_get, zip}
@@ -9,7 +10,8 @@ use Rattle.clap.specs.Walk.{Row, Text, is_empty}
 use Rattle.command_words.specs.Listed.{Given, stand_once, with_name, with_text}
 use Rattle.clap_reading.proofs.Uses.{Used, is_known, is_marked, is_name, once_push, row_of_use, stands_twice, value_in, value_in-marked, value_in-names}
 
--- the uses are those of these names, one for each argument in turn, and of these options, each once at most
+-- the uses are those of these names, one for each argument in turn, and of these options, each once
+-- at most
 pub record Story (ids options : List Text) (uses : List Used) (names : List Text) (marked : List Used) : Type 0 where
   pub names_are : filter (is_name options) uses ≡ zip ids names
   pub marked_are : filter (is_marked options) uses ≡ marked
@@ -63,8 +65,8 @@ pub value_of_option : (ids options : List Text) (uses : List Used) (names : List
     → is_known options id ≡ true → value_in id uses ≡ value_in id marked
 value_of_option ids options uses names marked id story is = value_in-marked options id is uses ∙ ap (value_in id) story.marked_are
 
--- How a parse ends that reads these names and options: it fails where there are too many names or an option stands twice, and
--- else the last checks decide, over the rows of the uses
+-- How a parse ends that reads these names and options: it fails where there are too many names or
+-- an option stands twice, and else the last checks decide, over the rows of the uses
 pub data Ending (ids options : List Text) (check : List Row → Kinds) (fault : Kinds) (rows : List Row) (names : List Text) (marked : List Used) : Type 0 where
   faulty : is_empty fault ≡ false → (length ids < length names) ⊎ (stand_once marked ≡ false) → Ending ids options check fault rows names marked
   checked : (uses : List Used) → Story ids options uses names marked → fault ≡ check (map row_of_use uses) → rows ≡ map row_of_use uses

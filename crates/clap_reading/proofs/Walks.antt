@@ -1,4 +1,5 @@
--- All the words behind a subcommand, as `clap` walks over them and as the listed commands read them.
+-- All the words behind a subcommand, as `clap` walks over them and as the listed commands read
+-- them.
 use Rattle.std.proofs.Common.{◌≡◌, ℕ, ◌+◌, ◌≤◌, Bool, true, false, List, [], ◌∷◌, length, Option, Some, None, refl, ap, ◌∙◌, codes, inl, inr}
 use Rattle.std.proofs.Math.Bool.{and-false}
 use Rattle.std.specs.Prelude.{◌⊎◌}

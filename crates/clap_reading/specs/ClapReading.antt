@@ -10,7 +10,8 @@ use Rattle.command_words.specs.declared.command.Command.{Command}
 use Rattle.command_words.specs.declared.fault.WordsFault.{WordsFault}
 use Rattle.command_words.specs.declared.fault.WordsFault.TheVariants.{NoMemory, Usage}
 
--- The command that the words give, as the `clap` command reads them: over the same list of commands.
+-- The command that the words give, as the `clap` command reads them: over the same list of
+-- commands.
 
 -- what the words of a command were given, each by its name
 abbrev pub names_in : List Row → List Text → Option (List Text)

@@ -1,3 +1,4 @@
+//! The grammar of the command line, as clap takes it.
 ghost use Rattle.std.specs.Prelude.{◌≡◌, IfOk, false};
 ghost use Rattle.clap.specs.Words.{rule_of};
 ghost use Rattle.clap_reading.specs.Grammar.{IsRead, app_of_row, bare_app, name_rule, option_rule, program_app, with_names};
@@ -7,7 +8,8 @@ use clap::{Arg, Command};
 use command_words::{Row, rows};
 use std::alloc::{AllocError, Global};
 
-/// The program's command: a subcommand for each row is wanted, and neither help nor a version is offered.
+/// The program's command: a subcommand for each row is wanted, and neither help nor a version is
+/// offered.
 pub fn program<'a>(alloc: Global) -> Result<Command<'a>, AllocError>
     ensures { IfOk result (IsRead program_app) }
 {

@@ -16,8 +16,8 @@ use std::alloc::{AllocError, Global};
 
 /// The command that the words give. They do not hold the program's own name.
 ///
-/// `Usage` comes exactly where the grammar of the command line has no command for the words, and `NoMemory` only for want
-/// of memory.
+/// `Usage` comes exactly where the grammar of the command line has no command for the words, and
+/// `NoMemory` only for want of memory.
 pub fn read_words(alloc: Global, words: &[String]) -> Result<Command, WordsFault>
     ensures command { IfOk result (λ command. listed_command (map string_bytes words.now) ≡ Some command) }
     ensures usage { IsErrOf result WordsFault.Usage → listed_command (map string_bytes words.now) ≡ None }

@@ -1,3 +1,5 @@
+//! The modal groups, by their numbers.
+
 /// Codes that count in their own block alone.
 pub const ONE_SHOT_GROUP: u8 = 0;
 /// What a block with an axis word does: rapid, feed, arc, thread or cycle.

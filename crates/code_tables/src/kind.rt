@@ -1,3 +1,4 @@
+//! What a G code does.
 ghost use Rattle.std.specs.Prelude.{◌≡◌};
 ghost use Rattle.code_tables.specs.Kinds.{is_refused, is_arc, is_cycle};
 

@@ -1,3 +1,4 @@
+//! A row of a code table.
 ghost use Rattle.std.specs.Prelude.{◌≡◌, ◌≢◌, ◌↔◌, ◌==◌, if◌then◌else◌, IsNone, IfSome, Some, All, Contains};
 ghost use Rattle.code_tables.specs.Codes.{last_of_group};
 
@@ -25,7 +26,7 @@ pub fn last_of_group(rows: &[Row], group: u8) -> Option<Row>
 }
 
 impl Row {
-    // The last row of the group up to this one, where `last` is the last of those before it.
+    /// The last row of the group up to this one, where `last` is the last of those before it.
     pub(crate) fn or_before(&self, last: Option<Row>, group: u8) -> Option<Row>
         ensures { result ≡ (if self.now.group == group then Some self.now else last) }
     {

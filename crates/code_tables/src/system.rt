@@ -1,3 +1,4 @@
+//! The two G-code systems as tables.
 ghost use Rattle.std.specs.Prelude.{◌≡◌, IsTrue};
 ghost use Rattle.code_tables.specs.Codes.{codes_stand_once, names_work_offsets, row_of};
 ghost use Rattle.code_tables.specs.SystemA.{system_a_rows};

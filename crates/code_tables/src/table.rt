@@ -1,3 +1,4 @@
+//! A table of codes.
 ghost use Rattle.std.specs.Prelude.{◌≡◌, ◌≢◌, ◌↔◌, List, IsTrue, IsNone, IfSome, Some, All, Contains, filter, false};
 ghost use Rattle.code_tables.specs.Codes.{codes_stand_once, row_of, is_of_group, last_of, last_code_of_group};
 

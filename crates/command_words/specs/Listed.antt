@@ -67,8 +67,9 @@ abbrev pub word_given : Option Text → Text → Option Given → (Text → Opti
 word_given (Some id) word here next = text_given (option_text word) id here (next id)
 word_given None word here next = if is_option word then None else with_name word here
 
--- The words behind the name of a command that takes these options. Behind `--` every word is a name as it is, a second `--`
--- too. Before it a word that begins with `-` is one of the options or is refused, except for `-` itself.
+-- The words behind the name of a command that takes these options. Behind `--` every word is a name
+-- as it is, a second `--` too. Before it a word that begins with `-` is one of the options or is
+-- refused, except for `-` itself.
 unfoldable mutual
   pub given : List Text → List Text → Option Given
   given options [] = Some (record { names = []; marked = [] })
@@ -137,7 +138,8 @@ abbrev pub outside_of : Option Text → Option (Option ProgramRange)
 outside_of None = Some None
 outside_of (Some text) = option_map Some (range_of text)
 
--- the command that a task makes of its words, of what the options of numbers say, and of the files of the turrets
+-- the command that a task makes of its words, of what the options of numbers say, and of the files
+-- of the turrets
 abbrev pub command_with : Task → List Text → Limits → TurretFiles → Option Command
 command_with task.Verify (left ∷ right ∷ settings ∷ []) limits files = Some (command.Verify left right settings)
 command_with task.Waits (left ∷ right ∷ settings ∷ []) limits files = Some (command.Waits left right settings limits.outside)

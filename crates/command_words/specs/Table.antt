@@ -13,8 +13,8 @@ use Rattle.command_words.specs.declared.table.Task.TheVariants.{Verify, Waits, R
 abbrev pub Text : Type 0
 Text = List ℕ
 
--- a command: the word that it begins with, what its words are called, which options it takes, what it does with the
--- journal, and what it asks for
+-- a command: the word that it begins with, what its words are called, which options it takes, what
+-- it does with the journal, and what it asks for
 pub record Listing : Type 0 where
   pub name : Text
   pub words : List Text

@@ -1,3 +1,4 @@
+//! A command of the program, with its names and numbers.
 ghost use Rattle.std.specs.Prelude.{◌≡◌, ℕ, List, IfOk, option_map, string_bytes};
 
 use std::alloc::{AllocError, Global};
@@ -44,7 +45,8 @@ pub struct TurretFiles {
     pub two: Option<Name>,
 }
 
-/// The programs whose O numbers lie in a range, both ends included: from 1 to 9,999, the least not above the greatest.
+/// The programs whose O numbers lie in a range, both ends included: from 1 to 9,999, the least not
+/// above the greatest.
 #[derive(Clone, Copy, Debug, PartialEq, Eq)]
 pub struct ProgramRange {
     pub least: u16,
@@ -56,7 +58,8 @@ pub struct ProgramRange {
 pub enum Command {
     /// Judge a pair of tapes under settings.
     Verify(Name, Name, Name),
-    /// Judge the waits of a pair of tapes under settings, where the tapes may lack the programs of the range.
+    /// Judge the waits of a pair of tapes under settings, where the tapes may lack the programs of
+    /// the range.
     Waits(Name, Name, Name, Option<ProgramRange>),
     /// List the races of a pair of tapes under settings.
     Races(Name, Name, Name),

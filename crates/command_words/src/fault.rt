@@ -1,3 +1,4 @@
+//! Why words give no command.
 ghost use Rattle.std.specs.Prelude.{◌≡◌};
 ghost use Rattle.command_words.specs.declared.fault.WordsFault.TheVariants.{NoMemory};
 

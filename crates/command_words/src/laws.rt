@@ -10,8 +10,8 @@ pub fn law_of_rows()
     ensures commands { list_all gives_a_command listings ≡ true }
 {}
 
-/// Behind a command's name, words that do not begin with `-` are names, and so is `-` itself; behind `--` every word is a
-/// name.
+/// Behind a command's name, words that do not begin with `-` are names, and so is `-` itself;
+/// behind `--` every word is a name.
 pub fn law_of_names()
     ensures names { (options words : List (List ℕ)) → AreNames words
         → given options words ≡ Some (record { names = words; marked = [] }) }
@@ -19,8 +19,8 @@ pub fn law_of_names()
         → given options (before ++ codes "--" ∷ after) ≡ Some (record { names = before ++ after; marked = [] }) }
 {}
 
-/// An option may stand anywhere among the names, with its text as the next word or behind `=`. `--blocks`, `--outside`,
-/// `--turret1` and `--turret2` are such options.
+/// An option may stand anywhere among the names, with its text as the next word or behind `=`.
+/// `--blocks`, `--outside`, `--turret1` and `--turret2` are such options.
 pub fn law_of_options()
     ensures apart { (options before after : List (List ℕ)) (id text : List ℕ) → IsOptionOf options id
         → AreNames before → IsName text → AreNames after

@@ -67,7 +67,8 @@ fn outside_of(text: Option<&str>) -> Option<Option<ProgramRange>>
     }
 }
 
-/// The range that a text writes: two numbers from 1 to 9,999 with `-` between them, the second not below the first.
+/// The range that a text writes: two numbers from 1 to 9,999 with `-` between them, the second not
+/// below the first.
 fn range_of(text: &str) -> Option<ProgramRange>
     ensures { result ≡ range_of text.now }
 {

@@ -1,3 +1,4 @@
+//! The commands as one list of rows.
 ghost use Rattle.std.specs.Prelude.{◌≡◌, map, option_map, string_bytes};
 ghost use Rattle.std.specs.List.{list_any};
 ghost use Rattle.std.specs.Str.{bytes_eq};
@@ -45,8 +46,8 @@ pub struct Row {
     pub task: Task,
 }
 
-// The rows of the table: a command's name, what its words are called, the options that it takes, what it does with
-// the journal, and its task.
+// The rows of the table: a command's name, what its words are called, the options that it takes,
+// what it does with the journal, and its task.
 macro_rules! command_rows {
     ($($name:literal [$($word:literal),*] [$($option:literal),*] $journal:ident $task:ident;)+) => {
         [$(Row {
@@ -76,8 +77,8 @@ const ROWS: [Row; 13] = command_rows! {
     "expand" ["tape"] [] None Expand;
 };
 
-/// What the command that the words name does with the journal: nothing, if they name none. They do not hold the
-/// program's own name.
+/// What the command that the words name does with the journal: nothing, if they name none. They do
+/// not hold the program's own name.
 pub fn journal_of(words: &[String]) -> Journal
     ensures { result ≡ journal_of (map string_bytes words.now) }
 {

@@ -3,7 +3,8 @@ use Rattle.std.proofs.Common.{◌≡◌, ℕ, ◌+◌, ◌-◌, ◌^◌, ◌<◌
 use Rattle.std.specs.Prelude.{nat_le, ◌==◌}
 use Rattle.std.specs.List.{list_any}
 use Rattle.std.proofs.lemmas.Bool.Decides.{nat_tests}
-use Rattle.disk_model.specs.Device.{HasCause, IsSettled, next}
+use Rattle.disk_model.specs.Device.{HasCause, IsSettled}
+use Rattle.nc_number.specs.Faults.{next}
 use Rattle.disk_images.specs.Among.{IsAmong}
 use Rattle.disk_images.specs.Images.{Images, after_look, after_settling, after_sync, images_state, next_fails, refuses_write, write_fails}
 use Rattle.disk_images.specs.Outcome.{Comes, as_due, for_want_of_memory}

@@ -2,7 +2,8 @@
 use Rattle.std.proofs.Common.{◌≡◌, inl, inr, ℕ, zero, suc, ◌+◌, ◌≤◌, List, [], ◌∷◌, ◌++◌, length, take, refl, sym, ap, ◌∙◌, arith, subst}
 use Rattle.std.specs.List.{flat_map}
 use Rattle.std.proofs.lemmas.List.{length-take}
-use Rattle.disk_model.specs.Device.{Tears, Torn, next, written_over}
+use Rattle.disk_model.specs.Device.{Tears, Torn, written_over}
+use Rattle.nc_number.specs.Faults.{next}
 use Rattle.disk_model.proofs.Written.{torn_by_write, torn_not}
 use Rattle.disk_images.specs.Among.{IsAmong}
 use Rattle.disk_images.specs.Images.{Images, IsKept, after_request, grown, images_now, images_state, torn_images, torn_to}

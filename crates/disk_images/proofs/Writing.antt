@@ -2,7 +2,8 @@
 use Rattle.std.proofs.Common.{◌≡◌, ◌⊎◌, inl, inr, ℕ, ◌+◌, ◌^◌, ◌<◌, true, false, List, length, Result, Ok, Err, Some, refl, sym, ap, ◌∙◌, subst}
 use Rattle.std.specs.Prelude.{IsOk, IsErr}
 use Rattle.disk_model.specs.Calls.{Writes}
-use Rattle.disk_model.specs.Device.{Tears, next, written_over}
+use Rattle.disk_model.specs.Device.{Tears, written_over}
+use Rattle.nc_number.specs.Faults.{next}
 use Rattle.disk_model.proofs.Written.{torn_by_write, torn_not}
 use Rattle.disk_images.specs.Images.{Images, IsKept, after_request, after_write, grown, images_state, next_fails, overwritten, refuses_write, with_fault}
 use Rattle.disk_images.proofs.Moments.{tears_not}

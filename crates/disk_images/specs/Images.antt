@@ -1,7 +1,8 @@
 -- What a disk in memory holds that keeps every image.
 use Rattle.std.specs.Prelude.{◌⊎◌, ℕ, zero, suc, ◌+◌, ◌-◌, ◌^◌, ◌<◌, ◌==◌, ◌||◌, nat_le, nat_lt, Bool, List, [], ◌∷◌, ◌++◌, length, take, max, Some, if◌then◌else◌}
 use Rattle.std.specs.List.{flat_map, list_any}
-use Rattle.disk_model.specs.Device.{DiskState, next, written_over}
+use Rattle.disk_model.specs.Device.{DiskState, written_over}
+use Rattle.nc_number.specs.Faults.{next}
 use Rattle.disk_images.specs.Among.{IsAmong, Ended, AreEnded, WasLeft, all_ended, left_since}
 
 pub record Images : Type 0 where
@@ -94,7 +95,8 @@ torn_to image at bytes (suc count) = torn_to image at bytes count ++ written_ove
 abbrev pub torn_images : ℕ → List ℕ → List ℕ → List (List ℕ)
 torn_images at bytes image = torn_to image at bytes (length bytes)
 
--- A write may be made of each image: each stays one, and so does each with a first part of the write over it.
+-- A write may be made of each image: each stays one, and so does each with a first part of the
+-- write over it.
 abbrev pub grown : Images → ℕ → List ℕ → Images
 grown d at bytes = record d { others = d.others ++ d.bytes ∷ flat_map (torn_images at bytes) (images_now d) }
 

@@ -1,4 +1,5 @@
-// A disk in memory that keeps every image.
+//! A disk in memory that keeps every image.
+
 ghost use Rattle.std.specs.Prelude.{◌≡◌, ◌+◌, ◌-◌, ◌^◌, ◌<◌, ◌++◌, ◌==◌, length, take, drop, min, IfOk, IsOk, IsErr, is_err};
 ghost use Rattle.std.specs.List.{list_any};
 
@@ -16,11 +17,13 @@ const LENGTH_LIMIT: usize = 1 << 62;
 
 /// A disk in memory that keeps every image that a crash may have left since it was made.
 ///
-/// A crash leaves of each write since the last sync a first part: nothing, one byte, .., or all of it, whatever it leaves of the others.
+/// A crash leaves of each write since the last sync a first part: nothing, one byte, .., or all of
+/// it, whatever it leaves of the others.
 ///
-/// A call fails where its number, counted from 1, is listed, where a write would end at or past 2^62, and where memory is wanting. A
-/// write that fails by its number writes nothing, and counts as written all the same; a call without memory does nothing, but is
-/// counted. `len` and `read_at` take no memory. Each write takes as much as it makes images; it is for small disks.
+/// A call fails where its number, counted from 1, is listed, where a write would end at or past
+/// 2^62, and where memory is wanting. A write that fails by its number writes nothing, and counts
+/// as written all the same; a call without memory does nothing, but is counted. `len` and `read_at`
+/// take no memory. Each write takes as much as it makes images; it is for small disks.
 #[derive(Drop)]
 pub struct ImagesDisk {
     alloc: Global,
@@ -50,8 +53,8 @@ impl ImagesDisk {
     ghost use Rattle.disk_images.specs.Images.{fresh, images_since, images_state};
     ghost use Rattle.std.specs.Prelude.{◌↔◌, List, ℕ};
 
-    /// A disk that holds these bytes, all of them settled. `failing` are the numbers of the calls that are to fail, from 1. 2^62
-    /// bytes or more are `NoMemory`.
+    /// A disk that holds these bytes, all of them settled. `failing` are the numbers of the calls
+    /// that are to fail, from 1. 2^62 bytes or more are `NoMemory`.
     pub fn new(alloc: Global, bytes: Vec<u8>, failing: &[u64]) -> Result<ImagesDisk, NoMemory>
         ensures { IfOk result (λ d. d ≡ fresh bytes.items failing.now) }
     {
@@ -84,8 +87,9 @@ impl ImagesDisk {
         self.calls
     }
 
-    /// The images that a crash at that time, or at any later moment up to now, may have left: those that it may leave now, of which
-    /// the first is what a read gives, and then those that a sync ended.
+    /// The images that a crash at that time, or at any later moment up to now, may have left: those
+    /// that it may leave now, of which the first is what a read gives, and then those that a sync
+    /// ended.
     pub fn images_since(&self, since: u64) -> Result<Vec<Image>, NoMemory>
         ensures list { IfOk result (λ images. images.items ≡ images_since self.now since) }
         ensures just { IfOk result (λ images. (c : List ℕ) → IsAmong images.items c ↔ (images_state self.now).image_since since c) }
@@ -125,7 +129,7 @@ impl ImagesDisk {
         self.calls == u64::MAX || is_listed(&self.failing, self.calls + 1)
     }
 
-    // Counts a call that writes nothing, and says whether it succeeds.
+    /// Counts a call that writes nothing, and says whether it succeeds.
     fn look(&mut self) -> Result<(), Failed>
         ensures fails { is_err result ≡ next_fails self.old }
         ensures model { self.new ≡ after_look self.old }
@@ -147,7 +151,7 @@ impl ImagesDisk {
         self.faults = self.faults.saturating_add(1);
     }
 
-    // All that was written is on the disk.
+    /// All that was written is on the disk.
     fn settle(&mut self) -> Result<(), NoMemory>
         ensures ok { IsOk result → self.new ≡ after_settling self.old }
         ensures err { IsErr result → self.new ≡ self.old }
@@ -158,7 +162,8 @@ impl ImagesDisk {
         Ok(())
     }
 
-    // Counts a write up to this end, and says whether it writes nothing, and whether the call fails by its number.
+    /// Counts a write up to this end, and says whether it writes nothing, and whether the call
+    /// fails by its number.
     fn count_write(&mut self, end: u128) -> (bool, bool)
         ensures refused { result.0 ≡ refuses_write self.old end }
         ensures fails { result.1 ≡ next_fails self.old }
@@ -172,7 +177,7 @@ impl ImagesDisk {
         (refused, fails)
     }
 
-    // A crash may leave a first part of the write.
+    /// A crash may leave a first part of the write.
     fn grow(&mut self, at: usize, bytes: &[u8]) -> Result<(), NoMemory>
         requires { at + length bytes.now < 2 ^ 62 }
         ensures ok { IsOk result → self.new ≡ grown self.old at bytes.now }
@@ -183,7 +188,7 @@ impl ImagesDisk {
         Ok(())
     }
 
-    // Writes, so that a read gives it, and a crash may leave a first part of it.
+    /// Writes, so that a read gives it, and a crash may leave a first part of it.
     fn overwrite(&mut self, at: usize, bytes: &[u8]) -> Result<(), NoMemory>
         requires { at + length bytes.now < 2 ^ 62 }
         ensures ok { IsOk result → self.new ≡ overwritten self.old at bytes.now }
@@ -264,7 +269,7 @@ impl Disk for ImagesDisk {
     }
 }
 
-// Copies what stands from an offset on, as much as there is and the slice has room for.
+/// Copies what stands from an offset on, as much as there is and the slice has room for.
 fn read_into(bytes: &[u8], at: u64, into: &mut [u8]) -> usize
     ensures count { result ≡ min (length into.old) (length bytes.now - at) }
     ensures got { into.new ≡ take result (drop at bytes.now) ++ drop result into.old }

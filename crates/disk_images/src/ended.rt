@@ -1,4 +1,5 @@
-// Images that a sync ended.
+//! Images that a sync ended.
+
 ghost use Rattle.std.specs.Prelude.{◌≡◌, ◌++◌, ◌∷◌, [], IfOk, OnOk};
 ghost use Rattle.disk_images.specs.Among.{all_ended, left_since};
 

@@ -1,4 +1,5 @@
-// What a write adds to the images.
+//! What a write adds to the images.
+
 ghost use Rattle.std.specs.Prelude.{◌≡◌, ◌+◌, ◌^◌, ◌<◌, ◌++◌, ◌∷◌, length, IfOk, OnOk};
 ghost use Rattle.std.specs.List.{flat_map};
 ghost use Rattle.disk_images.specs.Images.{torn_images};
@@ -25,7 +26,8 @@ fn add_torn(
     Ok(())
 }
 
-/// What a write makes images besides: what a read gave, and each image with a first part of the write over it.
+/// What a write makes images besides: what a read gave, and each image with a first part of the
+/// write over it.
 pub(crate) fn added_by(
     alloc: Global,
     held: &[u8],

@@ -1,4 +1,5 @@
-// The bytes that a crash may leave.
+//! The bytes that a crash may leave.
+
 ghost use Rattle.std.specs.Prelude.{◌≡◌, ◌+◌, ◌-◌, ◌^◌, ◌≤◌, ◌<◌, ◌++◌, List, ℕ, length, take, drop, replicate, IfOk};
 ghost use Rattle.disk_model.specs.Device.{written_over};
 
@@ -65,7 +66,7 @@ pub(crate) fn write_over(
     Ok(new)
 }
 
-// The bytes, with zeros up to the end.
+/// The bytes, with zeros up to the end.
 fn filled_up(alloc: Global, old: &[u8], end: usize) -> Result<Vec<u8>, NoMemory>
     ensures { IfOk result (λ new. new.items ≡ old.now ++ replicate (end - length old.now) 0) }
 {

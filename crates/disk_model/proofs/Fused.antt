@@ -1,7 +1,8 @@
 -- What a fuse makes of the calls that it passes on, and of those that it fails.
 use Rattle.std.proofs.Common.{◌≡◌, ◌⊎◌, inl, inr, ⊎_elim, ℕ, ◌+◌, ◌-◌, ◌^◌, ◌≤◌, ◌<◌, max, min, List, length, Bool, true, false, refl, sym, ap, arith, subst, Result}
 use Rattle.std.specs.Prelude.{◌==◌, not}
-use Rattle.disk_model.specs.Device.{Torn, Tears, Looks, Elapses, HasCause, next}
+use Rattle.disk_model.specs.Device.{Torn, Tears, Looks, Elapses, HasCause}
+use Rattle.nc_number.specs.Faults.{next}
 use Rattle.disk_model.specs.Calls.{Measures, Fetches, Writes, Syncs}
 use Rattle.disk_model.specs.Memory.{Memory, CrashLeaves, CrashLeft, MemoryAllows, memory_state, after_write}
 use Rattle.disk_model.specs.Fuse.{Fuse, FuseAllows, after_stop, fuse_after_write, fuse_state}

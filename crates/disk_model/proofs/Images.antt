@@ -50,7 +50,8 @@ image_torn synced written s b c image torn = record {
       torn.outside i (omega (arith, image.no_shorter)) parts.1 ∙ image.outside i within parts.0;
 }
 
--- An image since one write more is an image from before it after that write was torn: the synced bytes stand in its range.
+-- An image since one write more is an image from before it after that write was torn: the synced
+-- bytes stand in its range.
 module _ (synced : List ℕ) (written : List Stretch) (s : Stretch) (c : List ℕ) (image : IsImage synced (written ++ s ∷ []) c) where
   in_range : ℕ → Bool
   in_range i = nat_le s.at i && nat_lt i (s.at + s.len) && nat_lt i (length synced)

@@ -1,7 +1,8 @@
 -- What a write keeps true of a disk in memory, and what it adds to what a crash may leave.
 use Rattle.std.proofs.Common.{◌≡◌, ◌⊎◌, inl, inr, ℕ, ◌+◌, ◌≤◌, ◌<◌, max, List, [], ◌∷◌, ◌++◌, length, false, refl, sym, ◌∙◌, ap, arith, subst, length-append}
 use Rattle.disk_model.specs.declared.stretch.Stretch.{Stretch}
-use Rattle.disk_model.specs.Device.{Torn, Tears, Looks, Reads, Only, written_over, next}
+use Rattle.disk_model.specs.Device.{Torn, Tears, Looks, Reads, Only, written_over}
+use Rattle.nc_number.specs.Faults.{next}
 use Rattle.disk_model.specs.Image.{IsImage, greatest_end}
 use Rattle.disk_model.specs.Memory.{Memory, IsKept, CrashLeaves, CrashLeft, memory_state, next_fails, after_look, after_settling}
 use Rattle.disk_model.proofs.Plans.{IsSound, short_of, look_allows}

@@ -2,7 +2,7 @@
 use Rattle.std.proofs.Common.{◌≡◌, ℕ, ◌+◌, ◌^◌, ◌≤◌, ◌<◌, max, false, true, refl, arith}
 use Rattle.std.specs.Prelude.{nat_le}
 use Rattle.std.proofs.lemmas.Bool.Decides.{nat_tests}
-use Rattle.disk_model.specs.Device.{next}
+use Rattle.nc_number.specs.Faults.{next}
 use Rattle.disk_model.specs.Memory.{Memory, IsKept, HasPlan, MemoryAllows, next_fails, after_look}
 
 -- a call that the plan allows is neither listed nor past the record

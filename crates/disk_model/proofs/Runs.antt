@@ -1,6 +1,7 @@
 -- How runs of calls go on.
 use Rattle.std.proofs.Common.{◌≡◌, inl, inr, ⊎_elim, ℕ, ◌+◌, ◌≤◌, max, List, arith, refl, sym, subst, ◌∙◌, Option, Some, None}
-use Rattle.disk_model.specs.Device.{DiskState, Elapses, Looks, IsCoherent, IsSettled, Reads, Rose, Stays}
+use Rattle.disk_model.specs.Device.{DiskState, Elapses, Looks, IsCoherent, IsSettled, Reads, Stays}
+use Rattle.nc_number.specs.Faults.{Rose}
 use Rattle.disk_model.specs.Moments.{LeavesOnly, Unwritten, Uses, Peeks}
 
 pub joined : (P Q R : List ℕ → Type 0) (a b c : DiskState) → LeavesOnly P a b → LeavesOnly Q b c → ((x : List ℕ) → P x → R x) → ((x : List ℕ) → Q x → R x) → LeavesOnly R a c

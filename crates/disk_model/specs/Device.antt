@@ -1,5 +1,6 @@
 -- What a disk holds, and what a crash may leave of it.
-use Rattle.std.specs.Prelude.{◌≡◌, ◌⊎◌, ℕ, ◌+◌, ◌-◌, ◌^◌, ◌≤◌, ◌<◌, min, max, List, ◌++◌, length, take, drop, slice_index, replicate, Option, Some, None, Result, IsOk, IsErr}
+use Rattle.std.specs.Prelude.{◌≡◌, ◌⊎◌, ℕ, ◌+◌, ◌-◌, ◌≤◌, ◌<◌, max, List, ◌++◌, length, take, drop, slice_index, replicate, Option, Some, None, Result, IsOk, IsErr}
+pub use Rattle.nc_number.specs.Faults.{next, Rose}
 
 -- All that can be said of a disk at one moment.
 pub record DiskState : Type 1 where
@@ -16,20 +17,12 @@ pub record DiskState : Type 1 where
 abbrev pub Reads : DiskState → List ℕ → Type 0
 Reads disk bytes = disk.reads ≡ Some bytes
 
--- one more, where the count is kept in 64 bits and stays at its last value
-abbrev pub next : ℕ → ℕ
-next count = min (count + 1) (2 ^ 64 - 1)
-
--- the count rose, or stands at its last value
-abbrev pub Rose : ℕ → ℕ → Type 0
-Rose before now = next before ≤ now
-
 -- old, with these bytes at this offset; where that is past the end, zeros stand between
 abbrev pub written_over : List ℕ → ℕ → List ℕ → List ℕ
 written_over old at bytes = take at (old ++ replicate (at - length old) 0) ++ bytes ++ drop (at + length bytes) old
 
--- What a write of n bytes that did not end may leave: any bytes in its range and behind the old end, and any length up to the
--- range's end. The rest stays.
+-- What a write of n bytes that did not end may leave: any bytes in its range and behind the old
+-- end, and any length up to the range's end. The rest stays.
 pub record Torn (at n : ℕ) (old new : List ℕ) : Type 0 where
   pub no_shorter : length old ≤ length new
   pub no_longer : length new ≤ max (length old) (at + n)
@@ -39,7 +32,8 @@ pub record Torn (at n : ℕ) (old new : List ℕ) : Type 0 where
 abbrev pub Stays : List ℕ → List ℕ → Type 0
 Stays old new = new ≡ old
 
--- One call: at each moment inside it a crash leaves what it might have left before, after a step of this kind.
+-- One call: at each moment inside it a crash leaves what it might have left before, after a step of
+-- this kind.
 pub record Elapses (step : List ℕ → List ℕ → Type 0) (old new : DiskState) : Type 0 where
   pub later : old.clock ≤ new.clock
   pub moves : next old.clock ≤ new.clock
@@ -65,7 +59,8 @@ pub record Tears (at n : ℕ) (old new : DiskState) : Type 0 where
   pub reach : (bytes : List ℕ) → Reads old bytes → new.reach ≡ max old.reach (at + n)
   pub allows : (calls end : ℕ) → old.allows calls end → new.allows calls end
 
--- The count of faults never falls. An error comes only where it rose, and an Ok only where it stayed.
+-- The count of faults never falls. An error comes only where it rose, and an Ok only where it
+-- stayed.
 pub record HasCause {T E : Type 0} (old new : DiskState) (result : Result T E) : Type 0 where
   pub later : old.faults ≤ new.faults
   pub failed : IsErr result → Rose old.faults new.faults
@@ -79,7 +74,8 @@ Only bytes image = (c : List ℕ) → image c → c ≡ bytes
 abbrev pub IsSettled : DiskState → Type 0
 IsSettled disk = (bytes : List ℕ) → Reads disk bytes → Only bytes disk.image
 
--- The facts of a disk agree with one another, and where it allows what it was used for it has had no fault.
+-- The facts of a disk agree with one another, and where it allows what it was used for it has had
+-- no fault.
 pub record IsCoherent (disk : DiskState) : Type 0 where
   pub counts_now : (t : ℕ) (c : List ℕ) → t ≤ disk.clock → disk.image c → disk.image_since t c
   pub only_now : (c : List ℕ) → disk.image_since disk.clock c → disk.image c

@@ -1,7 +1,8 @@
 -- A disk that fails every call once it has passed a number of calls on.
 use Rattle.std.specs.Prelude.{◌≡◌, ◌⊎◌, ℕ, ◌+◌, ◌-◌, ◌^◌, ◌≤◌, ◌==◌, ◌||◌, Bool, List, length, min, max, Some, if◌then◌else◌}
 use Rattle.std.proofs.Common.{arith, inl, inr}
-use Rattle.disk_model.specs.Device.{DiskState, IsCoherent, next}
+use Rattle.disk_model.specs.Device.{DiskState, IsCoherent}
+use Rattle.nc_number.specs.Faults.{next}
 use Rattle.disk_model.specs.Memory.{Memory, CrashLeaves, CrashLeft, MemoryAllows, next_fails, write_fails, after_look, after_sync, after_write}
 
 pub record Fuse : Type 0 where

@@ -12,8 +12,8 @@ abbrev pub greatest_end : ℕ → List Stretch → ℕ
 greatest_end len [] = len
 greatest_end len (s ∷ written) = max (s.at + s.len) (greatest_end len written)
 
--- An image since a sync: each written stretch, and what lies behind the old end, holds any bytes; the length lies between the
--- synced one and the greatest written end; the rest stays.
+-- An image since a sync: each written stretch, and what lies behind the old end, holds any bytes;
+-- the length lies between the synced one and the greatest written end; the rest stays.
 pub record IsImage (synced : List ℕ) (written : List Stretch) (c : List ℕ) : Type 0 where
   pub no_shorter : length synced ≤ length c
   pub no_longer : length c ≤ greatest_end (length synced) written

@@ -2,7 +2,8 @@
 use Rattle.std.specs.Prelude.{◌≡◌, ◌⊎◌, ℕ, ◌+◌, ◌-◌, ◌^◌, ◌≤◌, ◌<◌, ◌==◌, ◌||◌, nat_le, nat_lt, Bool, false, List, [], ◌∷◌, ◌++◌, length, max, slice_index, Some, if◌then◌else◌}
 use Rattle.std.specs.List.{list_any}
 use Rattle.disk_model.specs.declared.stretch.Stretch.{Stretch}
-use Rattle.disk_model.specs.Device.{DiskState, next, written_over}
+use Rattle.disk_model.specs.Device.{DiskState, written_over}
+use Rattle.nc_number.specs.Faults.{next}
 use Rattle.disk_model.specs.Image.{IsOutside, IsImage, greatest_end}
 
 pub record Memory : Type 0 where
@@ -39,7 +40,8 @@ CrashLeaves m c = IsImage m.synced m.written c ⊎ (c ≡ m.bytes)
 abbrev pub CrashLeft : Memory → ℕ → List ℕ → Type 0
 CrashLeft m t c = (t < m.synced_at) × (t < m.calls) × IsImage m.earlier_synced m.earlier_written c
 
--- the record has room for so many calls, none of them is to fail, and the disk has room up to this end
+-- the record has room for so many calls, none of them is to fail, and the disk has room up to this
+-- end
 pub record HasPlan (m : Memory) (calls end : ℕ) : Type 0 where
   pub recorded : calls ≤ m.call_room
   pub counted : calls < 2 ^ 64 - 1

@@ -15,8 +15,8 @@ pub record Unwritten (old new : DiskState) : Type 0 where
   pub now : (c : List ℕ) → new.image c → old.image c
   pub same : new.reads ≡ old.reads
 
--- The run made so many calls at most, and asked for no write past this end; a disk that tells its content still does, and
--- one that tells none tells none. What the disk allows it still allows.
+-- The run made so many calls at most, and asked for no write past this end; a disk that tells its
+-- content still does, and one that tells none tells none. What the disk allows it still allows.
 pub record Uses (count end : ℕ) (old new : DiskState) : Type 0 where
   pub calls : (bytes : List ℕ) → Reads old bytes → new.calls ≤ old.calls + count
   pub reach : (bytes : List ℕ) → Reads old bytes → new.reach ≤ max old.reach end

@@ -1,14 +1,10 @@
-// A disk as the journal sees it.
+//! A disk as the journal sees it.
+
 ghost use Rattle.std.specs.Prelude.{◌≡◌};
 ghost use Rattle.disk_model.specs.Device.{DiskState, IsCoherent};
 ghost use Rattle.disk_model.specs.Calls.{Measures, Fetches, Writes, Syncs};
 
-use thiserror::Error;
-
-/// A call of a disk failed: its count of faults rose, or stands at its last value.
-#[derive(Clone, Copy, Debug, PartialEq, Eq, Drop, Error)]
-#[error("the disk failed")]
-pub struct Failed;
+use nc_number::Failed;
 
 /// A file on a disk, of fewer than 2^62 bytes.
 ///
@@ -17,7 +13,8 @@ pub trait Disk {
     /// What the disk holds, and what a crash may leave of it.
     ghost state: { Self → DiskState };
 
-    /// How many calls have failed. It never falls, stays where a call succeeds, and stays at the last value of u64.
+    /// How many calls have failed. It never falls, stays where a call succeeds, and stays at the
+    /// last value of u64.
     fn faults(&self) -> u64
         ensures { result ≡ (state self.now).faults };
 
@@ -25,12 +22,14 @@ pub trait Disk {
     fn len(&mut self) -> Result<u64, Failed>
         ensures { Measures (state self.old) (state self.new) result };
 
-    /// Reads from an offset on, as many bytes as there are, up to the slice's length, and answers how many.
+    /// Reads from an offset on, as many bytes as there are, up to the slice's length, and answers
+    /// how many.
     fn read_at(&mut self, at: u64, into: &mut [u8]) -> Result<usize, Failed>
         ensures { Fetches at into.old into.new (state self.old) (state self.new) result };
 
-    /// Writes over what is there, and past the end. Until a sync a crash may leave any bytes in the range. A write that would end
-    /// at or past 2^62 fails, and a write that failed may have left any bytes in its range too.
+    /// Writes over what is there, and past the end. Until a sync a crash may leave any bytes in the
+    /// range. A write that would end at or past 2^62 fails, and a write that failed may have left
+    /// any bytes in its range too.
     fn write_at(&mut self, at: u64, bytes: &[u8]) -> Result<(), Failed>
         ensures { Writes at bytes.now (state self.old) (state self.new) result };
 
@@ -38,7 +37,8 @@ pub trait Disk {
     fn sync(&mut self) -> Result<(), Failed>
         ensures { Syncs (state self.old) (state self.new) result };
 
-    /// The images of this moment are images since any earlier one, since now there are no others, and what a read gives is one.
-    /// Where the disk allows what it was used for, no call has failed.
+    /// The images of this moment are images since any earlier one, since now there are no others,
+    /// and what a read gives is one. Where the disk allows what it was used for, no call has
+    /// failed.
     ghost coherent: { (disk : Self) → IsCoherent (state disk) };
 }

@@ -1,13 +1,14 @@
-// A disk that stops.
+//! A disk that stops.
+
 ghost use Rattle.std.specs.Prelude.{◌≡◌, ◌+◌, ◌-◌, ◌^◌, ◌<◌, ◌==◌, length, is_err, not, IsTrue};
-ghost use Rattle.disk_model.specs.Device.{next};
+ghost use Rattle.nc_number.specs.Faults.{next};
 ghost use Rattle.disk_model.specs.Calls.{Measures, Fetches, Writes, Syncs};
 
 use crate::{Disk, Failed, MemoryDisk};
 use std::marker::Model;
 
-/// A disk that passes so many calls on to a disk in memory, and then fails every call, as after a stop: none of them reaches the
-/// disk in memory.
+/// A disk that passes so many calls on to a disk in memory, and then fails every call, as after a
+/// stop: none of them reaches the disk in memory.
 #[derive(Drop)]
 pub struct FuseDisk {
     inner: MemoryDisk,
@@ -48,7 +49,7 @@ impl FuseDisk {
         self.inner
     }
 
-    // Takes a call, and says whether it is passed on.
+    /// Takes a call, and says whether it is passed on.
     fn passes_on(&mut self) -> bool
         ensures passes { result ≡ not (self.old.passes == 0) }
         ensures passed { IsTrue result → self.new ≡ record self.old { passes = self.old.passes - 1 } }

@@ -1,4 +1,5 @@
-// What a crash between two syncs may leave, told write by write.
+//! What a crash between two syncs may leave, told write by write.
+
 ghost use Rattle.std.specs.Prelude.{◌≡◌, ◌↔◌, ◌-◌, ◌^◌, ◌≤◌, ◌<◌, ◌++◌, [], ◌∷◌, List, ℕ};
 ghost use Rattle.disk_model.specs.declared.stretch.Stretch.{Stretch};
 ghost use Rattle.disk_model.specs.Device.{Torn};
@@ -6,16 +7,17 @@ ghost use Rattle.disk_model.specs.Image.{IsImage};
 ghost use Rattle.disk_model.specs.Memory.{fresh, memory_state};
 ghost use Rattle.disk_model.specs.Fuse.{fuse_state};
 
-/// The images since a sync are what torn writes leave, one after another: with none, what was synced; with one more, an image from
-/// before it in whose range, and behind whose end, any bytes stand.
+/// The images since a sync are what torn writes leave, one after another: with none, what was
+/// synced; with one more, an image from before it in whose range, and behind whose end, any bytes
+/// stand.
 pub fn images_are_torn_writes()
     ensures none { (synced c : List ℕ) → IsImage synced [] c ↔ (c ≡ synced) }
     ensures more { (synced : List ℕ) (written : List Stretch) (s : Stretch) (c : List ℕ) →
         IsImage synced (written ++ s ∷ []) c ↔ ((b : List ℕ) × IsImage synced written b × Torn s.at s.len b c) }
 {}
 
-/// A new disk in memory on which no call is to fail allows as many calls as its record has room for, and writes up to its room;
-/// a fuse round it as many of them as it passes on.
+/// A new disk in memory on which no call is to fail allows as many calls as its record has room
+/// for, and writes up to its room; a fuse round it as many of them as it passes on.
 pub fn a_new_disk_allows_its_room()
     ensures memory { (bytes : List ℕ) (room calls used end : ℕ) → used ≤ calls → used < 2 ^ 64 - 1 → end ≤ room
         → (memory_state (fresh bytes room calls [])).allows used end }

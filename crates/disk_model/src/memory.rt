@@ -1,7 +1,9 @@
-// A disk in memory, whose calls can be made to fail, and which can crash.
+//! A disk in memory, whose calls can be made to fail, and which can crash.
+
 ghost use Rattle.std.specs.Prelude.{◌≡◌, ◌⊎◌, slice_index, ◌+◌, ◌-◌, ◌^◌, ◌≤◌, ◌<◌, ◌++◌, ◌==◌, [], ◌∷◌, List, ℕ, length, take, drop, min, IfOk, OnOk, OnErr, IfErr, IsOk, is_err, vec_capacity, replicate, max, nat_lt, nat_le};
 ghost use Rattle.std.specs.List.{list_any};
-ghost use Rattle.disk_model.specs.Device.{DiskState, Reads, next, written_over, Looks, Tears, HasCause, Only, IsCoherent};
+ghost use Rattle.disk_model.specs.Device.{DiskState, Reads, written_over, Looks, Tears, HasCause, Only, IsCoherent};
+ghost use Rattle.nc_number.specs.Faults.{next};
 ghost use Rattle.disk_model.specs.Image.{IsImage, greatest_end};
 ghost use Rattle.disk_model.specs.Memory.{IsFilled};
 
@@ -17,7 +19,7 @@ const SPARE_ROOM: usize = 1_048_576;
 /// The least length that no disk has.
 const LENGTH_LIMIT: usize = 1 << 62;
 
-// What was on the disk at a sync, and where it was written since.
+/// What was on the disk at a sync, and where it was written since.
 #[derive(Drop)]
 struct Epoch {
     synced: Vec<u8>,
@@ -26,8 +28,9 @@ struct Epoch {
 
 /// A disk in memory, with a fixed room for its bytes and for its record of calls.
 ///
-/// A call fails exactly where its number, counted from 1, is listed, where the record is full, or where it writes past the room.
-/// A write that fails by its number writes nothing, and counts as written all the same.
+/// A call fails exactly where its number, counted from 1, is listed, where the record is full, or
+/// where it writes past the room. A write that fails by its number writes nothing, and counts as
+/// written all the same.
 #[derive(Drop)]
 pub struct MemoryDisk {
     bytes: Vec<u8>,
@@ -68,8 +71,9 @@ pub enum Crash {
 impl MemoryDisk {
     ghost use Rattle.disk_model.specs.Memory.{fresh};
 
-    /// An empty disk, with room for so many bytes and for a record of so many calls. `failing` are the numbers of the calls that
-    /// are to fail, from 1. A room of 2^62 bytes or more is `NoMemory`.
+    /// An empty disk, with room for so many bytes and for a record of so many calls. `failing` are
+    /// the numbers of the calls that are to fail, from 1. A room of 2^62 bytes or more is
+    /// `NoMemory`.
     pub fn new(
         alloc: Global,
         room: usize,
@@ -153,7 +157,7 @@ impl Epoch {
     }
 }
 
-// Puts bytes in at an offset, and zeros where it lies behind the end.
+/// Puts bytes in at an offset, and zeros where it lies behind the end.
 fn put_over(content: &mut Vec<u8>, at: usize, bytes: &[u8])
     requires { at + length bytes.now ≤ vec_capacity content.old }
     ensures items { content.new.items ≡ written_over content.old.items at bytes.now }
@@ -163,7 +167,7 @@ fn put_over(content: &mut Vec<u8>, at: usize, bytes: &[u8])
     put_inside(content, at, bytes);
 }
 
-// Makes the content so long at least, with this byte behind its end.
+/// Makes the content so long at least, with this byte behind its end.
 fn fill_up(content: &mut Vec<u8>, end: usize, with: u8)
     requires { end ≤ vec_capacity content.old }
     ensures items { content.new.items ≡ content.old.items ++ replicate (end - length content.old.items) with }
@@ -197,7 +201,7 @@ impl MemoryDisk {
         self.call_room as u64 <= self.calls || is_listed(&self.failing, self.calls + 1)
     }
 
-    // Counts a call that writes nothing, and says whether it succeeds.
+    /// Counts a call that writes nothing, and says whether it succeeds.
     fn look(&mut self) -> Result<(), Failed>
         ensures fails { is_err result ≡ next_fails self.old }
         ensures model { self.new ≡ after_look self.old }
@@ -213,7 +217,7 @@ impl MemoryDisk {
         Ok(())
     }
 
-    // All that was written is on the disk. Only what was written since the sync before is copied.
+    /// All that was written is on the disk. Only what was written since the sync before is copied.
     fn settle(&mut self)
         ensures { self.new ≡ after_settling self.old }
     {
@@ -226,7 +230,7 @@ impl MemoryDisk {
     }
 }
 
-// Makes the content what it has become: in the stretches that were written, and behind its end.
+/// Makes the content what it has become: in the stretches that were written, and behind its end.
 fn copy_written(content: &mut Vec<u8>, from: &[u8], written: &[Stretch])
     requires image { IsImage content.old.items written.now from.now }
     requires room { length from.now ≤ vec_capacity content.old }
@@ -240,7 +244,7 @@ fn copy_written(content: &mut Vec<u8>, from: &[u8], written: &[Stretch])
     content.extend_from_slice(behind).unwrap();
 }
 
-// Copies a stretch, as far as the content goes.
+/// Copies a stretch, as far as the content goes.
 fn copy_stretch(content: &mut [u8], from: &[u8], at: usize, len: usize)
     requires { length content.old ≤ length from.now }
     ensures size { length content.new ≡ length content.old }
@@ -257,7 +261,8 @@ fn copy_stretch(content: &mut [u8], from: &[u8], at: usize, len: usize)
 impl MemoryDisk {
     ghost use Rattle.disk_model.specs.Memory.{IsKept, next_fails, refuses_write, after_request, with_fault, with_mark};
 
-    // Counts a write up to this end, and says whether it writes nothing, and whether the call fails by its number.
+    /// Counts a write up to this end, and says whether it writes nothing, and whether the call
+    /// fails by its number.
     fn count_write(&mut self, end: u128) -> (bool, bool)
         ensures refused { result.0 ≡ refuses_write self.old end }
         ensures fails { result.1 ≡ next_fails self.old }
@@ -277,7 +282,7 @@ impl MemoryDisk {
         self.faults = self.faults.saturating_add(1);
     }
 
-    // Notes where a write is made.
+    /// Notes where a write is made.
     fn mark(&mut self, at: usize, len: usize)
         requires within { at + len ≤ self.old.room }
         requires counted { length self.old.written < self.old.calls }
@@ -287,7 +292,7 @@ impl MemoryDisk {
         self.present.written.push_reserved(Stretch { at, len });
     }
 
-    // Writes where it was noted before.
+    /// Writes where it was noted before.
     fn put(&mut self, at: usize, bytes: &[u8])
         requires within { at + length bytes.now ≤ self.old.room }
         requires image { IsImage self.old.synced self.old.written (written_over self.old.bytes at bytes.now) }
@@ -300,8 +305,8 @@ impl MemoryDisk {
 impl MemoryDisk {
     ghost use Rattle.disk_model.specs.Memory.{memory_state, crashed, IsFilled};
 
-    /// The disk after a crash, with what was written since the last sync as `pick` says. All of it is on the disk then. It takes
-    /// no memory.
+    /// The disk after a crash, with what was written since the last sync as `pick` says. All of it
+    /// is on the disk then. It takes no memory.
     pub fn crash(self, pick: Crash) -> MemoryDisk
         ensures image { (memory_state self).image result.bytes }
         ensures torn { IsImage self.synced self.written result.bytes }
@@ -344,7 +349,7 @@ fn copy_over(from: &[u8], into: &mut Vec<u8>)
     into.extend_from_slice(from).unwrap();
 }
 
-// Fills each stretch with this byte, and what lies behind the old end.
+/// Fills each stretch with this byte, and what lies behind the old end.
 fn fill_stretches(content: &mut Vec<u8>, written: &[Stretch], with: u8)
     requires { greatest_end (length content.old.items) written.now ≤ vec_capacity content.old }
     ensures filled { IsFilled with content.old.items written.now content.new.items }
@@ -427,7 +432,7 @@ impl Disk for MemoryDisk {
     }
 }
 
-// Copies what stands from an offset on, as much as there is and the slice has room for.
+/// Copies what stands from an offset on, as much as there is and the slice has room for.
 fn read_into(bytes: &[u8], at: u64, into: &mut [u8]) -> usize
     ensures count { result ≡ min (length into.old) (length bytes.now - at) }
     ensures got { into.new ≡ take result (drop at bytes.now) ++ drop result into.old }

@@ -1,4 +1,4 @@
-// A part of a file.
+//! A part of a file.
 
 /// A stretch of a file: where it begins, and how many bytes it has.
 #[derive(Clone, Copy, Debug, PartialEq, Eq)]

@@ -7,7 +7,8 @@ use Rattle.edit_texts.specs.declared.entry.Entry.{Entry}
 use Rattle.edit_texts.specs.declared.entry.Entry.TheVariants as says
 use Rattle.edit_texts.specs.Lines.{line_says}
 
--- the edits with what one line more says, if it is allowed behind them: each line is an edit of its own, but one too many is not
+-- the edits with what one line more says, if it is allowed behind them: each line is an edit of its
+-- own, but one too many is not
 abbrev pub with_said : List PathEdit → Option Entry → Option (List PathEdit)
 with_said edits None = None
 with_said edits (Some says.Nothing) = Some edits
@@ -18,7 +19,8 @@ abbrev pub or_refused : ℕ → Option (List PathEdit) → (List PathEdit → Re
 or_refused number None rest = Err number
 or_refused number (Some edits) rest = rest edits
 
--- the edits of lines behind others, or the number of the first line that is not allowed, where the first of these has this number
+-- the edits of lines behind others, or the number of the first line that is not allowed, where the
+-- first of these has this number
 abbrev pub edits_from : List (List ℕ) → ℕ → List PathEdit → Result (List PathEdit) ℕ
 edits_from [] number edits = Ok edits
 edits_from (line ∷ lines) number edits = or_refused number (with_said edits (line_says line)) (edits_from lines (number + 1))

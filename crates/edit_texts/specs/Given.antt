@@ -22,7 +22,8 @@ pub record AreAllowed (texts : List (List ℕ)) (said : List Entry) : Type 0 whe
 abbrev pub AreEditsOf : List ℕ → List PathEdit → Type 0
 AreEditsOf text edits = (said : List Entry) × AreAllowed (lines text) said × (edits ≡ edits_in said)
 
--- the lines before the one of this number are allowed; it says nothing that is, or it is an edit and they have all that a text may have
+-- the lines before the one of this number are allowed; it says nothing that is, or it is an edit
+-- and they have all that a text may have
 pub record IsFirstBad (text : List ℕ) (number : ℕ) : Type 0 where
   pub before : List (List ℕ)
   pub line : List ℕ

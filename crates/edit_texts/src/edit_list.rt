@@ -1,3 +1,4 @@
+//! The edits of a text.
 ghost use Rattle.std.specs.Prelude.{◌≡◌, ◌≤◌, [], length, Some, None, if◌then◌else◌, IfOk};
 ghost use Rattle.edit_texts.specs.Edits.{with_said};
 

@@ -1,3 +1,4 @@
+//! A line of a text of edits, read.
 use crate::edit_list::PathEdit;
 
 /// What a line of a text of edits says.

@@ -1,8 +1,10 @@
-//! The text of an operator's edits: the offsets and the common variables that are corrected before a run goes on.
+//! The text of an operator's edits: the offsets and the common variables that are corrected before
+//! a run goes on.
 //!
-//! [`read_edits`] reads a text of lines. Offsets are written as in the settings: `work`, `tool` and `wear`; a variable is
-//! `var p v` and a number, or `vacant`. The layer above leans on this: the text gives exactly the edits of its definition, in
-//! order, or the first line that is not allowed. Each line is an edit, also where an earlier one sets the same.
+//! [`read_edits`] reads a text of lines. Offsets are written as in the settings: `work`, `tool` and
+//! `wear`; a variable is `var p v` and a number, or `vacant`. The layer above leans on this: the
+//! text gives exactly the edits of its definition, in order, or the first line that is not allowed.
+//! Each line is an edit, also where an earlier one sets the same.
 #![tactic(auto)]
 
 mod edit_list;

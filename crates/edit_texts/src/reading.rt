@@ -1,3 +1,4 @@
+//! From a text to the edits.
 ghost use Rattle.std.specs.Prelude.{◌≡◌, ◌<◌, ◌^◌, length, Some, None, if◌then◌else◌, IfOk};
 ghost use Rattle.nc_number.specs.Answers.{GivesBy};
 ghost use Rattle.edit_texts.specs.Edits.{edits_of, with_said};
@@ -36,8 +37,9 @@ impl EditFault {
 
 /// Reads a text of edits.
 ///
-/// A line is empty, a comment that begins with `(`, or one of `work p n X.. Z..`, `tool p n X.. Z..`, `wear p n X.. Z..` as in the
-/// settings, `var p v` with a number, and `var p v vacant`, where v is 100 to 199 or 500 to 999. The 65th edit is not allowed.
+/// A line is empty, a comment that begins with `(`, or one of `work p n X.. Z..`, `tool p n X..
+/// Z..`, `wear p n X.. Z..` as in the settings, `var p v` with a number, and `var p v vacant`,
+/// where v is 100 to 199 or 500 to 999. The 65th edit is not allowed.
 pub fn read_edits(alloc: Global, text: &[u8]) -> Result<EditList, Failing<EditFault>>
     requires { length text.now < 2 ^ 32 }
     // The edits that the text gives, or the first line that is not allowed, unless memory runs out.

@@ -1,6 +1,7 @@
 -- The lines of a text, and what they say together.
 use Rattle.std.specs.Prelude.{ℕ, ◌+◌, Bool, false, ◌==◌, List, [], ◌∷◌, Option, Some, None, Result, Ok, Err, if◌then◌else◌}
 use Rattle.std.specs.List.{list_any}
+use Rattle.nc_number.specs.Options.{◌>>=◌}
 use Rattle.field_lines.specs.Field.{fields_of}
 
 -- a line that begins with a bracket is a comment
@@ -13,6 +14,12 @@ unfoldable pub line_fields : List ℕ → Option (List (List ℕ))
 line_fields line =
     if list_any (λ b. b == 13) line then None
     else (if is_comment (fields_of line) then Some [] else Some (fields_of line))
+
+-- a line says what its fields say
+unfoldable pub line_says : {A : Type 0} → (List (List ℕ) → Option A) → List ℕ → Option A
+line_says fields_say line = do
+  fields ← line_fields line
+  fields_say fields
 
 abbrev pub with_entry : {A : Type 0} → Option A → List A → List A
 with_entry None entries = entries

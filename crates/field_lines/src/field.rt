@@ -1,3 +1,4 @@
+//! Fields, and the whole numbers and paths in them.
 ghost use Rattle.std.specs.Prelude.{◌≡◌, ◌-◌, ◌^◌, ◌<◌, ◌≤◌, length, min, IfOk, IfSome};
 ghost use Rattle.field_lines.specs.Field.{texts, fields_of, value_of, is_number, number_in, path_of};
 ghost use Rattle.std.specs.Char.{is_ascii_digit};
@@ -41,7 +42,8 @@ fn value(digits: &[u8]) -> u64
     n
 }
 
-/// The number of a field, from `low` to `high`: decimal digits, without a sign and without a leading zero.
+/// The number of a field, from `low` to `high`: decimal digits, without a sign and without a
+/// leading zero.
 #[tactic(auto, unfolding(crate::specs::Field::number_in))]
 pub fn number_in(low: u32, high: u32, text: &[u8]) -> Option<u32>
     ensures value { result ≡ number_in low high text.now }

@@ -1,3 +1,4 @@
+//! Lengths and points in fields.
 ghost use Rattle.std.specs.Prelude.{◌≡◌, ◌≤◌, IfSome, unsigned_abs};
 ghost use Rattle.field_lines.specs.Length.{within_travel, length_of, axis_of, point_of};
 ghost use Rattle.nc_number.specs.Position.{travel, IsPosition};
@@ -49,8 +50,8 @@ fn axis(letter: u8, field: &[u8]) -> Option<i64>
     }
 }
 
-/// The point of a field for X and a field for Z: None where one is no literal of its letter, or a length is
-/// out of the travel.
+/// The point of a field for X and a field for Z: None where one is no literal of its letter, or a
+/// length is out of the travel.
 #[tactic(auto, unfolding(crate::specs::Length::point_of))]
 pub fn read_point(across: &[u8], along: &[u8]) -> Option<Point>
     ensures value { result ≡ point_of across.now along.now }

@@ -1,3 +1,4 @@
+//! Lines, and what of them counts.
 ghost use Rattle.std.specs.Prelude.{◌≡◌, ◌<◌, ◌+◌, ◌∷◌, ◌==◌, length, position, option_map, IfOk};
 ghost use Rattle.std.specs.Str.Lines.{lines, strip_carriage_return};
 ghost use Rattle.field_lines.specs.Field.{texts};
@@ -49,8 +50,8 @@ fn is_comment(fields: &[&[u8]]) -> bool
     }
 }
 
-/// The fields of a line, none for an empty line and for a comment, which begins with `(`. None for a line
-/// that has a carriage return.
+/// The fields of a line, none for an empty line and for a comment, which begins with `(`. None for
+/// a line that has a carriage return.
 #[tactic(auto, unfolding(crate::specs::Line::line_fields))]
 pub fn line_fields(alloc: Global, line: &[u8]) -> Result<Option<Vec<&[u8]>>, AllocError>
     ensures { IfOk result (λ fields. option_map (λ v. texts v.items) fields ≡ line_fields line.now) }

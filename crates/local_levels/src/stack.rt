@@ -1,3 +1,4 @@
+//! The levels of local variables.
 ghost use Rattle.std.specs.Prelude.{◌≡◌, ◌+◌, ◌<◌, ◌≤◌, ◌∷◌, [], length};
 ghost use Rattle.local_levels.specs.Stack.{base_level, opened, local, with_local, reopened, closed};
 

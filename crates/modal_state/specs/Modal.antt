@@ -73,8 +73,8 @@ opening_modal system = record {
   cycle = None;
 }
 
--- the modal state with a block's G codes taken: each group has its last code and does what that does,
--- and the end of a cycle stays only where the motion group kept its code
+-- the modal state with a block's G codes taken: each group has its last code and does what that
+-- does, and the end of a cycle stays only where the motion group kept its code
 abbrev pub with_codes : ModalView → List Row → ModalView
 with_codes before rows =
     let motion = in_force_after rows MOTION_GROUP before.g01 in
@@ -93,7 +93,8 @@ with_codes before rows =
       cycle = if motion == before.g01 then before.cycle else None;
     }
 
--- the code in force of a group: groups 01, 02, 05, 06, 07 and 14 have one, and 03 in a system with such codes
+-- the code in force of a group: groups 01, 02, 05, 06, 07 and 14 have one, and 03 in a system with
+-- such codes
 abbrev pub code_of : ModalView → ℕ → Option ℕ
 code_of modal group =
     if group == MOTION_GROUP then Some modal.g01

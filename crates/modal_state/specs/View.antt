@@ -7,8 +7,8 @@ use Rattle.code_tables.specs.declared.kind.CodeKind.{CodeKind}
 use Rattle.code_tables.specs.Codes.{is_work_code}
 use Rattle.modal_state.specs.Said.{tool_offset}
 
--- what clauses see of the modal state: the code of each group, what the codes do whatever their numbers, and what the words
--- set last
+-- what clauses see of the modal state: the code of each group, what the codes do whatever their
+-- numbers, and what the words set last
 pub record ModalView : Type 0 where
   pub g01 : ℕ
   pub g02 : ℕ
@@ -33,7 +33,8 @@ pub record ModalView : Type 0 where
   pub limit : Var
   pub cycle : Option Point
 
--- one of G54 to G59 is in force, the tool offset is the tool's and exists, and a cycle ends at a position
+-- one of G54 to G59 is in force, the tool offset is the tool's and exists, and a cycle ends at a
+-- position
 pub record IsSound (m : ModalView) : Type 0 where
   pub work : IsTrue (is_work_code m.g14)
   pub offset : m.offset ≡ tool_offset m.tool

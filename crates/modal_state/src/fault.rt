@@ -1,3 +1,4 @@
+//! Why a block's words were not taken.
 ghost use Rattle.std.specs.Prelude.{◌≡◌};
 
 use nc_number::Cause;

@@ -1,3 +1,4 @@
+//! What is in force for a path.
 ghost use Rattle.std.specs.Prelude.{◌≡◌, ◌≤◌, IsTrue, IfSome, OnOk, OnErr};
 ghost use Rattle.std.specs.Result.{result_err};
 ghost use Rattle.nc_number.specs.Position.{IsPosition};
@@ -16,11 +17,11 @@ use code_tables::{
 use nc_number::{Point, Var};
 use std::marker::Model;
 
-/// What is in force for a path: the code of each modal group, what the codes do whatever their numbers, and what its
-/// words set last.
+/// What is in force for a path: the code of each modal group, what the codes do whatever their
+/// numbers, and what its words set last.
 ///
-/// One of G54 to G59 is in force, the tool offset is one that exists, or 0 for none, and the cycle in
-/// force ends at a position.
+/// One of G54 to G59 is in force, the tool offset is one that exists, or 0 for none, and the cycle
+/// in force ends at a position.
 #[derive(Clone, Copy, Debug, PartialEq, Eq)]
 pub struct Modal {
     g01: u16,
@@ -77,8 +78,8 @@ impl Model for Modal {
 }
 
 impl Modal {
-    /// What is in force as a tape of this system begins: G00, G97, feed by the revolution, G21, G40 and G54; in
-    /// system B also G90; and nothing else.
+    /// What is in force as a tape of this system begins: G00, G97, feed by the revolution, G21, G40
+    /// and G54; in system B also G90; and nothing else.
     pub fn for_system(system: System) -> Self
         ensures { result ≡ opening_modal system }
     {
@@ -103,8 +104,8 @@ impl Modal {
         }
     }
 
-    /// The code in force of a group. Groups 01, 02, 05, 06, 07 and 14 have one, group 03 in a system that has such
-    /// codes, and no other.
+    /// The code in force of a group. Groups 01, 02, 05, 06, 07 and 14 have one, group 03 in a
+    /// system that has such codes, and no other.
     pub fn code(&self, group: u8) -> Option<u16>
         ensures { result ≡ code_of self.now group }
     {
@@ -127,7 +128,8 @@ impl Modal {
         self.motion
     }
 
-    /// What a block with an axis word does behind G codes of these rows: what the last motion code among them does.
+    /// What a block with an axis word does behind G codes of these rows: what the last motion code
+    /// among them does.
     pub fn motion_after(&self, rows: &[Row]) -> CodeKind
         ensures { result ≡ motion_after self.now rows.now }
     {
@@ -209,9 +211,9 @@ impl Modal {
 
     /// Takes the G codes of a block, given by their rows in the block's order.
     ///
-    /// The end of a cycle is dropped where the code of the motion group changed. Codes that count in
-    /// their own block alone, and those without effect, change nothing. In the rows of a code table each
-    /// code of the work group names a work offset; a row that names none would set none.
+    /// The end of a cycle is dropped where the code of the motion group changed. Codes that count
+    /// in their own block alone, and those without effect, change nothing. In the rows of a code
+    /// table each code of the work group names a work offset; a row that names none would set none.
     pub fn take(&mut self, rows: &[Row])
         ensures codes { self.new ≡ with_codes self.old rows.now }
         ensures work { IsTrue (names_work_offsets rows.now) →
@@ -234,8 +236,8 @@ impl Modal {
         self.incremental = incremental_after(rows, self.incremental);
     }
 
-    /// Takes F, S and T of a block: alarm 40 exactly where the tool offset of T is none of 0 to 64. Then
-    /// nothing changes.
+    /// Takes F, S and T of a block: alarm 40 exactly where the tool offset of T is none of 0 to 64.
+    /// Then nothing changes.
     pub fn take_values(&mut self, words: &ModalWords) -> Result<(), ModalFault>
         ensures fault { result_err result ≡ tool_fault words.now.tool }
         ensures taken { OnOk result (self.new ≡ with_words self.old words.now) }
@@ -252,7 +254,8 @@ impl Modal {
         Ok(())
     }
 
-    /// Lets the cycle in force end there, in machine coordinates; or nowhere, as where none is in force.
+    /// Lets the cycle in force end there, in machine coordinates; or nowhere, as where none is in
+    /// force.
     pub fn set_cycle(&mut self, end: Option<Point>)
         requires { IfSome end IsPosition }
         ensures { self.new ≡ record self.old { cycle = end } }
@@ -261,7 +264,7 @@ impl Modal {
     }
 }
 
-// The code of absolute input in this system, or 0 where it has none.
+/// The code of absolute input in this system, or 0 where it has none.
 fn absolute_code(system: System) -> u16
     ensures { result ≡ absolute_code system }
 {
@@ -271,7 +274,7 @@ fn absolute_code(system: System) -> u16
     }
 }
 
-// The code of feed by the revolution in this system.
+/// The code of feed by the revolution in this system.
 fn per_rev_code(system: System) -> u16
     ensures { result ≡ per_rev_code system }
 {
@@ -281,14 +284,14 @@ fn per_rev_code(system: System) -> u16
     }
 }
 
-// The code of a group behind these rows, where this one was in force before them.
+/// The code of a group behind these rows, where this one was in force before them.
 fn in_force_after(rows: &[Row], group: u8, before: u16) -> u16
     ensures { result ≡ in_force_after rows.now group before }
 {
     last_of_group(rows, group).map_or(before, |row| row.code)
 }
 
-// Whether S is a constant surface speed behind these rows, where it was so before them or not.
+/// Whether S is a constant surface speed behind these rows, where it was so before them or not.
 fn surface_after(rows: &[Row], before: bool) -> bool
     ensures { result ≡ does_after is_surface rows.now SPINDLE_GROUP before }
 {
@@ -301,7 +304,7 @@ fn is_surface(kind: CodeKind) -> bool
     matches!(kind, CodeKind::Surface)
 }
 
-// Whether F is by the revolution behind these rows, where it was so before them or not.
+/// Whether F is by the revolution behind these rows, where it was so before them or not.
 fn per_rev_after(rows: &[Row], before: bool) -> bool
     ensures { result ≡ does_after is_per_rev rows.now FEED_GROUP before }
 {
@@ -314,7 +317,7 @@ fn is_per_rev(kind: CodeKind) -> bool
     matches!(kind, CodeKind::PerRev)
 }
 
-// Whether X and Z are incremental behind these rows, where they were so before them or not.
+/// Whether X and Z are incremental behind these rows, where they were so before them or not.
 fn incremental_after(rows: &[Row], before: bool) -> bool
     ensures { result ≡ does_after is_incremental rows.now ABSOLUTE_GROUP before }
 {
@@ -327,7 +330,7 @@ fn is_incremental(kind: CodeKind) -> bool
     matches!(kind, CodeKind::Incremental)
 }
 
-// The code of the work offset behind these rows, where this one was in force before them.
+/// The code of the work offset behind these rows, where this one was in force before them.
 fn work_after(rows: &[Row], before: u16) -> u16
     requires { IsTrue (is_work_code before) }
     ensures code { result ≡ work_after rows.now before }

@@ -1,3 +1,4 @@
+//! The F, S and T words of a block.
 ghost use Rattle.std.specs.Prelude.{◌≡◌};
 ghost use Rattle.std.specs.Result.{result_err};
 ghost use Rattle.modal_state.specs.Said.{said_or, tool_offset};
@@ -5,8 +6,8 @@ ghost use Rattle.modal_state.specs.Said.{said_or, tool_offset};
 use crate::fault::ModalFault;
 use nc_number::{Cause, TOOL_OFFSETS, Var};
 
-/// What the F, S and T words of a block say, each evaluated. A value that is vacant says nothing, as if
-/// there were no such word.
+/// What the F, S and T words of a block say, each evaluated. A value that is vacant says nothing,
+/// as if there were no such word.
 #[derive(Clone, Copy, Debug, PartialEq, Eq)]
 pub struct ModalWords {
     /// F, in whole units.
@@ -29,7 +30,7 @@ pub enum SpeedWord {
 impl ModalWords {
     ghost use Rattle.modal_state.specs.Words.{tool_fault};
 
-    // Alarm 40 where the tool has an offset that does not exist.
+    /// Alarm 40 where the tool has an offset that does not exist.
     pub(crate) fn check(&self) -> Result<(), ModalFault>
         ensures { result_err result ≡ tool_fault self.now.tool }
     {
@@ -45,7 +46,7 @@ impl ModalWords {
 impl SpeedWord {
     ghost use Rattle.modal_state.specs.Words.{speed_after, limit_after};
 
-    // The speed behind the block.
+    /// The speed behind the block.
     pub(crate) fn speed_or(&self, before: &Var) -> Var
         ensures { result ≡ speed_after self.now before.now }
     {
@@ -55,7 +56,7 @@ impl SpeedWord {
         }
     }
 
-    // The highest speed behind the block.
+    /// The highest speed behind the block.
     pub(crate) fn limit_or(&self, before: &Var) -> Var
         ensures { result ≡ limit_after self.now before.now }
     {
@@ -66,7 +67,7 @@ impl SpeedWord {
     }
 }
 
-// What a word says, or what was in force where it says nothing.
+/// What a word says, or what was in force where it says nothing.
 pub(crate) fn said_or(said: &Var, before: &Var) -> Var
     ensures { result ≡ said_or said.now before.now }
 {
@@ -76,7 +77,7 @@ pub(crate) fn said_or(said: &Var, before: &Var) -> Var
     }
 }
 
-// The tool offset of a tool: its last two digits.
+/// The tool offset of a tool: its last two digits.
 pub(crate) fn offset_of(tool: u16) -> u8
     ensures { result ≡ tool_offset tool }
 {

@@ -1,12 +1,12 @@
--- Where the moves of a block end and how far they reach: an axis without a word stays, all ends are positions, and I, K and
--- R are no larger than the block has them.
+-- Where the moves of a block end and how far they reach: an axis without a word stays, all ends are
+-- positions, and I, K and R are no larger than the block has them.
 use Rattle.std.proofs.Common.{◌≡◌, ◌≤◌, ℕ, Bool, true, false, List, [], ◌∷◌, All, ℤ, pos, unsigned_abs, Option, Some, None, IfSome, Result, Ok, Err, IfOk, if◌then◌else◌, refl, arith}
 use Rattle.std.proofs.lemmas.List.Elements.{All-nil, All-cons, All-weaker}
 use Rattle.std.proofs.lemmas.Bool.Decides.{nat_tests}
 use Rattle.code_tables.specs.declared.kind.CodeKind.{CodeKind}
 use Rattle.code_tables.specs.declared.kind.CodeKind.TheVariants.{Rapid, Feed, ArcCw, ArcCcw, Thread, Home, Machine}
 use Rattle.nc_number.specs.declared.point.Point.{Point}
-use Rattle.nc_number.specs.Position.{IsPosition, is_position}
+use Rattle.nc_number.specs.Position.{IsPosition, is_position, origin}
 use Rattle.nc_number.specs.Results.{◌>>=◌}
 use Rattle.nc_number.specs.Arithmetic.{is_zero}
 use Rattle.nc_moves.specs.declared.motion.Move.{Move}
@@ -23,7 +23,7 @@ use Rattle.motion_track.specs.Cut.{at_feed, line_of, thread_of}
 use Rattle.motion_track.specs.Centre.{centre_of, IsLengthWithin, IsGivenWithin}
 use Rattle.motion_track.specs.Circle.{misses, arc_of}
 use Rattle.motion_track.specs.Home.{named, home_moves}
-use Rattle.motion_track.specs.Block.{IsBlockWithin, AllEnd, KeepsUnnamed, origin, target_in, arc_in, moves_due}
+use Rattle.motion_track.specs.Block.{IsBlockWithin, AllEnd, KeepsUnnamed, target_in, arc_in, moves_due}
 use Rattle.motion_track.specs.Within.{centre_in, AreMovesWithin}
 
 -- what the next step makes of whatever the step before gives
@@ -43,7 +43,8 @@ given_unless false alarm step P holds = holds
 passed : (to : Point) → is_position to ≡ true → IsPosition to
 passed to test = grind (arith, nat_tests)
 
--- a target is a position, and a point of which P holds where it holds of every point that the words lead to
+-- a target is a position, and a point of which P holds where it holds of every point that the words
+-- lead to
 targeted : (to : Point) → IfOk (in_travel to) IsPosition
 targeted to = given_where (is_position to) to _ IsPosition (passed to)
 
@@ -79,7 +80,8 @@ arc_all_lead P C clockwise block given target =
     (λ to holds. arc_leads P C block.start to clockwise (centre_of block.i block.k block.r) block.feed block.per_rev holds given) in
     after (arc_in clockwise block) (λ cut. Ok (cut ∷ [])) (Leads P C) (All (Leads P C)) cut (one_leads P C)
 
--- what holds of each target, and of the way home, holds of all ends; what holds of the block's centre, of the centre of each arc
+-- what holds of each target, and of the way home, holds of all ends; what holds of the block's
+-- centre, of the centre of each arc
 all_lead : (P : Point → Type 0) (C : Option Centre → Type 0) (kind : CodeKind) (block : BlockMotion) → C None → C (centre_of block.i block.k block.r) → IfOk (target_in block) P → IfOk (target_of block.start origin block.x block.z) P → ((to : Point) → P to → P (named block.start to (is_named block.x) (is_named block.z))) → P (named block.start block.home (is_named block.x) (is_named block.z)) → IfOk (moves_due kind block) (All (Leads P C))
 all_lead P C Rapid block none given target machine between home =
     after (target_in block) (λ to. Ok (RapidMove to ∷ [])) P (All (Leads P C)) target (λ to holds. one_leads P C (RapidMove to) (holds, none))

@@ -43,8 +43,8 @@ farther_reached near far e le square p q reaches =
     let roots : q * q * e ≤ 40 * p * q = root_le (q * q * e) (40 * p * q) (omega (arith, squares, reached)) in
     omega (arith, scaled, roots, reaches)
 
--- where it is farther by much, the length (s² + near) / 2 s reaches the nearer place, s being the first whole
--- number past its root, and does not reach the farther when 20 is added
+-- where it is farther by much, the length (s² + near) / 2 s reaches the nearer place, s being the
+-- first whole number past its root, and does not reach the farther when 20 is added
 missed_by_much : (near e s g : ℕ) → s * s ≡ near + g → 1 ≤ g → g + 1 ≤ 2 * s → 40 * s + 1 ≤ e → IsAtMostFarther (near + 400 + e) near → ⊥
 missed_by_much near e s g square some small much reaches =
     let by_near : s * s * near ≡ (near + g) * near = ap (λ t. t * near) square in

@@ -1,9 +1,9 @@
 -- The moves of a block, by the kind of its code.
-use Rattle.std.specs.Prelude.{◌≡◌, ℕ, Bool, true, false, ◌||◌, if◌then◌else◌, List, [], ◌∷◌, All, pos, is_some, IfSome, Result, Ok}
+use Rattle.std.specs.Prelude.{◌≡◌, ℕ, Bool, true, false, ◌||◌, if◌then◌else◌, List, [], ◌∷◌, All, is_some, IfSome, Result, Ok}
 use Rattle.code_tables.specs.declared.kind.CodeKind.{CodeKind}
 use Rattle.code_tables.specs.declared.kind.CodeKind.TheVariants.{Rapid, Feed, ArcCw, ArcCcw, Thread, Home, Machine}
 use Rattle.nc_number.specs.declared.point.Point.{Point}
-use Rattle.nc_number.specs.Position.{IsWithin}
+use Rattle.nc_number.specs.Position.{IsWithin, origin}
 use Rattle.nc_number.specs.Results.{◌>>=◌}
 use Rattle.nc_moves.specs.declared.motion.Move.{Move}
 use Rattle.nc_moves.specs.declared.motion.Move.TheVariants.{Rapid as RapidMove}
@@ -31,7 +31,8 @@ pub record IsBlockWithin (far : ℕ) (block : BlockMotion) : Type 0 where
 abbrev pub names_axis : BlockMotion → Bool
 names_axis block = is_named block.x || is_named block.z
 
--- a block moves only where it names an axis; a circle, which ends where it starts, needs I or K alone
+-- a block moves only where it names an axis; a circle, which ends where it starts, needs I or K
+-- alone
 abbrev pub is_move_due : CodeKind → BlockMotion → Bool
 is_move_due ArcCw block = names_axis block || (is_some block.i || is_some block.k)
 is_move_due ArcCcw block = names_axis block || (is_some block.i || is_some block.k)
@@ -46,10 +47,6 @@ abbrev pub arc_in : Bool → BlockMotion → Result Move MotionFault
 arc_in clockwise block = do
   to ← target_in block
   arc_of block.start to clockwise (centre_of block.i block.k block.r) block.feed block.per_rev
-
--- the machine's own zero
-abbrev pub origin : Point
-origin = record { x = pos 0; z = pos 0 }
 
 -- the moves of each code that leads the turret along a line, an arc or home
 abbrev pub moves_due : CodeKind → BlockMotion → Result (List Move) MotionFault

@@ -2,7 +2,8 @@ use Rattle.std.specs.Prelude.{ℕ, ◌≤◌, ℤ, pos, unsigned_abs, Option, So
 use Rattle.nc_moves.specs.declared.motion.Centre.{Centre}
 use Rattle.nc_moves.specs.declared.motion.Centre.TheVariants.{Offset, Radius}
 
--- the centre that I, K and R give: R before I and K; where one of I and K is given, the other counts 0
+-- the centre that I, K and R give: R before I and K; where one of I and K is given, the other
+-- counts 0
 abbrev pub centre_of : Option ℤ → Option ℤ → Option ℤ → Option Centre
 centre_of i k (Some r) = Some (Radius r)
 centre_of None None None = None

@@ -33,8 +33,8 @@ square_between a b =
 abbrev pub tolerance : ℕ
 tolerance = 20
 
--- places at these squared distances from a centre, the larger first, lie on no circle round it within
--- the tolerance: the root of `far` is more than the root of `near` and the tolerance
+-- places at these squared distances from a centre, the larger first, lie on no circle round it
+-- within the tolerance: the root of `far` is more than the root of `near` and the tolerance
 abbrev pub is_past_tolerance : ℕ → ℕ → Bool
 is_past_tolerance far near =
     let excess = far - (near + tolerance * tolerance) in

@@ -1,3 +1,4 @@
+//! The moves of a block.
 ghost use Rattle.std.specs.Prelude.{◌≡◌, ◌≤◌, [], ◌∷◌, length, IfOk};
 ghost use Rattle.nc_number.specs.Position.{IsPosition};
 ghost use Rattle.motion_track.specs.Block.{IsBlockWithin, AllEnd, KeepsUnnamed, moves_due, moves_of};
@@ -44,9 +45,10 @@ pub struct BlockMotion {
 
 /// The moves of a block whose code is of this kind, at most two.
 ///
-/// G00, G01, G02, G03, G28, G32 and G53 move where an axis is named, G02 and G03 also by I or K alone, which
-/// is a full circle; elsewhere there is no move and no alarm. Of the alarms 41 of the target goes first, then
-/// those of an arc or a cut. Other kinds have no move here: the cycles, a dwell, and what only sets something.
+/// G00, G01, G02, G03, G28, G32 and G53 move where an axis is named, G02 and G03 also by I or K
+/// alone, which is a full circle; elsewhere there is no move and no alarm. Of the alarms 41 of the
+/// target goes first, then those of an arc or a cut. Other kinds have no move here: the cycles, a
+/// dwell, and what only sets something.
 #[tactic(auto, using(crate::proofs::Ends::unnamed_stay, crate::proofs::Ends::moves_within))]
 pub fn track(kind: CodeKind, block: &BlockMotion) -> Result<MoveList, MotionFault>
     requires { IsBlockWithin LONGEST block.now }
@@ -63,9 +65,9 @@ pub fn track(kind: CodeKind, block: &BlockMotion) -> Result<MoveList, MotionFaul
     }
 }
 
-/// The way home of a block with G28: for the named axes a rapid to the intermediate point, where the axis words
-/// lead, and a rapid to the reference position; no move where none is named. Alarm 41 exactly where the
-/// intermediate point is out of range.
+/// The way home of a block with G28: for the named axes a rapid to the intermediate point, where
+/// the axis words lead, and a rapid to the reference position; no move where none is named. Alarm
+/// 41 exactly where the intermediate point is out of range.
 pub fn return_home(block: &BlockMotion) -> Result<MoveList, MotionFault>
     requires { IsBlockWithin LONGEST block.now }
     ensures { result ≡ moves_of CodeKind.Home block.now }
@@ -83,7 +85,7 @@ impl BlockMotion {
         self.x.is_named() || self.z.is_named()
     }
 
-    // Whether a block of this kind moves: it names an axis, or gives a circle its centre.
+    /// Whether a block of this kind moves: it names an axis, or gives a circle its centre.
     fn is_move_due(&self, kind: CodeKind) -> bool
         ensures { result ≡ is_move_due kind self.now }
     {
@@ -95,7 +97,7 @@ impl BlockMotion {
         }
     }
 
-    // Where the axis words lead.
+    /// Where the axis words lead.
     fn target(&self) -> Result<Point, MotionFault>
         requires { IsBlockWithin LONGEST self.now }
         ensures { result ≡ target_in self.now }
@@ -112,7 +114,7 @@ impl BlockMotion {
         arc(self.start, to, clockwise, centre, self.feed, self.per_rev)
     }
 
-    // A rapid of the named axes to where their words lead, and one home.
+    /// A rapid of the named axes to where their words lead, and one home.
     fn way_home(&self) -> Result<MoveList, MotionFault>
         requires { IsBlockWithin LONGEST self.now }
         ensures { result ≡ moves_due CodeKind.Home self.now }
@@ -130,7 +132,7 @@ impl BlockMotion {
     }
 }
 
-// The moves of a block that moves.
+/// The moves of a block that moves.
 fn moves_due(kind: CodeKind, block: &BlockMotion) -> Result<MoveList, MotionFault>
     requires { IsBlockWithin LONGEST block.now }
     ensures { result ≡ moves_due kind block.now }

@@ -1,10 +1,12 @@
+//! The centre of an arc, from I, K and R.
 ghost use Rattle.std.specs.Prelude.{◌≡◌, ◌↔◌, ℕ, IsNone};
 ghost use Rattle.motion_track.specs.Centre.{centre_of, IsLengthWithin, IsGivenWithin};
 
 use nc_moves::Centre;
 
-/// The centre that the words I, K and R give, as radius values in 0.001 mm. R goes before I and K. Where one
-/// of I and K is given, the other counts 0; where no word is, there is no centre. A vacant word is none.
+/// The centre that the words I, K and R give, as radius values in 0.001 mm. R goes before I and K.
+/// Where one of I and K is given, the other counts 0; where no word is, there is no centre. A
+/// vacant word is none.
 pub fn centre_of(i: Option<i64>, k: Option<i64>, r: Option<i64>) -> Option<Centre>
     ensures centre { result ≡ centre_of i k r }
     ensures none { IsNone result ↔ (IsNone i × IsNone k × IsNone r) }

@@ -1,3 +1,4 @@
+//! Arcs, and whether they end on their circle.
 ghost use Rattle.std.specs.Prelude.{◌≡◌, ◌≤◌, true, false, ℤ, ◌*◌, unsigned_abs};
 ghost use Rattle.nc_number.specs.declared.point.Point.{Point};
 ghost use Rattle.nc_moves.specs.declared.motion.Centre.TheVariants.{Offset};
@@ -56,7 +57,7 @@ pub fn arc(
     })
 }
 
-// Whether no arc round this centre, or of this radius, leads from `at` to `to`.
+/// Whether no arc round this centre, or of this radius, leads from `at` to `to`.
 fn misses(at: &Point, to: &Point, centre: &Centre) -> bool
     requires at { IsWithin LONGEST at.now }
     requires to { IsWithin LONGEST to.now }
@@ -79,8 +80,8 @@ fn misses(at: &Point, to: &Point, centre: &Centre) -> bool
     }
 }
 
-// Whether places at these squared distances from a centre, the larger first, lie on no circle round
-// it within the tolerance.
+/// Whether places at these squared distances from a centre, the larger first, lie on no circle
+/// round it within the tolerance.
 fn is_past_tolerance(far: u128, near: u128) -> bool
     requires { near ≤ 1280000000000000000000000000000 }
     ensures { result ≡ is_past_tolerance far near }
@@ -137,8 +138,8 @@ fn squared(distance: u64) -> u128
     u128::from(distance) * u128::from(distance)
 }
 
-/// What the test of an arc by its centre means, as a law: the arc is taken exactly where its end lies
-/// within the tolerance of the circle through its start round its centre.
+/// What the test of an arc by its centre means, as a law: the arc is taken exactly where its end
+/// lies within the tolerance of the circle through its start round its centre.
 #[tactic(auto, using(crate::proofs::Tolerance::within, crate::proofs::Tolerance::beyond))]
 pub fn arcs_end_on_their_circle()
     ensures taken { (at to : Point) (i k : ℤ) → misses at to (Offset i k) ≡ false

@@ -1,3 +1,4 @@
+//! Straight cuts.
 ghost use Rattle.std.specs.Prelude.{◌≡◌};
 ghost use Rattle.nc_number.specs.Arithmetic.{is_zero};
 ghost use Rattle.motion_track.specs.Cut.{line_of, thread_of};

@@ -1,3 +1,4 @@
+//! Why there is no move.
 ghost use Rattle.std.specs.Prelude.{◌≡◌};
 
 use nc_number::Cause;

@@ -1,10 +1,10 @@
-//! The moves of a block, in whole increments: where an axis word leads, a line, a thread, an arc, and
-//! the way home.
+//! The moves of a block, in whole increments: where an axis word leads, a line, a thread, an arc,
+//! and the way home.
 //!
-//! `track` is the table of the control: from the kind of a block's code, its words and the state of its
-//! path to its moves, or to the alarm that comes first. Points are machine positions in 0.001 mm, X a
-//! diameter. No call overflows at any length that it may be given. An arc by its centre is refused
-//! exactly where its end is farther than 0.010 mm from the circle through its start, and
+//! `track` is the table of the control: from the kind of a block's code, its words and the state of
+//! its path to its moves, or to the alarm that comes first. Points are machine positions in 0.001
+//! mm, X a diameter. No call overflows at any length that it may be given. An arc by its centre is
+//! refused exactly where its end is farther than 0.010 mm from the circle through its start, and
 //! `arcs_end_on_their_circle` is the law that says so. The layer above leans on the first clause of
 //! `track`, which is that table, and on its last: every move ends at a position.
 #![tactic(auto)]

@@ -1,3 +1,4 @@
+//! The way home.
 ghost use Rattle.std.specs.Prelude.{◌≡◌};
 ghost use Rattle.motion_track.specs.Home.{named, home_moves};
 
@@ -14,7 +15,7 @@ pub fn home(at: Point, mid: Point, home: Point, x: bool, z: bool) -> [Move; 2]
     [Move::Rapid { to: by }, Move::Rapid { to }]
 }
 
-// The named parts of `to`, and the others of `at`.
+/// The named parts of `to`, and the others of `at`.
 fn named(at: &Point, to: &Point, x: bool, z: bool) -> Point
     ensures { result ≡ named at.now to.now x z }
 {

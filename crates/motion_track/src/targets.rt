@@ -1,3 +1,4 @@
+//! Where a move ends.
 ghost use Rattle.std.specs.Prelude.{◌≡◌, ◌≤◌, unsigned_abs, IfOk};
 ghost use Rattle.nc_number.specs.Position.{IsWithin, IsPosition};
 ghost use Rattle.nc_number.specs.Axes.{IsAxisWithin};
@@ -6,11 +7,12 @@ ghost use Rattle.motion_track.specs.Target.{part_of, reached, target_of};
 use crate::fault::MotionFault;
 use nc_number::{Axis, Cause, Point};
 
-/// The longest length that a call takes, in 0.001 mm: a thousand times what a word of a tape can say.
+/// The longest length that a call takes, in 0.001 mm: a thousand times what a word of a tape can
+/// say.
 pub const LONGEST: u64 = 100_000_000_000_000;
 
-/// Where a block leads from `at`, in machine coordinates: an absolute word counts from the shift, an
-/// incremental one from the present position, and an axis without a word stays. Alarm 41 exactly
+/// Where a block leads from `at`, in machine coordinates: an absolute word counts from the shift,
+/// an incremental one from the present position, and an axis without a word stays. Alarm 41 exactly
 /// where a part is past 99,999.999 mm.
 pub fn target(at: Point, shift: Point, x: Axis, z: Axis) -> Result<Point, MotionFault>
     requires at { IsWithin LONGEST at }
@@ -28,7 +30,7 @@ pub fn target(at: Point, shift: Point, x: Axis, z: Axis) -> Result<Point, Motion
     }
 }
 
-// Where the words lead, in range or not.
+/// Where the words lead, in range or not.
 fn reached(at: &Point, shift: &Point, x: Axis, z: Axis) -> Point
     requires at { IsWithin LONGEST at.now }
     requires shift { IsWithin LONGEST shift.now }

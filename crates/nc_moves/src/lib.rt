@@ -1,7 +1,8 @@
-//! What a block asks a turret to do (`Move`), the moves of one block (`MoveList`, and with its line `Moves`), and the alarm
-//! that ends a path (`Alarm`).
+//! What a block asks a turret to do (`Move`), the moves of one block (`MoveList`, and with its line
+//! `Moves`), and the alarm that ends a path (`Alarm`).
 //!
-//! Motion, paths and the machine answer these; who takes them stands in the contracts of the outside, above.
+//! Motion, paths and the machine answer these; who takes them stands in the contracts of the
+//! outside, above.
 #![tactic(auto)]
 
 mod alarm;

@@ -68,8 +68,8 @@ pub enum Move {
 }
 
 impl Move {
-    /// Where the turret stands after the move, in machine coordinates. Nothing where the move goes nowhere: a rest, a
-    /// speed, a limit, a tool, an auxiliary code.
+    /// Where the turret stands after the move, in machine coordinates. Nothing where the move goes
+    /// nowhere: a rest, a speed, a limit, a tool, an auxiliary code.
     pub fn end(&self) -> Option<Point>
         ensures { result ≡ end_of self.now }
     {
@@ -130,6 +130,13 @@ impl MoveList {
         ensures fits { length self.now ≤ 8 }
     {
         self.moves.as_slice()
+    }
+
+    /// Takes all moves out.
+    pub fn clear(&mut self)
+        ensures { self.new ≡ [] }
+    {
+        self.moves.clear();
     }
 
     /// Adds a move behind the others.

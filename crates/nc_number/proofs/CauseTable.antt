@@ -74,7 +74,8 @@ pub number_has_one_cause : (a b : Cause) → cause_number a ≡ cause_number b �
 number_has_one_cause a b same =
     let both : ◌≡◌ {A = Option Cause} (Some a) (Some b) = sym (every_row a).1 ∙ ap cause_of same ∙ (every_row b).1 in cc
 
--- a look through the table that finds only what has the number, and misses nothing, finds each cause by its number
+-- a look through the table that finds only what has the number, and misses nothing, finds each
+-- cause by its number
 pub found_by_number : (number : ℕ) (found : Option Cause) → IfSome found (λ cause. cause_number cause ≡ number)
     → (IsNone found → All (λ cause. cause_number cause ≢ number) every_cause)
     → (cause : Cause) → cause_number cause ≡ number → found ≡ Some cause

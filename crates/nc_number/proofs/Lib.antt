@@ -1,4 +1,6 @@
+pub mod Bools
 pub mod CauseTable
+pub mod Counts
 pub mod DecimalDigits
 pub mod LastDigits
 pub mod LiteralsThatRead

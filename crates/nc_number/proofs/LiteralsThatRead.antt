@@ -1,10 +1,9 @@
 -- A literal that reads is a value, and one without a point is whole.
-use Rattle.std.proofs.Common.{◌≡◌, ◌<◌, ◌≤◌, ◌*◌, ◌+◌, ◌/◌, ◌%◌, ℕ, ℤ, pos, ◌*ℤ◌, Bool, true, false, cond, ◌||◌, List, [], length, Option, Some, None, is_some, Result, Ok, Err, refl, ap, sym, subst, ◌∙◌, arith}
+use Rattle.std.proofs.Common.{◌≡◌, ◌<◌, ◌≤◌, ◌*◌, ◌+◌, ◌/◌, ◌%◌, ℕ, ℤ, pos, ◌*ℤ◌, Bool, true, false, cond, ◌||◌, List, [], Option, Some, None, is_some, Ok, Err, refl, ap, sym, ◌∙◌, arith}
 use Rattle.std.specs.Prelude.{nat_le, unsigned_abs}
 use Rattle.std.specs.Int.{is_negative}
 use Rattle.std.specs.Str.Parse.{digits_value}
-use Rattle.std.proofs.lemmas.Bool.{leb-true, leb-false, ltb-false}
-use Rattle.nc_number.specs.declared.fault.NumberFault.{NumberFault}
+use Rattle.std.proofs.lemmas.Bool.{leb-true, ltb-false}
 use Rattle.nc_number.specs.declared.fault.NumberFault.TheVariants.{TooManyDigits}
 use Rattle.nc_number.specs.declared.literal.Literal.{Literal}
 use Rattle.nc_number.specs.Arithmetic.{nearest, nearest_quotient}

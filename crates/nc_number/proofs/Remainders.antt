@@ -19,7 +19,8 @@ rest_of a b r is = go (is_zero b) refl is
     go true zero same = cc
     go false nonzero same = (nonzero, rest_is a b ∙ cc)
 
--- a remainder is smaller than the divisor, has the dividend's sign, and differs from the dividend by whole divisors
+-- a remainder is smaller than the divisor, has the dividend's sign, and differs from the dividend
+-- by whole divisors
 pub rest_is_smaller : (a b r : ℤ) → remainder_of a b ≡ Ok r → unsigned_abs r < unsigned_abs b
 rest_is_smaller a b r is =
     let of = rest_of a b r is in

@@ -1,8 +1,10 @@
 pub mod Answers
 pub mod Arithmetic
 pub mod Axes
+pub mod Both
 pub mod Causes
 pub mod Conversions
+pub mod Faults
 pub mod Literals
 pub mod Options
 pub mod Path
@@ -10,6 +12,7 @@ pub mod Position
 pub mod Printed
 pub mod Range
 pub mod Results
+pub mod Rising
 pub mod Signs
 pub mod Spelling
 pub mod Variables

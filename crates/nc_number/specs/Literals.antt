@@ -1,4 +1,5 @@
--- A literal of the tape is an optional sign, digits, and optionally a point and digits, with a digit in all.
+-- A literal of the tape is an optional sign, digits, and optionally a point and digits, with a
+-- digit in all.
 use Rattle.std.specs.Prelude.{ℕ, ◌+◌, ◌-◌, ◌*◌, ◌^◌, Bool, false, not, ◌==◌, ◌&&◌, ◌||◌, nat_lt, if◌then◌else◌, List, [], ◌∷◌, length, drop, ℤ, IsTrue, Result, Ok, Err}
 use Rattle.std.specs.Char.{is_ascii_digit}
 use Rattle.std.specs.List.{list_any, list_all, position_or_len, before_first, after_first}
@@ -48,11 +49,13 @@ IsLiteral text = IsTrue (is_literal text)
 abbrev pub significant : List ℕ → List ℕ
 significant digits = drop (position_or_len (λ d. not (d == 48)) digits) digits
 
--- at most 8 whole and 6 fraction digits are allowed; the zeros that the whole part begins with do not count
+-- at most 8 whole and 6 fraction digits are allowed; the zeros that the whole part begins with do
+-- not count
 abbrev pub has_too_many_digits : List ℕ → Bool
 has_too_many_digits text = nat_lt 8 (length (significant (whole_part text))) || nat_lt 6 (length (fraction_part text))
 
--- the millionths that the digits before and behind a point write, of which at most 6 stand behind it
+-- the millionths that the digits before and behind a point write, of which at most 6 stand behind
+-- it
 abbrev pub size_of_parts : List ℕ → List ℕ → ℕ
 size_of_parts whole fraction =
     digits_value 10 whole * 1000000 + digits_value 10 fraction * 10 ^ (6 - length fraction)

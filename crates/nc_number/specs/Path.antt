@@ -1,4 +1,4 @@
-use Rattle.std.specs.Prelude.{ℕ, ◌==◌, Option, Some, None, if◌then◌else◌}
+use Rattle.std.specs.Prelude.{ℕ, Bool, true, false, ◌==◌, Option, Some, None, if◌then◌else◌}
 use Rattle.nc_number.specs.declared.path.Path.{Path}
 use Rattle.nc_number.specs.declared.path.Path.TheVariants.{One, Two}
 
@@ -20,3 +20,10 @@ index_of Two = 1
 abbrev pub other_of : Path → Path
 other_of One = Two
 other_of Two = One
+
+-- both are one path
+abbrev pub is_same : Path → Path → Bool
+is_same One One = true
+is_same One Two = false
+is_same Two One = false
+is_same Two Two = true

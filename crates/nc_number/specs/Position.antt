@@ -1,4 +1,4 @@
-use Rattle.std.specs.Prelude.{ℕ, ◌≤◌, Bool, ◌&&◌, nat_le, unsigned_abs}
+use Rattle.std.specs.Prelude.{ℕ, pos, ◌≤◌, Bool, ◌&&◌, nat_le, unsigned_abs}
 use Rattle.nc_number.specs.declared.point.Point.{Point}
 
 -- how far from 0 a position or an offset may be: 99,999.999 mm
@@ -16,3 +16,7 @@ IsPosition p = IsWithin travel p
 -- the test of that
 abbrev pub is_position : Point → Bool
 is_position p = nat_le (unsigned_abs p.x) travel && nat_le (unsigned_abs p.z) travel
+
+-- the point at 0
+abbrev pub origin : Point
+origin = record { x = pos 0; z = pos 0 }

@@ -1,4 +1,5 @@
--- The grammar of a literal: a sign or none, digits, and a point with digits or none, with a digit in all.
+-- The grammar of a literal: a sign or none, digits, and a point with digits or none, with a digit
+-- in all.
 use Rattle.std.specs.Prelude.{◌≡◌, ℕ, ◌+◌, ◌<◌, Bool, true, false, List, [], ◌∷◌, ◌++◌, length, Option, Some, None, is_some}
 use Rattle.nc_number.specs.Literals.{IsLiteral, all_digits, has_minus, has_point, whole_part, fraction_part}
 

@@ -1,3 +1,4 @@
+//! The arithmetic of the control.
 ghost use Rattle.std.specs.Prelude.{◌≡◌, pos, neg_ℤ, unsigned_abs};
 ghost use Rattle.nc_number.specs.Arithmetic.{sum_of, difference_of, product_of, quotient_of, remainder_of, root_of};
 

@@ -1,3 +1,4 @@
+//! What a block says of an axis.
 ghost use Rattle.std.specs.Prelude.{◌≡◌, ◌≤◌, ℕ, IfSome, unsigned_abs};
 
 /// What a block says of an axis, in 0.001 mm.

@@ -1,3 +1,4 @@
+//! Bit operations on whole numbers.
 ghost use Rattle.std.specs.Prelude.{◌≡◌, ◌*◌, ◌&&◌, pos, Some, None, Ok, Err, if◌then◌else◌};
 ghost use Rattle.nc_number.specs.Arithmetic.{checked, has_bits, units, and_of, or_of, xor_of};
 

@@ -1,3 +1,4 @@
+//! The table of alarms and refusals.
 ghost use Rattle.std.specs.Prelude.{◌≡◌, ◌≢◌, Some, IsNone, IfSome, All};
 ghost use Rattle.nc_number.specs.Causes.{cause_number, cause_name, every_cause};
 

@@ -1,3 +1,4 @@
+//! Errors that every crate shares.
 ghost use Rattle.std.specs.Prelude.{◌≡◌};
 ghost use Rattle.nc_number.specs.Causes.{cause_number, cause_of_number_fault};
 
@@ -47,6 +48,11 @@ impl NumberFault {
         self.cause().number()
     }
 }
+
+/// A call of a device failed: its count of faults rose, or stands at its last value.
+#[derive(Clone, Copy, Debug, PartialEq, Eq, Drop, Error)]
+#[error("the device failed")]
+pub struct Failed;
 
 /// Memory ran out; nothing was changed.
 #[derive(Clone, Copy, Debug, PartialEq, Eq, Error)]

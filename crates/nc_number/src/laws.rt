@@ -13,7 +13,8 @@ ghost use Rattle.nc_number.specs.Printed.{value_text, length_text};
 ghost use Rattle.nc_number.specs.Range.{InRange};
 ghost use Rattle.nc_number.specs.Spelling.{Sign, IsWritten, HasParts};
 
-/// `nearest_quotient a b` is the whole number nearest to `a / b`: no multiple of `b` is nearer to `a`.
+/// `nearest_quotient a b` is the whole number nearest to `a / b`: no multiple of `b` is nearer to
+/// `a`.
 pub fn a_nearest_quotient_is_nearest()
     ensures { (a b k : ℤ) → b ≢ pos 0
         → unsigned_abs (a -ℤ nearest_quotient a b *ℤ b) ≤ unsigned_abs (a -ℤ k *ℤ b) }
@@ -71,8 +72,8 @@ pub fn what_reads_is_a_value()
         → InRange literal.value }
 {}
 
-/// A literal without a point counts thousandths, none of which is cut: it writes a whole number, and
-/// that is its count.
+/// A literal without a point counts thousandths, none of which is cut: it writes a whole number,
+/// and that is its count.
 pub fn a_literal_without_a_point_counts_thousandths()
     ensures { (text : List ℕ) (literal : Literal) → IsLiteral text → word_literal text ≡ Ok literal
         → literal.point ≡ false → literal.value ≡ thousandths_of literal *ℤ pos 1000000 }

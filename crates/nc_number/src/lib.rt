@@ -1,5 +1,6 @@
-//! Numbers of the control: exact decimal values, points, axes and paths, the literals of a tape, and
-//! what every layer shares: the table of alarms and refusals, errors, and the words of contracts.
+//! Numbers of the control: exact decimal values, points, axes and paths, the literals of a tape,
+//! and what every layer shares: the table of alarms and refusals, errors, and the words of
+//! contracts.
 //!
 //! A layer above sees a [`Value`] as its whole count of millionths, and each call as an equation on
 //! such counts: rounded to the nearest, halves away from zero, and Overflow exactly past the range.
@@ -8,10 +9,13 @@
 mod arithmetic;
 mod axis;
 mod bits;
+mod both;
 mod byte_list;
 mod cause;
 mod fault;
 mod laws;
+mod limits;
+mod list_of;
 mod literal;
 mod path;
 mod point;
@@ -22,9 +26,10 @@ mod value;
 pub use arithmetic::{abs, add, div, modulo, mul, neg, sqrt, sub};
 pub use axis::Axis;
 pub use bits::{bit_and, bit_or, bit_xor};
+pub use both::Both;
 pub use byte_list::ByteList;
 pub use cause::Cause;
-pub use fault::{Failing, NoMemory, NumberFault};
+pub use fault::{Failed, Failing, NoMemory, NumberFault};
 pub use laws::{
     a_fraction_is_dropped, a_literal_is_a_sign_digits_and_a_fraction,
     a_literal_without_a_point_counts_thousandths, a_magnitude_is_raised,
@@ -32,6 +37,11 @@ pub use laws::{
     a_printed_value_reads_back, a_remainder_keeps_the_sign, a_root_is_the_greatest,
     a_whole_number_is_its_units, halves_go_away_from_zero, what_reads_is_a_value,
 };
+pub use limits::{
+    LONGEST_LINE, LONGEST_TAPE, MOST_BLOCKS, MOST_BRACKETS, MOST_LABELS, MOST_PENDING, MOST_READS,
+    MOST_RECORDS,
+};
+pub use list_of::ListOf;
 pub use literal::{Literal, is_literal, parse_word};
 pub use path::Path;
 pub use point::{Point, TOOL_OFFSETS, TRAVEL};

@@ -1,3 +1,4 @@
+//! The literals of a tape.
 ghost use Rattle.std.specs.Prelude.{◌≡◌, ◌==◌, ◌^◌, ◌<◌, ◌≤◌, not, length, position, IsTrue, IfSome, unsigned_abs};
 ghost use Rattle.std.specs.List.{before_first, after_first};
 ghost use Rattle.std.specs.Str.Parse.{digits_value};

@@ -1,3 +1,4 @@
+//! The two paths.
 ghost use Rattle.std.specs.Prelude.{◌≡◌, ◌<◌};
 ghost use Rattle.nc_number.specs.Path.{number_of, path_of, index_of, other_of};
 

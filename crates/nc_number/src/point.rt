@@ -1,3 +1,4 @@
+//! Points.
 ghost use Rattle.std.specs.Prelude.{◌≡◌, ◌↔◌, IsTrue};
 
 /// How far from 0 a position or an offset may be, in 0.001 mm.
@@ -17,7 +18,8 @@ pub struct Point {
 impl Point {
     ghost use Rattle.nc_number.specs.Position.{is_position, IsPosition};
 
-    /// Whether no part is farther from 0 than 99,999.999 mm, so that it may be a position or an offset.
+    /// Whether no part is farther from 0 than 99,999.999 mm, so that it may be a position or an
+    /// offset.
     pub fn is_position(&self) -> bool
         ensures test { result ≡ is_position self.now }
         ensures within { IsTrue result ↔ IsPosition self.now }

@@ -1,3 +1,4 @@
+//! How values and lengths are printed.
 ghost use Rattle.std.specs.Prelude.{◌≡◌, ◌+◌, ◌++◌, ◌∷◌, ◌%◌, ◌≤◌, length, take, decimal};
 ghost use Rattle.std.specs.Fmt.{sign_text};
 ghost use Rattle.nc_number.specs.Printed.{last_digits, without_trailing_zeros, fraction_text, value_text, length_text};

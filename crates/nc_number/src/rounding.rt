@@ -1,3 +1,4 @@
+//! Rounding to whole numbers and to increments.
 ghost use Rattle.std.specs.Prelude.{◌≡◌, ◌≢◌, ◌^◌, ◌<◌, ◌≤◌, unsigned_abs};
 ghost use Rattle.nc_number.specs.Arithmetic.{nearest, nearest_quotient, rounded, dropped, raised, increments_of};
 

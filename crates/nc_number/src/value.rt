@@ -1,3 +1,4 @@
+//! The values of the control, and of its variables.
 ghost use Rattle.std.specs.Prelude.{◌≡◌, ◌↔◌, ◌≤◌, ◌*ℤ◌, pos, neg_ℤ, unsigned_abs, IsSome, IfSome, Some};
 ghost use Rattle.nc_number.specs.Arithmetic.{checked, value_of_units, value_of_increments, whole_of};
 ghost use Rattle.nc_number.specs.Range.{InRange};

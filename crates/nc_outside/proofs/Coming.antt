@@ -1,9 +1,10 @@
 -- The count of planned faults as calls go on.
-use Rattle.std.proofs.Common.{◌≡◌, ◌==◌, ◌∙◌, refl, sym, ap, ℕ, ◌+◌, ◌<◌, ◌≤◌, Bool, true, false, ◌||◌, true≢false, cond, List, [], ◌∷◌, get_or, remove, Contains, arith}
+use Rattle.std.proofs.Common.{◌≡◌, ◌==◌, ◌∙◌, refl, sym, ap, ℕ, ◌+◌, ◌<◌, ◌≤◌, false, cond, List, [], ◌∷◌, get_or, remove, Contains, arith}
 use Rattle.std.specs.List.{list_any, sum_by}
 use Rattle.std.proofs.lemmas.Bool.Decides.{nat_tests}
 use Rattle.std.proofs.lemmas.List.Sums.{sum_by-cons, sum_by-le-sum_by, sum_by-remove}
-use Rattle.nc_outside.specs.Plan.{PlanView, has_come, fault_count}
+use Rattle.nc_number.proofs.Bools.{neither}
+use Rattle.nc_outside.specs.Plan.{has_come, fault_count}
 
 -- one planned fault, counted
 abbrev come : ℕ → ℕ → ℕ
@@ -29,15 +30,6 @@ fault_count-< n failing found =
     let now : come (n + 1) (get_or failing found.0 (n + 1)) ≡ 1 = rw at_place (grind (arith, nat_tests)) in
     omega arith
 
--- of two tests that fail together each fails
-or_first : (a b : Bool) → (a || b) ≡ false → a ≡ false
-or_first true b e = absurd (true≢false e)
-or_first false b e = refl
-
-or_second : (a b : Bool) → (a || b) ≡ false → b ≡ false
-or_second true b e = absurd (true≢false e)
-or_second false b e = e
-
 come_same : (n x : ℕ) → (x == n + 1) ≡ false → come (n + 1) x ≡ come n x
 come_same n x other = grind (arith, nat_tests)
 
@@ -46,6 +38,6 @@ pub fault_count-kept : (n : ℕ) (failing : List ℕ) → list_any (λ planned. 
     → fault_count (record { failing = failing; calls = n + 1 }) ≡ fault_count (record { failing = failing; calls = n })
 fault_count-kept n [] none = refl
 fault_count-kept n (x ∷ failing) none =
-    let here = come_same n x (or_first (x == n + 1) _ none) in
-    let rest = fault_count-kept n failing (or_second (x == n + 1) _ none) in
+    let here = come_same n x (neither (x == n + 1) _ none).0 in
+    let rest = fault_count-kept n failing (neither (x == n + 1) _ none).1 in
     sum_by-cons (come (n + 1)) x failing ∙ (ap (λ k. k + sum_by (come (n + 1)) failing) here ∙ ap (λ k. come n x + k) rest) ∙ sym (sum_by-cons (come n) x failing)

@@ -1,6 +1,6 @@
 -- The count of faults of a turret in memory: what it was, a planned fault raises it.
-use Rattle.std.proofs.Common.{◌≡◌, ℕ, ◌+◌, ◌-◌, ◌^◌, ◌≤◌, ◌<◌, arith, min}
-use Rattle.nc_outside.specs.Faults.{Rose, CountsFault}
+use Rattle.std.proofs.Common.{ℕ, ◌+◌, ◌-◌, ◌^◌, ◌<◌, arith, min}
+use Rattle.nc_outside.specs.Faults.{CountsFault}
 
 -- planned faults, calls that found no room, and settles that failed
 abbrev pub in_all : ℕ → ℕ → ℕ → ℕ

@@ -2,7 +2,6 @@
 use Rattle.std.proofs.Common.{◌≡◌, refl, ap, sym, ◌∙◌, List, [], ◌∷◌, ◌++◌, Option, Some, append_assoc}
 use Rattle.nc_outside.specs.declared.halt.Next.{Next}
 use Rattle.nc_outside.specs.declared.stepper.Call.{Call}
-use Rattle.nc_outside.specs.declared.stepper.Call.TheVariants as Call
 use Rattle.nc_outside.specs.Calls.{last_answer_behind, moves_answered, moves_of}
 
 pub moves_of_both : (before behind : List Call) → moves_answered (before ++ behind) ≡ moves_answered before ++ moves_answered behind

@@ -1,5 +1,5 @@
--- The calls of a stepper, in order: its steps with what they answered, its drains and its halts. A stepper may tell
--- them or not.
+-- The calls of a stepper, in order: its steps with what they answered, its drains and its halts. A
+-- stepper may tell them or not.
 use Rattle.std.specs.Prelude.{◌≡◌, List, [], ◌∷◌, ◌++◌, Option, Some, None}
 use Rattle.nc_outside.specs.declared.lined_move.LinedMove.{LinedMove}
 use Rattle.nc_outside.specs.Lined.{lined}
@@ -8,7 +8,6 @@ use Rattle.nc_outside.specs.declared.halt.Halt.TheVariants.{Turret}
 use Rattle.nc_outside.specs.declared.halt.Next.{Next}
 use Rattle.nc_outside.specs.declared.halt.Next.TheVariants.{Moves}
 use Rattle.nc_outside.specs.declared.stepper.Call.{Call}
-use Rattle.nc_outside.specs.declared.stepper.Call.TheVariants as Call
 
 -- these calls came besides; who tells nothing goes on telling nothing
 abbrev pub IsCalled : Option (List Call) → Option (List Call) → List Call → Type 0

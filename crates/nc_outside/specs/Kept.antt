@@ -1,11 +1,11 @@
 -- What contracts see of the forms in memory.
-use Rattle.std.specs.Prelude.{ℕ, ◌+◌, ◌-◌, ◌^◌, min, nat_le, Bool, ◌||◌, if◌then◌else◌, List, [], ◌∷◌, ◌++◌, length, map, drop, Some, String, Vec, string_bytes}
+use Rattle.std.specs.Prelude.{ℕ, ◌+◌, ◌-◌, ◌^◌, min, nat_le, Bool, ◌||◌, if◌then◌else◌, List, [], ◌∷◌, ◌++◌, length, map, Some, String, Vec, string_bytes}
 use Rattle.std.specs.Prelude.{slice_index_or}
 use Rattle.nc_outside.specs.declared.halt.Next.{Next}
 use Rattle.nc_outside.specs.declared.halt.Next.TheVariants.{Finished}
 use Rattle.nc_outside.specs.declared.stepper.Call.{Call}
 use Rattle.nc_outside.specs.declared.got.Got.{Got}
-use Rattle.nc_outside.specs.Faults.{next}
+use Rattle.nc_number.specs.Faults.{next}
 use Rattle.nc_outside.specs.Files.{Files, ShelfState}
 use Rattle.nc_outside.specs.Written.{SinkState}
 use Rattle.nc_outside.specs.Received.{TurretState}
@@ -32,8 +32,8 @@ pub record KeptBytes : Type 0 where
 abbrev pub sink_of : KeptBytes → SinkState
 sink_of kept = record { written = Some kept.bytes; faults = fault_count kept.plan }
 
--- a turret in memory: what it got, how much of that it has room for, which of its calls are to fail, how many others found
--- no room, and which of its settles are to fail
+-- a turret in memory: what it got, how much of that it has room for, which of its calls are to
+-- fail, how many others found no room, and which of its settles are to fail
 pub record KeptMoves : Type 0 where
   pub got : List Got
   pub room : ℕ

@@ -1,7 +1,8 @@
 -- The plan of a form in memory: which of its calls, numbered from 1, are to fail.
 use Rattle.std.specs.Prelude.{◌≡◌, ℕ, ◌+◌, ◌^◌, ◌↔◌, Bool, true, ◌==◌, ◌&&◌, nat_lt, nat_le, List, count_by}
 use Rattle.std.specs.List.{list_any}
-use Rattle.nc_outside.specs.Faults.{next, CountsFault}
+use Rattle.nc_outside.specs.Faults.{CountsFault}
+use Rattle.nc_number.specs.Faults.{next}
 
 -- the numbers of the calls that are to fail, and how many calls have been made
 pub record PlanView : Type 0 where

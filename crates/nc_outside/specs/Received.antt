@@ -1,10 +1,10 @@
 -- What a turret got. A turret may tell it or not.
 use Rattle.std.specs.Prelude.{◌≡◌, ℕ, zero, suc, List, [], ◌++◌, Option, Some, None}
 use Rattle.nc_outside.specs.declared.got.Got.{Got}
-use Rattle.nc_outside.specs.Faults.{next}
+use Rattle.nc_number.specs.Faults.{next}
 
--- What a turret got, in order, how many calls of `place` and `hand` it has had, and how often it was to settle. Both counts stop at
--- the last value of a u64.
+-- What a turret got, in order, how many calls of `place` and `hand` it has had, and how often it
+-- was to settle. Both counts stop at the last value of a u64.
 pub record Received : Type 0 where
   pub got : List Got
   pub calls : ℕ
@@ -20,7 +20,8 @@ unfoldable pub counted_on : ℕ → ℕ → ℕ
 counted_on calls zero = calls
 counted_on calls (suc more) = next (counted_on calls more)
 
--- so many calls more, by which these came, and so many settles; who tells nothing goes on telling nothing
+-- so many calls more, by which these came, and so many settles; who tells nothing goes on telling
+-- nothing
 abbrev pub Adds : Option Received → Option Received → List Got → ℕ → ℕ → Type 0
 Adds None after got calls settles = after ≡ None
 Adds (Some was) after got calls settles = after ≡ Some (record {

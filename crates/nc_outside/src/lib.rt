@@ -1,13 +1,14 @@
-//! The outside of a lathe: where tapes and other texts come from (`Shelf`), where reports go (`Sink`), who takes the moves
-//! of a path (`Turret`), and what gives a path its steps (`Stepper`).
+//! The outside of a lathe: where tapes and other texts come from (`Shelf`), where reports go
+//! (`Sink`), who takes the moves of a path (`Turret`), and what gives a path its steps (`Stepper`).
 //!
-//! An object of the outside has one state for contracts: what it holds or got, where it tells that, and its count of
-//! faults. It answers that it failed only where that count rose, so that the layers above can say of every failure
-//! that the outside was its cause; a call that did not fail leaves the count as it was. A shelf tells what it was asked for. A
-//! turret may queue what it gets, and `settle` waits until it stands still. A stepper tells its calls: its steps with their
-//! answers, its drains and its halts.
-//! The forms in memory (`MemoryShelf`, `VecSink`, `MemoryTurret`, `ListStepper`) tell all, and fail exactly as planned;
-//! where an object tells nothing, as a real file, no clause speaks of what it holds.
+//! An object of the outside has one state for contracts: what it holds or got, where it tells that,
+//! and its count of faults. It answers that it failed only where that count rose, so that the
+//! layers above can say of every failure that the outside was its cause; a call that did not fail
+//! leaves the count as it was. A shelf tells what it was asked for. A turret may queue what it
+//! gets, and `settle` waits until it stands still. A stepper tells its calls: its steps with their
+//! answers, its drains and its halts. The forms in memory (`MemoryShelf`, `VecSink`,
+//! `MemoryTurret`, `ListStepper`) tell all, and fail exactly as planned; where an object tells
+//! nothing, as a real file, no clause speaks of what it holds.
 #![tactic(auto)]
 
 mod asked;
@@ -34,8 +35,9 @@ pub use lined_move::LinedMove;
 pub use list_stepper::ListStepper;
 pub use memory_shelf::MemoryShelf;
 pub use memory_turret::MemoryTurret;
+pub use nc_number::Failed;
 pub use shelf::{FetchFault, Shelf};
 pub use sink::{PutFault, Sink};
 pub use stepper::{Call, Drainable, Stepper};
-pub use turret::{Failed, Turret};
+pub use turret::Turret;
 pub use vec_sink::VecSink;

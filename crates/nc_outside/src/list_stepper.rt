@@ -9,8 +9,8 @@ use std::collections::VecDeque;
 use std::marker::Model;
 use std::sync::Wait;
 
-/// Answers a stated list, and behind it that the path has finished. It keeps its calls; where there is no memory for
-/// one more, that call does not return.
+/// Answers a stated list, and behind it that the path has finished. It keeps its calls; where there
+/// is no memory for one more, that call does not return.
 #[derive(Drop)]
 pub struct ListStepper<'r, R> {
     rt: &'r R,
@@ -46,7 +46,7 @@ impl<'r, R> ListStepper<'r, R> {
     }
 }
 
-// Makes room for one call more. Where there is no memory for it, it does not return.
+/// Makes room for one call more. Where there is no memory for it, it does not return.
 fn make_room<R: Wait>(rt: &R, calls: &mut Vec<Call>)
     ensures items { calls.new.items ≡ calls.old.items }
     ensures room { vec_len calls.new < vec_capacity calls.new }
@@ -61,7 +61,7 @@ fn make_room<R: Wait>(rt: &R, calls: &mut Vec<Call>)
 }
 
 impl<'r, R: Wait> ListStepper<'r, R> {
-    // Keeps one call.
+    /// Keeps one call.
     fn note(&mut self, call: Call)
         ensures { self.new ≡ record self.old { calls = self.old.calls ++ call ∷ [] } }
     {

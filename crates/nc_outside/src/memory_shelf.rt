@@ -11,7 +11,8 @@ use nc_number::NoMemory;
 use std::alloc::Global;
 use std::marker::Model;
 
-/// Files in memory, and the numbers of the calls that are to fail. It tells what it was asked for, in clauses alone.
+/// Files in memory, and the numbers of the calls that are to fail. It tells what it was asked for,
+/// in clauses alone.
 #[derive(Drop)]
 pub struct MemoryShelf {
     files: Vec<(String, Vec<u8>)>,
@@ -28,7 +29,8 @@ impl Model for MemoryShelf {
 }
 
 impl MemoryShelf {
-    /// A shelf with these files, of which the `failing` calls of `fetch` are to fail, counted from 1.
+    /// A shelf with these files, of which the `failing` calls of `fetch` are to fail, counted from
+    /// 1.
     pub fn new(
         alloc: Global,
         files: Vec<(String, Vec<u8>)>,
@@ -46,7 +48,7 @@ impl MemoryShelf {
     }
 }
 
-// The bytes of the first file of that name.
+/// The bytes of the first file of that name.
 fn find<'a>(files: &'a [(String, Vec<u8>)], name: &str) -> Option<&'a [u8]>
     ensures { MatchOption result (file_named name.now (files_of files.now) ≡ None)
         (λ bytes. file_named name.now (files_of files.now) ≡ Some bytes.now) }
@@ -59,7 +61,7 @@ fn find<'a>(files: &'a [(String, Vec<u8>)], name: &str) -> Option<&'a [u8]>
     None
 }
 
-// Appends the bytes of the file of that name, where they are few enough.
+/// Appends the bytes of the file of that name, where they are few enough.
 fn read(
     files: &[(String, Vec<u8>)],
     name: &str,

@@ -11,8 +11,8 @@ use nc_number::{NoMemory, Point};
 use std::alloc::Global;
 use std::marker::Model;
 
-/// What a turret got, in memory, with a fixed room for it, and the numbers of the calls and of the settles that are to fail. A
-/// call that finds no room fails too. Its calls take no memory.
+/// What a turret got, in memory, with a fixed room for it, and the numbers of the calls and of the
+/// settles that are to fail. A call that finds no room fails too. Its calls take no memory.
 #[derive(Drop)]
 pub struct MemoryTurret {
     got: Vec<Got>,
@@ -40,8 +40,9 @@ impl Model for MemoryTurret {
 }
 
 impl MemoryTurret {
-    /// A turret that got nothing yet, with room for so many places and moves, of which the `failing` calls of `place`
-    /// and `hand` together are to fail, counted from 1. It settles each time.
+    /// A turret that got nothing yet, with room for so many places and moves, of which the
+    /// `failing` calls of `place` and `hand` together are to fail, counted from 1. It settles each
+    /// time.
     pub fn new(alloc: Global, room: usize, failing: &[u64]) -> Result<Self, NoMemory>
         ensures { IfOk result (λ turret. turret ≡ record {
           got = [];
@@ -54,7 +55,8 @@ impl MemoryTurret {
         MemoryTurret::with_plans(alloc, room, failing, &[])
     }
 
-    /// The same, of which the `unsettled` calls of `settle` are to fail besides, counted from 1 by themselves.
+    /// The same, of which the `unsettled` calls of `settle` are to fail besides, counted from 1 by
+    /// themselves.
     pub fn with_plans(
         alloc: Global,
         room: usize,
@@ -88,7 +90,7 @@ impl MemoryTurret {
         self.got.as_slice()
     }
 
-    // Counts a call, and says whether it fails.
+    /// Counts a call, and says whether it fails.
     fn refuses(&mut self) -> bool
         ensures fails { result ≡ refuses_next self.old }
         ensures new { self.new ≡ when_counted self.old }
@@ -104,7 +106,7 @@ impl MemoryTurret {
         true
     }
 
-    // One call, which hands the turret this.
+    /// One call, which hands the turret this.
     #[tactic(auto, unfolding(crate::specs::Received::counted_on))]
     fn receive(&mut self, what: Got) -> Result<(), Failed>
         ensures fails { is_err result ≡ refuses_next self.old }

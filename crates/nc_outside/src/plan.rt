@@ -7,8 +7,8 @@ use nc_number::NoMemory;
 use std::alloc::Global;
 use std::marker::Model;
 
-/// The numbers of the calls that are to fail, counted from 1, and how many calls have been made. A number that is
-/// listed twice counts as two faults.
+/// The numbers of the calls that are to fail, counted from 1, and how many calls have been made. A
+/// number that is listed twice counts as two faults.
 #[derive(Debug, Drop)]
 pub struct Plan {
     failing: Vec<u64>,

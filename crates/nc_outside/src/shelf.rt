@@ -41,8 +41,8 @@ pub trait Shelf {
     fn faults(&self) -> u64
         ensures { result ≡ (state self.now).faults };
 
-    /// Appends the bytes of the file of that name, at most `max` of them. A longer file is refused. After an error
-    /// nothing is appended.
+    /// Appends the bytes of the file of that name, at most `max` of them. A longer file is refused.
+    /// After an error nothing is appended.
     fn fetch(&mut self, name: &str, into: &mut Vec<u8>, max: usize) -> Result<(), FetchFault>
         ensures ok { OnOk result ((bytes : List ℕ) × Holds (state self.old).files name.now bytes
             × (length bytes ≤ max) × (into.new.items ≡ into.old.items ++ bytes)) }

@@ -35,7 +35,8 @@ pub trait Sink {
     fn faults(&self) -> u64
         ensures { result ≡ (state self.now).faults };
 
-    /// Writes a piece behind what is there. After an error a part of the piece, from its start, may be there.
+    /// Writes a piece behind what is there. After an error a part of the piece, from its start, may
+    /// be there.
     fn put(&mut self, piece: &[u8]) -> Result<(), PutFault>
         ensures ok { OnOk result (Writes (state self.old) (state self.new) piece.now) }
         ensures err { OnErr result ((n : ℕ) × Writes (state self.old) (state self.new) (take n piece.now)) }

@@ -3,22 +3,17 @@ ghost use Rattle.std.specs.Prelude.{◌≡◌, [], ◌∷◌, IsErr, OnOk, OnErr
 ghost use Rattle.nc_outside.specs.Faults.{CountsFault};
 
 use crate::{Got, LinedMove};
-use nc_number::Point;
-use thiserror::Error;
+use nc_number::{Failed, Point};
 
-/// The device failed, and its count of faults rose.
-#[derive(Clone, Copy, Debug, PartialEq, Eq, Error)]
-#[error("the device failed")]
-pub struct Failed;
-
-/// A turret of the lathe, which means the list of what it got, in order. A call that failed adds nothing to it. Only a call that
-/// failed raises its count of faults.
+/// A turret of the lathe, which means the list of what it got, in order. A call that failed adds
+/// nothing to it. Only a call that failed raises its count of faults.
 ///
 /// It can be dropped, so that a thread can own it.
 pub trait Turret: Drop {
     ghost use Rattle.nc_outside.specs.Received.{TurretState, Receives, Settles};
 
-    /// What it got, how many calls it has had and how often it was to settle, where it tells that, and how often it has failed.
+    /// What it got, how many calls it has had and how often it was to settle, where it tells that,
+    /// and how often it has failed.
     ghost state: { Self → TurretState };
 
     /// How often the turret has failed.
@@ -31,15 +26,15 @@ pub trait Turret: Drop {
         ensures err { OnErr result (Receives (state self.old) (state self.new) [] 1) }
         ensures fault { CountsFault (state self.old).faults (state self.new).faults (IsErr result) };
 
-    /// Hands over one move, with the line of its block. It may return before the move is made: a turret may queue what it
-    /// gets, and look ahead.
+    /// Hands over one move, with the line of its block. It may return before the move is made: a
+    /// turret may queue what it gets, and look ahead.
     fn hand(&mut self, what: &LinedMove) -> Result<(), Failed>
         ensures ok { OnOk result (Receives (state self.old) (state self.new) (Got.Moved what.now ∷ []) 1) }
         ensures err { OnErr result (Receives (state self.old) (state self.new) [] 1) }
         ensures fault { CountsFault (state self.old).faults (state self.new).faults (IsErr result) };
 
-    /// Waits until the turret has made every move that it got, and stands still: Ok says that it does. This is neither a place
-    /// nor a move, and is counted apart.
+    /// Waits until the turret has made every move that it got, and stands still: Ok says that it
+    /// does. This is neither a place nor a move, and is counted apart.
     fn settle(&mut self) -> Result<(), Failed>
         ensures settled { Settles (state self.old) (state self.new) }
         ensures fault { CountsFault (state self.old).faults (state self.new).faults (IsErr result) };

@@ -1,13 +1,14 @@
 use Rattle.std.specs.Prelude.{ℕ, ◌==◌, if◌then◌else◌, replicate, Option, Some, ℤ, ◌+ℤ◌}
 use Rattle.std.specs.Option.{option_map_or}
 use Rattle.nc_number.specs.declared.point.Point.{Point}
+use Rattle.nc_number.specs.Position.{origin}
 use Rattle.offset_store.specs.declared.fault.OffsetFault.{OffsetFault}
 use Rattle.nc_number.specs.declared.cause.Cause.TheVariants.{OffsetNumber}
 use Rattle.offset_store.specs.Faults.{fault}
 use Rattle.offset_store.specs.declared.slot.OffsetForm.{OffsetForm}
 use Rattle.offset_store.specs.Slots.{slot_of}
 use Rattle.offset_store.specs.Changes.{position_fault, with_point}
-use Rattle.offset_store.specs.Table.{OffsetTable, origin, offset_at}
+use Rattle.offset_store.specs.Table.{OffsetTable, offset_at}
 
 -- every offset 0
 abbrev pub no_offsets : OffsetTable
@@ -29,7 +30,8 @@ shift_of o work offset =
 abbrev pub shift_travel : ℕ
 shift_travel = 399999996
 
--- the alarm of an offset that is set: 40 where G10 names none by that number, else 41 past the range
+-- the alarm of an offset that is set: 40 where G10 names none by that number, else 41 past the
+-- range
 abbrev pub set_fault : OffsetForm → ℤ → Point → Option OffsetFault
 set_fault form n to =
     option_map_or (λ slot. position_fault to) (slot_of form (Some n)) (Some (fault OffsetNumber))

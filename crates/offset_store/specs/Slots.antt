@@ -2,6 +2,7 @@ use Rattle.std.specs.Prelude.{◌-◌, if◌then◌else◌, Option, Some, None, 
 use Rattle.offset_store.specs.declared.fault.OffsetFault.{OffsetFault}
 use Rattle.std.specs.Option.{option_map}
 use Rattle.nc_number.specs.declared.cause.Cause.TheVariants.{OffsetNumber}
+use Rattle.nc_number.specs.declared.point.TheConstants.{TOOL_OFFSETS}
 use Rattle.offset_store.specs.Faults.{fault}
 use Rattle.offset_store.specs.declared.slot.Slot.{Slot}
 use Rattle.offset_store.specs.declared.slot.Slot.TheVariants.{Work, Geometry, Wear}
@@ -16,7 +17,7 @@ work_slot n = option_map Work (work_number n)
 -- the tool offset of a number: wear is 1 to 64, geometry 10,001 to 10,064
 abbrev pub tool_slot : ℤ → Option Slot
 tool_slot n =
-    if is_between 1 64 n then Some (Wear (unsigned_abs n))
+    if is_between 1 TOOL_OFFSETS n then Some (Wear (unsigned_abs n))
     else if is_between 10001 10064 n then Some (Geometry (unsigned_abs n - 10000))
     else None
 

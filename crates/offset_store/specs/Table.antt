@@ -1,7 +1,7 @@
 use Rattle.std.specs.Prelude.{◌≡◌, List, Option, Some, None, if◌then◌else◌}
 use Rattle.nc_number.specs.declared.point.Point.{Point}
-use Rattle.nc_number.specs.Position.{is_position}
-pub use Rattle.offset_store.specs.Lists.{origin, offset_at}
+use Rattle.nc_number.specs.Position.{is_position, origin}
+pub use Rattle.offset_store.specs.Lists.{offset_at}
 
 -- the offsets of a path, each at the place of its number
 pub record OffsetTable : Type 0 where

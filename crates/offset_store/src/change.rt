@@ -1,3 +1,4 @@
+//! An offset with a block's words read.
 ghost use Rattle.std.specs.Prelude.{◌≡◌, ◌≤◌, if◌then◌else◌, nat_le, unsigned_abs, Some, None, IfOk};
 ghost use Rattle.nc_number.specs.Position.{IsPosition, travel};
 ghost use Rattle.offset_store.specs.Changes.{changed_part, changed_point, in_range};
@@ -5,8 +6,8 @@ ghost use Rattle.offset_store.specs.Changes.{changed_part, changed_point, in_ran
 use crate::fault::OffsetFault;
 use nc_number::{Axis, Cause, Point, TRAVEL};
 
-// An offset with a block's words read: X and Z set, U and W add, and an axis without a word stays.
-// Alarm 41 exactly where a part is then past 99,999.999 mm.
+/// An offset with a block's words read: X and Z set, U and W add, and an axis without a word stays.
+/// Alarm 41 exactly where a part is then past 99,999.999 mm.
 pub(crate) fn changed_point(now: &Point, x: Axis, z: Axis) -> Result<Point, OffsetFault>
     requires { IsPosition now.now }
     ensures point { result ≡ in_range (changed_point now.now x z) }
@@ -18,7 +19,7 @@ pub(crate) fn changed_point(now: &Point, x: Axis, z: Axis) -> Result<Point, Offs
     }
 }
 
-// A part of an offset with its word read, where it is then no farther from 0 than 99,999.999 mm.
+/// A part of an offset with its word read, where it is then no farther from 0 than 99,999.999 mm.
 fn changed_part(now: i64, word: Axis) -> Option<i64>
     requires { unsigned_abs now ≤ travel }
     ensures { result ≡ (if nat_le (unsigned_abs (changed_part now word)) travel

@@ -1,10 +1,11 @@
+//! Why an offset was not set.
 ghost use Rattle.std.specs.Prelude.{◌≡◌};
 
 use nc_number::Cause;
 use thiserror::Error;
 
-/// Why an offset was not set, as the number of the alarm: 40 where it does not exist, 41 where it would
-/// be past the range.
+/// Why an offset was not set, as the number of the alarm: 40 where it does not exist, 41 where it
+/// would be past the range.
 #[derive(Clone, Copy, Debug, PartialEq, Eq, Error)]
 #[error("offset alarm {number}")]
 pub struct OffsetFault {

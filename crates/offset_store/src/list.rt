@@ -1,6 +1,7 @@
+//! Offsets by their numbers.
 ghost use Rattle.std.specs.Prelude.{◌≡◌, ◌<◌, replicate, slice_set};
-ghost use Rattle.nc_number.specs.Position.{IsPosition};
-ghost use Rattle.offset_store.specs.Lists.{origin, offset_at};
+ghost use Rattle.nc_number.specs.Position.{IsPosition, origin};
+ghost use Rattle.offset_store.specs.Lists.{offset_at};
 
 use nc_number::Point;
 use std::marker::Model;
@@ -27,7 +28,7 @@ impl<const N: usize> Model for OffsetList<N> {
 }
 
 impl<const N: usize> OffsetList<N> {
-    // Every offset 0.
+    /// Every offset 0.
     pub(crate) fn new() -> Self
         ensures { result ≡ replicate N origin }
     {

@@ -1,3 +1,4 @@
+//! The numbers of offsets.
 ghost use Rattle.std.specs.Prelude.{◌≡◌, ◌≤◌};
 ghost use Rattle.nc_number.specs.declared.point.TheConstants.{TOOL_OFFSETS};
 ghost use Rattle.offset_store.specs.declared.number.TheConstants.{LAST_WORK};

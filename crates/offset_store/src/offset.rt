@@ -1,3 +1,4 @@
+//! A point that may be an offset.
 ghost use Rattle.std.specs.Prelude.{◌≡◌};
 ghost use Rattle.nc_number.specs.Position.{IsPosition};
 

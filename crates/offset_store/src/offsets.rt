@@ -1,9 +1,10 @@
+//! The offsets of a path.
 ghost use Rattle.std.specs.Prelude.{◌≡◌, ◌≤◌, ◌+ℤ◌, unsigned_abs, IfOk, OnOk, OnErr};
 ghost use Rattle.std.specs.Result.{result_err};
-ghost use Rattle.nc_number.specs.Position.{IsPosition, IsWithin};
+ghost use Rattle.nc_number.specs.Position.{IsPosition, IsWithin, origin};
 ghost use Rattle.nc_number.specs.declared.point.TheConstants.{TOOL_OFFSETS};
 ghost use Rattle.offset_store.specs.declared.number.TheConstants.{LAST_WORK};
-ghost use Rattle.offset_store.specs.Lists.{origin, offset_at};
+ghost use Rattle.offset_store.specs.Lists.{offset_at};
 ghost use Rattle.offset_store.specs.declared.slot.OffsetForm.TheVariants.{WorkOffset, ToolOffset};
 ghost use Rattle.offset_store.specs.Changes.{point_at, with_point, changed_point, in_range};
 ghost use Rattle.offset_store.specs.Offsets.{no_offsets, work_in_force, shift_of, shift_travel, set_fault, with_set};
@@ -76,8 +77,9 @@ impl Offsets {
         self.wear.at(n)
     }
 
-    /// How far programmed coordinates lie behind machine coordinates where this work offset (1 to 6,
-    /// or 0 for the external one alone) and this tool offset (1 to 64, or 0 for none) are in force.
+    /// How far programmed coordinates lie behind machine coordinates where this work offset (1 to
+    /// 6, or 0 for the external one alone) and this tool offset (1 to 64, or 0 for none) are in
+    /// force.
     pub fn shift(&self, work: u8, offset: u8) -> Point
         requires work { work ≤ LAST_WORK }
         requires offset { offset ≤ TOOL_OFFSETS }
@@ -94,7 +96,7 @@ impl Offsets {
         }
     }
 
-    // The work offset beside the external one.
+    /// The work offset beside the external one.
     fn work_in_force(&self, work: u8) -> Point
         requires { work ≤ LAST_WORK }
         ensures offset { result ≡ work_in_force self.now work }
@@ -115,8 +117,8 @@ impl Offsets {
         }
     }
 
-    /// What the words of G10 make of an offset: X and Z set, U and W add, and an axis without a word
-    /// stays. Alarm 41 exactly where a part is then past 99,999.999 mm. It looks only.
+    /// What the words of G10 make of an offset: X and Z set, U and W add, and an axis without a
+    /// word stays. Alarm 41 exactly where a part is then past 99,999.999 mm. It looks only.
     pub fn changed(&self, slot: &Slot, x: Axis, z: Axis) -> Result<Point, OffsetFault>
         ensures point { result ≡ in_range (changed_point (point_at self.now slot.now) x z) }
         ensures position { IfOk result IsPosition }
@@ -137,8 +139,8 @@ impl Offsets {
         }
     }
 
-    /// Sets work offset `n`: alarm 40 where it is none of 0 to 6, else 41 where a part of the point is
-    /// past the range.
+    /// Sets work offset `n`: alarm 40 where it is none of 0 to 6, else 41 where a part of the point
+    /// is past the range.
     pub fn set_work(&mut self, n: i64, to: Point) -> Result<(), OffsetFault>
         ensures fault { result_err result ≡ set_fault WorkOffset n to }
         ensures set { OnOk result (self.new ≡ with_set self.old WorkOffset n to) }
@@ -147,8 +149,8 @@ impl Offsets {
         self.set(OffsetForm::WorkOffset, n, to)
     }
 
-    /// Sets wear offset `p`, from 1 to 64, or geometry offset `p` - 10,000, from 1 to 64: alarm 40 where
-    /// `p` is neither, else 41 where a part of the point is past the range.
+    /// Sets wear offset `p`, from 1 to 64, or geometry offset `p` - 10,000, from 1 to 64: alarm 40
+    /// where `p` is neither, else 41 where a part of the point is past the range.
     pub fn set_tool(&mut self, p: i64, to: Point) -> Result<(), OffsetFault>
         ensures fault { result_err result ≡ set_fault ToolOffset p to }
         ensures set { OnOk result (self.new ≡ with_set self.old ToolOffset p to) }
@@ -157,7 +159,7 @@ impl Offsets {
         self.set(OffsetForm::ToolOffset, p, to)
     }
 
-    // Sets the offset that G10 names by this number.
+    /// Sets the offset that G10 names by this number.
     fn set(&mut self, form: OffsetForm, n: i64, to: Point) -> Result<(), OffsetFault>
         ensures fault { result_err result ≡ set_fault form n to }
         ensures set { OnOk result (self.new ≡ with_set self.old form n to) }

@@ -1,3 +1,4 @@
+//! Where an offset stands.
 ghost use Rattle.std.specs.Prelude.{◌≡◌};
 ghost use Rattle.offset_store.specs.Slots.{work_slot, tool_slot};
 
@@ -28,9 +29,9 @@ pub enum OffsetForm {
 impl Slot {
     ghost use Rattle.offset_store.specs.Slots.{slot_named};
 
-    /// The offset that G10 names by its P: with L2 work offset P, from 0 to 6; without it wear offset P,
-    /// from 1 to 64, or geometry offset P - 10,000, where P is from 10,001 to 10,064. Alarm 40 exactly
-    /// where there is none of these, a P that is absent or vacant among them.
+    /// The offset that G10 names by its P: with L2 work offset P, from 0 to 6; without it wear
+    /// offset P, from 1 to 64, or geometry offset P - 10,000, where P is from 10,001 to 10,064.
+    /// Alarm 40 exactly where there is none of these, a P that is absent or vacant among them.
     pub fn named(form: OffsetForm, p: Option<i64>) -> Result<Self, OffsetFault>
         ensures { result ≡ slot_named form p }
     {
@@ -43,12 +44,14 @@ impl Slot {
     }
 }
 
+/// The work offset of a number.
 fn work_slot(n: i64) -> Option<Slot>
     ensures { result ≡ work_slot n }
 {
     WorkNumber::of(n).map(|number| Slot::Work(number))
 }
 
+/// The tool offset of a number.
 fn tool_slot(n: i64) -> Option<Slot>
     ensures { result ≡ tool_slot n }
 {

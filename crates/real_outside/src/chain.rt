@@ -30,10 +30,12 @@ enum Head {
     Cut,
 }
 
-/// Goes over the gates of a journal, from the first on, each of them read once, and no further than the first that is shut.
+/// Goes over the gates of a journal, from the first on, each of them read once, and no further than
+/// the first that is shut.
 ///
-/// Who writes a journal opens a gate only where what stands after it is whole and on the medium, and never changes what stands before
-/// a gate that is shut. So this is how far the journal counted at some moment, whatever is written meanwhile.
+/// Who writes a journal opens a gate only where what stands after it is whole and on the medium,
+/// and never changes what stands before a gate that is shut. So this is how far the journal counted
+/// at some moment, whatever is written meanwhile.
 pub(crate) fn last_gate<F: RawFile>(file: &F) -> io::Result<LastGate>
     ensures { IfOk result (λ gate. gate.at < 2 ^ 62) }
 {

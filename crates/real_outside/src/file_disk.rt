@@ -1,6 +1,6 @@
 //! The journal's file as the disk of a run.
 ghost use Rattle.std.specs.Prelude.{◌≡◌, ◌≤◌};
-ghost use Rattle.disk_model.specs.Device.{Rose};
+ghost use Rattle.nc_number.specs.Faults.{Rose};
 
 use crate::folder::Folder;
 use crate::journal_file::{Access, JournalFile, Trouble};
@@ -8,8 +8,8 @@ use disk_model::{Disk, Failed};
 
 /// A journal in a folder as a disk, which tells nothing of what it holds.
 ///
-/// It is looked for at the first call, and made by the first write. What it promises, as far as the calls of the system keep their
-/// word:
+/// It is looked for at the first call, and made by the first write. What it promises, as far as the
+/// calls of the system keep their word:
 ///
 /// - After a sync that answered Ok all that was written is on the medium, and the folder has the journal's name there.
 /// - What is found of a journal is on the medium once the first sync has answered Ok, even where an earlier program's sync failed: it is
@@ -20,7 +20,8 @@ use disk_model::{Disk, Failed};
 ///   before, whoever writes meanwhile. Where an earlier program's sync failed, it may show what is in the memory of the system alone.
 /// - It takes no memory.
 ///
-/// It promises nothing of a medium that answers Ok and loses what was written, nor of a program that writes the file and holds no lock.
+/// It promises nothing of a medium that answers Ok and loses what was written, nor of a program
+/// that writes the file and holds no lock.
 #[derive(Drop)]
 pub struct FileDisk<'a, D: Folder + Drop> {
     file: JournalFile<'a, D>,
@@ -28,7 +29,8 @@ pub struct FileDisk<'a, D: Folder + Drop> {
 }
 
 impl<'a, D: Folder + Drop> FileDisk<'a, D> {
-    /// The journal of this name in the folder, for a command that does this with it. It has not failed yet.
+    /// The journal of this name in the folder, for a command that does this with it. It has not
+    /// failed yet.
     pub fn new(folder: D, name: &'a str, access: Access) -> Self
         ensures { result.faults ≡ 0 }
     {
@@ -38,7 +40,8 @@ impl<'a, D: Folder + Drop> FileDisk<'a, D> {
         }
     }
 
-    /// Why the journal can't be used, where that is no fault of its disk: it is said to a person beside the fault.
+    /// Why the journal can't be used, where that is no fault of its disk: it is said to a person
+    /// beside the fault.
     pub fn trouble(&self) -> Option<Trouble> {
         self.file.trouble()
     }

@@ -40,7 +40,7 @@ impl<R: Files> Shelf for FileShelf<'_, R> {
     }
 }
 
-// Appends a file of at most `max` bytes, of which one more than that is read at most.
+/// Appends a file of at most `max` bytes, of which one more than that is read at most.
 fn read<R: Files>(rt: &R, name: &str, into: &mut Vec<u8>, max: usize) -> Result<(), FetchFault>
     ensures ok { OnOk result ((bytes : List ℕ) × (length bytes ≤ max) × (into.new.items ≡ into.old.items ++ bytes)) }
     ensures err { OnErr result (into.new.items ≡ into.old.items) }
@@ -60,7 +60,8 @@ fn read<R: Files>(rt: &R, name: &str, into: &mut Vec<u8>, max: usize) -> Result<
     Err(fault)
 }
 
-// What an error of the file system means for a fetch. There is no file below a name that is no folder.
+/// What an error of the file system means for a fetch. There is no file below a name that is no
+/// folder.
 fn fault_of(kind: ErrorKind) -> FetchFault
     ensures absent { kind ≡ ErrorKind.NotFound → result ≡ FetchFault.Absent }
     ensures below_a_file { kind ≡ ErrorKind.NotADirectory → result ≡ FetchFault.Absent }
@@ -76,7 +77,8 @@ fn fault_of(kind: ErrorKind) -> FetchFault
     }
 }
 
-// Appends the first bytes of a file, `limit` of them at most, and tells how many they are. After an error some may be there.
+/// Appends the first bytes of a file, `limit` of them at most, and tells how many they are. After
+/// an error some may be there.
 fn append<R: Files>(rt: &R, name: &str, into: &mut Vec<u8>, limit: u64) -> io::Result<usize>
     ensures count { IfOk result (λ count. length into.new.items ≡ length into.old.items + count) }
     ensures start { StartsWith into.new.items into.old.items }

@@ -22,7 +22,8 @@ pub trait Folder {
     /// Opens a file to be read alone. `NotFound` where there is none.
     fn open_to_read(&self, name: &str) -> io::Result<Self::File>;
 
-    /// Makes a file that is not there, and opens it to be read and written. `AlreadyExists` where there is one.
+    /// Makes a file that is not there, and opens it to be read and written. `AlreadyExists` where
+    /// there is one.
     fn make(&self, name: &str) -> io::Result<Self::File>;
 
     /// Which file has this name now. `NotFound` where none has it.
@@ -32,8 +33,9 @@ pub trait Folder {
     fn sync(&self) -> io::Result<()>;
 }
 
-/// An open file, as the system has it. `read_at` and `write_at` may come to fewer bytes than they were asked for, or be `Interrupted`;
-/// the other calls are made again where a signal interrupted them. It is closed, and its lock with it, where it is dropped.
+/// An open file, as the system has it. `read_at` and `write_at` may come to fewer bytes than they
+/// were asked for, or be `Interrupted`; the other calls are made again where a signal interrupted
+/// them. It is closed, and its lock with it, where it is dropped.
 pub trait RawFile: FileExt + Drop {
     /// The number of bytes.
     fn length(&self) -> io::Result<u64>;
@@ -41,10 +43,11 @@ pub trait RawFile: FileExt + Drop {
     /// Which file it is.
     fn identity(&self) -> io::Result<Identity>;
 
-    /// Keeps every other from holding the file, up to the end of this one. False where another holds it; it does not wait.
+    /// Keeps every other from holding the file, up to the end of this one. False where another
+    /// holds it; it does not wait.
     fn hold(&self) -> io::Result<bool>;
 
-    /// Puts on the medium what was written. After an error the system may take what is not there for written, so that a later Ok, of
-    /// another opening of the file too, tells nothing of it.
+    /// Puts on the medium what was written. After an error the system may take what is not there
+    /// for written, so that a later Ok, of another opening of the file too, tells nothing of it.
     fn sync(&self) -> io::Result<()>;
 }

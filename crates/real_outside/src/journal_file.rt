@@ -14,7 +14,8 @@ use thiserror::Error;
 pub enum Access {
     /// It reads what is there, keeps nobody from writing, and writes nothing.
     Look,
-    /// It reads and writes, and no other command may write meanwhile. A journal that it may not write it does not read either.
+    /// It reads and writes, and no other command may write meanwhile. A journal that it may not
+    /// write it does not read either.
     Write,
 }
 
@@ -43,15 +44,17 @@ enum Found<F: RawFile> {
     Open(F),
     /// It is open to be read alone.
     Shown(F),
-    /// It may not be used, or a write or a sync failed. The Ok of a later sync would tell nothing of what was written before.
+    /// It may not be used, or a write or a sync failed. The Ok of a later sync would tell nothing
+    /// of what was written before.
     Lost,
 }
 
 /// A file of a folder.
 ///
-/// It is looked for at the first call, and made at the first write; until then it reads as a file of no bytes, so that
-/// a command which only looks leaves none behind. One command at a time may write it, and to another that would each call
-/// fails. After a write or a sync that failed each call fails.
+/// It is looked for at the first call, and made at the first write; until then it reads as a file
+/// of no bytes, so that a command which only looks leaves none behind. One command at a time may
+/// write it, and to another that would each call fails. After a write or a sync that failed each
+/// call fails.
 #[derive(Drop)]
 pub(crate) struct JournalFile<'a, D: Folder + Drop> {
     folder: D,
@@ -100,7 +103,8 @@ impl<'a, D: Folder + Drop> JournalFile<'a, D> {
         }
     }
 
-    /// Reads from an offset on, as many bytes as there are, up to the slice's length, and answers how many.
+    /// Reads from an offset on, as many bytes as there are, up to the slice's length, and answers
+    /// how many.
     pub(crate) fn read_at(&mut self, at: u64, into: &mut [u8]) -> io::Result<usize>
         ensures { IfOk result (λ n. n ≤ length into.old) }
     {
@@ -169,8 +173,8 @@ impl<'a, D: Folder + Drop> JournalFile<'a, D> {
         Err(error)
     }
 
-    /// The open file, which nobody else may write up to the command's end. Nothing was read of it before, so that all that others wrote
-    /// is seen.
+    /// The open file, which nobody else may write up to the command's end. Nothing was read of it
+    /// before, so that all that others wrote is seen.
     fn hold(&mut self, file: D::File) -> io::Result<Found<D::File>> {
         if !file.hold()? {
             self.trouble = Some(Trouble::Held);
@@ -238,7 +242,8 @@ impl<'a, D: Folder + Drop> JournalFile<'a, D> {
         Ok(())
     }
 
-    /// Fails where the file that is written has its name no longer: what is on the medium would be found by nobody.
+    /// Fails where the file that is written has its name no longer: what is on the medium would be
+    /// found by nobody.
     fn recognize(&mut self) -> io::Result<()> {
         let Found::Open(file) = &self.found else {
             return Ok(());
@@ -284,8 +289,8 @@ fn length_of<F: RawFile>(file: &F) -> io::Result<u64>
     Ok(length)
 }
 
-/// Writes all bytes at an offset, where they end before the end of a file. A write that comes to fewer bytes, or is interrupted, is gone
-/// on with.
+/// Writes all bytes at an offset, where they end before the end of a file. A write that comes to
+/// fewer bytes, or is interrupted, is gone on with.
 fn put<F: RawFile>(file: &F, at: u64, bytes: &[u8]) -> io::Result<()>
     ensures { OnOk result (at + length bytes.now < 2 ^ 62) }
 {

@@ -9,8 +9,9 @@ use std::rt::Files;
 
 /// A file or a named pipe for the lines of a turret. It tells nothing of what was written.
 ///
-/// It is opened at the first line. A file is made anew then; a named pipe is waited for until somebody reads it. Each line is handed to
-/// the system at once. If no name was given, each line is taken and kept nowhere.
+/// It is opened at the first line. A file is made anew then; a named pipe is waited for until
+/// somebody reads it. Each line is handed to the system at once. If no name was given, each line is
+/// taken and kept nowhere.
 #[derive(Drop)]
 pub struct LineFile<'a, R: Files<File = File>> {
     rt: &'a R,
@@ -52,8 +53,8 @@ fn write<R: Files<File = File>>(
     }
 }
 
-/// The file, made anew, by a descriptor that is none of the three of the standard streams: where one of those is closed, the system
-/// gives its number to the next file that is opened.
+/// The file, made anew, by a descriptor that is none of the three of the standard streams: where
+/// one of those is closed, the system gives its number to the next file that is opened.
 fn opened<R: Files<File = File>>(rt: &R, name: &str) -> io::Result<File> {
     File::create(rt, name)?.try_clone()
 }

@@ -8,8 +8,8 @@ use std::io::ErrorKind;
 /// How many bytes are written over themselves at once.
 const PIECE: usize = 16_384;
 
-/// Reads from an offset on, as many bytes as there are, up to the slice's length, and answers how many. A read that comes to fewer
-/// bytes, or is interrupted, is gone on with.
+/// Reads from an offset on, as many bytes as there are, up to the slice's length, and answers how
+/// many. A read that comes to fewer bytes, or is interrupted, is gone on with.
 pub(crate) fn read_up_to<F: RawFile>(file: &F, at: u64, into: &mut [u8]) -> io::Result<usize>
     ensures { IfOk result (λ count. count ≤ length into.old) }
 {
@@ -30,8 +30,9 @@ pub(crate) fn read_up_to<F: RawFile>(file: &F, at: u64, into: &mut [u8]) -> io::
 
 /// Writes over themselves all bytes up to this end, or up to the file's.
 ///
-/// After a write to the medium that failed, the system takes for written what it has in memory alone, and a sync leaves it there. What
-/// was written over itself is to be written again. A stop inside leaves each byte as it was.
+/// After a write to the medium that failed, the system takes for written what it has in memory
+/// alone, and a sync leaves it there. What was written over itself is to be written again. A stop
+/// inside leaves each byte as it was.
 pub(crate) fn write_again<F: RawFile>(file: &F, end: u64) -> io::Result<()>
     requires { end ≤ 2 ^ 62 }
 {

@@ -1,7 +1,8 @@
 //! A journal that is read while another command may write it.
 //!
-//! It is shown as it counted when it was looked at first: up to its first gate that was shut then, and with that gate shut, whatever is
-//! written meanwhile. That takes no memory, and no more of the file is read than is asked for, but for the gates.
+//! It is shown as it counted when it was looked at first: up to its first gate that was shut then,
+//! and with that gate shut, whatever is written meanwhile. That takes no memory, and no more of the
+//! file is read than is asked for, but for the gates.
 ghost use Rattle.std.specs.Prelude.{◌≤◌, ◌<◌, ◌^◌, IfOk, length};
 
 use crate::chain::{END, LastGate, last_gate};
@@ -18,10 +19,12 @@ pub(crate) struct Extent {
     shut: Option<u64>,
 }
 
-/// Sees to it that all that is shown is on the medium: it is looked at before the sync, so that nothing is shown which came later. What a
-/// sync that failed left in the memory of the system alone is shown too: only who writes the journal puts that on the medium.
+/// Sees to it that all that is shown is on the medium: it is looked at before the sync, so that
+/// nothing is shown which came later. What a sync that failed left in the memory of the system
+/// alone is shown too: only who writes the journal puts that on the medium.
 ///
-/// A medium that can't be synced since it can't be written is no fault: nothing of it waits to be written.
+/// A medium that can't be synced since it can't be written is no fault: nothing of it waits to be
+/// written.
 pub(crate) fn sync_shown<F: RawFile>(file: &F, shown: &mut Option<Extent>) -> io::Result<()> {
     settled_extent(file, shown)?;
     written(file.sync())
@@ -38,7 +41,8 @@ pub(crate) fn length_shown<F: RawFile>(file: &F, shown: &mut Option<Extent>) -> 
     Ok(length)
 }
 
-/// Reads from an offset on, as many bytes as are shown, up to the slice's length, and answers how many.
+/// Reads from an offset on, as many bytes as are shown, up to the slice's length, and answers how
+/// many.
 pub(crate) fn read_shown<F: RawFile>(
     file: &F,
     shown: &mut Option<Extent>,
@@ -66,7 +70,8 @@ fn settled_extent<F: RawFile>(file: &F, shown: &mut Option<Extent>) -> io::Resul
     Ok(extent)
 }
 
-/// How much of a journal counts now. The length is asked for after the last gate was read: where that one is open, the file is cut short.
+/// How much of a journal counts now. The length is asked for after the last gate was read: where
+/// that one is open, the file is cut short.
 fn extent_of<F: RawFile>(file: &F) -> io::Result<Extent> {
     let LastGate { at, is_shut } = last_gate(file)?;
     if is_shut {

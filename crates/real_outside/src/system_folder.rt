@@ -57,8 +57,9 @@ pub struct SystemFile {
     file: File,
 }
 
-/// The same file by a descriptor that is none of the three of the standard streams. Where one of those is closed the
-/// system gives its number to the next file that is opened, and a report would then be written into the journal.
+/// The same file by a descriptor that is none of the three of the standard streams. Where one of
+/// those is closed the system gives its number to the next file that is opened, and a report would
+/// then be written into the journal.
 fn apart(file: File) -> io::Result<SystemFile> {
     Ok(SystemFile {
         file: file.try_clone()?,

@@ -1,4 +1,5 @@
--- The lines of a made tape: how many there are, which begin with M, and that its text reads as them.
+-- The lines of a made tape: how many there are, which begin with M, and that its text reads as
+-- them.
 use Rattle.std.proofs.Common.{◌≡◌, ℕ, zero, suc, ◌+◌, ◌-◌, ◌*◌, ◌/◌, ◌%◌, ◌<◌, ◌≤◌, Bool, true, false, cond, ◌&&◌, List, [], ◌∷◌, ◌++◌, map, filter, length, refl, ap, ◌∙◌, arith, append_assoc, length-append, codes, inl, inr}
 use Rattle.std.specs.Prelude.{nat_eq, nat_le}
 use Rattle.std.specs.List.{flat_map, list_all, range_with_len, slice_index, slice_split}
@@ -12,8 +13,8 @@ use Rattle.std.proofs.lemmas.List.Elements.{filter-append}
 use Rattle.std.proofs.lemmas.List.Folds.{list_all-append}
 use Rattle.std.proofs.lemmas.List.Splits.{length-slice_split}
 use Rattle.std.proofs.lemmas.List.FromFn.{length-range_with_len}
-use Rattle.tape_maker.specs.declared.path.Path.{Path}
-use Rattle.tape_maker.specs.declared.path.Path.TheVariants.{One, Two}
+use Rattle.nc_number.specs.declared.path.Path.{Path}
+use Rattle.nc_number.specs.declared.path.Path.TheVariants.{One, Two}
 use Rattle.tape_maker.specs.MadeTape.{begins_with_m, cut_depth, cut_diameter, cut_line, cuts, end_lines, ended, head_lines, made_lines, made_tape, round_lines, rounds, text_of, variable_line, wait_code, wait_line}
 
 -- How many lines.

@@ -1,14 +1,13 @@
 -- How many bytes a made tape has at most.
-use Rattle.std.proofs.Common.{◌≡◌, ℕ, ◌+◌, ◌*◌, ◌%◌, ◌<◌, ◌≤◌, ◌^◌, cond, true, false, List, [], ◌∷◌, ◌++◌, map, length, refl, ap, ◌∙◌, arith, length-append, codes}
+use Rattle.std.proofs.Common.{◌≡◌, ℕ, ◌+◌, ◌*◌, ◌%◌, ◌<◌, ◌≤◌, cond, true, false, List, [], ◌∷◌, ◌++◌, map, length, refl, ap, ◌∙◌, arith, length-append, codes}
 use Rattle.std.specs.Prelude.{nat_eq}
 use Rattle.std.specs.List.{flat_map, range_with_len}
 use Rattle.std.specs.Fmt.{decimal}
 use Rattle.std.proofs.lemmas.Fmt.{length-decimal-le}
-use Rattle.std.proofs.lemmas.List.{length-map}
 use Rattle.std.proofs.lemmas.List.FromFn.{length-range_with_len}
-use Rattle.tape_maker.specs.declared.path.Path.{Path}
-use Rattle.tape_maker.specs.declared.path.Path.TheVariants.{One, Two}
-use Rattle.tape_maker.specs.MadeTape.{cut_depth, cut_diameter, cut_line, cuts, end_lines, ended, head_lines, made_lines, made_tape, round_lines, rounds, text_of, variable_line, wait_code, wait_line}
+use Rattle.nc_number.specs.declared.path.Path.{Path}
+use Rattle.nc_number.specs.declared.path.Path.TheVariants.{One, Two}
+use Rattle.tape_maker.specs.MadeTape.{cut_depth, cut_diameter, cut_line, cuts, end_lines, ended, head_lines, made_tape, round_lines, rounds, text_of, variable_line, wait_code, wait_line}
 use Rattle.tape_maker.proofs.Lines.{made_tape_is, text_of-append, text_of-two}
 
 joined : (a b c d e : List ℕ) → length (a ++ b ++ c ++ d ++ e) ≡ length a + (length b + (length c + (length d + length e)))

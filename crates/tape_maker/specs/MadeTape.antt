@@ -1,19 +1,16 @@
 use Rattle.std.specs.Prelude.{ℕ, Bool, ◌+◌, ◌*◌, ◌%◌, ◌==◌, if◌then◌else◌, List, [], ◌∷◌, ◌++◌, map, codes}
 use Rattle.std.specs.List.{flat_map, range_with_len, slice_index}
 use Rattle.std.specs.Fmt.{decimal}
-use Rattle.tape_maker.specs.declared.path.Path.{Path}
-use Rattle.tape_maker.specs.declared.path.Path.TheVariants.{One, Two}
+use Rattle.nc_number.specs.Path.{number_of}
+use Rattle.nc_number.specs.declared.path.Path.{Path}
+use Rattle.nc_number.specs.declared.path.Path.TheVariants.{One, Two}
 
 -- A made tape: a head, fifty rounds and an end. A round is ninety-eight cuts, a line on a variable
 -- and a wait. The made number turns the places of the cuts and the codes of the waits.
 
-abbrev pub path_number : Path → ℕ
-path_number One = 1
-path_number Two = 2
-
 -- where a cut goes, in whole millimetres: the diameter, and how far before the zero of Z
 abbrev pub cut_diameter : Path → ℕ → ℕ → ℕ → ℕ
-cut_diameter path number round cut = 10 + (number + 7 * round + 3 * cut + path_number path) % 90
+cut_diameter path number round cut = 10 + (number + 7 * round + 3 * cut + number_of path) % 90
 
 abbrev pub cut_depth : ℕ → ℕ → ℕ → ℕ
 cut_depth number round cut = (number + round + cut) % 80
@@ -23,7 +20,8 @@ unfoldable pub cut_line : Path → ℕ → ℕ → ℕ → List ℕ
 cut_line path number round cut =
     codes "G01 X" ++ decimal (cut_diameter path number round cut) ++ codes ". Z-" ++ decimal (cut_depth number round cut) ++ codes "."
 
--- path 1 counts the shared variable #501 in the odd rounds and path 2 copies it in the even ones; in its other rounds a path counts a local
+-- path 1 counts the shared variable #501 in the odd rounds and path 2 copies it in the even ones;
+-- in its other rounds a path counts a local
 unfoldable pub variable_line : Path → ℕ → List ℕ
 variable_line One round = if round % 2 == 1 then codes "#501=#501+1" else codes "#1=#1+1"
 variable_line Two round = if round % 2 == 1 then codes "#1=#1+1" else codes "#502=#501"

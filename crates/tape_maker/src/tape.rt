@@ -1,22 +1,11 @@
+//! Made tapes.
 ghost use Rattle.std.specs.Prelude.{◌≡◌, ◌≤◌, ◌++◌, IfOk, OnOk, length};
 ghost use Rattle.std.specs.Fmt.{decimal};
 ghost use Rattle.tape_maker.specs.MadeTape.{cut_depth, cut_diameter, cut_line, ended, made_tape, round_lines, text_of, variable_line, wait_line};
 
-use crate::path::Path;
 use itoa::Buffer;
-use std::alloc::{AllocError, Global};
-use thiserror::Error;
-
-/// There was no memory for the tapes.
-#[derive(Clone, Copy, Debug, PartialEq, Eq, Error)]
-#[error("out of memory")]
-pub struct NoMemory;
-
-impl From<AllocError> for NoMemory {
-    fn from(_: AllocError) -> NoMemory {
-        NoMemory
-    }
-}
+use nc_number::{NoMemory, Path};
+use std::alloc::Global;
 
 /// How many rounds a tape has, and how many cuts a round has.
 const ROUNDS: u32 = 50;
@@ -24,26 +13,27 @@ const ROUNDS: u32 = 50;
 const CUTS: u32 = 98;
 
 /// No made tape has more bytes.
-pub const LONGEST_TAPE: usize = 74_389;
+pub const LONGEST_MADE: usize = 74_389;
 
 /// The tapes of path 1 and path 2 that the number stands for.
 ///
 /// Every number has its pair; the number turns the places of the cuts and the codes of the waits.
 /// Lengths are in whole millimetres, diameters from 10 to 99 and depths from 0 to 79. The waits are
-/// of M100 to M197, which are waiting codes of a control with the usual settings, and `M30` ends the
-/// program. The one error is want of memory.
+/// of M100 to M197, which are waiting codes of a control with the usual settings, and `M30` ends
+/// the program. The one error is that memory ran out.
 #[tactic(auto, using(crate::proofs::Sizes::made_length))]
 pub fn make_tapes(alloc: Global, number: u32) -> Result<(Vec<u8>, Vec<u8>), NoMemory>
     ensures first { IfOk result (λ tapes. tapes.0.items ≡ made_tape Path.One number) }
     ensures second { IfOk result (λ tapes. tapes.1.items ≡ made_tape Path.Two number) }
-    ensures short { IfOk result (λ tapes. (length tapes.0.items ≤ LONGEST_TAPE)
-        × (length tapes.1.items ≤ LONGEST_TAPE)) }
+    ensures short { IfOk result (λ tapes. (length tapes.0.items ≤ LONGEST_MADE)
+        × (length tapes.1.items ≤ LONGEST_MADE)) }
 {
     let first = tape(alloc, Path::One, number)?;
     let second = tape(alloc, Path::Two, number)?;
     Ok((first, second))
 }
 
+/// The made tape of a path.
 fn tape(alloc: Global, path: Path, number: u32) -> Result<Vec<u8>, NoMemory>
     ensures { IfOk result (λ tape. tape.items ≡ made_tape path number) }
 {
@@ -56,6 +46,7 @@ fn tape(alloc: Global, path: Path, number: u32) -> Result<Vec<u8>, NoMemory>
     Ok(text)
 }
 
+/// Adds the lines of a round.
 fn put_round(text: &mut Vec<u8>, path: Path, number: u32, round: u32) -> Result<(), NoMemory>
     ensures { OnOk result (text.new.items ≡ text.old.items ++ text_of (round_lines path number round)) }
 {
@@ -66,6 +57,7 @@ fn put_round(text: &mut Vec<u8>, path: Path, number: u32, round: u32) -> Result<
     put_wait(text, number, round)
 }
 
+/// Adds the line of a cut.
 #[tactic(auto, unfolding(crate::specs::MadeTape::cut_line))]
 fn put_cut(
     text: &mut Vec<u8>,
@@ -85,11 +77,8 @@ fn put_cut(
 fn diameter(path: Path, number: u32, round: u32, cut: u32) -> u64
     ensures { result ≡ cut_diameter path number round cut }
 {
-    let place = match path {
-        Path::One => 1,
-        Path::Two => 2,
-    };
-    10 + (u64::from(number) + 7 * u64::from(round) + 3 * u64::from(cut) + place) % 90
+    let place = u64::from(number) + 7 * u64::from(round) + 3 * u64::from(cut);
+    10 + (place + u64::from(path.number())) % 90
 }
 
 /// How far a cut goes before the zero of Z, in whole millimetres: 0 to 79.
@@ -99,7 +88,8 @@ fn depth(number: u32, round: u32, cut: u32) -> u64
     (u64::from(number) + u64::from(round) + u64::from(cut)) % 80
 }
 
-/// Path 1 counts `#501`, which the paths share, in the odd rounds; path 2 copies it in the even ones.
+/// Path 1 counts `#501`, which the paths share, in the odd rounds; path 2 copies it in the even
+/// ones.
 #[tactic(auto, unfolding(crate::specs::MadeTape::variable_line))]
 fn line_on_variable(path: Path, round: u32) -> &'static [u8]
     ensures { result.now ≡ variable_line path round }
@@ -111,6 +101,7 @@ fn line_on_variable(path: Path, round: u32) -> &'static [u8]
     }
 }
 
+/// Adds the line of the wait that ends a round.
 #[tactic(auto, unfolding(crate::specs::MadeTape::wait_line))]
 fn put_wait(text: &mut Vec<u8>, number: u32, round: u32) -> Result<(), NoMemory>
     ensures { OnOk result (text.new.items ≡ text.old.items ++ ended (wait_line number round)) }
@@ -120,6 +111,7 @@ fn put_wait(text: &mut Vec<u8>, number: u32, round: u32) -> Result<(), NoMemory>
     put_line(text, b"")
 }
 
+/// Adds a text, and a number in decimal digits.
 fn put_number(text: &mut Vec<u8>, before: &[u8], number: u64) -> Result<(), NoMemory>
     ensures { OnOk result (text.new.items ≡ text.old.items ++ before.now ++ decimal number) }
 {
@@ -129,6 +121,7 @@ fn put_number(text: &mut Vec<u8>, before: &[u8], number: u64) -> Result<(), NoMe
     Ok(())
 }
 
+/// Adds a text, and the end of its line.
 fn put_line(text: &mut Vec<u8>, line: &[u8]) -> Result<(), NoMemory>
     ensures { OnOk result (text.new.items ≡ text.old.items ++ ended line.now) }
 {

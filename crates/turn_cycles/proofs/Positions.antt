@@ -1,4 +1,5 @@
--- Each move of a cycle ends at a position, where the start and the end are positions, and none has a centre.
+-- Each move of a cycle ends at a position, where the start and the end are positions, and none has
+-- a centre.
 use Rattle.std.proofs.Common.{ℕ, Bool, true, false, [], ◌∷◌, ℤ, Ok, Err, IfOk, if◌then◌else◌}
 use Rattle.std.proofs.lemmas.List.Elements.{All-nil, All-cons}
 use Rattle.nc_number.specs.declared.point.Point.{Point}

@@ -6,14 +6,15 @@ use Rattle.nc_number.specs.declared.axis.Axis.TheVariants.{Keep, To, By}
 use Rattle.motion_track.specs.declared.fault.MotionFault.{MotionFault}
 use Rattle.motion_track.specs.Target.{in_travel}
 
--- the end along one axis: without a word the kept one; an absolute word counts from the shift, an incremental
--- one from the start of the cycle, and never from the kept end
+-- the end along one axis: without a word the kept one; an absolute word counts from the shift, an
+-- incremental one from the start of the cycle, and never from the kept end
 abbrev pub end_part : ℤ → ℤ → ℤ → Axis → ℤ
 end_part start kept shift Keep = kept
 end_part start kept shift (To programmed) = programmed +ℤ shift
 end_part start kept shift (By way) = start +ℤ way
 
--- the end along both; where no cycle of the kind is in force, an axis without a word stays at the start
+-- the end along both; where no cycle of the kind is in force, an axis without a word stays at the
+-- start
 abbrev pub end_point : Point → Option Point → Point → Axis → Axis → Point
 end_point start kept shift x z =
     let rest = unwrap_or kept start in

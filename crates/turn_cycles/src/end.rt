@@ -1,3 +1,4 @@
+//! Where a cycle ends its cut.
 ghost use Rattle.std.specs.Prelude.{◌≡◌, IfOk, IfSome};
 ghost use Rattle.nc_number.specs.Position.{IsWithin, IsPosition};
 ghost use Rattle.nc_number.specs.Axes.{IsAxisWithin};
@@ -8,9 +9,9 @@ use nc_number::{Axis, Point};
 
 /// Where a cycle ends its cut, in machine coordinates.
 ///
-/// An absolute word counts from the shift, an incremental one from the start of the cycle. An axis without a
-/// word takes the end that is kept from the same cycle before, if it is still in force, and else stays at the
-/// start. Alarm 41 exactly where a part is past 99,999.999 mm.
+/// An absolute word counts from the shift, an incremental one from the start of the cycle. An axis
+/// without a word takes the end that is kept from the same cycle before, if it is still in force,
+/// and else stays at the start. Alarm 41 exactly where a part is past 99,999.999 mm.
 pub fn cycle_end(
     start: Point,
     kept: Option<Point>,

@@ -1,3 +1,4 @@
+//! A block with a cycle.
 ghost use Rattle.std.specs.Prelude.{◌≡◌, ◌≤◌, length, IfOk, IfSome};
 ghost use Rattle.nc_number.specs.Position.{IsPosition};
 ghost use Rattle.motion_track.specs.Block.{IsBlockWithin};
@@ -19,10 +20,11 @@ pub struct CyclePass {
     pub kept: Option<Point>,
 }
 
-/// A block with a cycle, where `kept` is the end of the block before if the same cycle was in force in it.
+/// A block with a cycle, where `kept` is the end of the block before if the same cycle was in force
+/// in it.
 ///
-/// A block that names no axis has no move, no alarm, and leaves the kept end. Else alarm 41 exactly where the
-/// end is past 99,999.999 mm, and then 44 exactly where the feed is 0.
+/// A block that names no axis has no move, no alarm, and leaves the kept end. Else alarm 41 exactly
+/// where the end is past 99,999.999 mm, and then 44 exactly where the feed is 0.
 pub fn cycle_pass(
     kind: CycleKind,
     kept: Option<Point>,

@@ -1,3 +1,4 @@
+//! The four moves of a cycle.
 ghost use Rattle.std.specs.Prelude.{◌≡◌, IfOk};
 ghost use Rattle.nc_number.specs.Position.{IsPosition};
 ghost use Rattle.motion_track.specs.Within.{AreMovesWithin};
@@ -35,9 +36,9 @@ impl CycleKind {
     }
 }
 
-/// The moves of a cycle, in machine coordinates. G90 and G92 go first across to the end's X, G94 first
-/// along to the end's Z; the last move leads back to the start. The feed of G92 is the lead of its
-/// thread. Alarm 44 exactly where the feed is 0.
+/// The moves of a cycle, in machine coordinates. G90 and G92 go first across to the end's X, G94
+/// first along to the end's Z; the last move leads back to the start. The feed of G92 is the lead
+/// of its thread. Alarm 44 exactly where the feed is 0.
 #[tactic(auto, using(crate::proofs::Positions::cycle_within))]
 pub fn cycle(
     kind: CycleKind,

@@ -1,4 +1,4 @@
-use Rattle.std.proofs.Common.{rules, ◌≡◌, ◌≤◌, [], length, drop, get_or, subst, ◌∙◌, ap, arith, ◌++◌, List}
+use Rattle.std.proofs.Common.{rules, ◌≡◌, [], length, drop, subst, ◌∙◌, arith, ◌++◌, List}
 use Rattle.std.proofs.lemmas.List.{with_items_is, drop_all}
 use Rattle.disk_model.specs.declared.stretch.Stretch.{Stretch}
 use Rattle.disk_model.proofs.Copies.{IsCopied, copied_more, copied_all}

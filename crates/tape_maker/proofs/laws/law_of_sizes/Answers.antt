@@ -1,5 +1,5 @@
 use Rattle.std.proofs.Common.{arith}
-use Rattle.tape_maker.specs.declared.path.Path.TheVariants.{One, Two}
+use Rattle.nc_number.specs.declared.path.Path.TheVariants.{One, Two}
 use Rattle.tape_maker.proofs.Sizes.{made_length}
 use Rattle.tape_maker.proofs.laws.law_of_sizes.Goals as goal
 

@@ -1,5 +1,6 @@
 use Rattle.std.proofs.Common.{rules, ◌≡◌, true, false, refl, sym, subst, ap, ◌∙◌}
-use Rattle.disk_model.specs.Device.{Looks, next}
+use Rattle.disk_model.specs.Device.{Looks}
+use Rattle.nc_number.specs.Faults.{next}
 use Rattle.disk_images.specs.Images.{Images, after_settling, images_state, next_fails, with_fault}
 use Rattle.disk_images.proofs.Moments.{looks_counted, settled_looks}
 use Rattle.disk_images.proofs.Coming.{comes_due, comes_wanting, has_fault, no_fault, only_read, sync_fails, sync_passes, look_calm, short_of}

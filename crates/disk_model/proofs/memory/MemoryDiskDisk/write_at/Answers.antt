@@ -1,8 +1,9 @@
-use Rattle.std.proofs.Common.{rules, ◌≡◌, ◌+◌, ◌^◌, ◌<◌, length, true, false, ap, sym, subst, ◌∙◌, arith}
+use Rattle.std.proofs.Common.{rules, ◌≡◌, ◌+◌, ◌^◌, ◌<◌, length, true, ap, sym, subst, ◌∙◌, arith}
 use Rattle.std.proofs.lemmas.Bool.Decides.{nat_tests}
 use Rattle.disk_model.specs.declared.stretch.Stretch.{Stretch}
-use Rattle.disk_model.specs.Device.{written_over, next, Tears}
-use Rattle.disk_model.specs.Memory.{Memory, memory_state, next_fails, after_request, with_fault, with_mark}
+use Rattle.disk_model.specs.Device.{written_over, Tears}
+use Rattle.nc_number.specs.Faults.{next}
+use Rattle.disk_model.specs.Memory.{Memory, memory_state, next_fails, with_fault, with_mark}
 use Rattle.disk_model.proofs.Written.{torn_not, torn_by_write}
 use Rattle.disk_model.proofs.Plans.{sound_done, sound_failed}
 use Rattle.disk_model.proofs.Kept.{image_put, tears_marked}

@@ -1,0 +1,36 @@
+-- Facts of counts and of their tests that the proofs of every crate need.
+use Rattle.std.proofs.Common.{◌≡◌, ◌==◌, ◌+◌, ◌<◌, ◌≤◌, ◌⊎◌, inl, inr, ℕ, Bool, true, false, nat_lt, nat_le, Some, refl, arith}
+use Rattle.std.proofs.lemmas.Bool.Decides.{nat_tests}
+
+pub equal : (a b : ℕ) → (a == b) ≡ true → a ≡ b
+equal a b e = grind (arith, nat_tests)
+
+pub lt_true : (a b : ℕ) → a < b → nat_lt a b ≡ true
+lt_true a b h = grind (arith, nat_tests)
+
+pub lt_false : (a b : ℕ) → b ≤ a → nat_lt a b ≡ false
+lt_false a b h = grind (arith, nat_tests)
+
+pub true_lt : (a b : ℕ) → nat_lt a b ≡ true → a < b
+true_lt a b e = grind (arith, nat_tests)
+
+pub true_le : (a b : ℕ) → nat_le a b ≡ true → a ≤ b
+true_le a b e = grind (arith, nat_tests)
+
+pub le_or_lt : (a b : ℕ) → (a ≤ b) ⊎ (b < a)
+le_or_lt a b = go (nat_lt b a) refl where
+  go : (test : Bool) → nat_lt b a ≡ test → (a ≤ b) ⊎ (b < a)
+  go true e = inr (true_lt b a e)
+  go false e = inl (grind (arith, nat_tests))
+
+pub same_or_below : (a b : ℕ) → a ≤ b → (a ≡ b) ⊎ (a < b)
+same_or_below a b h = go (a == b) refl where
+  go : (test : Bool) → (a == b) ≡ test → (a ≡ b) ⊎ (a < b)
+  go true e = inl (equal a b e)
+  go false e = inr (grind (arith, nat_tests))
+
+pub last_or_before : (a b : ℕ) → a < b + 1 → (a ≡ b) ⊎ (a < b)
+last_or_before a b h = same_or_below a b (grind arith)
+
+pub some_is : {A : Type 0} {a b : A} → Some a ≡ Some b → a ≡ b
+some_is e = cc

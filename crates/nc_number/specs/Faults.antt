@@ -1,0 +1,9 @@
+use Rattle.std.specs.Prelude.{ℕ, ◌+◌, ◌-◌, ◌^◌, ◌≤◌, min}
+
+-- a count of faults behind one more, which stays at the greatest that it can be
+abbrev pub next : ℕ → ℕ
+next n = min (n + 1) (2 ^ 64 - 1)
+
+-- a count of faults rose
+abbrev pub Rose : ℕ → ℕ → Type 0
+Rose before now = next before ≤ now

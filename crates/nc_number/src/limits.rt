@@ -1,0 +1,25 @@
+//! What a run, a tape and a block may have at most: the limits that more than one crate keeps.
+
+/// Records of a run.
+pub const MOST_RECORDS: u32 = 4_000_000;
+
+/// Records that wait for one write of the journal.
+pub const MOST_PENDING: usize = 64;
+
+/// Shared variables that one block reads.
+pub const MOST_READS: usize = 32;
+
+/// Blocks of a tape.
+pub const MOST_BLOCKS: usize = 20_000;
+
+/// Bytes of a tape.
+pub const LONGEST_TAPE: usize = 4_194_304;
+
+/// Bytes of a line of a tape.
+pub const LONGEST_LINE: usize = 512;
+
+/// Brackets that are open at one place of an expression.
+pub const MOST_BRACKETS: u32 = 5;
+
+/// Labels of a path.
+pub const MOST_LABELS: usize = 65_536;
