@@ -1,2 +1,1 @@
 pub mod MoveText
-pub mod Pieces

@@ -6,7 +6,7 @@ use Rattle.nc_moves.specs.declared.motion.Centre.{Centre}
 use Rattle.nc_moves.specs.declared.motion.Centre.TheVariants.{Offset, Radius}
 use Rattle.nc_moves.specs.declared.motion.Move.{Move}
 use Rattle.nc_moves.specs.declared.motion.Move.TheVariants.{Rapid, Feed, Thread, Arc, Dwell, Speed, Limit, Tool, Aux}
-use Rattle.move_text.specs.Pieces.{point_text, code_text}
+use Rattle.text_pieces.specs.Pieces.{point_text, code_text}
 
 -- the centre of an arc from its start, or its radius
 unfoldable pub centre_text : Centre → List ℕ

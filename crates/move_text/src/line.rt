@@ -2,9 +2,9 @@
 ghost use Rattle.std.specs.Prelude.{◌≡◌, ◌+◌, ◌≤◌, [], ◌++◌, length};
 ghost use Rattle.move_text.specs.MoveText.{centre_text, feed_text, line_text, move_text, placed_text};
 
-use crate::piece::Piece;
 use nc_moves::{Centre, Move};
 use nc_number::{Point, Value};
+use text_pieces::Piece;
 
 /// The centre of an arc from its start, or its radius.
 #[tactic(auto, unfolding(crate::specs::MoveText::centre_text))]

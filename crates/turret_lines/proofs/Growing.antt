@@ -6,7 +6,7 @@ use Rattle.std.specs.Io.KnownBytes.{Appends}
 use Rattle.std.proofs.lemmas.List.{append-nil}
 use Rattle.std.proofs.lemmas.Grind.{flat_map-append}
 use Rattle.nc_outside.specs.declared.got.Got.{Got}
-use Rattle.nc_outside.specs.Faults.{next}
+use Rattle.nc_number.specs.Faults.{next}
 use Rattle.nc_outside.specs.Received.{Received, counted_on}
 use Rattle.turret_lines.specs.Stream.{HasPart, got_text, stream_of}
 

@@ -27,7 +27,8 @@ pub record HasPart (bytes : List ℕ) (got : List Got) : Type 0 where
   pub size : ℕ
   pub parted : bytes ≡ stream_of got ++ part_text next size
 
--- what a sink tells is the lines of what the turret got, and nothing else where the turret has not failed
+-- what a sink tells is the lines of what the turret got, and nothing else where the turret has not
+-- failed
 pub record HasStream (written : Option (List ℕ)) (got : List Got) (faults : ℕ) : Type 0 where
   pub whole : faults ≡ 0 → ForSome written (λ bytes. bytes ≡ stream_of got)
   pub parted : ∥ ForSome written (λ bytes. HasPart bytes got) ∥₁

@@ -1,7 +1,9 @@
-//! A turret that writes what it gets, a line each, to a sink: for a simulator, or to be looked at beside a run.
+//! A turret that writes what it gets, a line each, to a sink: for a simulator, or to be looked at
+//! beside a run.
 //!
-//! `LineTurret` writes the line of its place and the lines of its moves, as the report of a run prints them. The layer above
-//! leans on its type: what its sink tells is the lines of what the turret got.
+//! `LineTurret` writes the line of its place and the lines of its moves, as the report of a run
+//! prints them. The layer above leans on its type: what its sink tells is the lines of what the
+//! turret got.
 #![tactic(auto)]
 
 mod line_turret;

@@ -6,15 +6,17 @@ ghost use Rattle.nc_outside.specs.Received.{Receives};
 ghost use Rattle.turret_lines.specs.Stream.{HasPart, HasStream, got_text, stream_of, told_state};
 
 use crate::told::Told;
-use move_text::{Piece, move_line, place_line};
+use move_text::{move_line, place_line};
 use nc_number::Point;
 use nc_outside::{Failed, Got, LinedMove, Sink, Turret};
+use text_pieces::Piece;
 
-/// A turret that writes a line to a sink for its place and for each move, as the report of a run prints them.
+/// A turret that writes a line to a sink for its place and for each move, as the report of a run
+/// prints them.
 ///
-/// It tells what it got. If the sink tells what was written, that is the lines of what the turret got, and nothing else until a
-/// call has failed; a call that failed may have left a part of its line, from its start. After that each further call fails, and
-/// writes nothing.
+/// It tells what it got. If the sink tells what was written, that is the lines of what the turret
+/// got, and nothing else until a call has failed; a call that failed may have left a part of its
+/// line, from its start. After that each further call fails, and writes nothing.
 #[derive(Drop)]
 pub struct LineTurret<K: Sink + Drop> {
     sink: K,
@@ -49,7 +51,7 @@ impl<K: Sink + Drop> LineTurret<K> {
         &self.sink
     }
 
-    // Writes the line of a thing that it got.
+    /// Writes the line of a thing that it got.
     fn write(&mut self, line: &Piece, what: &Got) -> Result<(), Failed>
         requires { line.now ≡ got_text what.now }
         ensures ok { OnOk result (Receives (told_state self.old.told.got self.old.calls self.old.settles self.old.faults)
@@ -102,7 +104,7 @@ impl<K: Sink + Drop> Turret for LineTurret<K> {
     }
 }
 
-// What may go to another thread does.
+/// What may go to another thread does.
 fn crosses<T: Send>() {}
 
 /// A law, and no code: a turret may go to another thread if its sink may.

@@ -1,11 +1,11 @@
 //! A piece of a text.
 ghost use Rattle.std.specs.Prelude.{◌≡◌, ◌+◌, ◌≤◌, ◌%◌, [], ◌++◌, length, codes, decimal};
 ghost use Rattle.nc_number.specs.Printed.{last_digits, length_text, value_text};
-ghost use Rattle.move_text.specs.Pieces.{code_text, path_name, point_text};
+ghost use Rattle.text_pieces.specs.Pieces.{code_text, name_text, numbered, path_name, point_text};
 
 use arrayvec::ArrayVec;
 use itoa::Buffer;
-use nc_number::{Path, Point, Value};
+use nc_number::{Cause, Path, Point, Value};
 use std::marker::Model;
 
 /// The most bytes of a piece.
@@ -59,6 +59,16 @@ impl Piece {
     {
         let mut buffer = Buffer::new();
         self.add(buffer.format(number).as_bytes());
+    }
+
+    /// Adds bytes as they are, and a number after them.
+    pub fn add_numbered(&mut self, before: &[u8], number: u64)
+        requires { length self.old + length before.now + 20 ≤ 512 }
+        ensures text { self.new ≡ self.old ++ numbered before.now number }
+        ensures size { length self.new ≤ length self.old + length before.now + 20 }
+    {
+        self.add(before);
+        self.add_number(number);
     }
 
     /// Adds a count in decimal digits.
@@ -129,6 +139,19 @@ impl Piece {
     {
         self.add(b"path ");
         self.add_number(u64::from(path.number()));
+    }
+
+    /// Adds a blank and the name of a cause, if there is one.
+    #[tactic(auto, using(crate::proofs::NameRoom::name_room))]
+    pub fn add_name(&mut self, cause: Option<Cause>)
+        requires { length self.old + 20 ≤ 512 }
+        ensures text { self.new ≡ self.old ++ name_text cause }
+        ensures size { length self.new ≤ length self.old + 20 }
+    {
+        if let Some(cause) = cause {
+            self.add(b" ");
+            self.add(cause.name().as_bytes());
+        }
     }
 
     /// Adds the X and the Z of a point.

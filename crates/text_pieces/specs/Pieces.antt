@@ -1,9 +1,20 @@
--- How points, codes and paths are printed.
-use Rattle.std.specs.Prelude.{ℕ, if◌then◌else◌, List, ◌++◌, codes, decimal, nat_lt}
+-- How numbers, points, codes, paths and the names of causes are printed.
+use Rattle.std.specs.Prelude.{ℕ, if◌then◌else◌, List, [], ◌++◌, Option, Some, None, codes, decimal, nat_lt}
+use Rattle.nc_number.specs.declared.cause.Cause.{Cause}
 use Rattle.nc_number.specs.declared.path.Path.{Path}
 use Rattle.nc_number.specs.declared.point.Point.{Point}
+use Rattle.nc_number.specs.Causes.{cause_name}
 use Rattle.nc_number.specs.Path.{number_of}
 use Rattle.nc_number.specs.Printed.{length_text}
+
+-- a number after these bytes
+abbrev pub numbered : List ℕ → ℕ → List ℕ
+numbered before number = before ++ decimal number
+
+-- the name of a cause after a blank, if there is one
+abbrev pub name_text : Option Cause → List ℕ
+name_text None = []
+name_text (Some cause) = codes " " ++ cause_name cause
 
 -- a machine position, or an offset
 unfoldable pub point_text : Point → List ℕ
