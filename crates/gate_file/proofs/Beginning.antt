@@ -57,7 +57,8 @@ kept_anew bodies staged disk is keeps =
     let same : 0 + length staged ≡ ends_at bodies = omega (arith, staged_length bodies staged is) in
     subst (Keeps bodies disk) same keeps
 
--- what a beginning uses: three calls to look, two to shut the first gate, and four to write and open
+-- what a beginning uses: three calls to look, two to shut the first gate, and four to write and
+-- open
 pub begun_used : (bodies : List (List ℕ)) (staged : List ℕ) (a b c d : DiskState) → IsStaged bodies staged → Uses 3 0 a b → Uses 2 1 b c → Uses 4 (0 + 1 + length staged) c d → Uses 12 (ends_at bodies + 1) a d
 begun_used bodies staged a b c d is looked shut added =
     let all = uses_add 5 4 1 (0 + 1 + length staged) a c d (uses_add 3 2 0 1 a b c looked shut) added in

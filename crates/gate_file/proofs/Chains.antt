@@ -72,7 +72,8 @@ pub staged_open : (bodies : List (List ℕ)) (staged behind : List ℕ) (gate : 
 staged_open bodies staged behind gate is is_open =
     opens_anew bodies 1 gate (staged ++ behind) (0 ∷ behind) (staged_some bodies staged is) is_open (opens_before bodies (1 ∷ staged) (0 ∷ []) behind is)
 
--- whatever byte the gate before staged entries is, the file spells the bodies before it, or those and the staged ones
+-- whatever byte the gate before staged entries is, the file spells the bodies before it, or those
+-- and the staged ones
 pub either_gate : (bodies more : List (List ℕ)) (file front staged behind : List ℕ) (gate : ℕ) → ((other : List ℕ) → Opens bodies (front ++ other) other) → IsStaged more staged
     → file ≡ front ++ gate ∷ (staged ++ behind) → IsBeforeOrAfter bodies more file
 either_gate bodies more file front staged behind gate anew staged_is is = elim (cases_eq gate 0) [

@@ -1,6 +1,7 @@
 -- Why a file is not opened, from what its parts say.
 use Rattle.std.proofs.Common.{◌≡◌, ℕ, ◌+◌, ◌-◌, ◌≤◌, ◌<◌, List, [], length, refl, sym, ◌∙◌, subst, arith}
-use Rattle.disk_model.specs.Device.{DiskState, Reads, Rose, IsSettled}
+use Rattle.disk_model.specs.Device.{DiskState, Reads, IsSettled}
+use Rattle.nc_number.specs.Faults.{Rose}
 use Rattle.disk_model.specs.Moments.{Unwritten}
 use Rattle.disk_model.proofs.Runs.{settled_kept}
 use Rattle.gate_file.specs.declared.fault.GateFault.{GateFault}

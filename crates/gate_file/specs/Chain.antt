@@ -1,6 +1,6 @@
--- What a file of gates spells: gate, length, body, gate, length, body, and so on, up to the first shut gate. A gate is shut where
--- its byte is 0, and open where it is any other byte, since a write that was stopped may leave any byte. What stands behind the
--- first shut gate counts for nothing.
+-- What a file of gates spells: gate, length, body, gate, length, body, and so on, up to the first
+-- shut gate. A gate is shut where its byte is 0, and open where it is any other byte, since a write
+-- that was stopped may leave any byte. What stands behind the first shut gate counts for nothing.
 use Rattle.std.specs.Prelude.{◌≡◌, ◌≢◌, ◌⊎◌, ℕ, ◌+◌, ◌^◌, ◌≤◌, ◌<◌, List, [], ◌∷◌, ◌++◌, length, take}
 use Rattle.std.specs.Int.{w32, to_be_bytes, from_be_bytes}
 
@@ -15,7 +15,8 @@ pub record IsEntry (body file rest : List ℕ) : Type 0 where
   pub short : length body < 2 ^ 32
   pub bytes : file ≡ gate ∷ (entry body ++ rest)
 
--- the file begins with the entries of these bodies, each behind an open gate, and then stands the rest
+-- the file begins with the entries of these bodies, each behind an open gate, and then stands the
+-- rest
 abbrev pub Opens : List (List ℕ) → List ℕ → List ℕ → Type 0
 Opens [] file rest = file ≡ rest
 Opens (body ∷ bodies) file rest = (after : List ℕ) × IsEntry body file after × Opens bodies after rest
@@ -57,11 +58,13 @@ pub record IsCutAt (at : ℕ) (file : List ℕ) : Type 0 where
 abbrev pub IsBeforeOrAfter : List (List ℕ) → List (List ℕ) → List ℕ → Type 0
 IsBeforeOrAfter bodies more file = Spells bodies file ⊎ Spells (bodies ++ more) file
 
--- the bytes to be written behind a shut gate: once it is open, these bodies stand there, and a shut gate behind them
+-- the bytes to be written behind a shut gate: once it is open, these bodies stand there, and a shut
+-- gate behind them
 abbrev pub IsStaged : List (List ℕ) → List ℕ → Type 0
 IsStaged bodies bytes = Opens bodies (1 ∷ bytes) (0 ∷ [])
 
--- where the shut gate stands behind these bodies: each takes a gate, four bytes of length, and its own
+-- where the shut gate stands behind these bodies: each takes a gate, four bytes of length, and its
+-- own
 abbrev pub ends_at : List (List ℕ) → ℕ
 ends_at [] = 0
 ends_at (body ∷ bodies) = 5 + length body + ends_at bodies

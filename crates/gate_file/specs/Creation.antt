@@ -1,6 +1,7 @@
 -- How a file of gates is begun.
 use Rattle.std.specs.Prelude.{ℕ, ◌+◌, ◌≤◌, List, Result, Ok, Err, OnOk, IfErr}
-use Rattle.disk_model.specs.Device.{DiskState, Reads, Rose, IsSettled}
+use Rattle.disk_model.specs.Device.{DiskState, Reads, IsSettled}
+use Rattle.nc_number.specs.Faults.{Rose}
 use Rattle.disk_model.specs.Moments.{LeavesOnly, Unwritten, Uses}
 use Rattle.gate_file.specs.declared.fault.GateFault.{GateFault}
 use Rattle.gate_file.specs.declared.fault.GateFault.TheVariants.{DiskFault, NoRun, RunThere, Cut, NoMemory}

@@ -5,13 +5,15 @@ use Rattle.gate_file.specs.declared.fault.GateFault.TheVariants.{DiskFault}
 use Rattle.disk_model.specs.Device.{DiskState, Reads, Only}
 use Rattle.gate_file.specs.Chain.{Opens}
 
--- what callers see of a file of gates: its disk, whether it may be written, and the offset of its shut gate
+-- what callers see of a file of gates: its disk, whether it may be written, and the offset of its
+-- shut gate
 pub record Gate (D : Type 0) : Type 0 where
   pub disk : D
   pub live : Bool
   pub end : ℕ
 
--- The disk spells these bodies, all of them are on the disk, and the shut gate stands at this offset.
+-- The disk spells these bodies, all of them are on the disk, and the shut gate stands at this
+-- offset.
 pub record Keeps (bodies : List (List ℕ)) (disk : DiskState) (end : ℕ) : Type 0 where
   pub bytes : List ℕ
   pub behind : List ℕ
@@ -20,8 +22,8 @@ pub record Keeps (bodies : List (List ℕ)) (disk : DiskState) (end : ℕ) : Typ
   pub place : end + 1 + length behind ≡ length bytes
   pub only : Only bytes disk.image
 
--- An opening makes four calls at most for each gate that it reads, and four besides: it reads the gates of some entries that the
--- file begins with, and the one behind them. It asks for no write.
+-- An opening makes four calls at most for each gate that it reads, and four besides: it reads the
+-- gates of some entries that the file begins with, and the one behind them. It asks for no write.
 pub record OpeningUses (bytes : List ℕ) (old new : DiskState) : Type 0 where
   pub bodies : List (List ℕ)
   pub rest : List ℕ

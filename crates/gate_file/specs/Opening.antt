@@ -1,6 +1,7 @@
 -- How a file of gates is opened.
 use Rattle.std.specs.Prelude.{◌≡◌, ℕ, ◌+◌, ◌*◌, ◌≤◌, List, [], length, take, drop, Option, Some, None, Result, Ok, Err, IfOk, IfErr}
-use Rattle.disk_model.specs.Device.{DiskState, Reads, Rose, IsSettled}
+use Rattle.disk_model.specs.Device.{DiskState, Reads, IsSettled}
+use Rattle.nc_number.specs.Faults.{Rose}
 use Rattle.disk_model.specs.Moments.{Unwritten, Uses}
 use Rattle.gate_file.specs.declared.fault.GateFault.{GateFault}
 use Rattle.gate_file.specs.declared.fault.GateFault.TheVariants.{DiskFault, NoRun, RunThere, Cut, NoMemory}
@@ -59,7 +60,8 @@ abbrev pub ReadsOn : ℕ → Option ℕ → List (List ℕ) → List ℕ → Typ
 ReadsOn at None bodies bytes = Opens bodies bytes (drop at bytes) × IsShut (drop at bytes)
 ReadsOn at (Some next) bodies bytes = Opens bodies bytes (drop next bytes)
 
--- the file reads as these bytes, so many of them, and those at an offset begin as what was seen of them
+-- the file reads as these bytes, so many of them, and those at an offset begin as what was seen of
+-- them
 pub record IsSeen (seen : List ℕ) (at len : ℕ) (disk : DiskState) (bytes : List ℕ) : Type 0 where
   pub reads : Reads disk bytes
   pub size : len ≡ length bytes

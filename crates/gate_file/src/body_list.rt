@@ -1,4 +1,5 @@
-// A list of bodies.
+//! A list of bodies.
+
 ghost use Rattle.std.specs.Prelude.{◌≡◌, ◌+◌, ◌*◌, ◌^◌, ◌<◌, ◌≤◌, ◌++◌, ◌==◌, [], ◌∷◌, List, ℕ, length, take, drop, get_or, IfOk, IfSome, IfNone, OnOk, OnErr, vec_capacity};
 ghost use Rattle.gate_file.specs.Bodies.{between, bodies_from, AreEnds};
 ghost use Rattle.gate_file.specs.Chain.{entry, Opens, IsStaged, ends_at};
@@ -7,8 +8,8 @@ use crate::open::{FRAME, entry_in};
 use std::alloc::{AllocError, Global};
 use std::marker::Model;
 
-/// A list of bodies, each of fewer than 2^32 bytes, the first one first. All of them stand in one list of bytes, as a file has
-/// them, so that none takes memory of its own.
+/// A list of bodies, each of fewer than 2^32 bytes, the first one first. All of them stand in one
+/// list of bytes, as a file has them, so that none takes memory of its own.
 #[derive(Drop)]
 pub struct BodyList {
     // Each body's entry behind its open gate, as a file has it.
@@ -53,7 +54,8 @@ impl BodyList {
         self.bytes.reserve(room)
     }
 
-    /// Puts one body more behind those that are there. Where there is no memory left the list stays as it is.
+    /// Puts one body more behind those that are there. Where there is no memory left the list stays
+    /// as it is.
     pub fn push(&mut self, body: &[u8]) -> Result<(), AllocError>
         requires { length body.now < 2 ^ 32 }
         ensures ok { OnOk result (self.new ≡ self.old ++ body.now ∷ []) }
@@ -112,8 +114,8 @@ impl BodyList {
         (start_of(&self.ends, index) + FRAME as usize) as u64
     }
 
-    // Takes the entries that lie whole in these bytes, each with the gate behind it, by one copy, and answers where the next gate
-    // stands.
+    /// Takes the entries that lie whole in these bytes, each with the gate behind it, by one copy,
+    /// and answers where the next gate stands.
     pub(crate) fn take_entries(&mut self, seen: &[u8]) -> Result<usize, AllocError>
         ensures reads { IfOk result (λ n. (file behind : List ℕ) → Opens self.old file (seen.now ++ behind)
             → Opens self.new file (drop n seen.now ++ behind)) }
@@ -130,14 +132,15 @@ impl BodyList {
         Ok(taken)
     }
 
-    // Where the shut gate stands behind these bodies in a file.
+    /// Where the shut gate stands behind these bodies in a file.
     pub(crate) fn end(&self) -> u64
         ensures { result ≡ ends_at self.now }
     {
         self.bytes.len() as u64
     }
 
-    // What is to be written behind a shut first gate, so that a file has these bodies once that gate is open.
+    /// What is to be written behind a shut first gate, so that a file has these bodies once that
+    /// gate is open.
     pub(crate) fn staged(&self, alloc: Global) -> Result<Vec<u8>, AllocError>
         requires { 0 < length self.now }
         ensures staged { IfOk result (λ staged. IsStaged self.now staged.items) }
@@ -151,7 +154,7 @@ impl BodyList {
     }
 }
 
-// Puts a body behind its length behind what is there.
+/// Puts a body behind its length behind what is there.
 pub(crate) fn put_entry(room: &mut Vec<u8>, body: &[u8])
     requires fits { length room.old.items + (length body.now + 4) ≤ vec_capacity room.old }
     requires short { length body.now < 2 ^ 32 }
@@ -163,8 +166,8 @@ pub(crate) fn put_entry(room: &mut Vec<u8>, body: &[u8])
     room.extend_from_slice(body).unwrap();
 }
 
-// Notes where each entry ends that lies whole in these bytes, the first of which stands at an offset, and answers how many of the
-// bytes they take.
+/// Notes where each entry ends that lies whole in these bytes, the first of which stands at an
+/// offset, and answers how many of the bytes they take.
 fn mark_entries(seen: &[u8], start: usize, ends: &mut Vec<usize>) -> usize
     requires room { 5 * length ends.old.items + length seen.now ≤ 5 * vec_capacity ends.old + 4 }
     requires small { start + length seen.now < 2 ^ 63 }
@@ -184,7 +187,7 @@ fn mark_entries(seen: &[u8], start: usize, ends: &mut Vec<usize>) -> usize
     seen.len() - rest.len()
 }
 
-// Where the gate before the body of an index stands: where the body before it ends.
+/// Where the gate before the body of an index stands: where the body before it ends.
 fn start_of(ends: &[usize], index: usize) -> usize
     requires { index ≤ length ends.now }
     ensures { result ≡ get_or (0 ∷ ends.now) index 0 }

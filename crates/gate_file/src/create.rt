@@ -1,4 +1,5 @@
-// How a file of gates is begun.
+//! How a file of gates is begun.
+
 ghost use Rattle.std.specs.Prelude.{◌≡◌, ◌+◌, ◌^◌, ◌≤◌, ◌<◌, [], List, ℕ, length, OnOk, IfOk, IfErr};
 ghost use Rattle.disk_model.specs.Device.{Reads, HasCause, IsSettled, Only};
 ghost use Rattle.disk_model.specs.Moments.{LeavesOnly, Peeks, Uses};
@@ -11,7 +12,7 @@ use crate::GateFault;
 use crate::gate::add_staged;
 use disk_model::{Disk, Failed};
 
-// What stands at the front of a file without a run.
+/// What stands at the front of a file without a run.
 #[derive(Clone, Copy, Debug, PartialEq, Eq)]
 pub(crate) enum FirstGate {
     // The file has at most one byte.
@@ -19,7 +20,7 @@ pub(crate) enum FirstGate {
     Shut,
 }
 
-// Begins a file on the disk, with the staged entries as its first bodies.
+/// Begins a file on the disk, with the staged entries as its first bodies.
 pub(crate) fn begin<D: Disk>(disk: &mut D, staged: &[u8]) -> Result<(), GateFault>
     ensures begun { (bodies : List (List ℕ)) → IsStaged bodies staged.now
         → Begins bodies (D.state disk.old) (D.state disk.new) result }
@@ -31,7 +32,7 @@ pub(crate) fn begin<D: Disk>(disk: &mut D, staged: &[u8]) -> Result<(), GateFaul
     Ok(())
 }
 
-// Looks whether a run is there.
+/// Looks whether a run is there.
 fn look_first<D: Disk>(disk: &mut D) -> Result<FirstGate, GateFault>
     ensures first { IfOk result (λ first. (bytes : List ℕ) → Reads (D.state disk.old) bytes → StandsFirst first bytes) }
     ensures settled { OnOk result (IsSettled (D.state disk.new)) }
@@ -51,7 +52,7 @@ fn look_first<D: Disk>(disk: &mut D) -> Result<FirstGate, GateFault>
     Ok(FirstGate::Shut)
 }
 
-// Sees to it that a shut gate stands first, on the disk.
+/// Sees to it that a shut gate stands first, on the disk.
 fn shut_first<D: Disk>(disk: &mut D, first: FirstGate) -> Result<(), Failed>
     ensures shut { OnOk result ((bytes : List ℕ) → Reads (D.state disk.old) bytes
         → Only bytes (D.state disk.old).image → StandsFirst first bytes

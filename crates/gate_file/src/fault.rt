@@ -1,4 +1,5 @@
-// What can go wrong with a file of gates.
+//! What can go wrong with a file of gates.
+
 ghost use Rattle.std.specs.Prelude.{◌≡◌};
 ghost use Rattle.gate_file.specs.declared.fault.GateFault.TheVariants.{NoMemory};
 ghost use Rattle.gate_file.specs.declared.fault.GateFault.TheVariants.{DiskFault as Disk};
@@ -7,7 +8,8 @@ use disk_model::Failed;
 use std::alloc::{AllocError, AllocFailed};
 use thiserror::Error;
 
-/// The disk failed while a file of gates was written: its count of faults rose. The file is no longer live.
+/// The disk failed while a file of gates was written: its count of faults rose. The file is no
+/// longer live.
 #[derive(Clone, Copy, Debug, PartialEq, Eq, Drop, Error)]
 #[error("disk fault")]
 pub struct DiskFault;
@@ -24,7 +26,8 @@ pub enum GateFault {
     /// The first gate is open, and the file has more than one byte.
     #[error("run there")]
     RunThere,
-    /// The entry of the open gate at this offset, with the gate behind it, does not end inside the file.
+    /// The entry of the open gate at this offset, with the gate behind it, does not end inside the
+    /// file.
     #[error("cut short at {0}")]
     Cut(u64),
     /// There is no memory left.

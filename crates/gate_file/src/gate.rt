@@ -1,7 +1,9 @@
-// A file of bodies behind gates.
+//! A file of bodies behind gates.
+
 ghost use Rattle.std.specs.Prelude.{◌≡◌, ◌*◌, ◌+◌, ◌^◌, ◌≤◌, ◌<◌, ◌++◌, [], ◌∷◌, List, ℕ, length, true, IsTrue, OnOk, IfOk, is_ok, vec_capacity, Bool};
 ghost use Rattle.disk_model.specs.Device.{HasCause};
 ghost use Rattle.disk_model.specs.Moments.{LeavesOnly, Uses};
+ghost use Rattle.gate_file.specs.declared.gate.TheConstants.{BATCH_ROOM, LONGEST_BODY};
 ghost use Rattle.gate_file.specs.Chain.{IsBeforeOrAfter, IsStaged, ends_at};
 ghost use Rattle.gate_file.specs.Creation.{Begins, without_disk};
 ghost use Rattle.gate_file.specs.Gate.{Gate, Keeps, disk_of, disk_opened};
@@ -36,16 +38,18 @@ impl<D: Disk> Model for GateFile<D> {
     ghost Value = { Gate D };
 
     ghost use Rattle.std.specs.Prelude.{◌≤◌, ◌<◌, ◌^◌, vec_capacity};
+    ghost use Rattle.gate_file.specs.declared.gate.TheConstants.{BATCH_ROOM};
 
     ghost view = { λ f. record { disk = f.disk; live = f.live; end = f.end } };
 
-    ghost invariant = { λ f. (f.end < 2 ^ 62) × (8390 ≤ vec_capacity f.room) };
+    ghost invariant = { λ f. (f.end < 2 ^ 62) × (BATCH_ROOM ≤ vec_capacity f.room) };
 }
 
 impl<D: Disk> GateFile<D> {
-    /// Begins a file on the disk, with this first body. It begins with a sync, and writes over no run: where the first gate is open
-    /// and the file has more than one byte nothing is written, and the answer is `RunThere`, or `DiskFault` where the disk failed
-    /// before that was seen. An error gives the disk back, and unless it is `DiskFault` nothing was written.
+    /// Begins a file on the disk, with this first body. It begins with a sync, and writes over no
+    /// run: where the first gate is open and the file has more than one byte nothing is written,
+    /// and the answer is `RunThere`, or `DiskFault` where the disk failed before that was seen. An
+    /// error gives the disk back, and unless it is `DiskFault` nothing was written.
     pub fn create(alloc: Global, disk: D, body: &[u8]) -> Result<GateFile<D>, (D, GateFault)>
         requires { length body.now < 2 ^ 32 }
         ensures begun { Begins (body.now ∷ []) (D.state disk) (D.state (disk_of result)) (without_disk result) }
@@ -64,9 +68,10 @@ impl<D: Disk> GateFile<D> {
         }
     }
 
-    /// Begins a file on the disk, with all these bodies at once: a crash at any moment of the call leaves what was there before, or
-    /// no run, or all of them. It writes them behind a shut first gate, each later gate open, and then opens the first. It refuses,
-    /// and writes over no run, as `create` does.
+    /// Begins a file on the disk, with all these bodies at once: a crash at any moment of the call
+    /// leaves what was there before, or no run, or all of them. It writes them behind a shut first
+    /// gate, each later gate open, and then opens the first. It refuses, and writes over no run, as
+    /// `create` does.
     pub fn create_filled(
         alloc: Global,
         disk: D,
@@ -89,9 +94,10 @@ impl<D: Disk> GateFile<D> {
         }
     }
 
-    /// Opens the file on the disk, and gives its bodies. It begins with a sync, and writes nothing. `NoRun` comes where the file has
-    /// at most one byte or its first gate is shut, and `Cut` with the offset of the first open gate whose entry, with the gate behind
-    /// it, does not end inside the file. An error gives the disk back.
+    /// Opens the file on the disk, and gives its bodies. It begins with a sync, and writes nothing.
+    /// `NoRun` comes where the file has at most one byte or its first gate is shut, and `Cut` with
+    /// the offset of the first open gate whose entry, with the gate behind it, does not end inside
+    /// the file. An error gives the disk back.
     pub fn open_file(alloc: Global, disk: D) -> Result<(GateFile<D>, BodyList), (D, GateFault)>
         ensures finds { Finds (D.state disk) (D.state (disk_opened result)) (found_with result) }
         ensures live { IfOk result (λ found. IsTrue found.0.live) }
@@ -111,11 +117,11 @@ impl<D: Disk> GateFile<D> {
         }
     }
 
-    /// Writes one body more. It takes no memory. After an Ok the body is on the disk; after a fault the file is no longer live, and
-    /// has to be opened again.
+    /// Writes one body more. It takes no memory. After an Ok the body is on the disk; after a fault
+    /// the file is no longer live, and has to be opened again.
     pub fn append(&mut self, body: &[u8]) -> Result<(), DiskFault>
         requires live { IsTrue self.old.live }
-        requires short { length body.now ≤ 8385 }
+        requires short { length body.now ≤ LONGEST_BODY }
         // After an Ok the file has the body behind those that it had, whichever those were.
         ensures acknowledged { OnOk result ((bodies : List (List ℕ)) → Keeps bodies (D.state self.old.disk) self.old.end
             → Keeps (bodies ++ body.now ∷ []) (D.state self.new.disk) self.new.end) }
@@ -161,10 +167,10 @@ impl<D: Disk> GateFile<D> {
     }
 }
 
-// The room of one whole batch, behind a beginning of the file.
+/// The room of one whole batch, behind a beginning of the file.
 fn begin_with<D: Disk>(alloc: Global, disk: &mut D, body: &[u8]) -> Result<Vec<u8>, GateFault>
     requires { length body.now < 2 ^ 32 }
-    ensures room { IfOk result (λ room. 8390 ≤ vec_capacity room) }
+    ensures room { IfOk result (λ room. BATCH_ROOM ≤ vec_capacity room) }
     ensures begun { Begins (body.now ∷ []) (D.state disk.old) (D.state disk.new) result }
 {
     let room = Vec::with_capacity(alloc, BATCH_ROOM)?;
@@ -176,10 +182,10 @@ fn begin_with<D: Disk>(alloc: Global, disk: &mut D, body: &[u8]) -> Result<Vec<u
     }
 }
 
-// The room of one whole batch, behind a beginning of the file with all these bodies.
+/// The room of one whole batch, behind a beginning of the file with all these bodies.
 fn fill_with<D: Disk>(alloc: Global, disk: &mut D, bodies: &BodyList) -> Result<Vec<u8>, GateFault>
     requires { 0 < length bodies.now }
-    ensures room { IfOk result (λ room. 8390 ≤ vec_capacity room) }
+    ensures room { IfOk result (λ room. BATCH_ROOM ≤ vec_capacity room) }
     ensures small { OnOk result (ends_at bodies.now < 2 ^ 62) }
     ensures begun { Begins bodies.now (D.state disk.old) (D.state disk.new) result }
 {
@@ -191,7 +197,7 @@ fn fill_with<D: Disk>(alloc: Global, disk: &mut D, bodies: &BodyList) -> Result<
     }
 }
 
-// Puts a body's entry into the room, and a shut gate behind it.
+/// Puts a body's entry into the room, and a shut gate behind it.
 fn stage(room: &mut Vec<u8>, body: &[u8])
     requires fits { length body.now + 5 ≤ vec_capacity room.old }
     requires short { length body.now < 2 ^ 32 }
@@ -204,7 +210,8 @@ fn stage(room: &mut Vec<u8>, body: &[u8])
     room.push(0).unwrap();
 }
 
-// Writes staged entries behind the shut gate, and then opens the gate: each of the two is on the disk before the next begins.
+/// Writes staged entries behind the shut gate, and then opens the gate: each of the two is on the
+/// disk before the next begins.
 pub(crate) fn add_staged<D: Disk>(disk: &mut D, end: u64, staged: &[u8]) -> Result<(), Failed>
     requires { end < 2 ^ 62 }
     ensures small { OnOk result (end + 1 + length staged.now < 2 ^ 62) }

@@ -1,4 +1,5 @@
-// What holds of files of gates, and of many appends, whatever made them.
+//! What holds of files of gates, and of many appends, whatever made them.
+
 ghost use Rattle.std.specs.Prelude.{◌≡◌, ◌+◌, ◌≤◌, ◌<◌, ◌++◌, [], ◌∷◌, List, ℕ};
 ghost use Rattle.disk_model.specs.Moments.{LeavesOnly};
 ghost use Rattle.gate_file.specs.Chain.{Spells, IsNoRun, IsCutAt, IsBeforeOrAfter, ends_at};
@@ -7,7 +8,8 @@ ghost use Rattle.gate_file.specs.Run.{after};
 
 use disk_model::Disk;
 
-/// A file stands for one thing: no run, or one list of bodies, or an entry that is cut short at one offset.
+/// A file stands for one thing: no run, or one list of bodies, or an entry that is cut short at one
+/// offset.
 pub fn a_file_stands_for_one_thing()
     ensures bodies { (file : List ℕ) (bodies others : List (List ℕ)) → Spells bodies file → Spells others file
         → bodies ≡ others }
@@ -17,8 +19,9 @@ pub fn a_file_stands_for_one_thing()
     ensures no_run_uncut { (file : List ℕ) (at : ℕ) → IsNoRun file → IsCutAt at file → ⊥ }
 {}
 
-/// Over any number of appends that answered Ok, and one more that may be under way or have failed: a stop at any moment from the
-/// j-th acknowledgement on leaves a file that spells the bodies of the first m appends, with m at least j.
+/// Over any number of appends that answered Ok, and one more that may be under way or have failed:
+/// a stop at any moment from the j-th acknowledgement on leaves a file that spells the bodies of
+/// the first m appends, with m at least j.
 pub fn appends_leave_prefixes<D: Disk>()
     ensures { (disk : ℕ → D) (end : ℕ → ℕ) (body : ℕ → List ℕ) (first : List (List ℕ)) (n : ℕ)
         → Keeps first (D.state (disk 0)) (end 0)

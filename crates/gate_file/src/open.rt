@@ -1,7 +1,10 @@
-// How a file of gates is read.
+//! How a file of gates is read.
+
 ghost use Rattle.std.specs.Prelude.{◌≡◌, ◌+◌, ◌-◌, ◌*◌, ◌^◌, ◌≤◌, ◌<◌, ◌++◌, [], ◌∷◌, List, ℕ, length, take, drop, min, OnOk, OnErr, IfOk, IfErr, IfSome, vec_capacity};
-ghost use Rattle.disk_model.specs.Device.{Reads, Rose, IsSettled};
+ghost use Rattle.disk_model.specs.Device.{Reads, IsSettled};
+ghost use Rattle.nc_number.specs.Faults.{Rose};
 ghost use Rattle.disk_model.specs.Moments.{Peeks};
+ghost use Rattle.gate_file.specs.declared.gate.TheConstants.{BATCH_ROOM};
 ghost use Rattle.gate_file.specs.Chain.{Opens, IsShut, IsEntry};
 ghost use Rattle.gate_file.specs.First.{IsHead};
 ghost use Rattle.gate_file.specs.Gate.{IsCalm};
@@ -18,7 +21,7 @@ pub(crate) const FRAME: u64 = 5;
 /// How many bytes of a file are read at once.
 const WINDOW: usize = 65_536;
 
-// What stands at a gate.
+/// What stands at a gate.
 #[derive(Clone, Copy, Debug, PartialEq, Eq)]
 pub(crate) enum Head {
     Shut,
@@ -28,18 +31,18 @@ pub(crate) enum Head {
     Cut,
 }
 
-// What stands behind an open gate, and the room of one whole batch.
+/// What stands behind an open gate, and the room of one whole batch.
 pub(crate) struct Contents {
     pub(crate) end: u64,
     pub(crate) bodies: BodyList,
     pub(crate) room: Vec<u8>,
 }
 
-// All bodies up to the first shut gate.
+/// All bodies up to the first shut gate.
 pub(crate) fn read_all<D: Disk>(alloc: Global, disk: &mut D) -> Result<Contents, GateFault>
     ensures finds { Finds (D.state disk.old) (D.state disk.new) (found_in result) }
     ensures small { IfOk result (λ found. found.end < 2 ^ 62) }
-    ensures room { IfOk result (λ found. 8390 ≤ vec_capacity found.room) }
+    ensures room { IfOk result (λ found. BATCH_ROOM ≤ vec_capacity found.room) }
 {
     let room = Vec::with_capacity(alloc, BATCH_ROOM)?;
     let mut window = empty_window(alloc)?;
@@ -59,7 +62,7 @@ fn empty_window(alloc: Global) -> Result<Vec<u8>, AllocError>
     Ok(window)
 }
 
-// The length of a file that may hold a run, with all of it on the disk.
+/// The length of a file that may hold a run, with all of it on the disk.
 fn start_reading<D: Disk>(disk: &mut D) -> Result<u64, GateFault>
     ensures size { IfOk result (λ len. (bytes : List ℕ) → Reads (D.state disk.old) bytes → len ≡ length bytes) }
     ensures small { IfOk result (λ len. (1 < len) × (len < 2 ^ 62)) }
@@ -76,7 +79,7 @@ fn start_reading<D: Disk>(disk: &mut D) -> Result<u64, GateFault>
     Ok(len)
 }
 
-// Reads bodies up to the first shut gate, and answers its offset.
+/// Reads bodies up to the first shut gate, and answers its offset.
 fn read_bodies<D: Disk>(
     alloc: Global,
     disk: &mut D,
@@ -103,8 +106,8 @@ fn read_bodies<D: Disk>(
     Ok(at)
 }
 
-// Reads on from the gate at an offset: the entries that lie whole in a window, or one that is longer. It answers where the next
-// gate stands, or none where the gate at the offset is shut.
+/// Reads on from the gate at an offset: the entries that lie whole in a window, or one that is
+/// longer. It answers where the next gate stands, or none where the gate at the offset is shut.
 fn read_on<D: Disk>(
     alloc: Global,
     disk: &mut D,
@@ -143,7 +146,7 @@ fn read_on<D: Disk>(
     }
 }
 
-// The first bytes of a window: as many as were read, and no more than are left of the file.
+/// The first bytes of a window: as many as were read, and no more than are left of the file.
 fn front(window: &[u8], count: usize, left: u64) -> &[u8]
     requires { count ≤ length window.now }
     ensures { result.now ≡ take (min count left) window.now }
@@ -157,7 +160,8 @@ fn front(window: &[u8], count: usize, left: u64) -> &[u8]
     front
 }
 
-// The body that stands whole in these bytes behind an open gate, and what stands behind it: the next gate at least.
+/// The body that stands whole in these bytes behind an open gate, and what stands behind it: the
+/// next gate at least.
 pub(crate) fn entry_in(bytes: &[u8]) -> Option<(&[u8], &[u8])>
     ensures { IfSome result (λ found. IsEntry found.0.now bytes.now found.1.now × (0 < length found.1.now)) }
 {
@@ -171,7 +175,7 @@ pub(crate) fn entry_in(bytes: &[u8]) -> Option<(&[u8], &[u8])>
     Some(rest.split_at(size as usize))
 }
 
-// What the first bytes at a gate say.
+/// What the first bytes at a gate say.
 fn head_of(bytes: &[u8]) -> Head
     ensures { IsHead result (take 5 bytes.now) }
 {
@@ -179,7 +183,7 @@ fn head_of(bytes: &[u8]) -> Head
     head_in(front)
 }
 
-// What five bytes at a gate say, or fewer where the file ends.
+/// What five bytes at a gate say, or fewer where the file ends.
 fn head_in(bytes: &[u8]) -> Head
     requires { length bytes.now ≤ 5 }
     ensures { IsHead result bytes.now }
@@ -191,7 +195,8 @@ fn head_in(bytes: &[u8]) -> Head
     }
 }
 
-// The body behind the gate at an offset, whose first bytes were seen, or none where the gate is shut.
+/// The body behind the gate at an offset, whose first bytes were seen, or none where the gate is
+/// shut.
 fn read_entry<D: Disk>(
     alloc: Global,
     disk: &mut D,
@@ -225,7 +230,7 @@ fn read_entry<D: Disk>(
     }
 }
 
-// A body of so many bytes behind the gate at an offset.
+/// A body of so many bytes behind the gate at an offset.
 fn read_body<D: Disk>(
     alloc: Global,
     disk: &mut D,

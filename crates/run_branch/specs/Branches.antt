@@ -1,4 +1,5 @@
--- What it does to a disk to make a branch there: a second journal, which stands for a run up to its n-th meeting.
+-- What it does to a disk to make a branch there: a second journal, which stands for a run up to its
+-- n-th meeting.
 use Rattle.std.specs.Prelude.{◌≡◌, ◌⊎◌, ◌↔◌, ℕ, ◌+◌, ◌*◌, ◌≤◌, ◌<◌, List, length, take, Some, Result, Ok, Err, IfOk, OnOk, IfErr}
 use Rattle.disk_model.specs.Device.{DiskState, Reads, Rose, IsSettled}
 use Rattle.disk_model.specs.Moments.{LeavesOnly, Unwritten, Uses}
@@ -13,7 +14,8 @@ use Rattle.run_branch.specs.declared.fault.BranchFault.{BranchFault}
 use Rattle.run_branch.specs.declared.fault.BranchFault.TheVariants.{NoMeeting, RunThere, NewDisk, NoMemory}
 use Rattle.run_branch.specs.Meetings.{meetings, branch_point}
 
--- the image stands for the branch: the same texts, in version 2, and the shortest prefix of the records that has n meetings
+-- the image stands for the branch: the same texts, in version 2, and the shortest prefix of the
+-- records that has n meetings
 abbrev pub IsBranch : Header → List Entry → ℕ → List ℕ → Type 0
 IsBranch header entries n image =
     (k : ℕ) × (branch_point n entries ≡ Some k) × Stands (newest header) (take k entries) image
@@ -22,7 +24,8 @@ IsBranch header entries n image =
 abbrev pub IsBranching : (List ℕ → Type 0) → Header → List Entry → ℕ → List ℕ → Type 0
 IsBranching image header entries n file = image file ⊎ (IsNoRun file ⊎ IsBranch header entries n file)
 
--- no write of a branch ends past this: six bytes, the header, and of each record its bytes and six more
+-- no write of a branch ends past this: six bytes, the header, and of each record its bytes and six
+-- more
 abbrev pub branch_end : Header → List Entry → ℕ
 branch_end header entries = 6 + length (header_bytes header) + length (records_bytes entries) + 6 * length entries
 
@@ -42,10 +45,12 @@ RefusesBranch RunThere old new =
 RefusesBranch NewDisk old new = Rose old.faults new.faults
 RefusesBranch NoMemory old new = Unwritten old new
 
--- What a call promises that makes a branch of these records on a disk; it answers how many records the branch has.
+-- What a call promises that makes a branch of these records on a disk; it answers how many records
+-- the branch has.
 pub record Branches {E : Type 0} (state : E → DiskState) (header : Header) (entries : List Entry) (n : ℕ) (before after : E)
     (result : Result ℕ BranchFault) : Type 0 where
-  -- `NoMeeting` is answered exactly where the records have fewer meetings, and then the disk was not called
+  -- `NoMeeting` is answered exactly where the records have fewer meetings, and then the disk was
+  -- not called
   pub no_meeting : IsNoMeeting result ↔ (meetings entries < n)
   pub uncalled : IsNoMeeting result → after ≡ before
   pub count : IfOk result (λ k. branch_point n entries ≡ Some k)
@@ -58,7 +63,8 @@ pub record Branches {E : Type 0} (state : E → DiskState) (header : Header) (en
   pub refused : IfErr result (λ fault. RefusesBranch fault (state before) (state after))
   pub later : (state before).faults ≤ (state after).faults
   pub calm : (IsNewDisk result → ⊥) → (state after).faults ≡ (state before).faults
-  -- a crash at any moment of the call leaves an image from before it, or no run, or the whole branch
+  -- a crash at any moment of the call leaves an image from before it, or no run, or the whole
+  -- branch
   pub any_moment : (bytes : List ℕ) → Reads (state before) bytes
       → LeavesOnly (IsBranching (state before).image header entries n) (state before) (state after)
   -- it makes twelve calls of the disk at most

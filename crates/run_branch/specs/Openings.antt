@@ -15,7 +15,8 @@ pub record IsBranchFound (header : Header) (entries : List Entry) (n : ℕ) (fou
   pub header_is : found.header ≡ newest header
   pub entries_are : found.entries ≡ take k entries
 
--- An opening finds the branch, or is refused for a fault of the disk or for want of memory: there is a run, and it is whole.
+-- An opening finds the branch, or is refused for a fault of the disk or for want of memory: there
+-- is a run, and it is whole.
 abbrev pub OpensAsBranch : Header → List Entry → ℕ → Result Found JournalFault → Type 0
 OpensAsBranch header entries n (Ok found) = IsBranchFound header entries n found
 OpensAsBranch header entries n (Err fault) = (fault ≡ DiskFault) ⊎ (fault ≡ NoMemory)

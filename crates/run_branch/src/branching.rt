@@ -12,11 +12,13 @@ use run_journal::journal_bodies;
 use run_records::{EntryKind, EntryList, Header};
 use std::alloc::Global;
 
-/// Makes a branch of a run on a disk: a journal of version 2 with the texts of this header, and with the shortest prefix of these records
-/// that has n meetings. It gives the disk back, and how many records the branch has.
+/// Makes a branch of a run on a disk: a journal of version 2 with the texts of this header, and
+/// with the shortest prefix of these records that has n meetings. It gives the disk back, and how
+/// many records the branch has.
 ///
-/// `NoMeeting` comes exactly where the records have fewer meetings, and then the disk is not called. Where a run is on the disk
-/// nothing is written, and the answer is `RunThere`, or `NewDisk` where the disk failed before that was seen.
+/// `NoMeeting` comes exactly where the records have fewer meetings, and then the disk is not
+/// called. Where a run is on the disk nothing is written, and the answer is `RunThere`, or
+/// `NewDisk` where the disk failed before that was seen.
 pub fn branch<E: Disk>(
     alloc: Global,
     header: &Header,
@@ -40,7 +42,7 @@ pub fn branch<E: Disk>(
     }
 }
 
-// How long the shortest prefix is that has n meetings, if there are so many.
+/// How long the shortest prefix is that has n meetings, if there are so many.
 fn branch_point(entries: &EntryList, n: u32) -> Option<usize>
     ensures { result ≡ branch_point n entries.now.items }
 {
@@ -56,7 +58,7 @@ fn branch_point(entries: &EntryList, n: u32) -> Option<usize>
     Some(index)
 }
 
-// How many of the meetings are left behind a record of this kind.
+/// How many of the meetings are left behind a record of this kind.
 fn left_behind(left: u32, kind: &EntryKind) -> u32
     requires { 0 < left }
     ensures { result ≡ (if is_met kind.now then left - 1 else left) }

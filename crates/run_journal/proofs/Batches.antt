@@ -12,7 +12,7 @@ use Rattle.run_records.specs.declared.version.Version.{Version}
 use Rattle.run_records.specs.declared.version.Version.TheVariants.{One, Two}
 use Rattle.run_records.specs.Entries.{Entry}
 use Rattle.run_records.specs.Spelling.{entry_bytes, IsEntry}
-use Rattle.run_journal.specs.Batches.{records_bytes, batch_bytes, Piece, a_batch, the_mark, piece_bytes, raising_mark, bodies_of, records_in, records_of, MayStand, AreEntries, IsBatch, IsPiece, version_after, version_behind, ArePieces, IsRun}
+use Rattle.run_journal.specs.Batches.{records_bytes, Piece, the_mark, piece_bytes, raising_mark, bodies_of, records_in, records_of, MayStand, AreEntries, IsBatch, IsPiece, version_after, version_behind, ArePieces, IsRun}
 use Rattle.run_journal.specs.Kept.{HasBatch, pending_in}
 use Rattle.run_journal.specs.Stands.{Pends, Stands, Holds, StandsEither}
 

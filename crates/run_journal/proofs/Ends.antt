@@ -1,5 +1,5 @@
 -- Where a journal ends.
-use Rattle.std.proofs.Common.{◌≡◌, ℕ, ◌+◌, ◌*◌, ◌≤◌, List, [], ◌∷◌, length, map, sym, ap, subst, arith, length-append}
+use Rattle.std.proofs.Common.{◌≡◌, ℕ, ◌+◌, ◌*◌, ◌≤◌, List, [], ◌∷◌, length, map, ap, arith, length-append}
 use Rattle.std.proofs.lemmas.List.Concat.{flat_map-append}
 use Rattle.disk_model.specs.Device.{DiskState}
 use Rattle.gate_file.specs.Chain.{ends_at}
@@ -10,7 +10,7 @@ use Rattle.run_records.specs.declared.version.Version.TheVariants.{One, Two}
 use Rattle.run_records.specs.Entries.{Entry}
 use Rattle.run_records.specs.Headers.{header_bytes}
 use Rattle.run_records.specs.Spelling.{entry_bytes}
-use Rattle.run_journal.specs.Batches.{records_bytes, batch_bytes, Piece, a_batch, the_mark, piece_bytes, bodies_of, records_of, ArePieces}
+use Rattle.run_journal.specs.Batches.{records_bytes, Piece, a_batch, the_mark, piece_bytes, bodies_of, records_of, ArePieces}
 use Rattle.run_journal.specs.Stands.{Holds}
 
 -- the bytes of a mark that may still come

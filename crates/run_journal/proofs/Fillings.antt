@@ -7,7 +7,7 @@ use Rattle.run_records.specs.declared.version.Version.{Version}
 use Rattle.run_records.specs.declared.version.Version.TheVariants.{One, Two}
 use Rattle.run_records.specs.Entries.{Entry}
 use Rattle.run_records.specs.Headers.{IsShort}
-use Rattle.run_journal.specs.Batches.{batch_bytes, Piece, a_batch, the_mark, bodies_of, records_in, version_behind, IsBatch, IsPiece, ArePieces}
+use Rattle.run_journal.specs.Batches.{Piece, a_batch, the_mark, bodies_of, records_in, version_behind, IsBatch, IsPiece, ArePieces}
 use Rattle.run_journal.specs.Filled.{newest, AreFull, IsFilled}
 use Rattle.run_journal.specs.Stands.{Pends}
 use Rattle.run_journal.proofs.Batches.{pieces_push, joined_push, bodies_push}
@@ -29,7 +29,8 @@ abbrev pub AreWhole : List Piece → Type 0
 AreWhole [] = Unit {0}
 AreWhole (piece ∷ pieces) = (length (records_in piece) ≡ 64) × AreWhole pieces
 
--- The bodies are those of a header of version 2 and these records; where more records are to come each batch has 64.
+-- The bodies are those of a header of version 2 and these records; where more records are to come
+-- each batch has 64.
 pub record IsFilling (header : Header) (at upto : ℕ) (items : List Entry) (bodies : List (List ℕ)) : Type 0 where
   pub within : at ≤ upto
   pub filled : IsFilled (newest header) (take at items) bodies

@@ -1,8 +1,9 @@
 -- An image stands for one thing.
-use Rattle.std.proofs.Common.{◌≡◌, ◌⊎◌, inl, inr, ℕ, ◌+◌, ◌<◌, List, [], ◌∷◌, ◌++◌, length, drop, map, get_or, refl, sym, ◌∙◌, ap, subst, arith, append_assoc, Option, Some, None, Bool, true, false, not, ◌&&◌}
+use Rattle.std.proofs.Common.{◌≡◌, ◌⊎◌, inl, inr, ℕ, ◌+◌, ◌<◌, List, [], ◌∷◌, ◌++◌, length, drop, map, get_or, refl, sym, ◌∙◌, ap, subst, arith, append_assoc, Option, Some, None, false, not}
 use Rattle.std.specs.Prelude.{if◌then◌else◌}
 use Rattle.std.proofs.lemmas.Bool.{ne_eqb}
 use Rattle.std.proofs.lemmas.List.{append-nil}
+use Rattle.nc_number.proofs.Bools.{and_false}
 use Rattle.gate_file.specs.Chain.{IsNoRun, ends_at}
 use Rattle.gate_file.proofs.Unique.{one_list, none_spelled, one_cut, spelled_uncut, none_uncut}
 use Rattle.run_records.specs.declared.bad_record.BadRecord.{BadRecord}
@@ -12,12 +13,12 @@ use Rattle.run_records.specs.declared.version.Version.{Version}
 use Rattle.run_records.specs.declared.version.Version.TheVariants.{One, Two}
 use Rattle.run_records.specs.Causes.{has_bad_path, is_edit, cause_of}
 use Rattle.run_records.specs.Entries.{Entry}
-use Rattle.run_records.specs.Headers.{header_bytes, IsShort}
+use Rattle.run_records.specs.Headers.{header_bytes}
 use Rattle.run_records.specs.Spelling.{kind_number, entry_bytes, IsEntry}
 use Rattle.run_records.proofs.OneSpelling.{one_entry, no_cause, step_number}
 use Rattle.run_records.proofs.Texts.{one_header}
 use Rattle.run_journal.specs.Bad.{is_early_edit, cause_for, Begins, IsBadBatch, empty, uncounted, unread, late, IsBadPiece, IsBadRun, unheaded, broken, IsBadAt}
-use Rattle.run_journal.specs.Batches.{records_bytes, batch_bytes, raising_mark, Piece, a_batch, the_mark, piece_bytes, bodies_of, records_of, MayStand, AreEntries, IsBatch, IsPiece, version_after, version_behind, ArePieces, IsRun}
+use Rattle.run_journal.specs.Batches.{records_bytes, batch_bytes, Piece, a_batch, the_mark, piece_bytes, bodies_of, records_of, MayStand, AreEntries, IsBatch, IsPiece, version_after, version_behind, ArePieces, IsRun}
 use Rattle.run_journal.specs.Meaning.{Meaning, no_run, cut_at, bad_at, a_run, StandsFor}
 use Rattle.run_journal.specs.Stands.{Stands}
 
@@ -28,10 +29,6 @@ behind_first e entries rest = append_assoc (entry_bytes e) (records_bytes entrie
 one_first : (e f : Entry) (entries others : List Entry) (rest more : List ℕ) → IsEntry e → IsEntry f → records_bytes (e ∷ entries) ++ rest ≡ records_bytes (f ∷ others) ++ more → (e ≡ f) × (records_bytes entries ++ rest ≡ records_bytes others ++ more)
 one_first e f entries others rest more is also same =
     one_entry e f (records_bytes entries ++ rest) (records_bytes others ++ more) is also (sym (behind_first e entries rest) ∙ same ∙ behind_first f others more)
-
-and_false : (a b : Bool) → b ≡ false → (a && b) ≡ false
-and_false true b is = is
-and_false false b is = refl
 
 -- a record that may stand in a journal of this version is one, whatever follows it
 no_cause_for : (version : Version) (e : Entry) (rest : List ℕ) → IsEntry e → MayStand version e → cause_for version (entry_bytes e ++ rest) ≡ None

@@ -1,5 +1,6 @@
 -- Why a body is no piece, and why a file of gates is no run.
 use Rattle.std.specs.Prelude.{◌≡◌, ◌⊎◌, ℕ, ◌+◌, ◌≤◌, ◌<◌, Bool, false, not, ◌&&◌, List, [], ◌∷◌, ◌++◌, length, Option, Some, if◌then◌else◌}
+use Rattle.nc_number.specs.declared.limits.TheConstants.{MOST_PENDING}
 use Rattle.gate_file.specs.Chain.{Spells, ends_at}
 use Rattle.run_records.specs.declared.bad_record.BadRecord.{BadRecord}
 use Rattle.run_records.specs.declared.bad_record.BadRecord.TheVariants.{NoKind, WrongLength, WrongCount, NoHeader}
@@ -16,24 +17,25 @@ abbrev pub is_early_edit : Version → List ℕ → Bool
 is_early_edit One bytes = not (has_bad_path bytes) && is_edit bytes
 is_early_edit Two bytes = false
 
--- Why bytes begin with no record that may stand in a journal of this version: the least cause that holds of the bytes that are there.
--- In version 1 an edit has no kind, whatever follows.
+-- Why bytes begin with no record that may stand in a journal of this version: the least cause that
+-- holds of the bytes that are there. In version 1 an edit has no kind, whatever follows.
 abbrev pub cause_for : Version → List ℕ → Option BadRecord
 cause_for version bytes = if is_early_edit version bytes then Some NoKind else cause_of bytes
 
 -- a body of a count from 1 to 64, so many whole records, and what stands behind them
 pub record Begins (version : Version) (count : ℕ) (whole : List Entry) (rest body : List ℕ) : Type 0 where
   pub some : 1 ≤ count
-  pub few : count ≤ 64
+  pub few : count ≤ MOST_PENDING
   pub are : AreEntries version whole
   pub bytes : body ≡ count ∷ (records_bytes whole ++ rest)
 
--- A body is no batch that may stand in a journal of this version, for this cause at this place of it.
+-- A body is no batch that may stand in a journal of this version, for this cause at this place of
+-- it.
 pub data IsBadBatch (version : Version) (body : List ℕ) : ℕ → BadRecord → Type 0 where
   -- it is empty
   empty : body ≡ [] → IsBadBatch version body 0 WrongCount
   -- it counts no records, or more than 64
-  uncounted : (count : ℕ) (rest : List ℕ) → body ≡ count ∷ rest → (count ≡ 0) ⊎ (64 < count) → IsBadBatch version body 0 WrongCount
+  uncounted : (count : ℕ) (rest : List ℕ) → body ≡ count ∷ rest → (count ≡ 0) ⊎ (MOST_PENDING < count) → IsBadBatch version body 0 WrongCount
   -- behind fewer whole records than it counts stands none
   unread : (count : ℕ) (whole : List Entry) (rest : List ℕ) (cause : BadRecord) → Begins version count whole rest body
       → length whole < count → cause_for version rest ≡ Some cause
@@ -42,12 +44,14 @@ pub data IsBadBatch (version : Version) (body : List ℕ) : ℕ → BadRecord �
   late : (whole : List Entry) (rest : List ℕ) → Begins version (length whole) whole rest body → (rest ≡ [] → ⊥)
       → IsBadBatch version body 0 WrongLength
 
--- A body is no piece: it is not the mark in a journal of version 1, and it is no batch, for this cause at this place of it.
+-- A body is no piece: it is not the mark in a journal of version 1, and it is no batch, for this
+-- cause at this place of it.
 pub record IsBadPiece (version : Version) (body : List ℕ) (place : ℕ) (cause : BadRecord) : Type 0 where
   pub unmarked : version ≡ One → body ≡ raising_mark → ⊥
   pub batch : IsBadBatch version body place cause
 
--- Bodies are no run, for this cause at this offset of their file: the first one that is bad decides.
+-- Bodies are no run, for this cause at this offset of their file: the first one that is bad
+-- decides.
 pub data IsBadRun (bodies : List (List ℕ)) : ℕ → BadRecord → Type 0 where
   -- the first body is no header
   unheaded : (first : List ℕ) (others : List (List ℕ)) → bodies ≡ first ∷ others

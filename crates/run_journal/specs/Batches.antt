@@ -1,6 +1,8 @@
--- Records in batches, the mark by which a journal is raised, and the bodies of a journal: its header, and then these pieces.
+-- Records in batches, the mark by which a journal is raised, and the bodies of a journal: its
+-- header, and then these pieces.
 use Rattle.std.specs.Prelude.{◌≡◌, ℕ, ◌≤◌, List, [], ◌∷◌, length, map, None}
 use Rattle.std.specs.List.{flat_map}
+use Rattle.nc_number.specs.declared.limits.TheConstants.{MOST_PENDING}
 use Rattle.run_records.specs.declared.header.Header.{Header}
 use Rattle.run_records.specs.declared.version.Version.{Version}
 use Rattle.run_records.specs.declared.version.Version.TheVariants.{One, Two}
@@ -54,7 +56,7 @@ AreEntries version (entry ∷ entries) = (IsEntry entry × MayStand version entr
 -- a batch has 1 to 64 records
 pub record IsBatch (version : Version) (batch : List Entry) : Type 0 where
   pub some : 1 ≤ length batch
-  pub few : length batch ≤ 64
+  pub few : length batch ≤ MOST_PENDING
   pub are : AreEntries version batch
 
 -- a piece that may stand in a journal of this version: the mark stands in version 1 alone

@@ -25,7 +25,8 @@ pub record BeginsRun {A : Type 0} (header : Header) (old new : DiskState) (resul
   pub refused : IfErr result (λ fault. RefusesBeginning fault old new)
   pub later : old.faults ≤ new.faults
   pub calm : IsCalm old new result
-  -- a crash at any moment of the call leaves an image from before it, or no run, or the header without a record
+  -- a crash at any moment of the call leaves an image from before it, or no run, or the header
+  -- without a record
   pub any_moment : (bytes : List ℕ) → Reads old bytes → LeavesOnly (IsRunBeginning old.image header) old new
   pub uses : Uses 12 (length (header_bytes header) + 6) old new
 

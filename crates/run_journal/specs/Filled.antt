@@ -1,5 +1,6 @@
 -- A journal that is written at once: a header, and records in batches of 64.
 use Rattle.std.specs.Prelude.{◌≡◌, ℕ, List, [], ◌∷◌, length}
+use Rattle.nc_number.specs.declared.limits.TheConstants.{MOST_PENDING}
 use Rattle.run_records.specs.declared.header.Header.{Header}
 use Rattle.run_records.specs.declared.version.Version.TheVariants.{Two}
 use Rattle.run_records.specs.Entries.{Entry}
@@ -13,7 +14,7 @@ newest header = record header { version = Two }
 abbrev pub AreFull : List Piece → Type 0
 AreFull [] = Unit {0}
 AreFull (last ∷ []) = Unit {0}
-AreFull (piece ∷ next ∷ pieces) = (length (records_in piece) ≡ 64) × AreFull (next ∷ pieces)
+AreFull (piece ∷ next ∷ pieces) = (length (records_in piece) ≡ MOST_PENDING) × AreFull (next ∷ pieces)
 
 -- the bodies are those of this header and these records, of which each batch but the last has 64
 pub record IsFilled (header : Header) (entries : List Entry) (bodies : List (List ℕ)) : Type 0 where

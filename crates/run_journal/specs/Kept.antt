@@ -1,10 +1,13 @@
 -- What callers see of a journal.
 use Rattle.std.specs.Prelude.{◌≡◌, ℕ, ◌+◌, ◌*◌, ◌≤◌, List, [], ◌∷◌, length, slice_index, IsTrue, Result, OnOk, OnErr, is_ok}
+use Rattle.nc_number.specs.declared.limits.TheConstants.{MOST_PENDING}
 use Rattle.gate_file.specs.Gate.{Gate}
+use Rattle.run_records.specs.declared.entry.TheConstants.{LONGEST_RECORD}
 use Rattle.run_records.specs.declared.version.Version.{Version}
 use Rattle.run_records.specs.declared.version.Version.TheVariants.{Two}
 
--- the file, the body that is to be written next, the number of records, those to be written counted, and the version
+-- the file, the body that is to be written next, the number of records, those to be written
+-- counted, and the version
 pub record Log (D : Type 0) : Type 0 where
   pub file : Gate D
   pub batch : List ℕ
@@ -18,12 +21,8 @@ pending_in batch = slice_index batch 0
 -- the body begins with its count, and has no more bytes than so many records may have
 pub record HasBatch (batch : List ℕ) : Type 0 where
   pub some : 1 ≤ length batch
-  pub few : pending_in batch ≤ 64
-  pub short : length batch ≤ 1 + 131 * pending_in batch
-
--- how many records a journal may have
-abbrev pub most_records : ℕ
-most_records = 4000000
+  pub few : pending_in batch ≤ MOST_PENDING
+  pub short : length batch ≤ 1 + LONGEST_RECORD * pending_in batch
 
 -- a journal that may be written, of so many records, none of which is to be written
 pub record IsFresh {D : Type 0} (count : ℕ) (log : Log D) : Type 0 where

@@ -1,6 +1,7 @@
 -- How a journal is opened.
 use Rattle.std.specs.Prelude.{◌≡◌, ℕ, ◌+◌, ◌*◌, ◌≤◌, List, length, Result, Ok, Err, IfOk, IfErr}
-use Rattle.disk_model.specs.Device.{DiskState, Reads, Rose, IsSettled}
+use Rattle.disk_model.specs.Device.{DiskState, Reads, IsSettled}
+use Rattle.nc_number.specs.Faults.{Rose}
 use Rattle.disk_model.specs.Moments.{Unwritten, Uses}
 use Rattle.gate_file.specs.declared.fault.GateFault.{GateFault}
 use Rattle.gate_file.specs.declared.fault.GateFault.TheVariants.{DiskFault as GateDisk, NoRun as GateNone, RunThere as GateThere, Cut as GateCut, NoMemory as GateMemory}
@@ -34,7 +35,8 @@ IsFaultOf GateThere fault = ⊥
 IsFaultOf (GateCut at) fault = fault ≡ Cut at
 IsFaultOf GateMemory fault = fault ≡ NoMemory
 
--- what an opening found: the header, the version by now, the records, where each of them begins, and where the shut gate stands
+-- what an opening found: the header, the version by now, the records, where each of them begins,
+-- and where the shut gate stands
 pub record Found : Type 0 where
   pub header : Header
   pub version : Version

@@ -72,7 +72,8 @@ pub record IsPieceRead (version behind : Version) (at : ℕ) (body : List ℕ) (
   pub entries : new ≡ old ++ records_in piece
   pub offsets : places_new ≡ places_old ++ record_places (at + 1) (records_in piece)
 
--- the bodies behind the first one, up to an index, are pieces, which are read; this is the version behind them
+-- the bodies behind the first one, up to an index, are pieces, which are read; this is the version
+-- behind them
 pub record AreRead (version behind : Version) (bodies : List (List ℕ)) (index : ℕ) (entries : List Entry) (offsets : List ℕ) : Type 0 where
   pub pieces : List Piece
   pub are : ArePieces version pieces

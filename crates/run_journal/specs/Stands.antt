@@ -8,12 +8,14 @@ use Rattle.run_records.specs.declared.version.Version.{Version}
 use Rattle.run_records.specs.Entries.{Entry}
 use Rattle.run_journal.specs.Batches.{Piece, batch_bytes, bodies_of, version_behind, AreEntries, IsRun}
 
--- the image stands for this header and these records; where a mark stands among them it does not say
+-- the image stands for this header and these records; where a mark stands among them it does not
+-- say
 abbrev pub Stands : Header → List Entry → List ℕ → Type 0
 Stands header entries image =
     (pieces : List Piece) × IsRun header pieces entries × Spells (bodies_of header pieces) image
 
--- The disk holds them in a journal that has this version by now, all of it is on the disk, and the shut gate stands at this offset.
+-- The disk holds them in a journal that has this version by now, all of it is on the disk, and the
+-- shut gate stands at this offset.
 abbrev pub Holds : Header → Version → List Entry → DiskState → ℕ → Type 0
 Holds header version entries disk end =
     (pieces : List Piece) × IsRun header pieces entries × (version_behind header.version pieces ≡ version)
@@ -23,7 +25,8 @@ Holds header version entries disk end =
 abbrev pub StandsEither : Header → List Entry → List Entry → List ℕ → Type 0
 StandsEither header entries pending image = Stands header entries image ⊎ Stands header (entries ++ pending) image
 
--- The body that is to be written next spells these records, or counts none; a journal of this version may have them.
+-- The body that is to be written next spells these records, or counts none; a journal of this
+-- version may have them.
 pub record Pends (version : Version) (pending : List Entry) (batch : List ℕ) : Type 0 where
   pub bytes : batch ≡ batch_bytes pending
   pub are : AreEntries version pending

@@ -1,5 +1,9 @@
-// The batch that is to be written next.
+//! The batch that is to be written next.
+
 ghost use Rattle.std.specs.Prelude.{◌≡◌, ◌+◌, ◌≤◌, ◌<◌, ◌++◌, [], ◌∷◌, List, ℕ, length, drop, slice_index, IfOk, vec_capacity};
+ghost use Rattle.nc_number.specs.declared.limits.TheConstants.{MOST_PENDING};
+ghost use Rattle.gate_file.specs.declared.gate.TheConstants.{LONGEST_BODY};
+ghost use Rattle.run_records.specs.declared.entry.TheConstants.{LONGEST_RECORD};
 ghost use Rattle.run_records.specs.Entries.{Entry};
 ghost use Rattle.run_records.specs.Spelling.{entry_bytes, IsEntry};
 ghost use Rattle.run_records.specs.declared.version.Version.{Version};
@@ -8,17 +12,13 @@ ghost use Rattle.run_journal.specs.Kept.{HasBatch, pending_in};
 ghost use Rattle.run_journal.specs.Stands.{Pends};
 
 use gate_file::LONGEST_BODY;
-use run_records::{Entry, NoMemory, put_entry};
+use nc_number::NoMemory;
+use run_records::{Entry, LONGEST_RECORD, put_entry};
 use std::alloc::Global;
 use std::marker::Model;
 
-/// The most records of a batch.
-pub(crate) const MOST_PENDING: usize = 64;
-
-/// The most bytes of a record.
-const LONGEST_RECORD: usize = 131;
-
-/// The body that is to be written next: a count, and that many records. It has room for a whole batch.
+/// The body that is to be written next: a count, and that many records. It has room for a whole
+/// batch.
 #[derive(Drop)]
 pub(crate) struct Batch {
     bytes: Vec<u8>,
@@ -26,13 +26,14 @@ pub(crate) struct Batch {
 
 impl Model for Batch {
     ghost use Rattle.std.specs.Prelude.{List, ℕ, ◌≤◌, vec_capacity};
+    ghost use Rattle.gate_file.specs.declared.gate.TheConstants.{LONGEST_BODY};
     ghost use Rattle.run_journal.specs.Kept.{HasBatch};
 
     ghost Value = { List ℕ };
 
     ghost view = { λ b. b.bytes.items };
 
-    ghost invariant = { λ b. HasBatch b.bytes.items × (8385 ≤ vec_capacity b.bytes) };
+    ghost invariant = { λ b. HasBatch b.bytes.items × (LONGEST_BODY ≤ vec_capacity b.bytes) };
 }
 
 impl Batch {
@@ -55,7 +56,7 @@ impl Batch {
 
     /// Puts a record behind the others.
     pub(crate) fn put(&mut self, entry: &Entry)
-        requires { pending_in self.old < 64 }
+        requires { pending_in self.old < MOST_PENDING }
         ensures { (version : Version) (pending : List Entry) → MayStand version entry.now → Pends version pending self.old
             → Pends version (pending ++ entry.now ∷ []) self.new }
     {
@@ -79,13 +80,13 @@ impl Batch {
     }
 }
 
-// Puts a record behind those of a body, and counts it.
+/// Puts a record behind those of a body, and counts it.
 fn put_behind(body: &mut Vec<u8>, entry: &Entry)
     requires has { HasBatch body.old.items }
-    requires few { pending_in body.old.items < 64 }
-    requires room { 8385 ≤ vec_capacity body.old }
+    requires few { pending_in body.old.items < MOST_PENDING }
+    requires room { LONGEST_BODY ≤ vec_capacity body.old }
     ensures items { body.new.items ≡ (pending_in body.old.items + 1) ∷ (drop 1 body.old.items ++ entry_bytes entry.now) }
-    ensures fits { length (entry_bytes entry.now) ≤ 131 }
+    ensures fits { length (entry_bytes entry.now) ≤ LONGEST_RECORD }
     ensures entry { IsEntry entry.now }
     ensures capacity { vec_capacity body.old ≤ vec_capacity body.new }
 {

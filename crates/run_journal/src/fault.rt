@@ -1,4 +1,5 @@
-// What can go wrong with a journal.
+//! What can go wrong with a journal.
+
 ghost use Rattle.std.specs.Prelude.{◌≡◌};
 ghost use Rattle.gate_file.specs.declared.fault.GateFault.TheVariants.{RunThere};
 ghost use Rattle.run_journal.specs.Opening.{IsFaultOf};
@@ -21,11 +22,13 @@ pub enum JournalFault {
     /// The file has at most one byte, or its first gate is shut.
     #[error("no run")]
     NoRun,
-    /// The entry of the open gate at this offset, with the gate behind it, does not end inside the file.
+    /// The entry of the open gate at this offset, with the gate behind it, does not end inside the
+    /// file.
     #[error("cut short at {0}")]
     Cut(u64),
-    /// The first body that is bad is no header, or no batch and no mark: for this cause, at this offset of the file. The causes are
-    /// `NoPath`, `NoKind`, `TooManyStamps`, `WrongLength`, `WrongCount`, `NoHeader` and `BadEdit`.
+    /// The first body that is bad is no header, or no batch and no mark: for this cause, at this
+    /// offset of the file. The causes are `NoPath`, `NoKind`, `TooManyStamps`, `WrongLength`,
+    /// `WrongCount`, `NoHeader` and `BadEdit`.
     #[error("bad record at {offset}: {cause}")]
     BadRecord { offset: u64, cause: BadRecord },
     /// There is no memory left.

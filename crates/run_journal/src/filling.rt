@@ -1,20 +1,23 @@
-// The bodies of a journal that is written at once.
+//! The bodies of a journal that is written at once.
+
 ghost use Rattle.std.specs.Prelude.{◌≡◌, ◌+◌, ◌-◌, ◌≤◌, ◌<◌, ℕ, List, length, take, drop, IfOk};
+ghost use Rattle.nc_number.specs.declared.limits.TheConstants.{MOST_PENDING};
 ghost use Rattle.run_records.specs.Headers.{header_bytes, IsShort};
 ghost use Rattle.run_records.specs.declared.version.Version.TheVariants.{Two};
 ghost use Rattle.run_journal.specs.Filled.{newest, IsFilled};
 ghost use Rattle.run_journal.specs.Stands.{Pends};
 
-use crate::batch::{Batch, MOST_PENDING};
+use crate::batch::Batch;
 use gate_file::BodyList;
-use run_records::{EntryList, Header, NoMemory, Version, put_header};
+use nc_number::{MOST_PENDING, NoMemory};
+use run_records::{EntryList, Header, Version, put_header};
 use std::alloc::Global;
 
 /// Where the low byte of the version stands in a header.
 const VERSION_AT: usize = 5;
 
-/// The bodies of a journal of version 2 that has the texts of this header, whatever version that is of, and the first `upto` records,
-/// in batches of 64, of which the last may be shorter.
+/// The bodies of a journal of version 2 that has the texts of this header, whatever version that is
+/// of, and the first `upto` records, in batches of 64, of which the last may be shorter.
 pub fn journal_bodies(
     alloc: Global,
     header: &Header,
@@ -38,7 +41,7 @@ pub fn journal_bodies(
     Ok(bodies)
 }
 
-// The bytes of the header with the same texts, of a journal of version 2.
+/// The bytes of the header with the same texts, of a journal of version 2.
 fn newest_header(alloc: Global, header: &Header) -> Result<Vec<u8>, NoMemory>
     requires { IsShort header.now }
     ensures { IfOk result (λ bytes. bytes.items ≡ header_bytes (newest header.now)) }
@@ -48,10 +51,10 @@ fn newest_header(alloc: Global, header: &Header) -> Result<Vec<u8>, NoMemory>
     Ok(bytes)
 }
 
-// Has a batch spell the records from one index up to another.
+/// Has a batch spell the records from one index up to another.
 fn gather(batch: &mut Batch, entries: &EntryList, start: usize, end: usize)
     requires order { (start ≤ end) × (end ≤ length entries.now.items) }
-    requires few { end ≤ start + 64 }
+    requires few { end ≤ start + MOST_PENDING }
     ensures { Pends Two (take (end - start) (drop start entries.now.items)) batch.new }
 {
     batch.clear();

@@ -1,13 +1,14 @@
-// A journal: records that are gathered in batches, and written as bodies of a file of gates.
+//! A journal: records that are gathered in batches, and written as bodies of a file of gates.
+
 ghost use Rattle.std.specs.Prelude.{◌≡◌, ◌↔◌, ◌+◌, ◌≤◌, ◌<◌, ◌++◌, [], ◌∷◌, List, ℕ, length, IsSome, IsTrue, IsErr, OnOk, OnErr, IfOk};
 ghost use Rattle.disk_model.specs.Device.{HasCause};
 ghost use Rattle.disk_model.specs.Moments.{LeavesOnly, Uses};
+ghost use Rattle.nc_number.specs.declared.limits.TheConstants.{MOST_PENDING, MOST_RECORDS};
 ghost use Rattle.gate_file.specs.Creation.{without_disk};
 ghost use Rattle.run_records.specs.declared.header.Header.{Header};
 ghost use Rattle.run_records.specs.declared.version.Version.TheVariants.{One, Two};
 ghost use Rattle.run_records.specs.Entries.{Entry, edit_of};
 ghost use Rattle.run_records.specs.Headers.{header_bytes, IsShort};
-ghost use Rattle.run_journal.specs.declared.journal.TheConstants.{MOST_RECORDS};
 ghost use Rattle.run_journal.specs.Beginning.{BeginsRun, disk_begun};
 ghost use Rattle.run_journal.specs.Kept.{Log, pending_in, IsFresh, IsFlushed, IsRaised};
 ghost use Rattle.run_journal.specs.Stands.{Pends, Stands, Holds, StandsEither};
@@ -16,18 +17,17 @@ use crate::JournalFull;
 use crate::batch::Batch;
 use disk_model::Disk;
 use gate_file::{DiskFault, GateFault, GateFile};
+use nc_number::MOST_RECORDS;
 use run_records::{Entry, Header, Version, put_header};
 use std::alloc::Global;
 use std::marker::Model;
 
-/// The most records of a journal.
-pub const MOST_RECORDS: usize = 4_000_000;
-
-/// The body that raises a journal to version 2. A batch counts 64 records at most, so that it is none.
+/// The body that raises a journal to version 2. A batch counts 64 records at most, so that it is
+/// none.
 pub(crate) const RAISING_MARK: [u8; 3] = [0xFF, 0, 2];
 
-/// A journal over a file of gates, with the records that are to be written next, at most 64. It may be written as long as it is
-/// live.
+/// A journal over a file of gates, with the records that are to be written next, at most 64. It may
+/// be written as long as it is live.
 #[derive(Drop)]
 pub struct Journal<D: Disk> {
     file: GateFile<D>,
@@ -45,10 +45,11 @@ impl<D: Disk> Model for Journal<D> {
 }
 
 impl<D: Disk> Journal<D> {
-    /// Begins a journal on the disk, with this header and no record. It begins with a sync, and writes over no run: where the first
-    /// gate is open and the file has more than one byte nothing is written, and the answer is `RunThere`, or `DiskFault` where the
-    /// disk failed before that was seen. `NoRun` and `Cut` never come. An error gives the disk back, and unless it is `DiskFault`
-    /// nothing was written.
+    /// Begins a journal on the disk, with this header and no record. It begins with a sync, and
+    /// writes over no run: where the first gate is open and the file has more than one byte nothing
+    /// is written, and the answer is `RunThere`, or `DiskFault` where the disk failed before that
+    /// was seen. `NoRun` and `Cut` never come. An error gives the disk back, and unless it is
+    /// `DiskFault` nothing was written.
     pub fn begin(alloc: Global, disk: D, header: &Header) -> Result<Journal<D>, (D, GateFault)>
         requires { IsShort header.now }
         ensures begun { BeginsRun header.now (D.state disk) (D.state (disk_begun result)) (without_disk result) }
@@ -68,7 +69,7 @@ impl<D: Disk> Journal<D> {
         }
     }
 
-    // A journal of so many records over its file.
+    /// A journal of so many records over its file.
     pub(crate) fn over(
         file: GateFile<D>,
         batch: Batch,
@@ -88,7 +89,7 @@ impl<D: Disk> Journal<D> {
     /// How many records are to be written.
     pub fn pending(&self) -> usize
         ensures count { result ≡ pending_in self.now.batch }
-        ensures few { result ≤ 64 }
+        ensures few { result ≤ MOST_PENDING }
     {
         self.batch.count()
     }
@@ -114,11 +115,12 @@ impl<D: Disk> Journal<D> {
         self.file.is_live()
     }
 
-    /// One record more is to be written, an edit only in version 2. It takes no memory. `JournalFull` comes exactly where the journal has 4,000,000 records or
-    /// more, those to be written counted, and then nothing is changed.
+    /// One record more is to be written, an edit only in version 2. It takes no memory.
+    /// `JournalFull` comes exactly where the journal has 4,000,000 records or more, those to be
+    /// written counted, and then nothing is changed.
     pub fn add(&mut self, entry: &Entry) -> Result<(), JournalFull>
         requires live { IsTrue self.old.file.live }
-        requires few { pending_in self.old.batch < 64 }
+        requires few { pending_in self.old.batch < MOST_PENDING }
         requires raised { IsSome (edit_of entry.now.kind) → self.old.version ≡ Two }
         ensures full { IsErr result ↔ (MOST_RECORDS ≤ self.old.count) }
         ensures stays { OnErr result (self.new ≡ self.old) }
@@ -128,7 +130,7 @@ impl<D: Disk> Journal<D> {
         ensures file { self.new.file ≡ self.old.file }
         ensures version { self.new.version ≡ self.old.version }
     {
-        if self.count >= MOST_RECORDS {
+        if self.count >= MOST_RECORDS as usize {
             return Err(JournalFull);
         }
         self.batch.put(entry);
@@ -136,16 +138,19 @@ impl<D: Disk> Journal<D> {
         Ok(())
     }
 
-    /// Writes all records that are to be written, as one batch; where there are none it makes no call of the disk. It takes no
-    /// memory. After a fault the journal is no longer live, and has to be opened again.
+    /// Writes all records that are to be written, as one batch; where there are none it makes no
+    /// call of the disk. It takes no memory. After a fault the journal is no longer live, and has
+    /// to be opened again.
     pub fn flush(&mut self) -> Result<(), DiskFault>
         requires { IsTrue self.old.file.live }
-        // After an Ok the disk holds the records that were to be written behind those that it held, whichever those were.
+        // After an Ok the disk holds the records that were to be written behind those that it held,
+        // whichever those were.
         ensures acknowledged { OnOk result ((header : Header) (entries pending : List Entry)
             → Pends self.old.version pending self.old.batch
             → Holds header self.old.version entries (D.state self.old.file.disk) self.old.file.end
             → Holds header self.new.version (entries ++ pending) (D.state self.new.file.disk) self.new.file.end) }
-        // A crash at any moment of the call leaves those that it held, or those and all that were to be written.
+        // A crash at any moment of the call leaves those that it held, or those and all that were
+        // to be written.
         ensures any_moment { (header : Header) (entries pending : List Entry) → Pends self.old.version pending self.old.batch
             → Holds header self.old.version entries (D.state self.old.file.disk) self.old.file.end
             → LeavesOnly (StandsEither header entries pending) (D.state self.old.file.disk) (D.state self.new.file.disk) }
@@ -162,9 +167,9 @@ impl<D: Disk> Journal<D> {
         Ok(())
     }
 
-    /// Raises a journal of version 1 to version 2, in which edits may stand: it writes the raising mark. It takes no memory. What the
-    /// disk holds stands for the same records, before and after. After a fault the journal is no longer live, and has to be opened
-    /// again.
+    /// Raises a journal of version 1 to version 2, in which edits may stand: it writes the raising
+    /// mark. It takes no memory. What the disk holds stands for the same records, before and after.
+    /// After a fault the journal is no longer live, and has to be opened again.
     pub fn raise(&mut self) -> Result<(), DiskFault>
         requires live { IsTrue self.old.file.live }
         requires version { self.old.version ≡ One }

@@ -1,4 +1,5 @@
-// How a journal is opened.
+//! How a journal is opened.
+
 ghost use Rattle.std.specs.Prelude.{◌≡◌, length, IfOk};
 ghost use Rattle.run_journal.specs.Kept.{IsFresh};
 ghost use Rattle.run_journal.specs.Opening.{FindsRun, disk_opened, found_with};
@@ -6,11 +7,16 @@ ghost use Rattle.run_journal.specs.Opening.{FindsRun, disk_opened, found_with};
 use crate::batch::Batch;
 use crate::fault::fault_of;
 use crate::reading::{Contents, read_contents};
-use crate::{Journal, JournalFault, OffsetList};
+use crate::{Journal, JournalFault};
 use disk_model::Disk;
 use gate_file::GateFile;
+use nc_number::ListOf;
 use run_records::{EntryList, Header};
 use std::alloc::Global;
+
+/// Where the records of a journal begin in its file: for each one, in order, the offset of its
+/// first byte.
+pub type OffsetList = ListOf<u64>;
 
 /// An opened journal, with what it holds.
 #[derive(Drop)]
@@ -22,9 +28,11 @@ pub struct Opened<D: Disk> {
     pub offsets: OffsetList,
 }
 
-/// Opens the journal on the disk. It begins with a sync, and writes nothing. `NoRun` comes where the file has at most one byte or its
-/// first gate is shut, `Cut` with the offset of the first open gate whose entry does not end inside the file, and `BadRecord` where
-/// the bodies are not a header, batches and at most one raising mark: the first body that is bad tells offset and cause. An error gives the disk back.
+/// Opens the journal on the disk. It begins with a sync, and writes nothing. `NoRun` comes where
+/// the file has at most one byte or its first gate is shut, `Cut` with the offset of the first open
+/// gate whose entry does not end inside the file, and `BadRecord` where the bodies are not a
+/// header, batches and at most one raising mark: the first body that is bad tells offset and cause.
+/// An error gives the disk back.
 pub fn open_journal<D: Disk>(alloc: Global, disk: D) -> Result<Opened<D>, (D, JournalFault)>
     ensures finds { FindsRun (D.state disk) (D.state (disk_opened result)) (found_with result) }
     ensures as_many { IfOk result (λ opened. length opened.offsets ≡ length opened.entries.items) }

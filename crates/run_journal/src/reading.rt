@@ -1,4 +1,5 @@
-// How the bodies of a journal are read.
+//! How the bodies of a journal are read.
+
 ghost use Rattle.std.specs.Prelude.{◌≡◌, ◌↔◌, ◌+◌, ◌*◌, ◌^◌, ◌≤◌, ◌<◌, ◌++◌, [], ◌∷◌, List, ℕ, length, drop, take, None, Some, IsTrue, IfOk, IfErr, OnOk, vec_capacity};
 ghost use Rattle.run_records.specs.declared.header.Header.{Header};
 ghost use Rattle.run_records.specs.Entries.{Entry};
@@ -8,15 +9,15 @@ ghost use Rattle.run_journal.specs.Bad.{is_early_edit, cause_for};
 ghost use Rattle.run_journal.specs.Batches.{MayStand, raising_mark};
 ghost use Rattle.run_journal.specs.Reading.{AreRead, IsPieceRead, IsBatchRead, IsRecordsRead, IsUnread, RefusesBatch, RefusesBody, RefusesBodies, IsContents};
 
-use crate::batch::MOST_PENDING;
 use crate::{JournalFault, OffsetList};
 use gate_file::BodyList;
+use nc_number::MOST_PENDING;
 use run_records::{
     BadRecord, Entry, EntryList, Header, HeaderFault, Version, take_entry, take_header,
 };
 use std::alloc::Global;
 
-// What a journal holds, and its version by now.
+/// What a journal holds, and its version by now.
 #[derive(Drop)]
 pub(crate) struct Contents {
     pub(crate) header: Header,
@@ -25,7 +26,7 @@ pub(crate) struct Contents {
     pub(crate) offsets: OffsetList,
 }
 
-// What the bodies of a file hold, of which there is one at least.
+/// What the bodies of a file hold, of which there is one at least.
 pub(crate) fn read_contents(alloc: Global, bodies: &BodyList) -> Result<Contents, JournalFault>
     requires { bodies.now ≡ [] → ⊥ }
     ensures contents { IfOk result (λ found. IsContents found.header found.version found.entries.items found.offsets bodies.now) }
@@ -53,7 +54,8 @@ pub(crate) fn read_contents(alloc: Global, bodies: &BodyList) -> Result<Contents
     }
 }
 
-// Reads the pieces behind the first body, that of a header of this version, and answers the version behind them.
+/// Reads the pieces behind the first body, that of a header of this version, and answers the
+/// version behind them.
 fn read_pieces(
     version: Version,
     bodies: &BodyList,
@@ -79,8 +81,8 @@ fn read_pieces(
     Ok(now)
 }
 
-// Reads the piece that this body is, whose first byte stands at an offset of a journal that has this version so far, puts its records
-// behind the others, and answers the version behind it.
+/// Reads the piece that this body is, whose first byte stands at an offset of a journal that has
+/// this version so far, puts its records behind the others, and answers the version behind it.
 fn read_piece(
     version: Version,
     body: &[u8],
@@ -102,14 +104,15 @@ fn read_piece(
     }
 }
 
-// Whether the body is the one that raises a journal to version 2.
+/// Whether the body is the one that raises a journal to version 2.
 fn is_mark(body: &[u8]) -> bool
     ensures { IsTrue result ↔ (body.now ≡ raising_mark) }
 {
     matches!(body, [0xFF, 0, 2])
 }
 
-// Reads the batch that this body is, whose first byte stands at an offset, and puts its records behind the others.
+/// Reads the batch that this body is, whose first byte stands at an offset, and puts its records
+/// behind the others.
 fn read_batch(
     version: Version,
     body: &[u8],
@@ -154,13 +157,14 @@ fn wrong_count(at: u64) -> JournalFault
     JournalFault::BadRecord { offset: at, cause }
 }
 
-// No record stands at a place behind the count of a body, for this cause.
+/// No record stands at a place behind the count of a body, for this cause.
 struct Unread {
     place: usize,
     cause: BadRecord,
 }
 
-// Reads so many records, the first of which stands at an offset, and answers how many bytes they have.
+/// Reads so many records, the first of which stands at an offset, and answers how many bytes they
+/// have.
 fn read_records(
     version: Version,
     count: usize,
@@ -194,8 +198,8 @@ fn read_records(
     Ok(bytes.len() - rest.len())
 }
 
-// Reads the record of a journal of this version that the bytes begin with, and answers it and how many bytes it has. In version 1 an
-// edit is `NoKind`, whatever follows its kind.
+/// Reads the record of a journal of this version that the bytes begin with, and answers it and how
+/// many bytes it has. In version 1 an edit is `NoKind`, whatever follows its kind.
 fn take_record(version: Version, bytes: &[u8]) -> Result<(Entry, usize), BadRecord>
     ensures bytes { IfOk result (λ found. bytes.now ≡ entry_bytes found.0 ++ drop found.1 bytes.now) }
     ensures size { IfOk result (λ found. found.1 ≡ length (entry_bytes found.0)) }
@@ -209,7 +213,7 @@ fn take_record(version: Version, bytes: &[u8]) -> Result<(Entry, usize), BadReco
     take_entry(bytes)
 }
 
-// Whether the bytes begin with a path and the kind of an edit.
+/// Whether the bytes begin with a path and the kind of an edit.
 fn begins_edit(bytes: &[u8]) -> bool
     ensures { result ≡ is_early_edit Version.One bytes.now }
 {

@@ -1,9 +1,10 @@
--- An edit has one spelling: its numbers are read again from their bytes, and the edit from its numbers.
-use Rattle.std.proofs.Common.{◌≡◌, ℕ, ℤ, pos, ◌+◌, ◌*◌, ◌^◌, ◌≤◌, ◌<◌, List, [], ◌∷◌, ◌++◌, length, take, drop, get_or, refl, sym, ◌∙◌, ap, subst, arith, true, false, Bool, Some, None, Option, suc, rules, ◌&&◌, not, append_assoc, length-append, length-take, length-drop, take-append-drop}
-use Rattle.std.specs.Prelude.{◌==◌, nat_le, unsigned_abs, FitsSigned, if◌then◌else◌}
-use Rattle.std.specs.Option.{option_map, option_and_then}
+-- An edit has one spelling: its numbers are read again from their bytes, and the edit from its
+-- numbers.
+use Rattle.std.proofs.Common.{◌≡◌, ℕ, ℤ, pos, ◌^◌, ◌≤◌, ◌<◌, List, [], ◌∷◌, ◌++◌, length, take, drop, get_or, refl, sym, ◌∙◌, ap, subst, arith, true, false, Bool, Some, None, Option, suc, rules, append_assoc, length-drop, take-append-drop}
+use Rattle.std.specs.Prelude.{◌==◌, FitsSigned, if◌then◌else◌}
+use Rattle.std.specs.Option.{option_map}
 use Rattle.std.specs.Ordering.{int_eq}
-use Rattle.std.specs.Int.{w16, w64, cast_signed, cast_unsigned, from_be_bytes, to_be_bytes, is_negative}
+use Rattle.std.specs.Int.{w16, w64, cast_signed, cast_unsigned, from_be_bytes, to_be_bytes}
 use Rattle.std.proofs.lemmas.Bool.{eqb-true}
 use Rattle.std.proofs.lemmas.Bool.Decides.{nat_tests, Decides-int_eq}
 use Rattle.std.proofs.lemmas.List.{get_or-take, length-take-le, drop-drop}

@@ -1,5 +1,6 @@
--- The stamps of a record that is pushed stand behind the others, or its edit, and every record before it is as it was.
-use Rattle.std.proofs.Common.{◌≡◌, ℕ, ◌+◌, ◌<◌, ◌≤◌, List, [], ◌∷◌, ◌++◌, length, take, drop, get_or, refl, sym, ◌∙◌, ap, subst, arith, length-drop, length-append, true, Some, None, Option}
+-- The stamps of a record that is pushed stand behind the others, or its edit, and every record
+-- before it is as it was.
+use Rattle.std.proofs.Common.{◌≡◌, ℕ, ◌+◌, ◌≤◌, List, [], ◌∷◌, ◌++◌, length, take, drop, refl, sym, ◌∙◌, ap, subst, arith, length-drop, length-append, true, Some, None, Option}
 use Rattle.std.specs.Prelude.{All, is_some}
 use Rattle.std.proofs.lemmas.List.{take-append-le, drop-append-le, take_all, drop_at, map_push, get_or_at, get_or_append_left}
 use Rattle.std.proofs.lemmas.List.Elements.{All-head, All-tail, All-push, All-weaker}
@@ -8,7 +9,7 @@ use Rattle.run_records.specs.declared.entry.EntryKind.{EntryKind}
 use Rattle.run_records.specs.declared.entry.EntryKind.TheVariants.{Edited}
 use Rattle.run_records.specs.declared.head.Head.{Head}
 use Rattle.run_records.specs.Entries.{Entry, edit_of, MayHave}
-use Rattle.run_records.specs.Heads.{step_of, step_in, edits_in, place_of, no_edit, edit_at, kind_at, entry_of, entries_of, IsPlaced, StandsIn}
+use Rattle.run_records.specs.Heads.{step_of, step_in, edits_in, place_of, no_edit, kind_at, entry_of, entries_of, IsPlaced, StandsIn}
 use Rattle.run_records.proofs.OneSpelling.{edited_kind}
 
 stamps_stay : (placed : Option EntryKind) (first count edits : ℕ) (stamps more : List ℕ) → IsPlaced placed first count (length stamps) edits → take count (drop first (stamps ++ more)) ≡ take count (drop first stamps)

@@ -1,6 +1,6 @@
 -- A record has one spelling, and whatever follows it there is no cause why it is none.
-use Rattle.std.proofs.Common.{◌≡◌, ℕ, ◌+◌, ◌*◌, ◌≤◌, List, ◌∷◌, ◌++◌, length, drop, get_or, refl, sym, ◌∙◌, ap, subst, arith, length-append, true, false, Some, None, Option, ◌||◌, ◌&&◌, not}
-use Rattle.std.specs.Prelude.{◌==◌, nat_lt, is_some, is_none, if◌then◌else◌}
+use Rattle.std.proofs.Common.{◌≡◌, ℕ, ◌+◌, ◌*◌, ◌≤◌, List, ◌∷◌, ◌++◌, length, drop, get_or, refl, sym, ◌∙◌, ap, subst, arith, length-append, true, false, Some, None, Option, ◌||◌}
+use Rattle.std.specs.Prelude.{◌==◌, is_some, is_none, if◌then◌else◌}
 use Rattle.std.proofs.lemmas.Bool.{ne_eqb}
 use Rattle.std.proofs.lemmas.Bool.Decides.{nat_tests}
 use Rattle.std.proofs.lemmas.Option.{none-some, same_Some}
@@ -10,7 +10,7 @@ use Rattle.nc_number.specs.declared.path.Path.TheVariants.{One, Two}
 use Rattle.run_records.specs.declared.edit.Edit.{Edit}
 use Rattle.run_records.specs.declared.entry.EntryKind.{EntryKind}
 use Rattle.run_records.specs.declared.entry.EntryKind.TheVariants.{Did, Arrived, Met, Ended, Alarmed, Edited}
-use Rattle.run_records.specs.Causes.{cause_of, is_edit, numbers_in, has_bad_path, has_bad_kind, has_too_many_stamps, is_cut_short, has_bad_edit}
+use Rattle.run_records.specs.Causes.{cause_of, is_edit, has_bad_path, has_bad_kind, has_too_many_stamps, is_cut_short, has_bad_edit}
 use Rattle.run_records.specs.Edits.{numbers_of, edit_with, IsEdit}
 use Rattle.run_records.specs.Entries.{Entry, edit_of}
 use Rattle.run_records.specs.Spelling.{kind_number, stamp_bytes, numbers_bytes, bytes_behind, entry_bytes, IsKind, IsEntry}

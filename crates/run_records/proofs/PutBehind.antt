@@ -1,5 +1,6 @@
--- Bytes that are put behind others in a slice, and a record that is put: its path and its kind, and then what stands behind them.
-use Rattle.std.proofs.Common.{◌≡◌, ℕ, suc, ◌+◌, ◌*◌, ◌-◌, ◌≤◌, List, [], ◌∷◌, ◌++◌, length, take, drop, set, refl, sym, ◌∙◌, ap, arith, append_assoc, length-append, length-drop}
+-- Bytes that are put behind others in a slice, and a record that is put: its path and its kind, and
+-- then what stands behind them.
+use Rattle.std.proofs.Common.{◌≡◌, ℕ, suc, ◌+◌, ◌-◌, ◌≤◌, List, [], ◌∷◌, ◌++◌, length, take, drop, set, refl, sym, ◌∙◌, ap, arith, append_assoc, length-append, length-drop}
 use Rattle.std.proofs.lemmas.List.{take_at, drop_at, drop-drop, drop_all, take_rest, append-nil, set_split, length-take-le}
 use borrow.Rule.Slice.PartMut.{put_mid}
 

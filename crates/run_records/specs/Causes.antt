@@ -1,6 +1,7 @@
 -- Why bytes begin with no record.
 use Rattle.std.specs.Prelude.{ℕ, ◌+◌, ◌*◌, ◌==◌, ◌||◌, ◌&&◌, not, nat_lt, Bool, List, length, drop, slice_index, Option, Some, None, is_none, if◌then◌else◌}
 use Rattle.std.specs.Int.{w64, cast_signed}
+use Rattle.nc_number.specs.declared.limits.TheConstants.{MOST_READS}
 use Rattle.byteorder.specs.Endian.{big_number}
 use Rattle.run_records.specs.declared.bad_record.BadRecord.{BadRecord}
 use Rattle.run_records.specs.declared.bad_record.BadRecord.TheVariants.{NoPath, NoKind, TooManyStamps, WrongLength, WrongCount, NotLegal, NoHeader, TooManyRecords, RefusedTapes, BadEdit}
@@ -46,7 +47,7 @@ has_bad_kind bytes = nat_lt 1 (length bytes) && not (nat_lt 0 (slice_index bytes
 
 -- the record is no edit, and the byte is there, and is more than a record's stamps
 abbrev pub has_too_many_stamps : List ℕ → Bool
-has_too_many_stamps bytes = not (is_edit bytes) && (nat_lt 2 (length bytes) && nat_lt 32 (slice_index bytes 2))
+has_too_many_stamps bytes = not (is_edit bytes) && (nat_lt 2 (length bytes) && nat_lt MOST_READS (slice_index bytes 2))
 
 -- the record goes on behind the last byte
 abbrev pub is_cut_short : List ℕ → Bool

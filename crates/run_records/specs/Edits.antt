@@ -1,5 +1,6 @@
--- An edit as the four numbers that its record has: what is set, by its kind and its number, and two numbers for what it gets.
-use Rattle.std.specs.Prelude.{ℕ, ◌≤◌, ◌==◌, ℤ, pos, Bool, Option, Some, None, if◌then◌else◌}
+-- An edit as the four numbers that its record has: what is set, by its kind and its number, and two
+-- numbers for what it gets.
+use Rattle.std.specs.Prelude.{ℕ, ◌≤◌, ◌==◌, ℤ, pos, Option, Some, None, if◌then◌else◌}
 use Rattle.std.specs.Option.{option_map, option_and_then}
 use Rattle.std.specs.Ordering.{int_eq}
 use Rattle.nc_number.specs.Position.{IsPosition}
@@ -40,7 +41,8 @@ offset_numbers (Work n) to = record { what = 1; number = n; a = to.x; b = to.z }
 offset_numbers (Geometry n) to = record { what = 2; number = n; a = to.x; b = to.z }
 offset_numbers (Wear n) to = record { what = 3; number = n; a = to.x; b = to.z }
 
--- of a common variable: 4; its number; 0 and 0 where it is made vacant, 1 and its millionths where it gets a value
+-- of a common variable: 4; its number; 0 and 0 where it is made vacant, 1 and its millionths where
+-- it gets a value
 abbrev pub variable_numbers : ℕ → Var → EditNumbers
 variable_numbers variable Vacant = record { what = 4; number = variable; a = pos 0; b = pos 0 }
 variable_numbers variable (Is value) = record { what = 4; number = variable; a = pos 1; b = value }

@@ -5,7 +5,8 @@ use Rattle.run_records.specs.declared.edit.Edit.{Edit}
 use Rattle.run_records.specs.declared.entry.EntryKind.{EntryKind}
 use Rattle.run_records.specs.declared.entry.EntryKind.TheVariants.{Did, Arrived, Met, Ended, Alarmed, Edited}
 
--- The path, what it did or what was corrected, and for each read of the step the number of records at that moment.
+-- The path, what it did or what was corrected, and for each read of the step the number of records
+-- at that moment.
 pub record Entry : Type 0 where
   pub path : Path
   pub kind : EntryKind

@@ -1,4 +1,5 @@
--- How a header is spelled: `TWIN`, the version, and three texts, each behind its length in four bytes.
+-- How a header is spelled: `TWIN`, the version, and three texts, each behind its length in four
+-- bytes.
 use Rattle.std.specs.Prelude.{ℕ, ◌+◌, ◌^◌, ◌<◌, List, [], ◌∷◌, ◌++◌, length, codes}
 use Rattle.byteorder.specs.Endian.{big_bytes}
 use Rattle.run_records.specs.declared.header.Header.{Header}

@@ -1,5 +1,7 @@
--- What the heads of records stand for, over the stamps and the edits of all of them, and for how many more there is room.
+-- What the heads of records stand for, over the stamps and the edits of all of them, and for how
+-- many more there is room.
 use Rattle.std.specs.Prelude.{◌≡◌, ℕ, ◌+◌, ◌-◌, ◌*◌, ◌≤◌, ◌<◌, List, [], ◌∷◌, length, map, take, drop, slice_index_or, Option, Some, None, is_none, if◌then◌else◌}
+use Rattle.nc_number.specs.declared.limits.TheConstants.{MOST_READS}
 use Rattle.nc_number.specs.declared.value.Var.TheVariants.{Vacant}
 use Rattle.run_records.specs.declared.edit.Edit.{Edit}
 use Rattle.run_records.specs.declared.edit.Edit.TheVariants.{Common}
@@ -48,16 +50,18 @@ abbrev pub IsPlaced : Option EntryKind → ℕ → ℕ → ℕ → ℕ → Type 
 IsPlaced (Some kind) first count stamps edits = first + count ≤ stamps
 IsPlaced None first count stamps edits = (count ≡ 0) × (first < edits)
 
--- the record's stamps stand among the stamps, and are no more than a record may have; an edit stands among the edits
+-- the record's stamps stand among the stamps, and are no more than a record may have; an edit
+-- stands among the edits
 pub record StandsIn (stamps : List ℕ) (edits : List Edit) (head : Head) : Type 0 where
-  pub few : head.count ≤ 32
+  pub few : head.count ≤ MOST_READS
   pub within : IsPlaced (step_of head.kind) head.first head.count (length stamps) (length edits)
 
--- There is room for so many records in all: for the head of each, and for 32 stamps and an edit of each that is to come.
+-- There is room for so many records in all: for the head of each, and for an edit and the most
+-- stamps of each that is to come.
 pub record HasRoom (room heads most_heads stamps most_stamps edits most_edits : ℕ) : Type 0 where
   pub few : heads ≤ room
   pub for_heads : room ≤ most_heads
-  pub for_stamps : stamps + 32 * (room - heads) ≤ most_stamps
+  pub for_stamps : stamps + MOST_READS * (room - heads) ≤ most_stamps
   pub for_edits : edits + (room - heads) ≤ most_edits
 
 -- the step that a kind is, if it is no edit

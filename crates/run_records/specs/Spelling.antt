@@ -1,8 +1,9 @@
--- How a record is spelled: path and kind, and behind them, of a step, the number of stamps, and each stamp in four bytes, of an edit
--- its four numbers. The high byte of a number comes first.
+-- How a record is spelled: path and kind, and behind them, of a step, the number of stamps, and
+-- each stamp in four bytes, of an edit its four numbers. The high byte of a number comes first.
 use Rattle.std.specs.Prelude.{ℕ, ◌≤◌, List, [], ◌∷◌, ◌++◌, length, Option, Some, None}
 use Rattle.std.specs.Int.{w64, cast_unsigned}
 use Rattle.byteorder.specs.Endian.{big_bytes}
+use Rattle.nc_number.specs.declared.limits.TheConstants.{MOST_READS}
 use Rattle.nc_number.specs.Path.{number_of}
 use Rattle.run_records.specs.declared.edit.Edit.{Edit}
 use Rattle.run_records.specs.declared.entry.EntryKind.{EntryKind}
@@ -45,7 +46,7 @@ IsKind (Some edit) = IsEdit edit
 
 -- what is true of every record
 pub record IsEntry (entry : Entry) : Type 0 where
-  pub few : length entry.stamps ≤ 32
+  pub few : length entry.stamps ≤ MOST_READS
   pub stamps : AreStamps entry.stamps
   pub bare : MayHave entry.kind entry.stamps
   pub edit : IsKind (edit_of entry.kind)

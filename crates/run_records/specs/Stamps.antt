@@ -1,9 +1,10 @@
 -- What is true of the stamps of every record.
 use Rattle.std.specs.Prelude.{ℕ, ◌^◌, ◌≤◌, ◌<◌, List, [], ◌∷◌, length}
+use Rattle.nc_number.specs.declared.limits.TheConstants.{MOST_READS}
 
 abbrev pub AreStamps : List ℕ → Type 0
 AreStamps [] = Unit {0}
 AreStamps (stamp ∷ stamps) = (stamp < 2 ^ 32) × AreStamps stamps
 
 abbrev pub AreFew : List ℕ → Type 0
-AreFew stamps = (length stamps ≤ 32) × AreStamps stamps
+AreFew stamps = (length stamps ≤ MOST_READS) × AreStamps stamps

@@ -1,11 +1,12 @@
-// Why the bytes of a run are none.
+//! Why the bytes of a run are none.
+
 ghost use Rattle.std.specs.Prelude.{◌≡◌};
 ghost use Rattle.run_records.specs.Causes.{cause_number};
 
 use thiserror::Error;
 
-/// Why the bytes of a run's journal spell no header, no batch or no record that may stand there: what stands behind the offset in a
-/// report of `Cause::BadRecord`.
+/// Why the bytes of a run's journal spell no header, no batch or no record that may stand there:
+/// what stands behind the offset in a report of `Cause::BadRecord`.
 #[derive(Clone, Copy, Debug, PartialEq, Eq, Error)]
 pub enum BadRecord {
     /// The first byte of a record is the number of no path.

@@ -1,4 +1,5 @@
-// What an operator corrects between two runs of the tapes.
+//! What an operator corrects between two runs of the tapes.
+
 ghost use Rattle.std.specs.Prelude.{◌≡◌};
 
 use common_vars::CommonNumber;

@@ -1,7 +1,10 @@
-// A record, and its bytes.
+//! A record, and its bytes.
+
 ghost use Rattle.std.specs.Prelude.{◌≡◌, ◌↔◌, ◌+◌, ◌*◌, ◌≤◌, ◌++◌, ◌∷◌, [], ℕ, List, length, take, drop, Option, Some, None, is_none, IsTrue};
 ghost use Rattle.std.specs.Option.{option_copied};
+ghost use Rattle.nc_number.specs.declared.limits.TheConstants.{MOST_READS};
 ghost use Rattle.nc_number.specs.Path.{number_of};
+ghost use Rattle.run_records.specs.declared.entry.TheConstants.{LONGEST_RECORD};
 ghost use Rattle.run_records.specs.Edits.{numbers_of, IsEdit};
 ghost use Rattle.run_records.specs.Entries.{edit_of};
 ghost use Rattle.run_records.specs.Spelling.{kind_number, stamp_bytes, numbers_bytes, entry_bytes, IsEntry};
@@ -11,6 +14,9 @@ use crate::{Edit, StampList};
 use byteorder::{BigEndian, ByteOrder};
 use nc_number::Path;
 use std::marker::Model;
+
+/// The most bytes of a record.
+pub const LONGEST_RECORD: usize = 131;
 
 /// What a path did in a step, or what was corrected of it.
 #[derive(Clone, Copy, Debug, PartialEq, Eq)]
@@ -113,13 +119,14 @@ impl Entry {
     }
 }
 
-/// Puts a record's bytes at the front of the slice, and answers how many there are, at most 131. It takes no memory.
+/// Puts a record's bytes at the front of the slice, and answers how many there are. It takes no
+/// memory.
 pub fn put_entry(entry: &Entry, into: &mut [u8]) -> usize
-    requires { 131 ≤ length into.old }
+    requires { LONGEST_RECORD ≤ length into.old }
     ensures written { take result into.new ≡ entry_bytes entry.now }
     ensures rest { drop result into.new ≡ drop result into.old }
     ensures size { result ≡ length (entry_bytes entry.now) }
-    ensures fits { result ≤ 131 }
+    ensures fits { result ≤ LONGEST_RECORD }
     ensures entry { IsEntry entry.now }
 {
     put_head(entry.path, &entry.kind, into);
@@ -129,7 +136,7 @@ pub fn put_entry(entry: &Entry, into: &mut [u8]) -> usize
     }
 }
 
-// Path and kind.
+/// Path and kind.
 fn put_head(path: Path, kind: &EntryKind, into: &mut [u8])
     requires { 2 ≤ length into.old }
     ensures { into.new ≡ number_of path ∷ kind_number kind.now ∷ drop 2 into.old }
@@ -137,7 +144,7 @@ fn put_head(path: Path, kind: &EntryKind, into: &mut [u8])
     into[..2].copy_from_slice(&[path.number(), kind.number()]);
 }
 
-// The numbers of an edit, behind path and kind.
+/// The numbers of an edit, behind path and kind.
 fn put_edit(edit: &Edit, into: &mut [u8]) -> usize
     requires { 21 ≤ length into.old }
     ensures bytes { into.new ≡ take 2 into.old ++ (numbers_bytes (numbers_of edit.now) ++ drop 21 into.old) }
@@ -158,10 +165,10 @@ fn put_numbers(numbers: &EditNumbers, into: &mut [u8])
     BigEndian::write_i64(&mut into[11..], numbers.b);
 }
 
-// The number of stamps, and each of them, behind path and kind.
+/// The number of stamps, and each of them, behind path and kind.
 fn put_stamps(stamps: &[u32], into: &mut [u8]) -> usize
-    requires few { length stamps.now ≤ 32 }
-    requires room { 131 ≤ length into.old }
+    requires few { length stamps.now ≤ MOST_READS }
+    requires room { LONGEST_RECORD ≤ length into.old }
     ensures bytes { into.new ≡ take 2 into.old
         ++ (length stamps.now ∷ (stamp_bytes stamps.now ++ drop (3 + 4 * length stamps.now) into.old)) }
     ensures size { result ≡ 3 + 4 * length stamps.now }

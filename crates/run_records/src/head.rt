@@ -1,4 +1,5 @@
-// What a list of records keeps of each one beside its stamps, or beside its edit.
+//! What a list of records keeps of each one beside its stamps, or beside its edit.
+
 ghost use Rattle.std.specs.Prelude.{◌≡◌, Some, None, IfSome};
 ghost use Rattle.run_records.specs.Entries.{edit_of};
 ghost use Rattle.run_records.specs.Heads.{step_of, step_in};
@@ -48,9 +49,9 @@ impl HeadKind {
     }
 }
 
-/// The head of a record in a list. A record has place for 32 stamps, and most records have none: so a list keeps the stamps of
-/// all its records behind one another, and its edits too, and of each record a head, which says where its stamps stand among the
-/// stamps, or its edit among the edits.
+/// The head of a record in a list. A record has place for 32 stamps, and most records have none: so
+/// a list keeps the stamps of all its records behind one another, and its edits too, and of each
+/// record a head, which says where its stamps stand among the stamps, or its edit among the edits.
 #[derive(Clone, Copy, Debug)]
 pub(crate) struct Head {
     pub(crate) path: Path,
@@ -61,5 +62,5 @@ pub(crate) struct Head {
     pub(crate) first: usize,
 }
 
-// A run of millions of records is as large as its heads.
+/// A run of millions of records is as large as its heads.
 const _: () = prove!(size_of::<Head>() <= 16);

@@ -1,4 +1,5 @@
-// The header of a run, and its bytes.
+//! The header of a run, and its bytes.
+
 ghost use Rattle.std.specs.Prelude.{◌≡◌, ◌+◌, ◌*◌, ◌^◌, ◌≤◌, ◌<◌, ◌++◌, [], ◌∷◌, ℕ, List, length, take, drop, IfOk, IfErr, IfSome, IfNone, OnOk};
 ghost use Rattle.run_records.specs.declared.header.Header.{Header};
 ghost use Rattle.run_records.specs.declared.version.Version.{Version};
@@ -14,7 +15,8 @@ use thiserror::Error;
 /// The least number of bytes that no header has.
 const TOO_LONG: usize = 1 << 32;
 
-/// What a run is made with: the texts of the settings and of the two tapes, and the version of the journal that begins with them.
+/// What a run is made with: the texts of the settings and of the two tapes, and the version of the
+/// journal that begins with them.
 #[derive(Debug, Drop)]
 pub struct Header {
     pub version: Version,
@@ -86,7 +88,7 @@ pub fn take_header(alloc: Global, bytes: &[u8]) -> Result<Header, HeaderFault>
     })
 }
 
-// The version and the three texts of a header.
+/// The version and the three texts of a header.
 fn parts_of(bytes: &[u8]) -> Option<(Version, &[u8], &[u8], &[u8])>
     ensures some { IfSome result (λ parts. bytes.now ≡ header_mark parts.0
         ++ text_bytes parts.1.now ++ text_bytes parts.2.now ++ text_bytes parts.3.now) }
@@ -110,7 +112,7 @@ fn parts_of(bytes: &[u8]) -> Option<(Version, &[u8], &[u8], &[u8])>
     Some((version, settings, left, right))
 }
 
-// The version, and what stands behind it.
+/// The version, and what stands behind it.
 fn behind_mark(bytes: &[u8]) -> Option<(Version, &[u8])>
     ensures some { IfSome result (λ found. bytes.now ≡ header_mark found.0 ++ found.1.now) }
     ensures none { IfNone result ((version : Version) (rest : List ℕ) → bytes.now ≡ header_mark version ++ rest → ⊥) }
@@ -122,7 +124,7 @@ fn behind_mark(bytes: &[u8]) -> Option<(Version, &[u8])>
     }
 }
 
-// A text and what stands behind it.
+/// A text and what stands behind it.
 fn text_at(bytes: &[u8]) -> Option<(&[u8], &[u8])>
     ensures some { IfSome result (λ found. (bytes.now ≡ text_bytes found.0.now ++ found.1.now)
         × (length found.0.now < 2 ^ 32)) }

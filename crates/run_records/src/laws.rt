@@ -1,4 +1,5 @@
-// Each record and each header has one spelling.
+//! Each record and each header has one spelling.
+
 ghost use Rattle.std.specs.Prelude.{◌≡◌, ◌++◌, ℕ, List, None};
 ghost use Rattle.run_records.specs.Entries.{Entry};
 ghost use Rattle.run_records.specs.declared.header.Header.{Header};
@@ -6,7 +7,8 @@ ghost use Rattle.run_records.specs.Spelling.{entry_bytes, IsEntry};
 ghost use Rattle.run_records.specs.Headers.{header_bytes, IsShort};
 ghost use Rattle.run_records.specs.Causes.{cause_of};
 
-/// A record has one spelling, which is no beginning of another record's, and whatever follows it, there is no cause why it is none.
+/// A record has one spelling, which is no beginning of another record's, and whatever follows it,
+/// there is no cause why it is none.
 pub fn an_entry_has_one_spelling()
     ensures one { (entry other : Entry) (rest more : List ℕ) → IsEntry entry → IsEntry other
         → entry_bytes entry ++ rest ≡ entry_bytes other ++ more

@@ -1,8 +1,10 @@
 //! The records of a run, and the header before them, as bytes.
 //!
-//! A record is what one path did in one step: its kind, and for each read of a shared variable the number of records there were at
-//! that moment. Or it is an edit, a correction of an offset or a variable that an operator made between two steps. The layer above leans on this: bytes equal entry and header both ways, each has one spelling, and a spelling is read
-//! again whatever follows it.
+//! A record is what one path did in one step: its kind, and for each read of a shared variable the
+//! number of records there were at that moment. Or it is an edit, a correction of an offset or a
+//! variable that an operator made between two steps. The layer above leans on this: bytes equal
+//! entry and header both ways, each has one spelling, and a spelling is read again whatever follows
+//! it.
 #![tactic(auto)]
 
 mod bad_record;
@@ -18,7 +20,7 @@ mod version;
 
 pub use bad_record::BadRecord;
 pub use edit::Edit;
-pub use entry::{Entry, EntryKind, put_entry};
+pub use entry::{Entry, EntryKind, LONGEST_RECORD, put_entry};
 pub use header::{Header, HeaderFault, put_header, take_header};
 pub use laws::{a_header_has_one_spelling, an_entry_has_one_spelling};
 pub use lists::{EntryList, StampList};

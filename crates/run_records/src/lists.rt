@@ -1,5 +1,7 @@
-// The lists that records and headers are made of.
+//! The lists that records and headers are made of.
+
 ghost use Rattle.std.specs.Prelude.{◌≡◌, ◌+◌, ◌^◌, ◌≤◌, ◌<◌, ◌++◌, [], ◌∷◌, List, ℕ, length, get_or, OnOk, vec_len, vec_capacity};
+ghost use Rattle.nc_number.specs.declared.limits.TheConstants.{MOST_READS};
 ghost use Rattle.run_records.specs.Stamps.{AreStamps};
 ghost use Rattle.run_records.specs.Entries.{edit_of};
 ghost use Rattle.run_records.specs.Heads.{step_of, place_of, edits_in};
@@ -7,18 +9,16 @@ ghost use Rattle.run_records.specs.Heads.{step_of, place_of, edits_in};
 use crate::head::{Head, HeadKind};
 use crate::{Edit, Entry, EntryKind};
 use arrayvec::ArrayVec;
-use nc_number::{NoMemory, Var};
+use nc_number::{MOST_READS, NoMemory, Var};
 use offset_store::Slot;
 use std::alloc::Global;
 use std::marker::Model;
 
-/// The most stamps of a record.
-pub(crate) const MOST_STAMPS: usize = 32;
-
-/// The stamps of a record in order, at most 32: for each read, the number of records at that moment. It takes no memory.
+/// The stamps of a record in order, at most 32: for each read, the number of records at that
+/// moment. It takes no memory.
 #[derive(Debug, Drop)]
 pub struct StampList {
-    stamps: ArrayVec<u32, MOST_STAMPS>,
+    stamps: ArrayVec<u32, MOST_READS>,
 }
 
 impl Model for StampList {
@@ -43,9 +43,9 @@ impl StampList {
         }
     }
 
-    // These stamps.
+    /// These stamps.
     pub(crate) fn of(stamps: &[u32]) -> StampList
-        requires { length stamps.now ≤ 32 }
+        requires { length stamps.now ≤ MOST_READS }
         ensures { result ≡ stamps.now }
     {
         let mut list = StampList::empty();
@@ -58,7 +58,7 @@ impl StampList {
     /// The stamps, in order.
     pub fn as_slice(&self) -> &[u32]
         ensures stamps { result.now ≡ self.now }
-        ensures fits { length self.now ≤ 32 }
+        ensures fits { length self.now ≤ MOST_READS }
         ensures are { AreStamps self.now }
     {
         self.stamps.as_slice()
@@ -66,15 +66,15 @@ impl StampList {
 
     /// Adds a stamp behind the others.
     pub fn push(&mut self, stamp: u32)
-        requires { length self.old < 32 }
+        requires { length self.old < MOST_READS }
         ensures { self.new ≡ self.old ++ stamp ∷ [] }
     {
         self.stamps.push(stamp);
     }
 }
 
-/// A list of records, the first one first. It keeps the stamps of all of them in one place, and their edits in another, so that a
-/// record without stamps is small.
+/// A list of records, the first one first. It keeps the stamps of all of them in one place, and
+/// their edits in another, so that a record without stamps is small.
 #[derive(Debug, Drop)]
 pub struct EntryList {
     heads: Vec<Head>,
@@ -143,7 +143,7 @@ impl EntryList {
         ensures room { OnOk result (length self.new.items + n ≤ self.new.room) }
         ensures stays { self.old.room ≤ self.new.room }
     {
-        let Some(stamps) = n.checked_mul(MOST_STAMPS) else {
+        let Some(stamps) = n.checked_mul(MOST_READS) else {
             return Err(NoMemory);
         };
         self.heads.reserve(n)?;
@@ -172,7 +172,7 @@ impl EntryList {
     }
 }
 
-// Where the stamps of a record, or its edit, will stand: behind so many stamps, or so many edits.
+/// Where the stamps of a record, or its edit, will stand: behind so many stamps, or so many edits.
 fn place_of(kind: HeadKind, stamps: usize, edits: usize) -> usize
     ensures { result ≡ place_of (step_of kind) stamps edits }
 {
@@ -182,7 +182,7 @@ fn place_of(kind: HeadKind, stamps: usize, edits: usize) -> usize
     }
 }
 
-// Puts the edit that a kind is, if it is one, behind the others.
+/// Puts the edit that a kind is, if it is one, behind the others.
 fn push_edit(edits: &mut Vec<Edit>, kind: &EntryKind)
     requires { vec_len edits.old < vec_capacity edits.old }
     ensures items { edits.new.items ≡ edits.old.items ++ edits_in (edit_of kind.now) }

@@ -1,4 +1,5 @@
-// An edit as the four numbers that its record has.
+//! An edit as the four numbers that its record has.
+
 ghost use Rattle.std.specs.Prelude.{◌≡◌, IfSome};
 ghost use Rattle.run_records.specs.Edits.{numbers_of, offset_numbers, variable_numbers, slot_of, var_of, edit_with, IsEdit};
 
@@ -12,7 +13,8 @@ use offset_store::{Offset, Slot, ToolNumber, WorkNumber};
 pub(crate) struct EditNumbers {
     /// 1 a work offset, 2 a geometry offset, 3 a wear offset, 4 a common variable.
     pub(crate) what: u8,
-    /// The number of the offset, where work offset 0 is the external one and 1 to 6 are those of G54 to G59, or of the variable.
+    /// The number of the offset, where work offset 0 is the external one and 1 to 6 are those of
+    /// G54 to G59, or of the variable.
     pub(crate) number: u16,
     /// Of an offset X in 0.001 mm; 0 where a variable is made vacant, and 1 where it gets a value.
     pub(crate) a: i64,

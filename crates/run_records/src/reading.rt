@@ -1,16 +1,17 @@
-// A record, read from its bytes.
+//! A record, read from its bytes.
+
 ghost use Rattle.std.specs.Prelude.{◌≡◌, ◌+◌, ◌*◌, ◌≤◌, ◌++◌, ◌∷◌, ℕ, List, length, take, drop, Some, None, Ok, IfOk, IfErr, IfSome, IsSome, ◌↔◌, ◌⊎◌};
+ghost use Rattle.nc_number.specs.declared.limits.TheConstants.{MOST_READS};
 ghost use Rattle.nc_number.specs.Path.{number_of};
 ghost use Rattle.run_records.specs.Entries.{edit_of};
 ghost use Rattle.run_records.specs.Spelling.{kind_number, stamp_bytes, numbers_bytes, entry_bytes, IsEntry};
 ghost use Rattle.run_records.specs.Stamps.{AreStamps};
 ghost use Rattle.run_records.specs.Causes.{cause_of, numbers_in};
 
-use crate::lists::MOST_STAMPS;
 use crate::numbers::{EditNumbers, edit_with};
 use crate::{BadRecord, Entry, EntryKind, StampList};
 use byteorder::{BigEndian, ByteOrder};
-use nc_number::Path;
+use nc_number::{MOST_READS, Path};
 
 /// The kind byte of an edit.
 const EDITED: u8 = 6;
@@ -18,9 +19,10 @@ const EDITED: u8 = 6;
 /// How many bytes the numbers of an edit have.
 const EDIT_SIZE: usize = 19;
 
-/// Reads the record that the bytes begin with, and answers it and how many bytes it has. It takes no memory. Where there is none,
-/// the error is the least cause that holds of the bytes that are there: `NoPath`, `NoKind`, `TooManyStamps`, `WrongLength` where
-/// the bytes end before the record does, or `BadEdit`.
+/// Reads the record that the bytes begin with, and answers it and how many bytes it has. It takes
+/// no memory. Where there is none, the error is the least cause that holds of the bytes that are
+/// there: `NoPath`, `NoKind`, `TooManyStamps`, `WrongLength` where the bytes end before the record
+/// does, or `BadEdit`.
 pub fn take_entry(bytes: &[u8]) -> Result<(Entry, usize), BadRecord>
     ensures whole { IfOk result (λ found. cause_of bytes.now ≡ None) }
     ensures bytes { IfOk result (λ found. bytes.now ≡ entry_bytes found.0 ++ drop found.1 bytes.now) }
@@ -46,7 +48,7 @@ pub fn take_entry(bytes: &[u8]) -> Result<(Entry, usize), BadRecord>
     }
 }
 
-// The record of an edit of this path, where its numbers are at the front of the bytes.
+/// The record of an edit of this path, where its numbers are at the front of the bytes.
 fn take_edit(path: Path, bytes: &[u8]) -> Result<(Entry, usize), BadRecord>
     ensures whole { IfOk result (λ found. cause_of (number_of path ∷ 6 ∷ bytes.now) ≡ None) }
     ensures bytes { IfOk result (λ found. number_of path ∷ 6 ∷ bytes.now
@@ -65,7 +67,7 @@ fn take_edit(path: Path, bytes: &[u8]) -> Result<(Entry, usize), BadRecord>
     }
 }
 
-// The numbers of an edit.
+/// The numbers of an edit.
 fn take_numbers(bytes: &[u8]) -> EditNumbers
     requires { 19 ≤ length bytes.now }
     ensures numbers { result ≡ numbers_in bytes.now }
@@ -82,7 +84,8 @@ fn take_numbers(bytes: &[u8]) -> EditNumbers
     }
 }
 
-// The record of a step of this path and this kind, where its stamps are at the front of the bytes, behind their number.
+/// The record of a step of this path and this kind, where its stamps are at the front of the bytes,
+/// behind their number.
 fn take_step(path: Path, kind: EntryKind, bytes: &[u8]) -> Result<(Entry, usize), BadRecord>
     requires { edit_of kind ≡ None }
     ensures whole { IfOk result (λ found. cause_of (number_of path ∷ kind_number kind ∷ bytes.now) ≡ None) }
@@ -96,7 +99,7 @@ fn take_step(path: Path, kind: EntryKind, bytes: &[u8]) -> Result<(Entry, usize)
         return Err(BadRecord::WrongLength);
     };
     let count = *count as usize;
-    if count > MOST_STAMPS {
+    if count > MOST_READS {
         return Err(BadRecord::TooManyStamps);
     }
     if rest.len() < 4 * count {
@@ -107,7 +110,7 @@ fn take_step(path: Path, kind: EntryKind, bytes: &[u8]) -> Result<(Entry, usize)
     Ok((Entry::of_step(path, kind, stamps), 3 + 4 * count))
 }
 
-// The step of this kind byte.
+/// The step of this kind byte.
 fn kind_of(byte: u8) -> Option<EntryKind>
     ensures some { IfSome result (λ kind. kind_number kind ≡ byte) }
     ensures step { IfSome result (λ kind. edit_of kind ≡ None) }
@@ -123,10 +126,10 @@ fn kind_of(byte: u8) -> Option<EntryKind>
     }
 }
 
-// The stamps that these bytes spell, of which there are so many.
+/// The stamps that these bytes spell, of which there are so many.
 fn take_stamps(bytes: &[u8], count: usize) -> StampList
     requires size { length bytes.now ≡ 4 * count }
-    requires few { count ≤ 32 }
+    requires few { count ≤ MOST_READS }
     ensures bytes { stamp_bytes result ≡ bytes.now }
     ensures count { length result ≡ count }
     ensures stamps { AreStamps result }

@@ -1,7 +1,9 @@
+//! Versions of the journal.
 ghost use Rattle.std.specs.Prelude.{◌≡◌};
 ghost use Rattle.run_records.specs.Headers.{version_number, header_mark};
 
-/// How the journal of a run may go on. A run of version 1 has no edits; it is raised before its first one.
+/// How the journal of a run may go on. A run of version 1 has no edits; it is raised before its
+/// first one.
 #[derive(Clone, Copy, Debug, PartialEq, Eq)]
 pub enum Version {
     /// Version 1: steps alone.

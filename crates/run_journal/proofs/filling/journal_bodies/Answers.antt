@@ -1,4 +1,4 @@
-use Rattle.std.proofs.Common.{◌≡◌, ◌∙◌, ◌+◌, ◌++◌, [], ◌∷◌, List, ℕ, ap, arith}
+use Rattle.std.proofs.Common.{◌∙◌, ◌+◌, ◌++◌, [], ◌∷◌, List, ℕ, ap, arith}
 use Rattle.run_journal.proofs.Fillings.{none_filled, batch_filled}
 use Rattle.run_journal.proofs.filling.journal_bodies.Goals as goal
 

@@ -1,4 +1,4 @@
-use Rattle.std.proofs.Common.{◌≡◌, ◌++◌, take, drop, refl, sym, ◌∙◌, ap, arith, take-append-drop}
+use Rattle.std.proofs.Common.{◌++◌, take, drop, refl, sym, ◌∙◌, ap, arith, take-append-drop}
 use Rattle.std.proofs.lemmas.List.{length-take-le}
 use Rattle.run_records.specs.Spelling.{numbers_bytes}
 use Rattle.run_records.proofs.PutBehind.{put_next}

@@ -1,4 +1,4 @@
-use Rattle.std.proofs.Common.{rules, ◌≡◌, ◌∷◌, [], ◌++◌, ℤ, List, ℕ, drop, length, refl, ◌∙◌, ap, arith}
+use Rattle.std.proofs.Common.{rules, ◌∷◌, [], ◌++◌, ℤ, List, ℕ, drop, refl, ◌∙◌, arith}
 use Rattle.std.specs.Prelude.{FitsSigned}
 use Rattle.std.specs.Int.{w64, cast_signed, cast_unsigned}
 use Rattle.std.proofs.lemmas.Int.{to_z-of_z}

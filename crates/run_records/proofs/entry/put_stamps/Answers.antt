@@ -1,4 +1,4 @@
-use Rattle.std.proofs.Common.{◌≡◌, ◌≤◌, ◌+◌, ◌*◌, ◌∷◌, [], ◌++◌, length, take, drop, refl, ◌∙◌, arith, append_assoc}
+use Rattle.std.proofs.Common.{◌≤◌, ◌+◌, ◌*◌, ◌∷◌, [], ◌++◌, length, take, drop, refl, ◌∙◌, arith, append_assoc}
 use Rattle.run_records.specs.Spelling.{stamp_bytes}
 use Rattle.run_records.proofs.PutBehind.{put_next, set_third, length_third}
 use Rattle.run_records.proofs.entry.put_stamps.Goals as goal

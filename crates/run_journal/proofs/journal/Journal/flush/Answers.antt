@@ -1,7 +1,6 @@
 use Rattle.std.proofs.Common.{rules, ◌≡◌, ◌++◌, List, ℕ, subst, sym, ◌∙◌, ap, ◌≤◌, arith}
 use Rattle.disk_model.specs.Moments.{LeavesOnly}
 use Rattle.run_records.specs.declared.header.Header.{Header}
-use Rattle.run_records.specs.declared.version.Version.{Version}
 use Rattle.run_records.specs.Entries.{Entry}
 use Rattle.run_journal.specs.Batches.{a_batch}
 use Rattle.run_journal.specs.Kept.{Log, pending_in}

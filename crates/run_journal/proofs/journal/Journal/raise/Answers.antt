@@ -1,4 +1,4 @@
-use Rattle.std.proofs.Common.{rules, ◌≡◌, List, refl, ap, subst, arith}
+use Rattle.std.proofs.Common.{rules, List, refl, ap, subst, arith}
 use Rattle.std.proofs.lemmas.Result.{err_from_is_err_and}
 use Rattle.disk_model.specs.Moments.{LeavesOnly}
 use Rattle.run_records.specs.declared.header.Header.{Header}
