@@ -1,15 +1,10 @@
 -- Where a jump leads, as a result.
-use Rattle.std.proofs.Common.{◌≡◌, ◌↔◌, ℕ, zero, suc, ◌<◌, [], ◌∷◌, List, length, Option, Some, None, Result, Ok, Err, slice_get, slice_index_or, refl, subst, sym, ◌∙◌, arith}
-use Rattle.nc_number.specs.declared.cause.Cause.{Cause}
-use Rattle.nc_number.specs.declared.cause.Cause.TheVariants.{NoSequence, IntoLoop}
+use Rattle.std.proofs.Common.{◌≡◌, ℕ, zero, suc, ◌<◌, [], ◌∷◌, List, length, Option, Some, slice_get, slice_index_or, refl, subst, sym, ◌∙◌, arith}
 use Rattle.block_order.specs.declared.fault.OrderFault.{OrderFault}
-use Rattle.block_order.specs.declared.program.ControlBlock.{ControlBlock}
 use Rattle.block_order.specs.declared.program.ControlProgram.{ControlProgram}
-use Rattle.block_order.specs.Order.{seek, IsPermitted, Leads}
 use Rattle.block_order.specs.Faults.{Stage, IsFirst, IsClearBefore}
 use Rattle.block_order.specs.First.{IsFirstOf}
 use Rattle.block_order.specs.declared.tables.ProgramTables.{ProgramTables}
-use Rattle.block_order.specs.declared.tables.TapeTables.{TapeTables}
 use Rattle.block_order.specs.Order.{blocks}
 use Rattle.block_order.specs.ProgramPlaces.{place_of}
 use Rattle.block_order.specs.TapeTable.{IsProgramTables, IsTapeTables}
@@ -28,8 +23,8 @@ item_at (x ∷ xs) zero within = (x, refl)
 item_at (x ∷ xs) (suc i) within = item_at xs i (omega (arith, within))
 
 -- the tables of a program stand at its place
-pub tables_there : (tape : List ControlProgram) (tables : TapeTables) (q i : ℕ) → IsTapeTables tape tables → Some i ≡ place_of tape q
-    → (own : ProgramTables) × (slice_get tables.programs.items i ≡ Some own) × IsProgramTables (blocks tape q) own
+pub tables_there : (tape : List ControlProgram) (tables : List ProgramTables) (q i : ℕ) → IsTapeTables tape tables → Some i ≡ place_of tape q
+    → (own : ProgramTables) × (slice_get tables i ≡ Some own) × IsProgramTables (blocks tape q) own
 tables_there tape tables q i are e =
     let within = place_within tape q i e in
     let stood = item_at tape i within in
@@ -39,6 +34,6 @@ tables_there tape tables q i are e =
     let found = are.each i p stood.1 in
     (found.0, found.1, subst (λ bs. IsProgramTables bs found.0) (blocks_there tape q i p e within is) found.2)
 
-pub tables_within : (tape : List ControlProgram) (tables : TapeTables) (q i : ℕ) → IsTapeTables tape tables → Some i ≡ place_of tape q
-    → i < length tables.programs.items
+pub tables_within : (tape : List ControlProgram) (tables : List ProgramTables) (q i : ℕ) → IsTapeTables tape tables → Some i ≡ place_of tape q
+    → i < length tables
 tables_within tape tables q i are e = omega (arith, place_within tape q i e, are.long)

@@ -9,6 +9,7 @@ use Rattle.block_order.specs.Order.{blocks, main_number, control_at, IsLoop}
 use Rattle.block_order.specs.Loud.{loud, stretch}
 use Rattle.block_order.specs.Labels.{IsTarget, Chain, Counts, IsUnforked}
 use Rattle.block_order.specs.Faults.{Waiting, IsReachedBy, strays, deep, jump, loop, back, IsClear}
+use Rattle.block_order.proofs.Searches.{loop_facts}
 
 same_number : (a b : ℕ) → (a ≢ b → ⊥) → a ≡ b
 same_number a b never = go (a == b) refl
@@ -39,7 +40,8 @@ loops_straight : (tape : List ControlProgram) → IsClear tape Waiting → (prog
     → IsLoop (blocks tape program) head close
     → stretch (loud tape) (blocks tape program) head ≡ stretch (loud tape) (blocks tape program) close
 loops_straight tape clear program head close counts is_loop =
-    let b = block_of_control (blocks tape program) close (EndLoop is_loop.name) is_loop.is_close in
+    let facts = loop_facts (blocks tape program) head close is_loop in
+    let b = block_of_control (blocks tape program) close (EndLoop facts.name) facts.is_close in
     same_number (stretch (loud tape) (blocks tape program) head) (stretch (loud tape) (blocks tape program) close)
     (λ differ. clear b.0.line _ (strays program close b.0 b.1 (loop head counts is_loop differ)))
 

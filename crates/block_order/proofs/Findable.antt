@@ -1,5 +1,5 @@
 -- What a block's jump or call finds, and the first fault of the second stage.
-use Rattle.std.proofs.Common.{◌≡◌, ◌≢◌, ℕ, zero, suc, ◌+◌, ◌<◌, ◌≤◌, ◌⊎◌, ◌↔◌, IsTrue, inl, inr, Bool, true, false, cond, eqb, List, [], ◌∷◌, length, map, drop, take, get_or, Option, Some, None, refl, sym, ap, ◌∙◌, arith, subst, ⊎_elim}
+use Rattle.std.proofs.Common.{◌≡◌, ◌≢◌, ℕ, zero, suc, ◌+◌, ◌<◌, ◌≤◌, ◌⊎◌, ◌↔◌, IsTrue, inl, inr, Bool, true, false, cond, eqb, List, [], ◌∷◌, length, map, drop, take, get_or, Option, Some, None, Result, Err, refl, sym, ap, ◌∙◌, arith, subst, ⊎_elim}
 use Rattle.std.specs.List.{slice_get, Contains}
 use Rattle.std.specs.Option.{is_some}
 use Rattle.std.proofs.lemmas.Bool.{cases_eq, cases_lt, cases_order, eqb-true}
@@ -7,17 +7,16 @@ use Rattle.std.proofs.lemmas.Bool.Decides.{nat_tests}
 use Rattle.std.proofs.lemmas.List.{length-drop}
 use Rattle.std.proofs.lemmas.Option.{slice_get_within}
 use Rattle.nc_number.specs.declared.cause.Cause.{Cause}
-use Rattle.nc_number.specs.declared.cause.Cause.TheVariants.{NoSequence, NoProgram, IntoLoop}
+use Rattle.nc_number.specs.declared.cause.Cause.TheVariants.{NoProgram}
 use Rattle.nc_number.specs.Causes.{cause_number}
 use Rattle.block_order.specs.declared.control.Control.{Control}
 use Rattle.block_order.specs.declared.control.Control.TheVariants.{Call, BackTo}
 use Rattle.block_order.specs.declared.program.ControlBlock.{ControlBlock}
 use Rattle.block_order.specs.declared.program.ControlProgram.{ControlProgram}
-use Rattle.block_order.specs.Order.{has_sequence, first_numbered, or_else, seek, program_of, blocks_of, blocks, main_number, IsPermitted}
+use Rattle.block_order.specs.Order.{has_sequence, first_numbered, or_else, seek, program_of, blocks_of, blocks, main_number, target_of}
 use Rattle.block_order.specs.Shape.{IsListed}
-use Rattle.block_order.specs.Faults.{Stage, Fitting, Finding, Waiting, HasFault, IsClear, IsNoLater, fixed_number, Stands, twice, mismatch, lost, unknown, into, strays, deep}
-use Rattle.block_order.specs.Found.{JumpFault, BlockFault, barred, jumps, calls, IsFaultOf, IsProgramFault}
-use Rattle.block_order.specs.Found as block
+use Rattle.block_order.specs.Faults.{Stage, Fitting, Finding, Waiting, HasFault, IsClear, IsNoLater, fixed_number, Stands, twice, mismatch, lost, unknown, strays, deep}
+use Rattle.block_order.specs.Found.{JumpFault, BlockFault, jumps, calls, IsFaultOf, IsProgramFault}
 use Rattle.block_order.specs.ProgramPlaces.{place_from, place_of}
 use Rattle.block_order.proofs.Lines.{rise-programs, rise-own, block-order, block-in}
 use Rattle.block_order.proofs.Located.{clear-new}
@@ -41,14 +40,6 @@ seek-within bs from n t e = go (first_numbered (drop (suc from) bs) (suc from) n
       let k : x ≡ t = cc in
       let w = numbered-within (drop (suc from) bs) (suc from) n x f in
       omega (arith, w.0, w.1, length-drop (suc from) bs)
-
-pub jump-clear : (bs : List ControlBlock) (place n target : ℕ) (cause : Cause) → seek bs place n ≡ Some target
-    → IsPermitted bs place target → JumpFault bs place n cause → ⊥
-jump-clear bs place n target _ at permitted (block.lost none) = let e : None ≡ Some target = sym none ∙ at in absurd cc
-jump-clear bs place n target _ at permitted (barred other there no_way) =
-    let e : Some target ≡ Some other = sym at ∙ there in
-    let k : target ≡ other = cc in
-    no_way (subst (IsPermitted bs place) k permitted)
 
 pub lift-jump : (tape : List ControlProgram) (p : ControlProgram) (place n : ℕ) (control : Control) (o : Option Cause)
     → fixed_number tape p.number control ≡ Some n → ((called repeats : ℕ) → control ≢ Call called repeats)
@@ -169,12 +160,10 @@ found : (tape : List ControlProgram) (stage : Stage) (line : ℕ) (cause : Cause
     → Found tape stage line cause
 found tape _ _ _ (twice before after p e w) = tt
 found tape _ _ _ (mismatch p place b has at m) = tt
-found tape _ _ _ (lost program place n b s f e) = found-jump tape program place n b NoSequence s f (block.lost e)
+found tape _ _ _ (lost program place n b cause s f e) = found-jump tape program place n b cause s f e
 found tape _ _ _ (unknown program place called repeats b s f e) =
     let w = stands-in tape program place b s in
     (w.0, w.1, place, b, w.2, w.3, refl, calls called repeats f e)
-found tape _ _ _ (into program place n target b s f e m) =
-    found-jump tape program place n b IntoLoop s f (barred target e m)
 found tape _ _ _ (strays program place b s m) = tt
 found tape _ _ _ (deep program place called repeats b r s f e) = tt
 
@@ -198,27 +187,16 @@ own-blocks : (tape : List ControlProgram) (i : ℕ) (p : ControlProgram) → IsC
     → blocks tape p.number ≡ p.blocks
 own-blocks tape i p clear at = ap blocks_of (find-first tape i p at (clear-new tape i p clear at))
 
-jump-has : (tape : List ControlProgram) (p : ControlProgram) (place n : ℕ) (b : ControlBlock) (cause : Cause)
-    → blocks tape p.number ≡ p.blocks → slice_get p.blocks place ≡ Some b → fixed_number tape p.number b.control ≡ Some n
-    → JumpFault p.blocks place n cause → HasFault tape Finding b.line cause
-jump-has tape p place n b _ same at f (block.lost e) =
-    lost p.number place n b (ap (λ bs. slice_get bs place) same ∙ at) f (ap (λ bs. seek bs place n) same ∙ e)
-jump-has tape p place n b _ same at f (barred target e m) =
-    into p.number place n target b (ap (λ bs. slice_get bs place) same ∙ at) f (ap (λ bs. seek bs place n) same ∙ e)
-    (λ w. m (subst (λ (bs : List ControlBlock). IsPermitted bs place target) same w))
-
 block-has : (tape : List ControlProgram) (p : ControlProgram) (place : ℕ) (b : ControlBlock) (cause : Cause)
     → blocks tape p.number ≡ p.blocks → slice_get p.blocks place ≡ Some b → BlockFault tape p place b.control cause
     → HasFault tape Finding b.line cause
-block-has tape p place b _ same at (jumps n cause f j) = jump-has tape p place n b cause same at f j
+block-has tape p place b _ same at (jumps n cause f j) =
+    lost p.number place n b cause (ap (λ bs. slice_get bs place) same ∙ at) f (ap (λ bs. target_of bs place n) same ∙ j)
 block-has tape p place b _ same at (calls called repeats f e) =
     unknown p.number place called repeats b (ap (λ bs. slice_get bs place) same ∙ at) f e
 
 jump-same : (bs : List ControlBlock) (place n : ℕ) (a b : Cause) → JumpFault bs place n a → JumpFault bs place n b → a ≡ b
-jump-same bs place n _ _ (block.lost e) (block.lost f) = refl
-jump-same bs place n _ _ (block.lost e) (barred target f m) = let k : None ≡ Some target = sym e ∙ f in absurd cc
-jump-same bs place n _ _ (barred target e m) (block.lost f) = let k : None ≡ Some target = sym f ∙ e in absurd cc
-jump-same bs place n _ _ (barred target e m) (barred other f k) = refl
+jump-same bs place n a b e f = let both : ◌≡◌ {A = Result ℕ Cause} (Err a) (Err b) = sym e ∙ f in cc
 
 fault-same : (tape : List ControlProgram) (p : ControlProgram) (place : ℕ) (control : Control) (a b : Cause)
     → BlockFault tape p place control a → BlockFault tape p place control b → a ≡ b

@@ -1,5 +1,5 @@
 -- What `get` and `copied` give, as one look-up.
-use Rattle.std.proofs.Common.{◌≡◌, ◌≢◌, ℕ, eqb, true, false, arith, ◌<◌, ◌≤◌, Bor, List, length, Option, Some, None, refl, sym, ap, ◌∙◌}
+use Rattle.std.proofs.Common.{◌≡◌, ◌≢◌, ℕ, eqb, true, false, arith, ◌<◌, ◌≤◌, ◌↔◌, Bor, List, length, Option, Some, None, refl, sym, ap, ◌∙◌}
 use Rattle.std.specs.Option.{MatchOption, option_copied, option_flatten, option_eq}
 use Rattle.std.proofs.lemmas.Bool.Decides.{nat_tests}
 use Rattle.std.proofs.lemmas.Bool.{eqb-true}
@@ -19,6 +19,14 @@ flat-some (Some (Some y)) x e = ap (λ o. Some o) e
 
 pub some-flat : {X : Type 0} (a b : Option (Option X)) (o : Option X) → a ≡ b → b ≡ Some o → option_flatten a ≡ o
 some-flat a b o e f = ap option_flatten (e ∙ f)
+
+-- options that hold the same are the same
+pub same_somes : (a b : Option ℕ) → ((x : ℕ) → (a ≡ Some x) ↔ (b ≡ Some x)) → a ≡ b
+same_somes (Some x) b both = sym ((both x).0 refl)
+same_somes None b both = go b refl where
+  go : (o : Option ℕ) → b ≡ o → None ≡ b
+  go None e = sym e
+  go (Some x) e = let clash : None ≡ Some x = (both x).1 e in absurd cc
 
 -- two options that a test found equal, and that it found to differ
 pub eq-some : (o : Option ℕ) (x : ℕ) → option_eq eqb o (Some x) ≡ true → o ≡ Some x

@@ -12,6 +12,7 @@ use Rattle.block_order.specs.Moves.{at, return_by, place_of_jump_back}
 use Rattle.block_order.specs.Steps.{Goes, IsPlace, Kept, Same}
 use Rattle.block_order.proofs.LoudReaches.{AreLoud}
 use Rattle.block_order.proofs.CallChains.{counts_below, main_below}
+use Rattle.block_order.proofs.Searches.{loop_facts}
 use Rattle.block_order.proofs.Moved.{jump_leads, exit_leads, head_leads, call_leads}
 use Rattle.block_order.proofs.LabelsAhead.{ahead-counts, ahead-quiet, moves_kept, from-next, from-jump, call_opens, repeat_begins, last_returns}
 
@@ -42,8 +43,9 @@ pub exit_kept : (tape : List ControlProgram) → IsUnforked tape → (f : Frame)
     → IsPlace tape (f ∷ stack) → (close : ℕ) → IsLoop (blocks tape f.program) f.block close
     → Same tape f stack (at f (suc close) ∷ stack)
 exit_kept tape un f stack place close loop =
+    let facts = loop_facts (blocks tape f.program) f.block close loop in
     moves_kept tape f stack (suc close)
-    (λ e. from-next tape f.program close (EndLoop loop.name) loop.is_close refl
+    (λ e. from-next tape f.program close (EndLoop facts.name) facts.is_close refl
     ∙ from-jump tape f.program f.block close (un.loops f.program f.block close (Counts-from tape f stack place e) loop))
 
 pub loop_kept : (tape : List ControlProgram) → IsUnforked tape → (f : Frame) (stack : List Frame)

@@ -12,7 +12,6 @@ pub mod MarksFrom
 pub mod LabelsAhead
 pub mod CallChains
 pub mod Searches
-pub mod Answered
 pub mod Moved
 pub mod KeepsLabels
 pub mod StepsStay

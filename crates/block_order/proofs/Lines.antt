@@ -4,7 +4,8 @@ use Rattle.std.specs.List.{slice_get}
 use Rattle.std.proofs.lemmas.List.{length-append}
 use Rattle.block_order.specs.declared.program.ControlBlock.{ControlBlock}
 use Rattle.block_order.specs.declared.program.ControlProgram.{ControlProgram}
-use Rattle.block_order.specs.Shape.{RiseFrom, lines_of_program, lines_in, blocks_in}
+use Rattle.nc_number.specs.Rising.{RiseFrom}
+use Rattle.block_order.specs.Shape.{lines_of_program, lines_in, blocks_in}
 
 abbrev pub In : ℕ → List ℕ → Type 0
 In x [] = ⊥

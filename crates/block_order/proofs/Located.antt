@@ -9,8 +9,9 @@ use Rattle.nc_number.specs.declared.cause.Cause.TheVariants.{ProgramTwice, LoopM
 use Rattle.block_order.specs.declared.program.ControlBlock.{ControlBlock}
 use Rattle.block_order.specs.declared.program.ControlProgram.{ControlProgram}
 use Rattle.block_order.specs.Loops.{IsMismatch}
-use Rattle.block_order.specs.Shape.{RiseFrom, lines_of_program, IsListed}
-use Rattle.block_order.specs.Faults.{Stage, Fitting, Finding, Waiting, HasFault, IsClear, IsNoLater, twice, mismatch, lost, unknown, into, strays, deep}
+use Rattle.nc_number.specs.Rising.{RiseFrom}
+use Rattle.block_order.specs.Shape.{lines_of_program, IsListed}
+use Rattle.block_order.specs.Faults.{Stage, Fitting, Finding, Waiting, HasFault, IsClear, IsNoLater, twice, mismatch, lost, unknown, strays, deep}
 use Rattle.block_order.specs.First.{IsMismatchLine}
 use Rattle.block_order.specs.Misplaced.{IsFirstMismatch}
 use Rattle.block_order.proofs.Mismatched.{mismatch-within}
@@ -58,9 +59,8 @@ lies tape _ _ _ (twice before after p e w) = (
 )
 lies tape _ _ _ (mismatch p place block has at m) =
     (has.0, p, contained-at tape p has.0 has.1 has.2, apart place block at m)
-lies tape _ _ _ (lost program place n block s f e) = tt
+lies tape _ _ _ (lost program place n block cause s f e) = tt
 lies tape _ _ _ (unknown program place called repeats block s f e) = tt
-lies tape _ _ _ (into program place n target block s f e m) = tt
 lies tape _ _ _ (strays program place block s m) = tt
 lies tape _ _ _ (deep program place called repeats block r s f e) = tt
 

@@ -1,4 +1,5 @@
--- Loud programs: as many rounds as there are programs find each of them, and each reaches a wait or an end.
+-- Loud programs: as many rounds as there are programs find each of them, and each reaches a wait or
+-- an end.
 use Rattle.std.proofs.Common.{◌≡◌, ℕ, zero, suc, ◌≤◌, ◌⊎◌, inl, inr, Bool, true, false, ◌==◌, ◌||◌, List, [], ◌∷◌, length, None, Some, refl, ap, sym, subst, ◌∙◌, arith, eqb-true}
 use Rattle.std.proofs.lemmas.Bool.{eqb-false}
 use Rattle.block_order.specs.declared.control.Control.{Control}

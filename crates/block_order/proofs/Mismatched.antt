@@ -5,10 +5,12 @@ use Rattle.std.specs.Option.{option_or}
 use Rattle.std.proofs.lemmas.Bool.{cases_lt, eqb-true}
 use Rattle.std.proofs.lemmas.Bool.Decides.{nat_tests}
 use Rattle.std.proofs.lemmas.List.{take_all}
+use Rattle.nc_number.proofs.Bools.{or_right, not_true}
+use Rattle.nc_number.proofs.Counts.{some_is}
 use Rattle.block_order.specs.declared.control.Control.{Control}
 use Rattle.block_order.specs.declared.control.Control.TheVariants.{Next, Goto, While, Do, EndLoop, Wait, End, Call, Back, BackTo}
 use Rattle.block_order.specs.declared.program.ControlBlock.{ControlBlock}
-use Rattle.block_order.specs.Order.{control_at, IsHead, or_else}
+use Rattle.block_order.specs.Order.{control_at, head_name, or_else}
 use Rattle.block_order.specs.Loops.{Open, closed, open_behind, open_after, open_before, names, places, latest, IsMismatch, unclosed, unopened, nested, overlap}
 use Rattle.block_order.specs.Misplaced.{has_name, is_latest, is_misplaced, first_misplaced, earliest, lesser, IsFirstMismatch}
 use Rattle.block_order.proofs.Opened.{within_control, Kind, opening, closing, plain, kind}
@@ -57,15 +59,11 @@ has-contains n (x ∷ xs) e = go (λ more. has-contains n xs more) (eqb x.name n
       let more : has_name n xs ≡ true = sym (ap (λ v. v || has_name n xs) t) ∙ e in
       let w = rest more in (suc w.0, omega (arith, w.1), w.2)
 
-or-right : (a b : Bool) → b ≡ true → (a || b) ≡ true
-or-right true b e = refl
-or-right false b e = e
-
 contains-has : (n k : ℕ) (loops : List Open) → k < length (names loops) → get_or (names loops) k n ≡ n → has_name n loops ≡ true
 contains-has n k [] l e = absurd (omega arith)
 contains-has n zero (x ∷ xs) l e =
     let t : eqb x.name n ≡ true = grind (arith, nat_tests) in ap (λ v. v || has_name n xs) t
-contains-has n (suc k) (x ∷ xs) l e = or-right (eqb x.name n) (has_name n xs) (contains-has n k xs (omega arith) e)
+contains-has n (suc k) (x ∷ xs) l e = or_right (eqb x.name n) (has_name n xs) (contains-has n k xs (omega arith) e)
 
 latest-true : (n : ℕ) (loops : List Open) → is_latest n loops ≡ true → latest (names loops) ≡ Some n
 latest-true n [] e = absurd cc
@@ -78,10 +76,6 @@ latest-same n (x ∷ xs) e = let k : x.name ≡ n = cc in grind (arith, nat_test
 latest-contains : (n : ℕ) (loops : List Open) → is_latest n loops ≡ true → Contains (names loops) n
 latest-contains n [] e = absurd cc
 latest-contains n (x ∷ xs) e = (0, omega arith, eqb-true x.name n e)
-
-not-true : (v : Bool) → not v ≡ true → v ≡ false
-not-true true e = absurd cc
-not-true false e = refl
 
 true-not : (v : Bool) → (v ≡ true → ⊥) → not v ≡ true
 true-not true f = absurd (f refl)
@@ -103,9 +97,9 @@ end-mismatch bs p n at other = go (has_name n (open_before bs p)) refl where
 -- a misplaced block is a mismatch
 pub to-mismatch : (bs : List ControlBlock) (p : ℕ) (c : Control) → control_at bs p ≡ Some c
     → is_misplaced (open_before bs p) c ≡ true → IsMismatch bs p
-to-mismatch bs p (While n) at e = nested (While n) n at refl (has-contains n (open_before bs p) e)
-to-mismatch bs p (Do n) at e = nested (Do n) n at refl (has-contains n (open_before bs p) e)
-to-mismatch bs p (EndLoop n) at e = end-mismatch bs p n at (not-true (is_latest n (open_before bs p)) e)
+to-mismatch bs p (While n) at e = nested n (ap head_name at) (has-contains n (open_before bs p) e)
+to-mismatch bs p (Do n) at e = nested n (ap head_name at) (has-contains n (open_before bs p) e)
+to-mismatch bs p (EndLoop n) at e = end-mismatch bs p n at (not_true (is_latest n (open_before bs p)) e)
 to-mismatch bs p Next at e = absurd cc
 to-mismatch bs p (Goto n) at e = absurd cc
 to-mismatch bs p (Wait n) at e = absurd cc
@@ -117,18 +111,20 @@ to-mismatch bs p (BackTo n) at e = absurd cc
 abbrev Misplaced : List ControlBlock → ℕ → Type 0
 Misplaced bs p = (c : Control) × (control_at bs p ≡ Some c) × (is_misplaced (open_before bs p) c ≡ true)
 
-head-misplaced : (loops : List Open) (c : Control) (n : ℕ) → IsHead c n → Contains (names loops) n → is_misplaced loops c ≡ true
-head-misplaced loops (While m) n is w =
-    ap (λ k. has_name k loops) is ∙ contains-has n w.0 loops w.1 w.2
-head-misplaced loops (Do m) n is w = ap (λ k. has_name k loops) is ∙ contains-has n w.0 loops w.1 w.2
-head-misplaced loops (EndLoop m) n is w = elim is [ ]
-head-misplaced loops Next n is w = elim is [ ]
-head-misplaced loops (Goto m) n is w = elim is [ ]
-head-misplaced loops (Wait m) n is w = elim is [ ]
-head-misplaced loops End n is w = elim is [ ]
-head-misplaced loops (Call m k) n is w = elim is [ ]
-head-misplaced loops Back n is w = elim is [ ]
-head-misplaced loops (BackTo m) n is w = elim is [ ]
+head-misplaced : (bs : List ControlBlock) (p n : ℕ) → head_name (control_at bs p) ≡ Some n
+    → Contains (names (open_before bs p)) n → Misplaced bs p
+head-misplaced bs p n named w = go (control_at bs p) refl where
+  has : (m : ℕ) → Some m ≡ Some n → has_name m (open_before bs p) ≡ true
+  has m e = ap (λ k. has_name k (open_before bs p)) (some_is e) ∙ contains-has n w.0 (open_before bs p) w.1 w.2
+
+  in-head : (c : Control) → control_at bs p ≡ Some c → head_name (Some c) ≡ Some n → Misplaced bs p
+  in-head (While m) at is = (While m, at, has m is)
+  in-head (Do m) at is = (Do m, at, has m is)
+  in-head _ at is = absurd cc
+
+  go : (o : Option Control) → control_at bs p ≡ o → Misplaced bs p
+  go None at = let none : None ≡ Some n = sym (ap head_name at) ∙ named in absurd cc
+  go (Some c) at = in-head c at (sym (ap head_name at) ∙ named)
 
 -- and a mismatch is that, or an unclosed head
 pub from-mismatch : (bs : List ControlBlock) (p : ℕ) → IsMismatch bs p
@@ -136,7 +132,7 @@ pub from-mismatch : (bs : List ControlBlock) (p : ℕ) → IsMismatch bs p
 from-mismatch bs p (unclosed w) = inl w
 from-mismatch bs p (unopened n at none) =
     inr (EndLoop n, at, true-not (is_latest n (open_before bs p)) (λ e. none (latest-contains n (open_before bs p) e)))
-from-mismatch bs p (nested c n at is w) = inr (c, at, head-misplaced (open_before bs p) c n is w)
+from-mismatch bs p (nested n named w) = inr (head-misplaced bs p n named w)
 from-mismatch bs p (overlap n at w ne) =
     inr (EndLoop n, at, true-not (is_latest n (open_before bs p)) (λ e. ne (latest-true n (open_before bs p) e)))
 
@@ -162,7 +158,7 @@ falls-behind place c loops (opening n is push other) w = rw (push place loops) (
 falls-behind place c loops (closing n is) w =
     let to : open_behind place c loops ≡ closed n loops = ap (λ x. open_behind place x loops) is in
     rw to (falls-raise place (suc place) (closed n loops) (omega arith) (falls-closed place n loops w))
-falls-behind place c loops (plain same other) w =
+falls-behind place c loops (plain none same other) w =
     rw (same place loops) (falls-raise place (suc place) loops (omega arith) w)
 
 falls-after : (bs : List ControlBlock) (place m : ℕ) (loops : List Open) → m ≡ place + length bs → Falls place loops

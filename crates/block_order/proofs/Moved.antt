@@ -7,7 +7,7 @@ use Rattle.block_order.specs.declared.frame.Frame.{Frame}
 use Rattle.block_order.specs.declared.program.ControlProgram.{ControlProgram}
 use Rattle.block_order.specs.Order.{blocks, IsLoop, Leads, target_of, end_of_loop, head_of_loop}
 use Rattle.block_order.specs.Moves.{at, place_to, place_by, place_of_jump, behind_end, place_behind_loop, at_head, place_of_head, place_in, place_of_call}
-use Rattle.block_order.proofs.Searches.{is_loop, head_is_of_loop, leads}
+use Rattle.block_order.proofs.Searches.{head_is_of_loop}
 
 -- to the block that the running frame leads to
 moved_to : (target : Frame → Result ℕ Cause) (f : Frame) (stack to : List Frame) → place_by target (f ∷ stack) ≡ Ok to
@@ -22,8 +22,7 @@ pub jump_leads : (tape : List ControlProgram) (n : ℕ) (f : Frame) (stack to : 
     → place_of_jump tape n (f ∷ stack) ≡ Ok to
     → (target : ℕ) × Leads (blocks tape f.program) f.block n target × (to ≡ at f target ∷ stack)
 jump_leads tape n f stack to e =
-    let m = moved_to (λ f. target_of (blocks tape f.program) f.block n) f stack to e in
-    (m.0, leads (blocks tape f.program) f.block n m.0 m.1, m.2)
+    moved_to (λ f. target_of (blocks tape f.program) f.block n) f stack to e
 
 pub exit_leads : (tape : List ControlProgram) (f : Frame) (stack to : List Frame)
     → place_behind_loop tape (f ∷ stack) ≡ Ok to
@@ -33,7 +32,7 @@ exit_leads tape f stack to e = go (end_of_loop (blocks tape f.program) f.block) 
     go : (o : Option ℕ) → end_of_loop (blocks tape f.program) f.block ≡ o → place_to (f ∷ stack) (behind_end o) ≡ Ok to
         → (close : ℕ) × IsLoop (blocks tape f.program) f.block close × (to ≡ at f (suc close) ∷ stack)
     go None is e = absurd cc
-    go (Some close) is e = (close, is_loop (blocks tape f.program) f.block close is, cc)
+    go (Some close) is e = (close, is, cc)
 
 pub head_leads : (tape : List ControlProgram) (f : Frame) (stack to : List Frame) → place_of_head tape (f ∷ stack) ≡ Ok to
     → (head : ℕ) × IsLoop (blocks tape f.program) head f.block × (to ≡ at f head ∷ stack)

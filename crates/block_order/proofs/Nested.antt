@@ -1,12 +1,18 @@
 -- Loops that fit are nested.
-use Rattle.std.proofs.Common.{◌≡◌, ◌≢◌, ℕ, suc, ◌-◌, ◌<◌, ◌≤◌, ◌⊎◌, inl, inr, List, length, Some, sym, ◌∙◌, arith, subst}
-use Rattle.std.specs.List.{Contains}
+use Rattle.std.proofs.Common.{◌≡◌, ◌≢◌, ℕ, zero, suc, ◌-◌, ◌<◌, ◌≤◌, ◌⊎◌, inl, inr, List, [], ◌∷◌, length, Some, sym, ◌∙◌, arith}
 use Rattle.std.proofs.lemmas.Bool.{cases_lt}
+use Rattle.nc_number.proofs.Counts.{some_is}
 use Rattle.block_order.specs.declared.program.ControlBlock.{ControlBlock}
-use Rattle.block_order.specs.Order.{IsLoop}
-use Rattle.block_order.specs.Loops.{open_before, names, nested}
+use Rattle.block_order.specs.Order.{control_at, head_name, IsLoop}
+use Rattle.block_order.specs.Loops.{open_before, nested}
 use Rattle.block_order.specs.Fitting.{Fits, IsNested}
-use Rattle.block_order.proofs.Opened.{within_control, opens, open-ends, open-inside, loop-unique, end-closes, closed-head, nests, has-names}
+use Rattle.block_order.proofs.Opened.{opens, open-ends, open-inside, end-closes, closed-head, nests, has-names}
+use Rattle.block_order.proofs.Searches.{loop_facts}
+
+named_within : (bs : List ControlBlock) (head name : ℕ) → head_name (control_at bs head) ≡ Some name → head < length bs
+named_within [] head name named = absurd cc
+named_within (b ∷ bs) zero name named = omega arith
+named_within (b ∷ bs) (suc head) name named = let l = named_within bs head name named in omega arith
 
 apart-or-inside : (bs : List ControlBlock) (head end inner last : ℕ) → Fits bs → IsLoop bs head end → IsLoop bs inner last
     → head < inner → (end < inner) ⊎ (last < end)
@@ -15,29 +21,22 @@ apart-or-inside bs head end inner last fits outer within l = go (cases_lt end in
   go (inl k) = inl k
   go (inr k) = inr (nests bs head end inner last fits outer within l k)
 
-other-name : (bs : List ControlBlock) (head end inner last : ℕ) → Fits bs → (outer : IsLoop bs head end)
-    (within : IsLoop bs inner last) → head < inner → inner ≤ end → outer.name ≢ within.name
+other-name : (bs : List ControlBlock) (head end inner last : ℕ) → Fits bs → IsLoop bs head end → IsLoop bs inner last
+    → head < inner → inner ≤ end → head_name (control_at bs head) ≢ head_name (control_at bs inner)
 other-name bs head end inner last fits outer within l m e =
-    fits inner (nested within.first within.name within.is_first within.is_head
-    (subst (Contains (names (open_before bs inner))) e
-    (has-names head outer.name (open_before bs inner) (open-inside bs head end outer inner l m))))
+    let facts = loop_facts bs head end outer in
+    fits inner (nested facts.name (sym e ∙ facts.named)
+    (has-names head facts.name (open_before bs inner) (open-inside bs head end facts inner l m)))
 
 pub loops-nested : (bs : List ControlBlock) → Fits bs → IsNested bs
 loops-nested bs fits = record {
-  heads = λ head name c at is.
-      let within = within_control bs head c at in
-      let ends = open-ends bs head name (length bs - suc head) (suc head) fits (omega arith) (opens bs head name c at is) in
-      (ends.0, (ends.2, λ other loop. loop-unique bs head other ends.0 loop ends.2));
+  heads = λ head name named.
+      let has = opens bs head name named in
+      let within = named_within bs head name named in
+      let ends = open-ends bs head name (length bs - suc head) (suc head) fits (omega arith) has in (ends.0, ends.2);
   ends = λ end name at.
-      let w = end-closes bs end name fits at in (
-        w.0,
-        (
-          w.3,
-          λ other loop.
-              let e : Some other ≡ Some w.0 = sym (closed-head bs other end fits loop) ∙ w.1 in
-              let k : other ≡ w.0 = cc in k,
-        ),
-      );
+      let w = end-closes bs end name fits at in
+      (w.0, (w.3, λ other loop. some_is (sym (closed-head bs other end fits loop) ∙ w.1)));
   nest = λ head end inner last outer within l. apart-or-inside bs head end inner last fits outer within l;
   names_differ = λ head end inner last outer within l m. other-name bs head end inner last fits outer within l m;
 }

@@ -5,10 +5,11 @@ use Rattle.std.proofs.lemmas.Bool.{cases_eq}
 use Rattle.block_order.specs.declared.control.Control.{Control}
 use Rattle.block_order.specs.declared.control.Control.TheVariants.{Next, Goto, While, Do, EndLoop, Wait, End, Call, Back, BackTo}
 use Rattle.block_order.specs.declared.program.ControlBlock.{ControlBlock}
-use Rattle.block_order.specs.Order.{control_at, IsHead, IsLoop}
+use Rattle.block_order.specs.Order.{control_at, head_name, IsLoop}
 use Rattle.block_order.specs.Loops.{Open, open_behind, open_before, places, latest}
 use Rattle.block_order.specs.Fitting.{Fits, innermost, IsInside, IsEnds}
-use Rattle.block_order.proofs.Opened.{Kind, opening, closing, plain, kind, not-plain, open_more, at-control, end-closes, closed-head, loop-unique}
+use Rattle.block_order.proofs.Opened.{Kind, opening, closing, plain, kind, open_more, at-control, end-closes, closed-head}
+use Rattle.block_order.proofs.Searches.{loop_facts, loop_unique}
 
 -- neither a head nor an END
 pub plain-control : (c : Control) → ((m : ℕ) → c ≢ While m) → ((m : ℕ) → c ≢ Do m) → ((m : ℕ) → c ≢ EndLoop m)
@@ -32,23 +33,24 @@ ends-stay bs i ends c at ne known head end = (
     w.0,
     ⊎_elim
         (λ (same : end ≡ i).
-        absurd (ne w.0.name (at-control bs i c (EndLoop w.0.name) at (ap (control_at bs) (sym same) ∙ w.0.is_close))))
+        let loop = loop_facts bs head end w.0 in
+        absurd (ne loop.name (at-control bs i c (EndLoop loop.name) at (ap (control_at bs) (sym same) ∙ loop.is_close))))
         (λ (other : end ≢ i). omega (arith, w.1))
         (cases_eq end i),
   ),
 )
 
-pub passed-head : (bs : List ControlBlock) (i n : ℕ) (c : Control) → control_at bs i ≡ Some c → IsHead c n
+pub behind-head : (bs : List ControlBlock) (i n : ℕ) (c : Control) → control_at bs i ≡ Some c → head_name (Some c) ≡ Some n
     → innermost bs (suc i) ≡ Some i
-passed-head bs i n c at is = go (kind c) where
+behind-head bs i n c at is = go (kind c) where
   go : Kind c → innermost bs (suc i) ≡ Some i
   go (opening m named push other) = ap (λ ls. latest (places ls)) (open_more bs i c at ∙ push i (open_before bs i))
-  go (closing m e) = absurd (subst (λ (d : Control). IsHead d n) e is)
-  go (plain same other) = absurd (not-plain c n i is same)
+  go (closing m e) = let k : None ≡ Some n = sym (ap (λ d. head_name (Some d)) e) ∙ is in absurd cc
+  go (plain none same other) = let k : None ≡ Some n = sym none ∙ is in absurd cc
 
-pub passed-plain : (bs : List ControlBlock) (i : ℕ) (c : Control) → control_at bs i ≡ Some c
+pub behind-plain : (bs : List ControlBlock) (i : ℕ) (c : Control) → control_at bs i ≡ Some c
     → ((p : ℕ) (loops : List Open) → open_behind p c loops ≡ loops) → innermost bs (suc i) ≡ innermost bs i
-passed-plain bs i c at same = ap (λ ls. latest (places ls)) (open_more bs i c at ∙ same i (open_before bs i))
+behind-plain bs i c at same = ap (λ ls. latest (places ls)) (open_more bs i c at ∙ same i (open_before bs i))
 
 get-set-same : {X : Type 0} (xs : List X) (i : ℕ) (x : X) → i < length xs → slice_get (set xs i x) i ≡ Some x
 get-set-same (y ∷ ys) zero x l = refl
@@ -85,12 +87,12 @@ ends-noted bs i n h ends fits at top long known head end =
     here : (slice_get (set ends h (Some i)) h ≡ Some (Some end)) ↔ (IsLoop bs h end × (end < suc i))
     here =
         let set_here : slice_get (set ends h (Some i)) h ≡ Some (Some i) =
-        get-set-same ends h (Some i) (omega (arith, closes.order)) in (
+        get-set-same ends h (Some i) (omega (arith, (loop_facts bs h i closes).order)) in (
           λ e.
               let f : Some (Some i) ≡ Some (Some end) = sym set_here ∙ e in
               let k : i ≡ end = cc in
               (subst (IsLoop bs h) k closes, omega arith),
-          λ w. set_here ∙ ap (λ x. Some (Some x)) (loop-unique bs h i end closes w.0),
+          λ w. set_here ∙ ap (λ x. Some (Some x)) (loop_unique bs h i end closes w.0),
         )
 
     there : head ≢ h → (slice_get (set ends h (Some i)) head ≡ Some (Some end)) ↔ (IsLoop bs head end × (end < suc i))
@@ -109,9 +111,9 @@ ends-noted bs i n h ends fits at top long known head end =
         )
 
 -- behind an END the loop is innermost that was so before its head
-pub passed-end : (bs : List ControlBlock) (i n h : ℕ) → Fits bs → control_at bs i ≡ Some (EndLoop n) → innermost bs i ≡ Some h
+pub behind-end : (bs : List ControlBlock) (i n h : ℕ) → Fits bs → control_at bs i ≡ Some (EndLoop n) → innermost bs i ≡ Some h
     → (h < i) × (innermost bs (suc i) ≡ innermost bs h)
-passed-end bs i n h fits at top =
+behind-end bs i n h fits at top =
     let w = end-closes bs i n fits at in
     let e : Some w.0 ≡ Some h = sym w.1 ∙ top in
     let k : w.0 ≡ h = cc in
@@ -140,7 +142,7 @@ ends-pushed bs i ends long known head end =
     (λ (same : head ≡ length ends).
     let here : slice_get (ends ++ None ∷ []) head ≡ Some None = get-push-here ends None head (sym same) in (
       λ e. let f : Some None ≡ Some (Some end) = sym here ∙ e in absurd cc,
-      λ (w : IsLoop bs head end × (end < i)). absurd (omega (arith, w.0.order, w.1)),
+      λ (w : IsLoop bs head end × (end < i)). absurd (omega (arith, (loop_facts bs head end w.0).order, w.1)),
     ))
     (λ (other : head ≢ length ends).
     let same = get-push-other ends None head other in

@@ -5,12 +5,12 @@ use Rattle.block_order.specs.Labels.{IsUnforked}
 use Rattle.block_order.specs.Steps.{KeepsLabels}
 use Rattle.block_order.proofs.LoudReaches.{are_loud}
 use Rattle.block_order.proofs.KeepsLabels.{keeps}
-use Rattle.block_order.proofs.StepsStay.{goes_stays, passed_stays, wait_first, end_only}
+use Rattle.block_order.proofs.StepsStay.{goes_stays, next_stays, wait_first, end_only}
 
 pub keeps_labels : (tape : List ControlProgram) → IsUnforked tape → KeepsLabels tape
 keeps_labels tape un = record {
   step = λ f stack place c is to goes.
       (goes_stays tape f stack place c is to goes, keeps tape (are_loud tape) un f stack place c is to goes);
-  wait = λ place code at is. (passed_stays tape place at, wait_first tape (are_loud tape) place code is);
+  wait = λ place code at is. (next_stays tape place at, wait_first tape (are_loud tape) place code is);
   ends = λ place at is. end_only tape (are_loud tape) place is;
 }

@@ -1,35 +1,39 @@
 -- Which loops are open where, in a program whose heads and ends fit together.
-use Rattle.std.proofs.Common.{◌≡◌, ◌≢◌, ℕ, zero, suc, ◌+◌, ◌-◌, ◌<◌, ◌≤◌, ◌↔◌, ◌⊎◌, inl, inr, Bool, true, false, cond, eqb, List, [], ◌∷◌, length, take, Some, None, refl, sym, ap, ◌∙◌, arith, subst, ⊎_elim}
+use Rattle.std.proofs.Common.{◌≡◌, ◌≢◌, ℕ, zero, suc, ◌+◌, ◌-◌, ◌<◌, ◌≤◌, ◌↔◌, ◌⊎◌, inl, inr, Bool, true, false, cond, eqb, List, [], ◌∷◌, length, take, Option, Some, None, refl, sym, ap, ◌∙◌, arith, subst, ⊎_elim}
 use Rattle.std.specs.List.{Contains}
-use Rattle.std.proofs.lemmas.Bool.{cases_eq, cases_lt, cases_order}
+use Rattle.std.proofs.lemmas.Bool.{cases_eq, cases_lt}
 use Rattle.std.proofs.lemmas.Bool.Decides.{nat_tests}
 use Rattle.block_order.specs.declared.control.Control.{Control}
 use Rattle.block_order.specs.declared.control.Control.TheVariants.{Next, Goto, While, Do, EndLoop, Wait, End, Call, Back, BackTo}
 use Rattle.block_order.specs.declared.program.ControlBlock.{ControlBlock}
-use Rattle.block_order.specs.Order.{control_at, IsHead, IsLoop, IsPermitted}
+use Rattle.nc_number.proofs.Counts.{some_is}
+use Rattle.block_order.specs.Order.{control_at, head_name, IsLoop, IsPermitted}
+use Rattle.block_order.specs.LoopFacts.{LoopFacts}
 use Rattle.block_order.specs.Loops.{Open, closed, open_behind, open_after, open_before, names, places, latest}
 use Rattle.block_order.specs.Loops.{unclosed, unopened, nested, overlap}
 use Rattle.block_order.specs.Fitting.{Fits, innermost}
+use Rattle.block_order.proofs.Searches.{loop_facts, nearest_is, loop_unique, permitted_held}
 
 -- what a control does to the open loops
 pub data Kind (c : Control) : Type 0 where
-  opening : (n : ℕ) → IsHead c n
+  opening : (n : ℕ) → head_name (Some c) ≡ Some n
       → ((p : ℕ) (loops : List Open) → open_behind p c loops ≡ record { place = p; name = n } ∷ loops)
       → ((m : ℕ) → c ≢ EndLoop m) → Kind c
   closing : (n : ℕ) → c ≡ EndLoop n → Kind c
-  plain : ((p : ℕ) (loops : List Open) → open_behind p c loops ≡ loops) → ((m : ℕ) → c ≢ EndLoop m) → Kind c
+  plain : head_name (Some c) ≡ None → ((p : ℕ) (loops : List Open) → open_behind p c loops ≡ loops)
+      → ((m : ℕ) → c ≢ EndLoop m) → Kind c
 
 pub kind : (c : Control) → Kind c
 kind (While m) = opening m refl (λ p loops. refl) (λ k e. cc)
 kind (Do m) = opening m refl (λ p loops. refl) (λ k e. cc)
 kind (EndLoop m) = closing m refl
-kind Next = plain (λ p loops. refl) (λ k e. cc)
-kind (Goto n) = plain (λ p loops. refl) (λ k e. cc)
-kind (Wait code) = plain (λ p loops. refl) (λ k e. cc)
-kind End = plain (λ p loops. refl) (λ k e. cc)
-kind (Call program repeats) = plain (λ p loops. refl) (λ k e. cc)
-kind Back = plain (λ p loops. refl) (λ k e. cc)
-kind (BackTo n) = plain (λ p loops. refl) (λ k e. cc)
+kind Next = plain refl (λ p loops. refl) (λ k e. cc)
+kind (Goto n) = plain refl (λ p loops. refl) (λ k e. cc)
+kind (Wait code) = plain refl (λ p loops. refl) (λ k e. cc)
+kind End = plain refl (λ p loops. refl) (λ k e. cc)
+kind (Call program repeats) = plain refl (λ p loops. refl) (λ k e. cc)
+kind Back = plain refl (λ p loops. refl) (λ k e. cc)
+kind (BackTo n) = plain refl (λ p loops. refl) (λ k e. cc)
 
 -- one block more
 open_after-more : (bs : List ControlBlock) (p place : ℕ) (loops : List Open) (c : Control) → control_at bs p ≡ Some c
@@ -59,6 +63,10 @@ pub within_control : (bs : List ControlBlock) (p : ℕ) (c : Control) → contro
 within_control (b ∷ bs) zero c e = omega arith
 within_control (b ∷ bs) (suc p) c e = let l = within_control bs p c e in omega arith
 within_control [] p c e = absurd cc
+
+pub close_within : (bs : List ControlBlock) (head close : ℕ) → IsLoop bs head close → close < length bs
+close_within bs head close loop =
+    let facts = loop_facts bs head close loop in within_control bs close (EndLoop facts.name) facts.is_close
 
 -- the loop that begins at this head, of this name, is among these
 abbrev pub Has : ℕ → ℕ → List Open → Type 0
@@ -102,15 +110,16 @@ has-behind h n p c loops (closing m is) ne w =
     let apart : n ≢ m = λ e. ne (is ∙ ap (λ x. EndLoop x) (sym e)) in
     let to : open_behind p c loops ≡ closed m loops = ap (λ x. open_behind p x loops) is in
     rw to (has-closed h n m loops apart w)
-has-behind h n p c loops (plain same other) ne w = rw (same p loops) w
+has-behind h n p c loops (plain none same other) ne w = rw (same p loops) w
 
--- What holds of the loops that are open before p: each began at its head, has met no END of its name, is not inside a loop of
--- its own name, and the loops below it are those that were open before its head.
+-- What holds of the loops that are open before p: each began at its head, has met no END of its
+-- name, is not inside a loop of its own name, and the loops below it are those that were open
+-- before its head.
 abbrev pub AllOpen : List ControlBlock → ℕ → List Open → Type 0
 AllOpen bs p [] = Unit {0}
 AllOpen bs p (x ∷ xs) =
     (x.place < p)
-    × ((c : Control) × (control_at bs x.place ≡ Some c) × IsHead c x.name)
+    × (head_name (control_at bs x.place) ≡ Some x.name)
     × ((k : ℕ) → x.place < k → k < p → control_at bs k ≢ Some (EndLoop x.name))
     × (Contains (names xs) x.name → ⊥)
     × (xs ≡ open_before bs x.place)
@@ -168,9 +177,9 @@ all-behind : (bs : List ControlBlock) (p : ℕ) (c : Control) (loops : List Open
 all-behind bs p c loops fits at (opening n is push other) same w =
     rw (push p loops) (
       omega arith,
-      (c, at, is),
+      ap head_name at ∙ is,
       (λ k l m. absurd (omega arith)),
-      (λ (k : Contains (names loops) n). fits p (nested c n at is (rw (← same) k))),
+      (λ (k : Contains (names loops) n). fits p (nested n (ap head_name at ∙ is) (rw (← same) k))),
       same,
       all-further bs p c loops at (λ m k. other m) w,
     )
@@ -185,7 +194,7 @@ all-behind bs p c loops fits at (closing n is) same w =
     let met : EndLoop n ≡ EndLoop m = sym is ∙ e in
     let eq : n ≡ m = cc in
     split.3 (subst (Contains (names top.1)) (sym (top.3 ∙ eq)) k)) split.5)
-all-behind bs p c loops fits at (plain stays other) same w = rw (stays p loops) (all-further bs p c loops at (λ n k. other n) w)
+all-behind bs p c loops fits at (plain none stays other) same w = rw (stays p loops) (all-further bs p c loops at (λ n k. other n) w)
 
 -- the invariant of the open loops
 pub all-open : (bs : List ControlBlock) → Fits bs → (p : ℕ) → p ≤ length bs → AllOpen bs p (open_before bs p)
@@ -197,12 +206,12 @@ all-open bs fits (suc p) h =
 
 -- what the invariant says of one of them
 pub each-open : (bs : List ControlBlock) (p h n : ℕ) (loops : List Open) → AllOpen bs p loops → Has h n loops
-    → (h < p) × ((c : Control) × (control_at bs h ≡ Some c) × IsHead c n)
+    → (h < p) × (head_name (control_at bs h) ≡ Some n)
     × ((k : ℕ) → h < k → k < p → control_at bs k ≢ Some (EndLoop n))
 each-open bs p h n [] w more = elim more [ ]
 each-open bs p h n (x ∷ xs) w (inl e) =
     let P : ℕ → ℕ → Type 0 = λ h n.
-    (h < p) × ((c : Control) × (control_at bs h ≡ Some c) × IsHead c n)
+    (h < p) × (head_name (control_at bs h) ≡ Some n)
     × ((k : ℕ) → h < k → k < p → control_at bs k ≢ Some (EndLoop n)) in
     subst (P h) e.1 (subst (λ h. P h x.name) e.0 (w.0, w.1, w.2))
 each-open bs p h n (x ∷ xs) w (inr more) = each-open bs p h n xs w.5 more
@@ -210,45 +219,25 @@ each-open bs p h n (x ∷ xs) w (inr more) = each-open bs p h n xs w.5 more
 pub at-control : (bs : List ControlBlock) (p : ℕ) (c d : Control) → control_at bs p ≡ Some c → control_at bs p ≡ Some d → c ≡ d
 at-control bs p c d e f = let k : Some c ≡ Some d = sym e ∙ f in cc
 
-head-name : (c : Control) (m n : ℕ) → IsHead c m → IsHead c n → m ≡ n
-head-name (While k) m n a b = sym a ∙ b
-head-name (Do k) m n a b = sym a ∙ b
-head-name (EndLoop k) m n a b = elim a [ ]
-head-name Next m n a b = elim a [ ]
-head-name (Goto k) m n a b = elim a [ ]
-head-name (Wait k) m n a b = elim a [ ]
-head-name End m n a b = elim a [ ]
-head-name (Call p k) m n a b = elim a [ ]
-head-name Back m n a b = elim a [ ]
-head-name (BackTo k) m n a b = elim a [ ]
-
-pub not-plain : (c : Control) (n h : ℕ) → IsHead c n → ((p : ℕ) (loops : List Open) → open_behind p c loops ≡ loops) → ⊥
-not-plain (While k) m h a f = let e = f h [] in absurd cc
-not-plain (Do k) m h a f = let e = f h [] in absurd cc
-not-plain (EndLoop k) m h a f = a
-not-plain Next m h a f = a
-not-plain (Goto k) m h a f = a
-not-plain (Wait k) m h a f = a
-not-plain End m h a f = a
-not-plain (Call p k) m h a f = a
-not-plain Back m h a f = a
-not-plain (BackTo k) m h a f = a
-
 -- a head is opened
-pub opens : (bs : List ControlBlock) (h n : ℕ) (c : Control) → control_at bs h ≡ Some c → IsHead c n
-    → Has h n (open_before bs (suc h))
-opens bs h n c at is = go (kind c) where
-  go : Kind c → Has h n (open_before bs (suc h))
-  go (opening m named push other) = rw (open_more bs h c at, push h (open_before bs h)) (inl (refl, head-name c m n named is))
-  go (closing m e) = absurd (subst (λ (d : Control). IsHead d n) e is)
-  go (plain same other) = absurd (not-plain c n h is same)
+pub opens : (bs : List ControlBlock) (h n : ℕ) → head_name (control_at bs h) ≡ Some n → Has h n (open_before bs (suc h))
+opens bs h n named = go (control_at bs h) refl where
+  opened : (c : Control) → control_at bs h ≡ Some c → head_name (Some c) ≡ Some n → Kind c → Has h n (open_before bs (suc h))
+  opened c at is (opening m own push other) =
+      rw (open_more bs h c at, push h (open_before bs h)) (inl (refl, some_is (sym own ∙ is)))
+  opened c at is (closing m e) = let none : None ≡ Some n = sym (ap (λ d. head_name (Some d)) e) ∙ is in absurd cc
+  opened c at is (plain none same other) = let k : None ≡ Some n = sym none ∙ is in absurd cc
+
+  go : (o : Option Control) → control_at bs h ≡ o → Has h n (open_before bs (suc h))
+  go None at = let none : None ≡ Some n = sym (ap head_name at) ∙ named in absurd cc
+  go (Some c) at = opened c at (sym (ap head_name at) ∙ named) (kind c)
 
 -- a loop is open between its head and its END
-pub loop-open : (bs : List ControlBlock) (h close : ℕ) (loop : IsLoop bs h close) (gap : ℕ)
+pub loop-open : (bs : List ControlBlock) (h close : ℕ) (loop : LoopFacts bs h close) (gap : ℕ)
     → suc (h + gap) ≤ close → Has h loop.name (open_before bs (suc (h + gap)))
 loop-open bs h close loop zero l =
     let e : suc h ≡ suc (h + 0) = omega arith in
-    subst (λ (p : ℕ). Has h loop.name (open_before bs p)) e (opens bs h loop.name loop.first loop.is_first loop.is_head)
+    subst (λ (p : ℕ). Has h loop.name (open_before bs p)) e (opens bs h loop.name loop.named)
 loop-open bs h close loop (suc gap) l =
     let e : suc (suc (h + gap)) ≡ suc (h + suc gap) = omega arith in
     let more = loop-open bs h close loop gap (omega arith) in
@@ -260,7 +249,7 @@ loop-open bs h close loop (suc gap) l =
     subst (λ (p : ℕ). Has h loop.name (open_before bs p)) e
     (rw (open_more bs (suc (h + gap)) c.0 c.1) (has-behind h loop.name _ c.0 _ (kind c.0) ne more))
 
-pub open-inside : (bs : List ControlBlock) (h close : ℕ) (loop : IsLoop bs h close) (t : ℕ) → h < t → t ≤ close
+pub open-inside : (bs : List ControlBlock) (h close : ℕ) (loop : LoopFacts bs h close) (t : ℕ) → h < t → t ≤ close
     → Has h loop.name (open_before bs t)
 open-inside bs h close loop t l m =
     let gap = t - suc h in
@@ -276,7 +265,7 @@ cases-end c n = go (kind c) where
       (λ (k : m ≡ n). inl (e ∙ ap (λ x. EndLoop x) k))
       (λ (ne : m ≢ n). inr (λ (f : c ≡ EndLoop n). let g : EndLoop m ≡ EndLoop n = sym e ∙ f in let k : m ≡ n = cc in ne k))
       (cases_eq m n)
-  go (plain same other) = inr (other n)
+  go (plain none same other) = inr (other n)
 
 -- an open loop ends behind
 pub open-ends : (bs : List ControlBlock) (h n left t : ℕ) → Fits bs → t + left ≡ length bs → Has h n (open_before bs t)
@@ -291,15 +280,8 @@ open-ends bs h n (suc left) t fits e w =
     (λ (is : c.0 ≡ EndLoop n). (
       t,
       omega arith,
-      record {
-        name = n;
-        first = known.1.0;
-        is_first = known.1.1;
-        is_head = known.1.2;
-        is_close = c.1 ∙ ap (λ x. Some x) is;
-        order = known.0;
-        nearest = known.2;
-      },
+      nearest_is bs h t
+          (record { name = n; named = known.1; is_close = c.1 ∙ ap (λ x. Some x) is; order = known.0; nearest = known.2 }),
     ))
     (λ (ne : c.0 ≢ EndLoop n).
     let more = open-ends bs h n left (suc t) fits (omega arith)
@@ -339,7 +321,8 @@ same-name bs p h n x xs w (inr more) is = absurd (w.3 (subst (Contains (names xs
 
 -- an END closes the innermost loop
 pub closed-head : (bs : List ControlBlock) (h end : ℕ) → Fits bs → IsLoop bs h end → innermost bs end ≡ Some h
-closed-head bs h end fits loop =
+closed-head bs h end fits is_loop =
+    let loop = loop_facts bs h end is_loop in
     let top = closes-latest bs end loop.name fits loop.is_close (open_before bs end) refl in
     let within = within_control bs end (EndLoop loop.name) loop.is_close in
     let has = open-inside bs h end loop end loop.order (omega arith) in
@@ -363,34 +346,23 @@ end-closes bs end n fits at =
       top.0.place,
       ap (λ ls. latest (places ls)) top.2,
       split.0,
-      record {
-        name = top.0.name;
-        first = split.1.0;
-        is_first = split.1.1;
-        is_head = split.1.2;
-        is_close = at ∙ ap (λ x. Some (EndLoop x)) (sym top.3);
-        order = split.0;
-        nearest = split.2;
-      },
+      nearest_is bs top.0.place end
+          (record {
+            name = top.0.name;
+            named = split.1;
+            is_close = at ∙ ap (λ x. Some (EndLoop x)) (sym top.3);
+            order = split.0;
+            nearest = split.2;
+          }),
       to ∙ split.4,
     )
 
--- a head has one END
-pub loop-unique : (bs : List ControlBlock) (h a b : ℕ) → IsLoop bs h a → IsLoop bs h b → a ≡ b
-loop-unique bs h a b x y = go (cases_order a b) where
-  name-same : x.name ≡ y.name
-  name-same = head-name x.first x.name y.name x.is_head
-      (subst (λ (c : Control). IsHead c y.name) (at-control bs h y.first x.first y.is_first x.is_first) y.is_head)
-
-  go : (a ≡ b) ⊎ ((a < b) ⊎ (b < a)) → a ≡ b
-  go (inl e) = e
-  go (inr (inl l)) = absurd (y.nearest a x.order l (x.is_close ∙ ap (λ n. Some (EndLoop n)) name-same))
-  go (inr (inr l)) = absurd (x.nearest b y.order l (y.is_close ∙ ap (λ n. Some (EndLoop n)) (sym name-same)))
-
+-- no block is both a head and an END
 head-no-end : (bs : List ControlBlock) (h end p : ℕ) → IsLoop bs h p → IsLoop bs end h → ⊥
-head-no-end bs h end p x y = absurd (go x.first x.name x.is_head (at-control bs h x.first (EndLoop y.name) x.is_first y.is_close)) where
-  go : (c : Control) (n : ℕ) → IsHead c n → c ≡ EndLoop y.name → ⊥
-  go c n is e = subst (λ (d : Control). IsHead d n) e is
+head-no-end bs h end p x y =
+    let head = loop_facts bs h p x in
+    let close = loop_facts bs end h y in
+    let e : None ≡ Some head.name = sym (ap head_name close.is_close) ∙ head.named in cc
 
 -- a loop that begins inside another ends before it
 pub nests : (bs : List ControlBlock) (h end h' end' : ℕ) → Fits bs → IsLoop bs h end → IsLoop bs h' end' → h < h' → h' ≤ end
@@ -402,14 +374,19 @@ nests bs h end h' end' fits x y l m = go (cases_lt end' end) where
       ⊎_elim
       (λ (e : h' ≡ end). absurd (head-no-end bs h' h end' y (subst (IsLoop bs h) (sym e) x)))
       (λ (ne : h' ≢ end).
-      let within = within_control bs end (EndLoop x.name) x.is_close in
-      let has = open-inside bs h' end' y end (omega arith) k in
-      absurd (omega (arith, top-least bs end h' y.name h fits (omega arith) has (closed-head bs h end fits x))))
+      let outer = loop_facts bs h end x in
+      let inner = loop_facts bs h' end' y in
+      let within = within_control bs end (EndLoop outer.name) outer.is_close in
+      let has = open-inside bs h' end' inner end (omega arith) k in
+      absurd (omega (arith, top-least bs end h' inner.name h fits (omega arith) has (closed-head bs h end fits x))))
       (cases_eq h' end)
 
 -- from where a jump is permitted: outside all loops
 pub reach-all : (bs : List ControlBlock) (t b : ℕ) → innermost bs t ≡ None → IsPermitted bs b t
-reach-all bs t b e = λ h end loop l m. absurd (has-latest h loop.name _ (open-inside bs h end loop t l m) e)
+reach-all bs t b e =
+    (permitted_held bs b t).1
+    (λ h end loop l m.
+    let facts = loop_facts bs h end loop in absurd (has-latest h facts.name _ (open-inside bs h end facts t l m) e))
 
 -- the END of the innermost loop
 pub innermost-ends : (bs : List ControlBlock) (t top : ℕ) → Fits bs → t ≤ length bs → innermost bs t ≡ Some top
@@ -424,16 +401,17 @@ innermost-ends bs t top fits l e =
 pub reach-some : (bs : List ControlBlock) (t b top end : ℕ) → Fits bs → t ≤ length bs → innermost bs t ≡ Some top
     → top < t → t ≤ end → IsLoop bs top end → IsPermitted bs b t ↔ ((top < b) × (b ≤ end))
 reach-some bs t b top end fits l e before behind loop = (
-  λ p. p top end loop before behind,
-  λ w h' end' other m n. in-other h' end' other m n w,
+  λ p. (permitted_held bs b t).0 p top end loop before behind,
+  λ w. (permitted_held bs b t).1 (λ h' end' other m n. in-other h' end' other m n w),
 )
   where
     in-other : (h' end' : ℕ) → IsLoop bs h' end' → h' < t → t ≤ end' → (top < b) × (b ≤ end) → (h' < b) × (b ≤ end')
     in-other h' end' other m n w =
-        let low = top-least bs t h' other.name top fits l (open-inside bs h' end' other t m n) e in
+        let facts = loop_facts bs h' end' other in
+        let low = top-least bs t h' facts.name top fits l (open-inside bs h' end' facts t m n) e in
         ⊎_elim
         (λ (same : h' ≡ top).
-        let k : end' ≡ end = loop-unique bs top end' end (subst (λ (h : ℕ). IsLoop bs h end') same other) loop in
+        let k : end' ≡ end = loop_unique bs top end' end (subst (λ (h : ℕ). IsLoop bs h end') same other) loop in
         (omega (arith, w.0), omega (arith, w.1)))
         (λ (ne : h' ≢ top).
         let k = nests bs h' end' top end fits other loop (omega arith) (omega arith) in

@@ -7,7 +7,7 @@ use Rattle.block_order.specs.declared.label.Label.TheVariants as label
 use Rattle.block_order.specs.declared.program.ControlProgram.{ControlProgram}
 use Rattle.block_order.specs.Order.{blocks, control_at}
 use Rattle.block_order.specs.Labels.{room, behind, counts, ahead}
-use Rattle.block_order.specs.Moves.{at, passed, return_by}
+use Rattle.block_order.specs.Moves.{at, place_behind, return_by}
 use Rattle.block_order.specs.Steps.{Goes, Step, IsPlace, standing}
 use Rattle.block_order.proofs.LoudReaches.{AreLoud}
 use Rattle.block_order.proofs.Moved.{jump_leads, exit_leads, head_leads, call_leads}
@@ -54,9 +54,9 @@ pub step_stays : (tape : List ControlProgram) (from to : List Frame) → IsPlace
 step_stays tape [] to place step = absurd place
 step_stays tape (f ∷ stack) to place (c, is, goes) = goes_stays tape f stack place c is to goes
 
-pub passed_stays : (tape : List ControlProgram) (from : List Frame) → IsPlace tape from → IsPlace tape (passed from)
-passed_stays tape [] place = absurd place
-passed_stays tape (f ∷ stack) place = place_moves tape f stack (suc f.block) place
+pub next_stays : (tape : List ControlProgram) (from : List Frame) → IsPlace tape from → IsPlace tape (place_behind from)
+next_stays tape [] place = absurd place
+next_stays tape (f ∷ stack) place = place_moves tape f stack (suc f.block) place
 
 wait_counts : (tape : List ControlProgram) → AreLoud tape → (f : Frame) (stack : List Frame) (code : ℕ)
     → control_at (blocks tape f.program) f.block ≡ Some (Wait code) → counts tape f.program stack ≡ true
@@ -71,7 +71,7 @@ end_counts tape are f (g ∷ stack) is = are.ends f.program f.block is
 -- at a wait the labels ahead begin with it, and passing it takes it away
 pub wait_first : (tape : List ControlProgram) → AreLoud tape → (place : List Frame) (code : ℕ)
     → standing tape place ≡ Some (Wait code)
-    → ahead tape place ≡ label.Wait code ∷ ahead tape (passed place)
+    → ahead tape place ≡ label.Wait code ∷ ahead tape (place_behind place)
 wait_first tape are [] code is = absurd cc
 wait_first tape are (f ∷ stack) code is =
     let e : counts tape f.program stack ≡ true = wait_counts tape are f stack code is in

@@ -1,31 +1,34 @@
--- What is wrong with the order of a tape's blocks, apart from any code that finds it, and which fault is answered.
-use Rattle.std.specs.Prelude.{◌≡◌, ◌≢◌, ℕ, zero, suc, ◌<◌, ◌≤◌, ◌==◌, true, ◌⊎◌, List, ◌∷◌, ◌++◌, map, Option, Some, None, Contains, slice_get, if◌then◌else◌}
+-- What is wrong with the order of a tape's blocks, apart from any code that finds it, and which
+-- fault is answered.
+use Rattle.std.specs.Prelude.{◌≡◌, ◌≢◌, ℕ, zero, suc, ◌<◌, ◌≤◌, ◌==◌, true, ◌⊎◌, List, ◌∷◌, ◌++◌, map, Option, Some, None, Err, Contains, slice_get, if◌then◌else◌}
 use Rattle.nc_number.specs.declared.cause.Cause.{Cause}
-use Rattle.nc_number.specs.declared.cause.Cause.TheVariants.{ProgramTwice, LoopMismatch, NoSequence, NoProgram, IntoLoop, BranchAtWait, WaitTooDeep}
+use Rattle.nc_number.specs.declared.cause.Cause.TheVariants.{ProgramTwice, LoopMismatch, NoProgram, BranchAtWait, WaitTooDeep}
 use Rattle.nc_number.specs.Causes.{cause_number}
 use Rattle.block_order.specs.declared.control.Control.{Control}
 use Rattle.block_order.specs.declared.control.Control.TheVariants.{Goto, Call, BackTo}
 use Rattle.block_order.specs.declared.program.ControlBlock.{ControlBlock}
 use Rattle.block_order.specs.declared.program.ControlProgram.{ControlProgram}
-use Rattle.block_order.specs.Order.{program_of, blocks, main_number, control_at, seek, IsPermitted, IsLoop}
+use Rattle.block_order.specs.Order.{program_of, blocks, main_number, control_at, target_of, IsLoop}
 use Rattle.block_order.specs.Loud.{loud, stretch}
 use Rattle.block_order.specs.Labels.{IsTarget, Counts}
 use Rattle.block_order.specs.Loops.{IsMismatch}
 
--- Faults are looked for in this order: whether programs and loops fit together, whether jumps and calls find what they name,
--- whether waits stay in order.
+-- Faults are looked for in this order: whether programs and loops fit together, whether jumps and
+-- calls find what they name, whether waits stay in order.
 pub data Stage : Type 0 where
   Fitting : Stage
   Finding : Stage
   Waiting : Stage
 
--- the sequence number that a jump of the program names once for all: a fixed GOTO, and an M99 P of the main program
+-- the sequence number that a jump of the program names once for all: a fixed GOTO, and an M99 P of
+-- the main program
 abbrev pub fixed_number : List ControlProgram → ℕ → Control → Option ℕ
 fixed_number tape program (Goto n) = n
 fixed_number tape program (BackTo n) = if program == main_number tape then Some n else None
 fixed_number tape program other = None
 
--- the program called last is reached by n calls of loud programs, the first of them in the program called first
+-- the program called last is reached by n calls of loud programs, the first of them in the program
+-- called first
 abbrev pub IsReachedBy : List ControlProgram → ℕ → ℕ → ℕ → Type 0
 IsReachedBy tape zero from program = from ≡ program
 IsReachedBy tape (suc n) from program =
@@ -36,8 +39,8 @@ IsReachedBy tape (suc n) from program =
 abbrev pub Stands : List ControlProgram → ℕ → ℕ → ControlBlock → Type 0
 Stands tape program place block = slice_get (blocks tape program) place ≡ Some block
 
--- in the main program or a loud one a jump may lead to another stretch, a loop ends in another one, or an M99 P stands in a
--- loud program other than the main one
+-- in the main program or a loud one a jump may lead to another stretch, a loop ends in another one,
+-- or an M99 P stands in a loud program other than the main one
 pub data Strays (tape : List ControlProgram) (program place : ℕ) (block : ControlBlock) : Type 0 where
   jump : (target : ℕ) → Counts tape program → IsTarget tape program place block.control target
       → stretch (loud tape) (blocks tape program) place ≢ stretch (loud tape) (blocks tape program) target
@@ -57,17 +60,13 @@ pub data HasFault (tape : List ControlProgram) : Stage → ℕ → Cause → Typ
   mismatch : (program : ControlProgram) (place : ℕ) (block : ControlBlock) → Contains tape program
       → slice_get program.blocks place ≡ Some block → IsMismatch program.blocks place
       → HasFault tape Fitting block.line LoopMismatch
-  -- a jump to a sequence number that its program lacks
-  lost : (program place n : ℕ) (block : ControlBlock) → Stands tape program place block
-      → fixed_number tape program block.control ≡ Some n → seek (blocks tape program) place n ≡ None
-      → HasFault tape Finding block.line NoSequence
+  -- a jump to a sequence number that its program lacks, or into a loop that does not hold it
+  lost : (program place n : ℕ) (block : ControlBlock) (cause : Cause) → Stands tape program place block
+      → fixed_number tape program block.control ≡ Some n → target_of (blocks tape program) place n ≡ Err cause
+      → HasFault tape Finding block.line cause
   -- a call of a program that the tape lacks
   unknown : (program place called repeats : ℕ) (block : ControlBlock) → Stands tape program place block
       → block.control ≡ Call called repeats → program_of tape called ≡ None → HasFault tape Finding block.line NoProgram
-  -- a jump into a loop that does not hold it
-  into : (program place n target : ℕ) (block : ControlBlock) → Stands tape program place block
-      → fixed_number tape program block.control ≡ Some n → seek (blocks tape program) place n ≡ Some target
-      → (IsPermitted (blocks tape program) place target → ⊥) → HasFault tape Finding block.line IntoLoop
   -- a jump, an END or a return that may pass a wait
   strays : (program place : ℕ) (block : ControlBlock) → Stands tape program place block → Strays tape program place block
       → HasFault tape Waiting block.line BranchAtWait
@@ -95,7 +94,8 @@ pub record IsSound (tape : List ControlProgram) : Type 0 where
 abbrev pub IsNoLater : ℕ → Cause → ℕ → Cause → Type 0
 IsNoLater line cause other_line other = (line < other_line) ⊎ ((line ≡ other_line) × (cause_number cause ≤ cause_number other))
 
--- The fault that is answered: of the first stage that has one, the least line, and on it the least number.
+-- The fault that is answered: of the first stage that has one, the least line, and on it the least
+-- number.
 pub record IsFirst (tape : List ControlProgram) (line : ℕ) (cause : Cause) : Type 0 where
   pub stage : Stage
   pub before : IsClearBefore tape stage

@@ -1,9 +1,9 @@
--- Loops whose heads and ends fit together: what holds of them, and what is noted of them, place by place.
+-- Loops whose heads and ends fit together: what holds of them, and what is noted of them, place by
+-- place.
 use Rattle.std.specs.Prelude.{◌≡◌, ◌≢◌, ◌↔◌, ◌⊎◌, ℕ, ◌<◌, ◌≤◌, List, Option, Some, slice_get}
-use Rattle.block_order.specs.declared.control.Control.{Control}
 use Rattle.block_order.specs.declared.control.Control.TheVariants.{EndLoop}
 use Rattle.block_order.specs.declared.program.ControlBlock.{ControlBlock}
-use Rattle.block_order.specs.Order.{IsLoop, IsHead, control_at}
+use Rattle.block_order.specs.Order.{IsLoop, head_name, control_at}
 use Rattle.block_order.specs.Loops.{IsMismatch, open_before, places, latest}
 
 -- the heads and ends of a program's loops fit together
@@ -26,13 +26,13 @@ IsEnds bs n ends = (head close : ℕ) → (slice_get ends head ≡ Some (Some cl
 abbrev pub IsOnly : (ℕ → Type 0) → ℕ → Type 0
 IsOnly P place = P place × ((other : ℕ) → P other → other ≡ place)
 
--- each head has one END and each END one head, two loops are apart or one lies inside the other, and none lies in one of its name
+-- each head has an END and each END one head, two loops are apart or one lies inside the other, and
+-- none lies in one of its name
 pub record IsNested (bs : List ControlBlock) : Type 0 where
-  pub heads : (head name : ℕ) (c : Control) → control_at bs head ≡ Some c → IsHead c name
-      → (close : ℕ) × IsOnly (λ end. IsLoop bs head end) close
+  pub heads : (head name : ℕ) → head_name (control_at bs head) ≡ Some name → (close : ℕ) × IsLoop bs head close
   pub ends : (close name : ℕ) → control_at bs close ≡ Some (EndLoop name)
       → (head : ℕ) × IsOnly (λ first. IsLoop bs first close) head
   pub nest : (head close inner last : ℕ) → IsLoop bs head close → IsLoop bs inner last → head < inner
       → (close < inner) ⊎ (last < close)
-  pub names_differ : (head close inner last : ℕ) (outer : IsLoop bs head close) (within : IsLoop bs inner last)
-      → head < inner → inner ≤ close → outer.name ≢ within.name
+  pub names_differ : (head close inner last : ℕ) → IsLoop bs head close → IsLoop bs inner last
+      → head < inner → inner ≤ close → head_name (control_at bs head) ≢ head_name (control_at bs inner)

@@ -1,19 +1,18 @@
 -- The fault of one block in what jumps and calls find.
-use Rattle.std.specs.Prelude.{◌≡◌, ℕ, ◌≤◌, List, Option, Some, None, slice_get}
+use Rattle.std.specs.Prelude.{◌≡◌, ℕ, ◌≤◌, List, Option, Some, None, Err, slice_get}
 use Rattle.nc_number.specs.declared.cause.Cause.{Cause}
-use Rattle.nc_number.specs.declared.cause.Cause.TheVariants.{NoSequence, NoProgram, IntoLoop}
+use Rattle.nc_number.specs.declared.cause.Cause.TheVariants.{NoProgram}
 use Rattle.block_order.specs.declared.control.Control.{Control}
 use Rattle.block_order.specs.declared.control.Control.TheVariants.{Call}
 use Rattle.block_order.specs.declared.fault.OrderFault.{OrderFault}
 use Rattle.block_order.specs.declared.program.ControlBlock.{ControlBlock}
 use Rattle.block_order.specs.declared.program.ControlProgram.{ControlProgram}
-use Rattle.block_order.specs.Order.{program_of, seek, IsPermitted}
+use Rattle.block_order.specs.Order.{program_of, target_of}
 use Rattle.block_order.specs.Faults.{fixed_number}
 
 -- a jump of a block to a number fails
-pub data JumpFault (bs : List ControlBlock) (place n : ℕ) : Cause → Type 0 where
-  lost : seek bs place n ≡ None → JumpFault bs place n NoSequence
-  barred : (target : ℕ) → seek bs place n ≡ Some target → (IsPermitted bs place target → ⊥) → JumpFault bs place n IntoLoop
+abbrev pub JumpFault : List ControlBlock → ℕ → ℕ → Cause → Type 0
+JumpFault bs place n cause = target_of bs place n ≡ Err cause
 
 -- a block of a program at a place has this fault
 pub data BlockFault (tape : List ControlProgram) (program : ControlProgram) (place : ℕ) (control : Control) : Cause → Type 0 where

@@ -16,7 +16,8 @@ abbrev pub times : ℕ → (List Label → List Label) → List Label → List L
 times zero f rest = rest
 times (suc n) f rest = f (times n f rest)
 
--- the labels of these marks, where called gives those of a called program, and rest follows behind the return
+-- the labels of these marks, where called gives those of a called program, and rest follows behind
+-- the return
 abbrev pub labels : (ℕ → List Label → List Label) → List Mark → List Label → List Label
 labels called [] rest = Off ∷ []
 labels called (mark.Wait code ∷ ms) rest = Wait code ∷ labels called ms rest
@@ -50,7 +51,8 @@ abbrev pub counts : List ControlProgram → ℕ → List Frame → Bool
 counts tape program [] = true
 counts tape program (g ∷ stack) = loud tape program
 
--- The labels ahead of a place, which is a list of frames, the running one first. A quiet program has none of its own.
+-- The labels ahead of a place, which is a list of frames, the running one first. A quiet program
+-- has none of its own.
 abbrev pub ahead : List ControlProgram → List Frame → List Label
 ahead tape [] = []
 ahead tape (f ∷ stack) =
@@ -98,7 +100,8 @@ pub record IsStraight (tape : List ControlProgram) : Type 0 where
   pub backs : (program block n : ℕ) → loud tape program ≡ true
       → control_at (blocks tape program) block ≡ Some (BackTo n) → program ≡ main_number tape
 
--- A tape is unforked where, besides, no chain of nine calls of loud programs begins in its main program.
+-- A tape is unforked where, besides, no chain of nine calls of loud programs begins in its main
+-- program.
 pub record IsUnforked (tape : List ControlProgram) : Type 0 where
   pub straight : IsStraight tape
   pub open straight use *

@@ -1,4 +1,5 @@
 pub mod Order
+pub mod LoopFacts
 pub mod Loud
 pub mod Labels
 pub mod Moves
@@ -12,7 +13,7 @@ pub mod Heard
 pub mod Places
 pub mod Fitting
 pub mod Table
-pub mod PlaceSteps
+pub mod Frames
 pub mod Misplaced
 pub mod First
 pub mod TapeTable

@@ -3,7 +3,7 @@ use Rattle.std.specs.Prelude.{◌≡◌, ◌≢◌, ℕ, suc, ◌==◌, List, []
 use Rattle.block_order.specs.declared.control.Control.{Control}
 use Rattle.block_order.specs.declared.control.Control.TheVariants.{While, Do, EndLoop}
 use Rattle.block_order.specs.declared.program.ControlBlock.{ControlBlock}
-use Rattle.block_order.specs.Order.{control_at, IsHead}
+use Rattle.block_order.specs.Order.{control_at, head_name}
 
 -- a loop that is open: the place of its head, and its name
 pub record Open : Type 0 where
@@ -15,7 +15,8 @@ abbrev pub closed : ℕ → List Open → List Open
 closed name [] = []
 closed name (loop ∷ loops) = if loop.name == name then loops else loop ∷ closed name loops
 
--- The loops that are open behind a block at a place, the latest first: an END closes the latest open one of its name.
+-- The loops that are open behind a block at a place, the latest first: an END closes the latest
+-- open one of its name.
 abbrev pub open_behind : ℕ → Control → List Open → List Open
 open_behind place (While name) loops = record { place = place; name = name } ∷ loops
 open_behind place (Do name) loops = record { place = place; name = name } ∷ loops
@@ -41,13 +42,13 @@ abbrev pub latest : List ℕ → Option ℕ
 latest [] = None
 latest (name ∷ earlier) = Some name
 
--- The block at a place does not fit: a head without its END, an END without its head, a head inside a loop of its own name, or
--- an END that closes a loop while a later one is open.
+-- The block at a place does not fit: a head without its END, an END without its head, a head inside
+-- a loop of its own name, or an END that closes a loop while a later one is open.
 pub data IsMismatch (bs : List ControlBlock) (place : ℕ) : Type 0 where
   unclosed : Contains (places (open_before bs (length bs))) place → IsMismatch bs place
   unopened : (name : ℕ) → control_at bs place ≡ Some (EndLoop name) → (Contains (names (open_before bs place)) name → ⊥)
       → IsMismatch bs place
-  nested : (c : Control) (name : ℕ) → control_at bs place ≡ Some c → IsHead c name
-      → Contains (names (open_before bs place)) name → IsMismatch bs place
+  nested : (name : ℕ) → head_name (control_at bs place) ≡ Some name → Contains (names (open_before bs place)) name
+      → IsMismatch bs place
   overlap : (name : ℕ) → control_at bs place ≡ Some (EndLoop name) → Contains (names (open_before bs place)) name
       → latest (names (open_before bs place)) ≢ Some name → IsMismatch bs place

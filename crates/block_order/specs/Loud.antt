@@ -24,7 +24,8 @@ abbrev pub known_loud : List ControlProgram → ℕ → ℕ → Bool
 known_loud tape zero program = false
 known_loud tape (suc n) program = has_loud_block (known_loud tape n) (blocks tape program)
 
--- A program is loud where it, or one that it calls, directly or through others, has a wait or an end. The others are quiet.
+-- A program is loud where it, or one that it calls, directly or through others, has a wait or an
+-- end. The others are quiet.
 unfoldable pub loud : List ControlProgram → ℕ → Bool
 loud tape program = known_loud tape (length tape) program
 
@@ -56,6 +57,7 @@ abbrev pub marks : (ℕ → Bool) → List ControlBlock → List Mark
 marks loud [] = []
 marks loud (b ∷ bs) = mark_of loud b.control ++ marks loud bs
 
--- The stretch in which a block lies: how many marks stand before it. A mark is the last block of its stretch.
+-- The stretch in which a block lies: how many marks stand before it. A mark is the last block of
+-- its stretch.
 abbrev pub stretch : (ℕ → Bool) → List ControlBlock → ℕ → ℕ
 stretch loud bs block = length (marks loud (take block bs))

@@ -22,7 +22,8 @@ abbrev pub is_latest : ℕ → List Open → Bool
 is_latest name [] = false
 is_latest name (loop ∷ loops) = loop.name == name
 
--- with these loops open a block does not fit: a head inside a loop of its name, or an END of another name than the latest one
+-- with these loops open a block does not fit: a head inside a loop of its name, or an END of
+-- another name than the latest one
 abbrev pub is_misplaced : List Open → Control → Bool
 is_misplaced loops (While name) = has_name name loops
 is_misplaced loops (Do name) = has_name name loops

@@ -1,5 +1,5 @@
--- Where control goes from a place: each move as a function of the place and of the tape. What the variables hold only chooses
--- among them.
+-- Where control goes from a place: each move as a function of the place and of the tape. What the
+-- variables hold only chooses among them.
 use Rattle.std.specs.Prelude.{ℕ, zero, suc, ◌-◌, ◌==◌, ◌||◌, nat_lt, List, [], ◌∷◌, length, Option, Some, None, Result, Ok, Err, if◌then◌else◌}
 use Rattle.nc_number.specs.declared.cause.Cause.{Cause}
 use Rattle.nc_number.specs.declared.cause.Cause.TheVariants.{TooDeep, LoopMismatch}
@@ -17,9 +17,9 @@ place_at block [] = []
 place_at block (f ∷ stack) = at f block ∷ stack
 
 -- the next block, behind a wait too
-abbrev pub passed : List Frame → List Frame
-passed [] = []
-passed (f ∷ stack) = at f (suc f.block) ∷ stack
+abbrev pub place_behind : List Frame → List Frame
+place_behind [] = []
+place_behind (f ∷ stack) = at f (suc f.block) ∷ stack
 
 -- the place at a block, or why there is none
 abbrev pub place_to : List Frame → Result ℕ Cause → Result (List Frame) Cause
@@ -56,7 +56,8 @@ place_of_head tape place = place_by (λ f. at_head (head_of_loop (blocks tape f.
 abbrev pub place_in : ℕ → ℕ → List Frame → List Frame
 place_in program left place = record { program = program; block = 0; left = left } ∷ place
 
--- a call of a program, to run it so many times; alarm 32 where it would be the ninth that is open, or runs the program no time
+-- a call of a program, to run it so many times; alarm 32 where it would be the ninth that is open,
+-- or runs the program no time
 abbrev pub place_of_call : ℕ → ℕ → List Frame → Result (List Frame) Cause
 place_of_call program repeats place =
     if repeats == 0 || nat_lt 8 (length place) then Err TooDeep else Ok (place_in program (repeats - 1) place)
@@ -77,6 +78,7 @@ place_of_caller [] = []
 place_of_caller (f ∷ []) = f ∷ []
 place_of_caller (f ∷ g ∷ stack) = g ∷ stack
 
--- M99 with a sequence number: a jump of the caller, whatever repeats are left, in the main program its own
+-- M99 with a sequence number: a jump of the caller, whatever repeats are left, in the main program
+-- its own
 abbrev pub place_of_jump_back : List ControlProgram → ℕ → List Frame → Result (List Frame) Cause
 place_of_jump_back tape n place = place_of_jump tape n (place_of_caller place)

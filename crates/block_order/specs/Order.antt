@@ -1,6 +1,7 @@
--- The programs of a tape, as far as control goes through them: where jumps lead, and which loops hold a block.
--- Everywhere a tape is the list of its programs, a program is known by its O number, and a block of it by its place from 0.
-use Rattle.std.specs.Prelude.{◌≡◌, ◌≢◌, ℕ, zero, suc, ◌<◌, ◌≤◌, Bool, true, false, not, ◌==◌, ◌&&◌, ◌||◌, nat_lt, nat_le, List, [], ◌∷◌, drop, find, Option, Some, None, Result, Ok, Err, slice_get, if◌then◌else◌}
+-- The programs of a tape, as far as control goes through them: where jumps lead, and which loops
+-- hold a block. Everywhere a tape is the list of its programs, a program is known by its O number,
+-- and a block of it by its place from 0.
+use Rattle.std.specs.Prelude.{◌≡◌, ℕ, zero, suc, Bool, true, false, not, ◌==◌, ◌&&◌, ◌||◌, nat_lt, nat_le, List, [], ◌∷◌, drop, find, Option, Some, None, Result, Ok, Err, slice_get, if◌then◌else◌}
 use Rattle.nc_number.specs.declared.cause.Cause.{Cause}
 use Rattle.nc_number.specs.declared.cause.Cause.TheVariants.{NoSequence, IntoLoop}
 use Rattle.block_order.specs.declared.control.Control.{Control}
@@ -45,7 +46,8 @@ abbrev pub or_else : Option ℕ → Option ℕ → Option ℕ
 or_else (Some place) other = Some place
 or_else None other = other
 
--- Sequence search: the first block numbered n behind the block, else the first from the program's start.
+-- Sequence search: the first block numbered n behind the block, else the first from the program's
+-- start.
 abbrev pub seek : List ControlBlock → ℕ → ℕ → Option ℕ
 seek bs block n = or_else (first_numbered (drop (suc block) bs) (suc block) n) (first_numbered bs 0 n)
 
@@ -68,7 +70,8 @@ abbrev pub end_named : List ControlBlock → ℕ → Option ℕ → Option ℕ
 end_named bs head None = None
 end_named bs head (Some name) = first_end name (drop (suc head) bs) (suc head)
 
--- the END of the loop that begins at the block, if one begins there
+-- The END of the loop that begins at the block, if one begins there: the nearest of its name. The
+-- loop holds the blocks behind its head up to and with its END.
 abbrev pub end_of_loop : List ControlBlock → ℕ → Option ℕ
 end_of_loop bs head = end_named bs head (head_name (control_at bs head))
 
@@ -99,7 +102,8 @@ permits_below zero bs block target = true
 permits_below (suc head) bs block target =
     (not (holds bs head target) || holds bs head block) && permits_below head bs block target
 
--- a jump from the block may lead to the target
+-- A jump may lead out of a loop and not into one: every loop that holds the target holds the block
+-- too.
 abbrev pub permits : List ControlBlock → ℕ → ℕ → Bool
 permits bs block target = permits_below target bs block target
 
@@ -107,36 +111,22 @@ abbrev pub permitted_target : List ControlBlock → ℕ → Option ℕ → Resul
 permitted_target bs block None = Err NoSequence
 permitted_target bs block (Some target) = if permits bs block target then Ok target else Err IntoLoop
 
--- where a jump from the block to the number leads; 50 where its program has no such number, 53 into a loop that does not hold it
+-- where a jump from the block to the number leads; 50 where its program has no such number, 53 into
+-- a loop that does not hold it
 abbrev pub target_of : List ControlBlock → ℕ → ℕ → Result ℕ Cause
 target_of bs block n = permitted_target bs block (seek bs block n)
 
--- a WHILE or a DO of this name
-abbrev pub IsHead : Control → ℕ → Type 0
-IsHead (While m) name = m ≡ name
-IsHead (Do m) name = m ≡ name
-IsHead other name = ⊥
+-- the loop that begins at head ends at close
+abbrev pub IsLoop : List ControlBlock → ℕ → ℕ → Type 0
+IsLoop bs head close = end_of_loop bs head ≡ Some close
 
--- The loop that begins at head and ends at close: the nearest END of its name. It holds the blocks behind its head up to and
--- with its END.
-pub record IsLoop (bs : List ControlBlock) (head close : ℕ) : Type 0 where
-  pub name : ℕ
-  pub first : Control
-  pub is_first : control_at bs head ≡ Some first
-  pub is_head : IsHead first name
-  pub is_close : control_at bs close ≡ Some (EndLoop name)
-  pub order : head < close
-  pub nearest : (between : ℕ) → head < between → between < close → control_at bs between ≢ Some (EndLoop name)
-
--- A jump may lead out of a loop and not into one: every loop that holds the target holds the jump too.
+-- a jump from the block to the target leads into no loop
 abbrev pub IsPermitted : List ControlBlock → ℕ → ℕ → Type 0
-IsPermitted bs block target =
-    (head close : ℕ) → IsLoop bs head close → head < target → target ≤ close → (head < block) × (block ≤ close)
+IsPermitted bs block target = permits bs block target ≡ true
 
--- the search for the number n from the block leads to the target, which is permitted
-pub record Leads (bs : List ControlBlock) (block n target : ℕ) : Type 0 where
-  pub found : seek bs block n ≡ Some target
-  pub permitted : IsPermitted bs block target
+-- a jump from the block to the number n leads to the target
+abbrev pub Leads : List ControlBlock → ℕ → ℕ → ℕ → Type 0
+Leads bs block n target = target_of bs block n ≡ Ok target
 
 -- a sequence number that is written out is that number, a computed one is any
 abbrev pub MayBe : Option ℕ → ℕ → Type 0

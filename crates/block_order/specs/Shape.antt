@@ -1,13 +1,10 @@
--- What holds of the programs of every tape that was read: where they stand in the text, and how many blocks there are.
-use Rattle.std.specs.Prelude.{ℕ, ◌<◌, ◌≤◌, List, [], ◌∷◌, length, map}
+-- What holds of the programs of every tape that was read: where they stand in the text, and how
+-- many blocks there are.
+use Rattle.std.specs.Prelude.{ℕ, ◌<◌, ◌≤◌, List, ◌∷◌, length, map}
 use Rattle.std.specs.List.{flat_map}
+use Rattle.nc_number.specs.Rising.{RiseFrom}
 use Rattle.block_order.specs.declared.program.ControlBlock.{ControlBlock}
 use Rattle.block_order.specs.declared.program.ControlProgram.{ControlProgram}
-
--- each number is above the one before it, and the first above this one
-abbrev pub RiseFrom : ℕ → List ℕ → Type 0
-RiseFrom low [] = Unit {0}
-RiseFrom low (n ∷ ns) = (low < n) × RiseFrom n ns
 
 -- the lines of a program's O number and of its blocks
 abbrev pub lines_of_program : ControlProgram → List ℕ

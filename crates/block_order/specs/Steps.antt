@@ -6,17 +6,17 @@ use Rattle.block_order.specs.declared.frame.Frame.{Frame}
 use Rattle.block_order.specs.declared.label.Label.TheVariants as label
 use Rattle.block_order.specs.declared.program.ControlProgram.{ControlProgram}
 use Rattle.block_order.specs.Order.{blocks, main_number, control_at, MayBe}
-pub use Rattle.block_order.specs.Moves.{passed}
+pub use Rattle.block_order.specs.Moves.{place_behind}
 use Rattle.block_order.specs.Moves.{place_of_jump, place_behind_loop, place_of_head, place_of_call, place_of_return, place_of_jump_back}
 use Rattle.block_order.specs.Labels.{ahead, list}
 
 -- a block of this control, at which the place stands, may lead there
 abbrev pub Goes : List ControlProgram → List Frame → Control → List Frame → Type 0
-Goes tape place Next to = to ≡ passed place
+Goes tape place Next to = to ≡ place_behind place
 Goes tape place (Goto n) to =
-    (to ≡ passed place) ⊎ ((number : ℕ) × MayBe n number × (place_of_jump tape number place ≡ Ok to))
-Goes tape place (While m) to = (to ≡ passed place) ⊎ (place_behind_loop tape place ≡ Ok to)
-Goes tape place (Do m) to = to ≡ passed place
+    (to ≡ place_behind place) ⊎ ((number : ℕ) × MayBe n number × (place_of_jump tape number place ≡ Ok to))
+Goes tape place (While m) to = (to ≡ place_behind place) ⊎ (place_behind_loop tape place ≡ Ok to)
+Goes tape place (Do m) to = to ≡ place_behind place
 Goes tape place (EndLoop m) to = place_of_head tape place ≡ Ok to
 Goes tape place (Wait code) to = ⊥
 Goes tape place End to = ⊥
@@ -33,7 +33,8 @@ standing tape (f ∷ stack) = control_at (blocks tape f.program) f.block
 abbrev pub Step : List ControlProgram → List Frame → List Frame → Type 0
 Step tape place to = (c : Control) × (standing tape place ≡ Some c) × Goes tape place c to
 
--- A place: each frame but the running one stands on the call of the next one's program, and the lowest is the main program's.
+-- A place: each frame but the running one stands on the call of the next one's program, and the
+-- lowest is the main program's.
 abbrev pub IsPlace : List ControlProgram → List Frame → Type 0
 IsPlace tape [] = ⊥
 IsPlace tape (f ∷ []) = (f.program ≡ main_number tape) × (f.left ≡ 0)
@@ -45,7 +46,8 @@ IsPlace tape (f ∷ g ∷ stack) =
 abbrev pub Same : List ControlProgram → Frame → List Frame → List Frame → Type 0
 Same tape f stack to = ahead tape to ≡ ahead tape (f ∷ stack)
 
--- what a step does to the labels ahead: nothing, but at an M99 of the main program with no call open
+-- what a step does to the labels ahead: nothing, but at an M99 of the main program with no call
+-- open
 abbrev pub Kept : List ControlProgram → Frame → List Frame → Control → List Frame → Type 0
 Kept tape f [] Back to = (ahead tape (f ∷ []) ≡ label.Again ∷ []) × (ahead tape to ≡ list tape)
 Kept tape f (g ∷ stack) Back to = Same tape f (g ∷ stack) to
@@ -59,13 +61,13 @@ Kept tape f stack End to = Same tape f stack to
 Kept tape f stack (Call program repeats) to = Same tape f stack to
 Kept tape f stack (BackTo n) to = Same tape f stack to
 
--- The law of one path. From place to place each step keeps the labels ahead, but for an M99 of the main program, before which
--- they are Again alone and behind which they are the whole list; at a wait they begin with it, and it goes with the passing; at
--- an end they are End alone.
+-- The law of one path. From place to place each step keeps the labels ahead, but for an M99 of the
+-- main program, before which they are Again alone and behind which they are the whole list; at a
+-- wait they begin with it, and it goes with the passing; at an end they are End alone.
 pub record KeepsLabels (tape : List ControlProgram) : Type 0 where
   pub step : (f : Frame) (stack : List Frame) → IsPlace tape (f ∷ stack)
       → (c : Control) → control_at (blocks tape f.program) f.block ≡ Some c
       → (to : List Frame) → Goes tape (f ∷ stack) c to → IsPlace tape to × Kept tape f stack c to
   pub wait : (place : List Frame) (code : ℕ) → IsPlace tape place → standing tape place ≡ Some (Wait code)
-      → IsPlace tape (passed place) × (ahead tape place ≡ label.Wait code ∷ ahead tape (passed place))
+      → IsPlace tape (place_behind place) × (ahead tape place ≡ label.Wait code ∷ ahead tape (place_behind place))
   pub ends : (place : List Frame) → IsPlace tape place → standing tape place ≡ Some End → ahead tape place ≡ label.End ∷ []

@@ -3,7 +3,6 @@ use Rattle.std.specs.Prelude.{◌≡◌, ℕ, List, length, Some, slice_get}
 use Rattle.block_order.specs.declared.program.ControlBlock.{ControlBlock}
 use Rattle.block_order.specs.declared.program.ControlProgram.{ControlProgram}
 use Rattle.block_order.specs.declared.tables.ProgramTables.{ProgramTables}
-use Rattle.block_order.specs.declared.tables.TapeTables.{TapeTables}
 use Rattle.block_order.specs.Places.{IsIndexOf}
 use Rattle.block_order.specs.Table.{IsLoopTable}
 
@@ -13,7 +12,7 @@ pub record IsProgramTables (bs : List ControlBlock) (tables : ProgramTables) : T
   pub loops : IsLoopTable bs tables.loops
 
 -- the tables are those of this tape
-pub record IsTapeTables (tape : List ControlProgram) (tables : TapeTables) : Type 0 where
-  pub long : length tables.programs.items ≡ length tape
+pub record IsTapeTables (tape : List ControlProgram) (tables : List ProgramTables) : Type 0 where
+  pub long : length tables ≡ length tape
   pub each : (place : ℕ) (program : ControlProgram) → slice_get tape place ≡ Some program
-      → (own : ProgramTables) × (slice_get tables.programs.items place ≡ Some own) × IsProgramTables program.blocks own
+      → (own : ProgramTables) × (slice_get tables place ≡ Some own) × IsProgramTables program.blocks own

@@ -25,7 +25,7 @@ impl Callers {
         Ok(callers)
     }
 
-    // Notes the programs that these blocks of a program call.
+    /// Notes the programs that these blocks of a program call.
     fn note_calls(
         &mut self,
         alloc: Global,

@@ -1,3 +1,5 @@
+//! What a block does to the order of blocks.
+
 /// What a block does to the order of blocks.
 #[derive(Clone, Copy, Debug, PartialEq, Eq)]
 pub enum Control {

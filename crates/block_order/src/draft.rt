@@ -13,17 +13,18 @@ use crate::loud::LoudPrograms;
 use crate::numbers::ProgramNumbers;
 use crate::order::BlockOrder;
 use crate::program::ControlProgram;
-use crate::tables::TapeTables;
+use crate::tables::{ProgramTables, tape_tables};
 use nc_number::Failing;
 use std::alloc::Global;
 use std::marker::Model;
 
-/// The order of the blocks of a tape whose programs and loops fit together and whose jumps and calls
-/// find what they name. Its waits are still to be judged.
+/// The order of the blocks of a tape whose programs and loops fit together and whose jumps and
+/// calls find what they name. Its waits are still to be judged.
 #[derive(Drop)]
 pub struct DraftOrder {
     programs: Vec<ControlProgram>,
-    tables: TapeTables,
+    /// The tables of the programs, in their order.
+    tables: Vec<ProgramTables>,
     loud: LoudPrograms,
 }
 
@@ -37,7 +38,7 @@ impl Model for DraftOrder {
 
     ghost view = { λ order. order.programs.items };
 
-    ghost invariant = { λ order. IsDrafted order.programs.items order.tables order.loud };
+    ghost invariant = { λ order. IsDrafted order.programs.items order.tables.items order.loud };
 }
 
 impl DraftOrder {
@@ -56,7 +57,7 @@ impl DraftOrder {
         if let Some(fault) = fitting_fault(alloc, &programs)? {
             return Err(Failing::Fault(fault));
         }
-        let tables = TapeTables::of(alloc, &programs)?;
+        let tables = tape_tables(alloc, &programs)?;
         let numbers = ProgramNumbers::of(alloc, &programs)?;
         if let Some(fault) = finding_fault(&programs, &tables, &numbers) {
             return Err(Failing::Fault(fault));
@@ -79,11 +80,11 @@ impl DraftOrder {
         self.programs.as_slice()
     }
 
-    /// What is kept of each program.
-    pub fn tables(&self) -> &TapeTables
+    /// The tables of the programs, in their order.
+    pub fn tables(&self) -> &[ProgramTables]
         ensures { IsTapeTables self.now result.now }
     {
-        &self.tables
+        self.tables.as_slice()
     }
 
     /// Which programs are loud.

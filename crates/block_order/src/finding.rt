@@ -15,14 +15,14 @@ use crate::control::Control;
 use crate::fault::OrderFault;
 use crate::numbers::ProgramNumbers;
 use crate::program::ControlProgram;
-use crate::tables::{ProgramTables, TapeTables};
+use crate::tables::ProgramTables;
 use nc_number::Cause;
 
 /// The first fault of a tape in what its jumps and calls find: a sequence number that the program
 /// lacks, 50, an O number that the tape lacks, 51, or a jump into a loop, 53.
 pub(crate) fn finding_fault(
     tape: &[ControlProgram],
-    tables: &TapeTables,
+    tables: &[ProgramTables],
     numbers: &ProgramNumbers,
 ) -> Option<OrderFault>
     requires listed { IsListed tape.now }
@@ -33,7 +33,7 @@ pub(crate) fn finding_fault(
 {
     let main = tape[0].number;
     for (at, program) in tape.iter().enumerate() {
-        let own = &tables.programs[at];
+        let own = &tables[at];
         if let Some(OrderFault { cause, line }) = program_fault(numbers, own, main, program) {
             let cause: Cause = cause;
             return Some(OrderFault { cause, line });
@@ -97,17 +97,12 @@ fn block_fault(
 
 /// The fault of a jump to a sequence number.
 fn jump_fault(own: &ProgramTables, place: u32, number: u32) -> Option<Cause>
-    ensures { (bs : List ControlBlock) → IsProgramTables bs own.now → place < length bs
+    ensures { (bs : List ControlBlock) → IsProgramTables bs own.now
         → IsFaultOf (JumpFault bs place number) result }
 {
-    let Some(target) = own.index.seek(place, number) else {
-        return Some(Cause::NoSequence);
-    };
-    let reach = own.loops.reach(target);
-    if reach.holds(place) {
-        None
-    } else {
-        Some(Cause::IntoLoop)
+    match own.target(place, number) {
+        Ok(_) => None,
+        Err(cause) => Some(cause),
     }
 }
 

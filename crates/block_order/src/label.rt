@@ -1,3 +1,5 @@
+//! What one path shows the other, and what stands for it in a program.
+
 /// What a path comes to, as far as the other path can tell.
 #[derive(Clone, Copy, Debug, PartialEq, Eq)]
 pub enum Label {

@@ -1,11 +1,14 @@
 //! What holds of every tape, for the crates above. Each law is the contract of a function that does
 //! nothing: who calls it has the law.
 
-ghost use Rattle.std.specs.Prelude.{List};
+ghost use Rattle.std.specs.Prelude.{List, ℕ, ◌↔◌};
+ghost use Rattle.block_order.specs.declared.program.ControlBlock.{ControlBlock};
 ghost use Rattle.block_order.specs.declared.program.ControlProgram.{ControlProgram};
 ghost use Rattle.block_order.specs.Faults.{IsClear, Waiting};
 ghost use Rattle.block_order.specs.Labels.{IsUnforked};
+ghost use Rattle.block_order.specs.LoopFacts.{LoopFacts, IsHeldToo};
 ghost use Rattle.block_order.specs.Loud.{IsLoudExactly};
+ghost use Rattle.block_order.specs.Order.{IsLoop, IsPermitted};
 ghost use Rattle.block_order.specs.Steps.{KeepsLabels};
 
 /// The law of one path: whatever its variables hold, it comes to the labels of its tape in their
@@ -23,4 +26,11 @@ pub fn being_loud_is_reaching_a_wait_or_an_end()
 /// Where no fault of waits is found, all runs of the tape come to one list of labels.
 pub fn a_tape_without_faults_is_unforked()
     ensures { (tape : List ControlProgram) → IsClear tape Waiting → IsUnforked tape }
+{}
+
+/// A loop ends at the nearest END of its name behind its head, and a jump is permitted exactly
+/// where every loop that holds its target holds it too.
+pub fn a_loop_ends_at_its_nearest_end()
+    ensures ends { (bs : List ControlBlock) (head close : ℕ) → IsLoop bs head close ↔ LoopFacts bs head close }
+    ensures jumps { (bs : List ControlBlock) (block target : ℕ) → IsPermitted bs block target ↔ IsHeldToo bs block target }
 {}

@@ -34,8 +34,8 @@ pub use fitting_law::loops_that_fit_are_nested;
 pub use frame::Frame;
 pub use label::{Label, Mark};
 pub use laws::{
-    a_tape_without_faults_is_unforked, being_loud_is_reaching_a_wait_or_an_end,
-    each_step_keeps_the_labels,
+    a_loop_ends_at_its_nearest_end, a_tape_without_faults_is_unforked,
+    being_loud_is_reaching_a_wait_or_an_end, each_step_keeps_the_labels,
 };
 pub use loops::{LoopTable, Reach};
 pub use loud::LoudPrograms;
@@ -44,4 +44,4 @@ pub use order::BlockOrder;
 pub use place::{MOST_CALLS, Place};
 pub use program::{ControlBlock, ControlBlockList, ControlProgram};
 pub use sequence::{Finders, SequenceIndex};
-pub use tables::{ProgramTables, TapeTables};
+pub use tables::ProgramTables;

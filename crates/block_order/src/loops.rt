@@ -1,6 +1,6 @@
 //! The loops of a program whose heads and ends fit together.
 ghost use Rattle.std.specs.Prelude.{◌≡◌, ℕ, suc, ◌<◌, ◌≤◌, ◌↔◌, List, Some, IsTrue, length, slice_set, IfOk};
-ghost use Rattle.block_order.specs.Order.{IsLoop, IsPermitted, control_at};
+ghost use Rattle.block_order.specs.Order.{IsLoop, IsPermitted, control_at, end_of_loop};
 ghost use Rattle.block_order.specs.declared.program.ControlBlock.{ControlBlock};
 ghost use Rattle.block_order.specs.Fitting.{Fits, innermost, IsInside, IsEnds};
 
@@ -61,7 +61,7 @@ impl LoopTable {
     /// The END of the loop that begins at this block.
     pub fn end_of(&self, head: u32) -> Option<u32>
         ensures { (bs : List ControlBlock) → IsLoopTable bs self.now
-            → (close : ℕ) → (result ≡ Some close) ↔ IsLoop bs head close }
+            → result ≡ end_of_loop bs head }
     {
         self.ends.get(head as usize).copied().flatten()
     }

@@ -1,3 +1,4 @@
+//! Which programs are loud: they reach a wait or an end.
 ghost use Rattle.std.specs.Prelude.{◌≡◌, [], ℕ, Bool, true, map, IfOk};
 ghost use Rattle.block_order.specs.Loud.{is_loud_block, has_loud_block, known_loud, loud};
 ghost use Rattle.block_order.specs.Order.{blocks};
@@ -52,7 +53,7 @@ fn any_is_loud(numbers: &ProgramNumbers, flags: &[bool], blocks: &[ControlBlock]
     false
 }
 
-// One more look at each program, with what is known so far.
+/// One more look at each program, with what is known so far.
 fn look_again(
     alloc: Global,
     numbers: &ProgramNumbers,
@@ -80,8 +81,8 @@ fn are_same(these: &[bool], those: &[bool]) -> bool
     these == those
 }
 
-// Flags the program of this number where one of its blocks is loud, by what is known so far. Whether
-// it is flagged only now.
+/// Flags the program of this number where one of its blocks is loud, by what is known so far.
+/// Whether it is flagged only now.
 fn hear(
     programs: &[ControlProgram],
     numbers: &ProgramNumbers,
@@ -106,8 +107,8 @@ fn hear(
     }
 }
 
-// The same of each of these programs. The numbers of those that are flagged only now are put behind
-// the others.
+/// The same of each of these programs. The numbers of those that are flagged only now are put
+/// behind the others.
 fn hear_each(
     programs: &[ControlProgram],
     numbers: &ProgramNumbers,
@@ -127,7 +128,7 @@ fn hear_each(
     Ok(())
 }
 
-// Flags loud programs, and of each one that is flagged looks at those that call it.
+/// Flags loud programs, and of each one that is flagged looks at those that call it.
 fn hear_all(
     alloc: Global,
     programs: &[ControlProgram],
@@ -160,7 +161,7 @@ fn hear_all(
     Ok(())
 }
 
-// Most of the loud programs, and mostly all of them.
+/// Most of the loud programs, and mostly all of them.
 fn heard_first(
     alloc: Global,
     numbers: &ProgramNumbers,
@@ -174,7 +175,7 @@ fn heard_first(
     Ok(flags)
 }
 
-// What is heard first is looked at again until nothing changes, which it mostly doesn't.
+/// What is heard first is looked at again until nothing changes, which it mostly doesn't.
 fn loud_flags(
     alloc: Global,
     numbers: &ProgramNumbers,

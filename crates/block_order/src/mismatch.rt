@@ -15,8 +15,8 @@ struct OpenLoop {
     name: u8,
 }
 
-/// The first block that does not fit: a head without its END, an END without its head, a head inside
-/// a loop of its own name, or an END that closes a loop while a later one is open.
+/// The first block that does not fit: a head without its END, an END without its head, a head
+/// inside a loop of its own name, or an END that closes a loop while a later one is open.
 pub(crate) fn first_mismatch(
     alloc: Global,
     blocks: &[ControlBlock],

@@ -2,7 +2,7 @@
 ghost use Rattle.std.specs.Prelude.{◌≡◌, ◌∷◌};
 ghost use Rattle.block_order.specs.Moves.{place_to, place_of_jump, place_behind_loop, place_of_head};
 ghost use Rattle.block_order.specs.Moves.{place_of_caller, place_of_jump_back};
-ghost use Rattle.block_order.specs.PlaceSteps.{callers};
+ghost use Rattle.block_order.specs.Frames.{callers};
 
 use crate::frame::Frame;
 use crate::order::BlockOrder;
@@ -12,8 +12,8 @@ use nc_number::Cause;
 impl Place {
     /// Where a jump of the running program to the sequence number leads.
     ///
-    /// Errors: [`Cause::NoSequence`], 50, where the program has no such number; [`Cause::IntoLoop`],
-    /// 53, where a loop holds the target and not the running block.
+    /// Errors: [`Cause::NoSequence`], 50, where the program has no such number;
+    /// [`Cause::IntoLoop`], 53, where a loop holds the target and not the running block.
     pub fn jump(&self, order: &BlockOrder, number: u32) -> Result<u32, Cause>
         ensures { place_of_jump order.now number self.now ≡ place_to self.now result }
     {
@@ -23,8 +23,8 @@ impl Place {
 
     /// Where a loop is left whose head is the running block: behind its END.
     ///
-    /// Errors: [`Cause::LoopMismatch`] where no loop begins; in an order that was checked a head has
-    /// its END.
+    /// Errors: [`Cause::LoopMismatch`] where no loop begins; in an order that was checked a head
+    /// has its END.
     pub fn loop_exit(&self, order: &BlockOrder) -> Result<u32, Cause>
         ensures { place_behind_loop order.now self.now ≡ place_to self.now result }
     {
@@ -37,8 +37,8 @@ impl Place {
 
     /// Where a loop begins again whose END is the running block: at its head.
     ///
-    /// Errors: [`Cause::LoopMismatch`] where no loop ends; in an order that was checked an END has its
-    /// head.
+    /// Errors: [`Cause::LoopMismatch`] where no loop ends; in an order that was checked an END has
+    /// its head.
     pub fn loop_head(&self, order: &BlockOrder) -> Result<u32, Cause>
         ensures { place_of_head order.now self.now ≡ place_to self.now result }
     {
@@ -60,8 +60,8 @@ impl Place {
         }
     }
 
-    /// Where M99 with a sequence number leads: a block of the caller, in the main program one of its
-    /// own.
+    /// Where M99 with a sequence number leads: a block of the caller, in the main program one of
+    /// its own.
     ///
     /// Errors: those of [`jump`](Place::jump).
     pub fn jump_back(&self, order: &BlockOrder, number: u32) -> Result<u32, Cause>

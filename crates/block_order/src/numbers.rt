@@ -1,27 +1,40 @@
-ghost use Rattle.std.specs.Prelude.{◌≡◌, ◌==◌, ℕ, List, Some, None, nat_eq, OnOk, IfOk, if◌then◌else◌};
-ghost use Rattle.indexmap.specs.IndexMap.{get};
+//! From O numbers to places on the tape.
+ghost use Rattle.std.specs.Prelude.{◌≡◌, ◌==◌, ◌<◌, ℕ, List, Some, None, length, OnOk, IfOk, if◌then◌else◌};
 ghost use Rattle.block_order.specs.Order.{blocks, or_else};
 ghost use Rattle.block_order.specs.ProgramPlaces.{place_of};
-ghost use Rattle.block_order.specs.Numbers.{place_known, KnowsPlaces};
+ghost use Rattle.block_order.specs.Numbers.{place_kept, place_known, KnowsPlaces};
 
 use crate::program::{ControlBlock, ControlProgram};
-use indexmap::IndexMap;
 use nc_number::NoMemory;
 use std::alloc::Global;
 
 /// The place on the tape of each O number: of the first program with it, where it is given twice.
 #[derive(Drop)]
 pub struct ProgramNumbers {
-    places: IndexMap<u16, usize>,
+    /// At the place of each number up to the greatest one the place of its program.
+    places: Vec<Option<usize>>,
 }
 
-// The number stands at this place, if it stands at none before.
-fn note_place(places: &mut IndexMap<u16, usize>, number: u16, place: usize) -> Result<(), NoMemory>
-    ensures { OnOk result ((q : ℕ) → get nat_eq places.new q
-        ≡ or_else (get nat_eq places.old q) (if number == q then Some place else None)) }
+/// Makes room for the number.
+fn make_room(places: &mut Vec<Option<usize>>, number: u16) -> Result<(), NoMemory>
+    ensures kept { OnOk result ((q : ℕ) → place_kept places.new.items q ≡ place_kept places.old.items q) }
+    ensures room { OnOk result (number < length places.new.items) }
 {
-    if places.get(&number).is_none() {
-        places.insert(number, place)?;
+    while places.len() <= number as usize {
+        places.push(None)?;
+    }
+    Ok(())
+}
+
+/// The number stands at this place, if it stands at none before.
+fn note_place(places: &mut Vec<Option<usize>>, number: u16, place: usize) -> Result<(), NoMemory>
+    ensures { OnOk result ((q : ℕ) → place_kept places.new.items q
+        ≡ or_else (place_kept places.old.items q) (if number == q then Some place else None)) }
+{
+    make_room(places, number)?;
+    let at = number as usize;
+    if places[at].is_none() {
+        places[at] = Some(place);
     }
     Ok(())
 }
@@ -30,7 +43,7 @@ impl ProgramNumbers {
     pub(crate) fn of(alloc: Global, programs: &[ControlProgram]) -> Result<Self, NoMemory>
         ensures { IfOk result (KnowsPlaces programs.now) }
     {
-        let mut places = IndexMap::new(alloc);
+        let mut places: Vec<Option<usize>> = Vec::new(alloc);
         for (place, program) in programs.iter().enumerate() {
             note_place(&mut places, program.number, place)?;
         }
@@ -41,7 +54,7 @@ impl ProgramNumbers {
     pub(crate) fn place_of(&self, number: u16) -> Option<usize>
         ensures { result ≡ place_known self.now number }
     {
-        self.places.get(&number).copied()
+        self.places.get(number as usize).copied().flatten()
     }
 
     /// The blocks of the program with this O number, and none of no program.

@@ -1,25 +1,26 @@
 //! The order of a tape's blocks, checked.
-ghost use Rattle.std.specs.Prelude.{◌≡◌, ◌↔◌, ◌<◌, [], None, IfSome, IsTrue, length, slice_get};
+ghost use Rattle.std.specs.Prelude.{◌≡◌, ◌<◌, [], None, IfSome, slice_get};
 ghost use Rattle.std.specs.Option.{option_copied};
 ghost use Rattle.block_order.specs.Faults.{IsSound};
 ghost use Rattle.block_order.specs.Loud.{loud};
-ghost use Rattle.block_order.specs.Order.{blocks, main_number, program_of, seek, end_of_loop, head_of_loop, target_of, IsPermitted};
+ghost use Rattle.block_order.specs.Order.{blocks, main_number, program_of, seek, end_of_loop, head_of_loop, target_of};
 ghost use Rattle.block_order.specs.ProgramPlaces.{place_of};
 ghost use Rattle.block_order.specs.Shape.{IsListed};
 ghost use Rattle.block_order.specs.TapeTable.{IsProgramTables};
 
 use crate::loud::LoudPrograms;
 use crate::program::{ControlBlock, ControlProgram};
-use crate::tables::{ProgramTables, TapeTables};
+use crate::tables::ProgramTables;
 use nc_number::Cause;
 use std::marker::Model;
 
-/// The order of the blocks of a tape in which nothing is wrong: its programs and loops fit together,
-/// its jumps and calls find what they name, and its waits stay in order.
+/// The order of the blocks of a tape in which nothing is wrong: its programs and loops fit
+/// together, its jumps and calls find what they name, and its waits stay in order.
 #[derive(Drop)]
 pub struct BlockOrder {
     pub(crate) programs: Vec<ControlProgram>,
-    pub(crate) tables: TapeTables,
+    /// The tables of the programs, in their order.
+    pub(crate) tables: Vec<ProgramTables>,
     pub(crate) loud: LoudPrograms,
 }
 
@@ -33,7 +34,7 @@ impl Model for BlockOrder {
 
     ghost view = { λ order. order.programs.items };
 
-    ghost invariant = { λ order. IsKept order.programs.items order.tables order.loud };
+    ghost invariant = { λ order. IsKept order.programs.items order.tables.items order.loud };
 }
 
 impl BlockOrder {
@@ -82,7 +83,7 @@ impl BlockOrder {
         ensures none { result ≡ None → blocks self.now program ≡ [] }
     {
         match self.loud.place_of(program) {
-            Some(place) => Some(&self.tables.programs[place]),
+            Some(place) => Some(&self.tables[place]),
             None => None,
         }
     }
@@ -94,8 +95,8 @@ impl BlockOrder {
         self.blocks(program).get(block as usize).copied()
     }
 
-    /// Where a search for a sequence number leads: to the next block of that number behind the block,
-    /// else to the first one of its program.
+    /// Where a search for a sequence number leads: to the next block of that number behind the
+    /// block, else to the first one of its program.
     pub fn seek(&self, program: u16, block: u32, number: u32) -> Option<u32>
         ensures { result ≡ seek (blocks self.now program) block number }
     {
@@ -105,31 +106,16 @@ impl BlockOrder {
         }
     }
 
-    // Whether a jump from the block to the target is permitted.
-    fn permits(&self, program: u16, block: u32, target: u32) -> bool
-        requires { target < length (blocks self.now program) }
-        ensures { IsTrue result ↔ IsPermitted (blocks self.now program) block target }
-    {
-        match self.tables_of(program) {
-            Some(tables) => tables.loops.reach(target).holds(block),
-            None => false,
-        }
-    }
-
     /// Where a jump from the block to the sequence number leads.
     ///
-    /// Errors: [`Cause::NoSequence`], 50, where the program has no such number; [`Cause::IntoLoop`],
-    /// 53, where a loop holds the target and not the block.
+    /// Errors: [`Cause::NoSequence`], 50, where the program has no such number;
+    /// [`Cause::IntoLoop`], 53, where a loop holds the target and not the block.
     pub fn target(&self, program: u16, block: u32, number: u32) -> Result<u32, Cause>
         ensures { result ≡ target_of (blocks self.now program) block number }
     {
-        let Some(target) = self.seek(program, block, number) else {
-            return Err(Cause::NoSequence);
-        };
-        if self.permits(program, block, target) {
-            Ok(target)
-        } else {
-            Err(Cause::IntoLoop)
+        match self.tables_of(program) {
+            Some(tables) => tables.target(block, number),
+            None => Err(Cause::NoSequence),
         }
     }
 

@@ -1,8 +1,9 @@
+//! Where a path stands, and its moves.
 ghost use Rattle.std.specs.Prelude.{◌≡◌, ◌+◌, ◌≤◌, ◌↔◌, ◌∷◌, length, reverse, slice_get};
 ghost use Rattle.std.specs.Prelude.{Ok, Err, IsOk, IfErr, OnOk, OnErr};
 ghost use Rattle.nc_number.specs.declared.cause.Cause.TheVariants as Cause;
-ghost use Rattle.block_order.specs.Moves.{passed, place_at, place_of_call, place_of_return, place_of_caller};
-ghost use Rattle.block_order.specs.PlaceSteps.{start_of, callers, MayPass};
+ghost use Rattle.block_order.specs.Moves.{place_behind, place_at, place_of_call, place_of_return, place_of_caller};
+ghost use Rattle.block_order.specs.Frames.{start_of, callers, MayPass};
 
 use crate::frame::Frame;
 use arrayvec::ArrayVec;
@@ -23,7 +24,7 @@ pub struct Place {
 impl Model for Place {
     ghost use Rattle.std.specs.Prelude.{List, ◌∷◌, reverse, All};
     ghost use Rattle.block_order.specs.declared.frame.Frame.{Frame};
-    ghost use Rattle.block_order.specs.PlaceSteps.{HasNext};
+    ghost use Rattle.block_order.specs.Frames.{HasNext};
 
     ghost Value = { List Frame };
 
@@ -93,7 +94,7 @@ impl Place {
     /// Goes to the next block, behind a wait too.
     pub fn next(&mut self)
         requires { MayPass self.old }
-        ensures { self.new ≡ passed self.old }
+        ensures { self.new ≡ place_behind self.old }
     {
         self.running.block += 1;
     }
@@ -129,8 +130,8 @@ impl Place {
         Ok(())
     }
 
-    /// Returns, as M99 does: to the next repeat, or else behind the call; in the main program to its
-    /// start.
+    /// Returns, as M99 does: to the next repeat, or else behind the call; in the main program to
+    /// its start.
     pub fn back(&mut self)
         ensures { self.new ≡ place_of_return self.old }
     {

@@ -1,8 +1,6 @@
-ghost use Rattle.std.specs.Prelude.{◌≡◌, [], ◌∷◌, ◌++◌, OnOk, OnErr};
-
+//! Blocks and programs, as far as their order goes.
 use crate::control::Control;
-use std::alloc::{AllocFailed, Global};
-use std::marker::Model;
+use nc_number::ListOf;
 
 /// A block, as far as the order of blocks goes.
 #[derive(Clone, Copy, Debug, PartialEq, Eq)]
@@ -15,33 +13,7 @@ pub struct ControlBlock {
 }
 
 /// The blocks of a program, in the order of the text.
-#[derive(Debug, Drop)]
-pub struct ControlBlockList {
-    blocks: Vec<ControlBlock>,
-}
-
-impl Model for ControlBlockList {
-    ghost use Rattle.std.specs.Prelude.{List};
-    ghost use Rattle.block_order.specs.declared.program.ControlBlock.{ControlBlock};
-
-    ghost Value = { List ControlBlock };
-
-    ghost view = { λ list. list.blocks.items };
-}
-
-impl ControlBlockList {
-    pub fn of(blocks: Vec<ControlBlock>) -> Self
-        ensures { result ≡ blocks.items }
-    {
-        ControlBlockList { blocks }
-    }
-
-    pub fn as_slice(&self) -> &[ControlBlock]
-        ensures { result.now ≡ self.now }
-    {
-        self.blocks.as_slice()
-    }
-}
+pub type ControlBlockList = ListOf<ControlBlock>;
 
 /// A program of a tape, as far as the order of blocks goes.
 #[derive(Debug, Drop)]

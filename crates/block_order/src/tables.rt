@@ -8,7 +8,7 @@ ghost use Rattle.block_order.specs.Shape.{IsListed};
 use crate::loops::LoopTable;
 use crate::program::ControlProgram;
 use crate::sequence::SequenceIndex;
-use nc_number::NoMemory;
+use nc_number::{Cause, NoMemory};
 use std::alloc::Global;
 
 /// The tables of one program.
@@ -18,25 +18,44 @@ pub struct ProgramTables {
     pub loops: LoopTable,
 }
 
-/// The tables of a tape's programs, in the order of the text.
-#[derive(Drop)]
-pub struct TapeTables {
-    pub programs: Vec<ProgramTables>,
+impl ProgramTables {
+    ghost use Rattle.std.specs.Prelude.{◌≡◌, List};
+    ghost use Rattle.block_order.specs.declared.program.ControlBlock.{ControlBlock};
+    ghost use Rattle.block_order.specs.Order.{target_of};
+
+    /// Where a jump from the block to the sequence number leads.
+    ///
+    /// Errors: [`Cause::NoSequence`], 50, where the program has no such number;
+    /// [`Cause::IntoLoop`], 53, where a loop holds the target and not the block.
+    pub fn target(&self, block: u32, number: u32) -> Result<u32, Cause>
+        ensures { (bs : List ControlBlock) → IsProgramTables bs self.now → result ≡ target_of bs block number }
+    {
+        let Some(target) = self.index.seek(block, number) else {
+            return Err(Cause::NoSequence);
+        };
+        let reach = self.loops.reach(target);
+        if reach.holds(block) {
+            Ok(target)
+        } else {
+            Err(Cause::IntoLoop)
+        }
+    }
 }
 
-impl TapeTables {
-    /// The tables of a tape.
-    pub(crate) fn of(alloc: Global, tape: &[ControlProgram]) -> Result<TapeTables, NoMemory>
-        requires listed { IsListed tape.now }
-        requires fits { IsClear tape.now Fitting }
-        ensures { IfOk result (λ tables. IsTapeTables tape.now tables) }
-    {
-        let mut programs: Vec<ProgramTables> = Vec::new(alloc);
-        for program in tape {
-            programs.push(program_tables(alloc, program)?)?;
-        }
-        Ok(TapeTables { programs })
+/// The tables of a tape's programs, in the order of the text.
+pub(crate) fn tape_tables(
+    alloc: Global,
+    tape: &[ControlProgram],
+) -> Result<Vec<ProgramTables>, NoMemory>
+    requires listed { IsListed tape.now }
+    requires fits { IsClear tape.now Fitting }
+    ensures { IfOk result (λ tables. IsTapeTables tape.now tables.items) }
+{
+    let mut programs: Vec<ProgramTables> = Vec::new(alloc);
+    for program in tape {
+        programs.push(program_tables(alloc, program)?)?;
     }
+    Ok(programs)
 }
 
 /// The tables of one program.

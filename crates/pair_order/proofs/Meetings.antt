@@ -1,4 +1,5 @@
--- Two paths over tapes whose lists of labels are equal: the labels ahead of both agree, and each step leaves it so.
+-- Two paths over tapes whose lists of labels are equal: the labels ahead of both agree, and each
+-- step leaves it so.
 use Rattle.std.proofs.Common.{◌≡◌, ℕ, ◌⊎◌, inl, inr, List, [], ◌∷◌, Some, refl, sym, subst, ◌∙◌}
 use Rattle.block_order.specs.declared.control.Control.{Control}
 use Rattle.block_order.specs.declared.control.Control.TheVariants as control
@@ -7,14 +8,14 @@ use Rattle.block_order.specs.declared.label.Label.{Label}
 use Rattle.block_order.specs.declared.label.Label.TheVariants as label
 use Rattle.block_order.specs.declared.program.ControlProgram.{ControlProgram}
 use Rattle.block_order.specs.Labels.{ahead, list, start}
-use Rattle.block_order.specs.Steps.{Step, IsPlace, standing, passed, Kept, KeepsLabels}
+use Rattle.block_order.specs.Steps.{Step, IsPlace, standing, place_behind, Kept, KeepsLabels}
 use Rattle.pair_order.specs.Pairs.{Paths, IsAtWait, IsAtEnd, Goes, one, two, meet, IsBeginning, AreMet, none, one_more, anew, IsFree, IsReached, begun, gone, IsNeverStuck}
 
 -- the labels ahead are the same, or one path has gone back to its start and the other is about to
-abbrev Agree : List Label → List Label → List Label → Type 0
+abbrev pub Agree : List Label → List Label → List Label → Type 0
 Agree all xs ys = (xs ≡ ys) ⊎ (((xs ≡ all) × (ys ≡ label.Again ∷ [])) ⊎ ((xs ≡ label.Again ∷ []) × (ys ≡ all)))
 
-agree_swap : (all xs ys : List Label) → Agree all xs ys → Agree all ys xs
+pub agree_swap : (all xs ys : List Label) → Agree all xs ys → Agree all ys xs
 agree_swap all xs ys (inl e) = inl (sym e)
 agree_swap all xs ys (inr (inl p)) = inr (inr (p.1, p.0))
 agree_swap all xs ys (inr (inr p)) = inr (inl (p.1, p.0))
@@ -27,12 +28,12 @@ agree_again all xs ys xs' again new (inl e) = inr (inl (new, sym e ∙ again))
 agree_again all xs ys xs' again new (inr (inl p)) = inr (inl (new, p.1))
 agree_again all xs ys xs' again new (inr (inr p)) = inl (new ∙ sym p.1)
 
-agree_waits : (all xs ys : List Label) (code other : ℕ) → Agree all (label.Wait code ∷ xs) (label.Wait other ∷ ys) → (code ≡ other) × (xs ≡ ys)
+pub agree_waits : (all xs ys : List Label) (code other : ℕ) → Agree all (label.Wait code ∷ xs) (label.Wait other ∷ ys) → (code ≡ other) × (xs ≡ ys)
 agree_waits all xs ys code other (inl e) = (cc, cc)
 agree_waits all xs ys code other (inr (inl p)) = absurd (cc (p.1))
 agree_waits all xs ys code other (inr (inr p)) = absurd (cc (p.0))
 
-agree_end : (all xs : List Label) (code : ℕ) → Agree all (label.Wait code ∷ xs) (label.End ∷ []) → ⊥
+pub agree_end : (all xs : List Label) (code : ℕ) → Agree all (label.Wait code ∷ xs) (label.End ∷ []) → ⊥
 agree_end all xs code (inl e) = cc
 agree_end all xs code (inr (inl p)) = cc (p.1)
 agree_end all xs code (inr (inr p)) = cc (p.0)
@@ -52,7 +53,7 @@ kept_agree tape ys f (g ∷ stack) control.Back to k a = agree_same (list tape) 
 kept_agree tape ys f [] control.Back to k a = agree_again (list tape) (ahead tape (f ∷ [])) ys (ahead tape to) k.0 k.1 a
 
 -- a step leads to a place, and leaves the agreement
-step_keeps : (tape : List ControlProgram) → KeepsLabels tape → (ys : List Label) (from to : List Frame) → IsPlace tape from → Step tape from to
+pub step_keeps : (tape : List ControlProgram) → KeepsLabels tape → (ys : List Label) (from to : List Frame) → IsPlace tape from → Step tape from to
     → Agree (list tape) (ahead tape from) ys → IsPlace tape to × Agree (list tape) (ahead tape to) ys
 step_keeps tape law ys [] to place step a = absurd place
 step_keeps tape law ys (f ∷ stack) to place (c, is, goes) a =
@@ -94,9 +95,9 @@ pub record IsLawfulPair (left right : List ControlProgram) : Type 0 where
 
 -- waits at which both stand are of one code, and after them the labels are the same
 meeting : (left right : List ControlProgram) → IsLawfulPair left right → (p : Paths) → IsSound left right p → (code there : ℕ)
-    → IsAtWait left p.first code → IsAtWait right p.second there → (code ≡ there) × (ahead left (passed p.first) ≡ ahead right (passed p.second))
+    → IsAtWait left p.first code → IsAtWait right p.second there → (code ≡ there) × (ahead left (place_behind p.first) ≡ ahead right (place_behind p.second))
 meeting left right pair p s code there is other =
-    agree_waits (list left) (ahead left (passed p.first)) (ahead right (passed p.second)) code there
+    agree_waits (list left) (ahead left (place_behind p.first)) (ahead right (place_behind p.second)) code there
     (rw (← (pair.first.wait p.first code s.first is).1, ← (pair.second.wait p.second there s.second other).1) (s.agree))
 
 goes_sound : (left right : List ControlProgram) → IsLawfulPair left right → (from to : Paths) → IsSound left right from
@@ -124,7 +125,7 @@ goes_sound left right pair from to s (meet code there is other here beyond more)
       first = rw here (k.0);
       second = rw beyond ((pair.second.wait from.second there s.second other).0);
       agree = inl (rw (here, beyond) ((meeting left right pair from s code there is other).1));
-      met = rw (here, more) (one_more from.met code (ahead left (passed from.first))
+      met = rw (here, more) (one_more from.met code (ahead left (place_behind from.first))
           (subst (λ xs. AreMet (list left) from.met xs) k.1 s.met));
     }
 
@@ -140,9 +141,9 @@ beginning_sound left right pair p at = record {
 free : (left right : List ControlProgram) → IsLawfulPair left right → (p : Paths) → IsSound left right p → IsFree left right p
 free left right pair p s = record {
   same = λ code there is other. (meeting left right pair p s code there is other).0;
-  first_alone = λ code is ends. agree_end (list left) (ahead left (passed p.first)) code
+  first_alone = λ code is ends. agree_end (list left) (ahead left (place_behind p.first)) code
       (rw (← (pair.first.wait p.first code s.first is).1, ← pair.second.ends p.second s.second ends) (s.agree));
-  second_alone = λ code ends is. agree_end (list left) (ahead right (passed p.second)) code
+  second_alone = λ code ends is. agree_end (list left) (ahead right (place_behind p.second)) code
       (rw (← (pair.second.wait p.second code s.second is).1, ← pair.first.ends p.first s.first ends)
       (agree_swap (list left) (ahead left p.first) (ahead right p.second) s.agree));
   met = s.met;

@@ -1,4 +1,5 @@
--- Two paths over the orders of their blocks, apart from all that a block does but lead to another one.
+-- Two paths over the orders of their blocks, apart from all that a block does but lead to another
+-- one.
 use Rattle.std.specs.Prelude.{◌≡◌, ℕ, List, [], ◌∷◌, ◌++◌, Some}
 use Rattle.block_order.specs.declared.control.Control.TheVariants.{Wait, End}
 use Rattle.block_order.specs.declared.frame.Frame.{Frame}
@@ -6,7 +7,7 @@ use Rattle.block_order.specs.declared.label.Label.{Label}
 use Rattle.block_order.specs.declared.label.Label.TheVariants as label
 use Rattle.block_order.specs.declared.program.ControlProgram.{ControlProgram}
 use Rattle.block_order.specs.Labels.{ahead, list, start, IsUnforked}
-use Rattle.block_order.specs.Steps.{Step, standing, passed}
+use Rattle.block_order.specs.Steps.{Step, standing, place_behind}
 
 -- where both paths stand, and the codes of the waits at which they met, in their order
 pub record Paths : Type 0 where
@@ -22,13 +23,13 @@ IsAtWait tape place code = standing tape place ≡ Some (Wait code)
 abbrev pub IsAtEnd : List ControlProgram → List Frame → Type 0
 IsAtEnd tape place = standing tape place ≡ Some End
 
--- One step of a pair: a block of a path, which is no wait and no end, leads where the order of its blocks allows; or both paths
--- stand at waits, of whatever codes, and pass them.
+-- One step of a pair: a block of a path, which is no wait and no end, leads where the order of its
+-- blocks allows; or both paths stand at waits, of whatever codes, and pass them.
 pub data Goes (left right : List ControlProgram) (from to : Paths) : Type 0 where
   one : Step left from.first to.first → to.second ≡ from.second → to.met ≡ from.met → Goes left right from to
   two : to.first ≡ from.first → Step right from.second to.second → to.met ≡ from.met → Goes left right from to
   meet : (code there : ℕ) → IsAtWait left from.first code → IsAtWait right from.second there
-      → to.first ≡ passed from.first → to.second ≡ passed from.second → to.met ≡ from.met ++ code ∷ [] → Goes left right from to
+      → to.first ≡ place_behind from.first → to.second ≡ place_behind from.second → to.met ≡ from.met ++ code ∷ [] → Goes left right from to
 
 -- both paths begin their main programs, and have not met
 pub record IsBeginning (left right : List ControlProgram) (paths : Paths) : Type 0 where
@@ -47,13 +48,15 @@ pub record IsPair (left right : List ControlProgram) : Type 0 where
   pub right_unforked : IsUnforked right
   pub equal : list left ≡ list right
 
--- These codes were met one after another as the list of labels has them, which begins anew after Again; the rest is still ahead.
+-- These codes were met one after another as the list of labels has them, which begins anew after
+-- Again; the rest is still ahead.
 pub data AreMet (all : List Label) : List ℕ → List Label → Type 0 where
   none : AreMet all [] all
   one_more : (met : List ℕ) (code : ℕ) (rest : List Label) → AreMet all met (label.Wait code ∷ rest) → AreMet all (met ++ code ∷ []) rest
   anew : (met : List ℕ) → AreMet all met (label.Again ∷ []) → AreMet all met all
 
--- Two waits at which both paths stand are of one code, no path waits for one that has ended, and the meetings are those of the list.
+-- Two waits at which both paths stand are of one code, no path waits for one that has ended, and
+-- the meetings are those of the list.
 pub record IsFree (left right : List ControlProgram) (paths : Paths) : Type 0 where
   pub same : (code there : ℕ) → IsAtWait left paths.first code → IsAtWait right paths.second there → code ≡ there
   pub first_alone : (code : ℕ) → IsAtWait left paths.first code → IsAtEnd right paths.second → ⊥

@@ -6,11 +6,13 @@ use Rattle.block_order.specs.declared.frame.Frame.{Frame}
 use Rattle.block_order.specs.declared.program.ControlProgram.{ControlProgram}
 use Rattle.block_order.specs.Order.{blocks, control_at, IsLoop, Leads}
 use Rattle.block_order.specs.Loud.{loud, mark_of}
-use Rattle.block_order.specs.Labels.{room, counts, IsTarget, Counts, IsUnforked}
-use Rattle.block_order.specs.Moves.{at, passed, return_by, place_of_jump_back}
+use Rattle.block_order.specs.Labels.{room, counts, IsTarget, IsUnforked}
+use Rattle.block_order.specs.Moves.{at, place_behind, return_by, place_of_jump_back}
 use Rattle.block_order.specs.Steps.{Goes, IsPlace, standing}
 use Rattle.block_order.proofs.LoudReaches.{AreLoud}
 use Rattle.block_order.proofs.CallChains.{counts_below, main_below}
+use Rattle.block_order.proofs.KeepsLabels.{Counts-from}
+use Rattle.block_order.proofs.Searches.{loop_facts}
 use Rattle.block_order.proofs.Moved.{jump_leads, exit_leads, head_leads, call_leads}
 use Rattle.part_order.specs.Parts.{Stretch, Meets, Anew, Follows, behind_stretch, behind_wait, anew, stretch_at, behind, ahead, path_items}
 use Rattle.part_order.proofs.ItemsAhead.{ahead-counts, ahead-quiet, moves_kept, unmarked_next, call_opens, repeat_begins, last_returns, wait_begins}
@@ -28,11 +30,6 @@ leaves : (tape : List ControlProgram) (n p s : ℕ) (from to : List Frame) → a
 leaves tape n p s from to e st =
     behind_stretch n p s (ahead tape to) (subst (Follows (path_items tape) n) e st)
 
-Counts-from : (tape : List ControlProgram) (f : Frame) (stack : List Frame) → IsPlace tape (f ∷ stack)
-    → counts tape f.program stack ≡ true → Counts tape f.program
-Counts-from tape f [] place e = inl place.0
-Counts-from tape f (g ∷ stack) place e = inr e
-
 next_kept : (tape : List ControlProgram) (f : Frame) (stack : List Frame) (c : Control)
     → control_at (blocks tape f.program) f.block ≡ Some c → mark_of (loud tape) c ≡ []
     → ahead tape (at f (suc f.block) ∷ stack) ≡ ahead tape (f ∷ stack)
@@ -49,8 +46,9 @@ exit_kept : (tape : List ControlProgram) → IsUnforked tape → (f : Frame) (st
     → IsPlace tape (f ∷ stack) → (close : ℕ) → IsLoop (blocks tape f.program) f.block close
     → ahead tape (at f (suc close) ∷ stack) ≡ ahead tape (f ∷ stack)
 exit_kept tape un f stack place close loop =
+    let facts = loop_facts (blocks tape f.program) f.block close loop in
     moves_kept tape f stack (suc close)
-    (λ e. unmarked_next tape f.program close (EndLoop loop.name) loop.is_close refl
+    (λ e. unmarked_next tape f.program close (EndLoop facts.name) facts.is_close refl
     ∙ sym (un.loops f.program f.block close (Counts-from tape f stack place e) loop))
 
 loop_kept : (tape : List ControlProgram) → IsUnforked tape → (f : Frame) (stack : List Frame)
@@ -176,7 +174,7 @@ wait_counts tape are f [] code is = refl
 wait_counts tape are f (g ∷ stack) code is = are.waits f.program f.block code is
 
 pub passed_stands : (tape : List ControlProgram) → AreLoud tape → (n code : ℕ) (place : List Frame)
-    → standing tape place ≡ Some (Wait code) → Stands tape n place → Stands tape (suc n) (passed place)
+    → standing tape place ≡ Some (Wait code) → Stands tape n place → Stands tape (suc n) (place_behind place)
 passed_stands tape are n code [] is s = absurd cc
 passed_stands tape are n code (f ∷ stack) is s =
     let after = at f (suc f.block) in

@@ -7,7 +7,7 @@ use Rattle.block_order.specs.Loud.{loud, marks}
 use Rattle.block_order.specs.Labels.{room, IsUnforked}
 use Rattle.block_order.specs.Steps.{IsPlace, Step}
 use Rattle.block_order.proofs.LoudReaches.{are_loud}
-use Rattle.block_order.proofs.StepsStay.{step_stays, passed_stays}
+use Rattle.block_order.proofs.StepsStay.{step_stays, next_stays}
 use Rattle.part_order.specs.Parts.{Follows, first, times, whole, stretch_at, behind, path_items, IsInPart, listed, called, IsReached, starts, steps, passes, StandsInParts}
 use Rattle.part_order.proofs.ItemsAhead.{ahead-counts, ahead-quiet, stretch_first}
 use Rattle.part_order.proofs.KeepsItems.{Stands, goes_stands, passed_stands}
@@ -46,7 +46,7 @@ reached_stands tape un _ _ (steps n from to before step) =
     (step_stays tape from to at.0 step, step_stands tape un n from to at.0 step at.1)
 reached_stands tape un _ _ (passes n code from before is) =
     let at = reached_stands tape un n from before in
-    (passed_stays tape from at.0, passed_stands tape (are_loud tape) n code from is at.1)
+    (next_stays tape from at.0, passed_stands tape (are_loud tape) n code from is at.1)
 
 pub stands_in_parts : (tape : List ControlProgram) → IsUnforked tape → StandsInParts tape
 stands_in_parts tape un n f stack reached =

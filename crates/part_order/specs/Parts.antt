@@ -1,5 +1,5 @@
--- The parts of a path: the blocks that its list, with all calls unfolded, has between one wait and the next. Which block runs
--- there hangs on the variables; which block may run there does not.
+-- The parts of a path: the blocks that its list, with all calls unfolded, has between one wait and
+-- the next. Which block runs there hangs on the variables; which block may run there does not.
 use Rattle.std.specs.Prelude.{◌≡◌, ℕ, zero, suc, ◌+◌, ◌<◌, false, List, [], ◌∷◌, drop, Some, if◌then◌else◌}
 use Rattle.block_order.specs.declared.control.Control.TheVariants.{Wait, Call}
 use Rattle.block_order.specs.declared.frame.Frame.{Frame}
@@ -9,7 +9,7 @@ use Rattle.block_order.specs.declared.program.ControlProgram.{ControlProgram}
 use Rattle.block_order.specs.Order.{blocks, control_at}
 use Rattle.block_order.specs.Loud.{loud, marks, stretch}
 use Rattle.block_order.specs.Labels.{room, counts, start}
-use Rattle.block_order.specs.Steps.{Step, standing, passed}
+use Rattle.block_order.specs.Steps.{Step, standing, place_behind}
 
 -- What stands in the list: a stretch of a program, a wait, or that the list begins anew.
 pub data Item : Type 0 where
@@ -22,8 +22,8 @@ abbrev pub times : ℕ → (List Item → List Item) → List Item → List Item
 times zero f rest = rest
 times (suc n) f rest = f (times n f rest)
 
--- The items of a program's marks from a stretch on, where called gives those of a called program, and rest follows behind the
--- return. Each mark ends a stretch.
+-- The items of a program's marks from a stretch on, where called gives those of a called program,
+-- and rest follows behind the return. Each mark ends a stretch.
 abbrev pub items : (ℕ → List Item → List Item) → ℕ → ℕ → List Mark → List Item → List Item
 items called program number [] rest = Stretch program number ∷ []
 items called program number (mark.Wait code ∷ ms) rest =
@@ -85,8 +85,8 @@ pub data Follows (all : List Item) : ℕ → List Item → Type 0 where
   behind_wait : (n : ℕ) (rest : List Item) → Follows all n (Meets ∷ rest) → Follows all (suc n) rest
   anew : (n : ℕ) (rest : List Item) → Follows all n (Anew ∷ rest) → Follows all n all
 
--- The block is in part n of the path: its stretch stands behind n waits of the list, or it is a block of a quiet program that a
--- block of part n calls.
+-- The block is in part n of the path: its stretch stands behind n waits of the list, or it is a
+-- block of a quiet program that a block of part n calls.
 pub data IsInPart (tape : List ControlProgram) (n : ℕ) : ℕ → ℕ → Type 0 where
   listed : (program block : ℕ) (rest : List Item)
       → Follows (path_items tape) n (Stretch program (stretch_at tape program block) ∷ rest) → IsInPart tape n program block
@@ -98,14 +98,15 @@ pub data IsReached (tape : List ControlProgram) : ℕ → List Frame → Type 0 
   starts : IsReached tape 0 (start tape)
   steps : (n : ℕ) (from to : List Frame) → IsReached tape n from → Step tape from to → IsReached tape n to
   passes : (n code : ℕ) (from : List Frame) → IsReached tape n from → standing tape from ≡ Some (Wait code)
-      → IsReached tape (suc n) (passed from)
+      → IsReached tape (suc n) (place_behind from)
 
 -- behind n waits each block that a path may come to is in part n
 abbrev pub StandsInParts : List ControlProgram → Type 0
 StandsInParts tape =
     (n : ℕ) (f : Frame) (stack : List Frame) → IsReached tape n (f ∷ stack) → IsInPart tape n f.program f.block
 
--- Behind more waits than the list has, the parts are those of a round before; without a wait all is part 0.
+-- Behind more waits than the list has, the parts are those of a round before; without a wait all is
+-- part 0.
 pub record PartsRepeat (tape : List ControlProgram) : Type 0 where
   pub before : (n program block : ℕ) → 0 < n → IsInPart tape (n + path_waits tape) program block → IsInPart tape n program block
   pub alone : (n program block : ℕ) → path_waits tape ≡ 0 → IsInPart tape n program block → n ≡ 0

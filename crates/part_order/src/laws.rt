@@ -4,13 +4,14 @@ ghost use Rattle.block_order.specs.declared.program.ControlProgram.{ControlProgr
 ghost use Rattle.block_order.specs.Labels.{IsUnforked, list};
 ghost use Rattle.part_order.specs.Parts.{StandsInParts, PartsRepeat, path_waits};
 
-/// Wherever a path comes behind n waits, whatever its variables hold, the block there is one of its part n.
+/// Wherever a path comes behind n waits, whatever its variables hold, the block there is one of its
+/// part n.
 pub fn each_block_stands_in_its_part()
     ensures { (tape : List ControlProgram) → IsUnforked tape → StandsInParts tape }
 {}
 
-/// Parts repeat with the waits of the list, so that no more of them need be looked at than it has waits,
-/// and one.
+/// Parts repeat with the waits of the list, so that no more of them need be looked at than it has
+/// waits, and one.
 pub fn parts_repeat_with_the_waits()
     ensures { (tape : List ControlProgram) → PartsRepeat tape }
 {}

@@ -1,15 +1,17 @@
 -- Tests of the code and what they say of stretches.
-use Rattle.std.proofs.Common.{◌≡◌, ◌≢◌, ◌↔◌, ℕ, ◌-◌, ◌<◌, ◌≤◌, Bool, true, false, not, nat_eq, nat_le, List, [], ◌∷◌, length, Option, Some, None, slice_index, zero, suc, sym, subst, refl, ap, ◌∙◌, arith, zero-add}
+use Rattle.std.proofs.Common.{◌≡◌, ◌≢◌, ◌↔◌, ℕ, ◌-◌, ◌<◌, Bool, true, false, not, nat_eq, List, [], ◌∷◌, length, Option, Some, None, Result, Ok, Err, slice_index, zero, suc, sym, refl, ap, ◌∙◌, arith, zero-add}
 use Rattle.std.specs.Prelude.{IsTrue}
 use Rattle.std.proofs.lemmas.Bool.Decides.{nat_tests}
+use Rattle.nc_number.specs.declared.cause.Cause.{Cause}
 use Rattle.block_order.specs.declared.control.Control.{Control}
-use Rattle.block_order.specs.declared.control.Control.TheVariants.{EndLoop}
 use Rattle.block_order.specs.declared.program.ControlBlock.{ControlBlock}
-use Rattle.block_order.specs.Order.{seek, control_at, IsLoop, IsPermitted}
+use Rattle.block_order.specs.Order.{control_at, target_of, IsLoop, Leads}
 use Rattle.block_order.specs.Loud.{stretch}
 use Rattle.wait_order.specs.Waiting.{LeadsElsewhere, ClosesElsewhere}
 use Rattle.wait_order.specs.Stretches.{stretches_from}
 use Rattle.wait_order.proofs.Stretched.{stretches_are, stretch_rises}
+use Rattle.block_order.proofs.Opened.{close_within}
+use Rattle.block_order.proofs.Searches.{led, loop_facts}
 use Rattle.block_order.proofs.Targets.{seek_stands}
 
 pub differ : (a b : ℕ) → IsTrue (not (nat_eq a b)) ↔ (a ≢ b)
@@ -35,44 +37,30 @@ one_stretch ld bs ss block n last e is first within (target, leads, differs) =
     let end = length bs - 1 in
     let there : last ≡ stretch ld bs end =
     is ∙ (ap (λ s. slice_index s end) e ∙ (stretches_are ld bs 0 end 0 (omega arith) ∙ zero-add (stretch ld bs end))) in
-    let found = (seek_stands bs block n target leads.found).0 in
+    let found = (seek_stands bs block n target (led bs block n target leads).0).0 in
     let one = stretch_rises ld bs block end (omega arith) in
     let other = stretch_rises ld bs target end (omega (arith, found)) in
     differs (omega arith)
 
-pub le_is : (a b : ℕ) → IsTrue (nat_le a b) ↔ (a ≤ b)
-le_is a b = (λ t. grind (arith, nat_tests), λ h. grind (arith, nat_tests))
-
--- the search finds the target, and it is permitted
-pub leads_where : (ld : ℕ → Bool) (bs : List ControlBlock) (block n target : ℕ) (apart : Bool) → seek bs block n ≡ Some target
-    → IsPermitted bs block target → IsTrue apart ↔ (stretch ld bs block ≢ stretch ld bs target)
+-- a jump leads to a target
+pub leads_where : (ld : ℕ → Bool) (bs : List ControlBlock) (block n target : ℕ) (apart : Bool) → Leads bs block n target
+    → IsTrue apart ↔ (stretch ld bs block ≢ stretch ld bs target)
     → IsTrue apart ↔ LeadsElsewhere ld bs block n
-leads_where ld bs block n target apart found permitted is =
-    (λ t. (target, record { found = found; permitted = permitted }, is.0 t), λ l. back l)
+leads_where ld bs block n target apart leads is = (λ t. (target, leads, is.0 t), λ l. back l)
   where
     back : LeadsElsewhere ld bs block n → IsTrue apart
-    back (other, leads, differs) =
-        let same : Some other ≡ Some target = sym leads.found ∙ found in
+    back (other, leads', differs) =
+        let same : ◌≡◌ {A = Result ℕ Cause} (Ok other) (Ok target) = sym leads' ∙ leads in
         let it : other ≡ target = cc in
         is.1 (λ e. differs (e ∙ ap (λ k. stretch ld bs k) (sym it)))
 
--- the search finds a target that is not permitted
-pub leads_nowhere : (ld : ℕ → Bool) (bs : List ControlBlock) (block n target : ℕ) (may : Bool) → seek bs block n ≡ Some target
-    → IsTrue may ↔ IsPermitted bs block target → may ≡ false → IsTrue may ↔ LeadsElsewhere ld bs block n
-leads_nowhere ld bs block n target may found is not_so = (λ t. absurd cc, λ l. back l)
-  where
-    back : LeadsElsewhere ld bs block n → IsTrue may
-    back (other, leads, differs) =
-        let same : Some other ≡ Some target = sym leads.found ∙ found in
-        let it : other ≡ target = cc in
-        is.1 (subst (λ k. IsPermitted bs block k) it leads.permitted)
-
-pub leads_none : (ld : ℕ → Bool) (bs : List ControlBlock) (block n : ℕ) → seek bs block n ≡ None
+-- a jump that leads nowhere
+pub leads_nowhere : (ld : ℕ → Bool) (bs : List ControlBlock) (block n : ℕ) (cause : Cause) → target_of bs block n ≡ Err cause
     → IsTrue false ↔ LeadsElsewhere ld bs block n
-leads_none ld bs block n none = (λ t. absurd cc, λ l. back l)
+leads_nowhere ld bs block n cause nowhere = (λ t. absurd cc, λ l. absurd (back l))
   where
-    back : LeadsElsewhere ld bs block n → IsTrue false
-    back (other, leads, differs) = absurd (let f = leads.found in cc)
+    back : LeadsElsewhere ld bs block n → ⊥
+    back (other, leads, differs) = let clash : ◌≡◌ {A = Result ℕ Cause} (Ok other) (Err cause) = sym leads ∙ nowhere in cc
 
 -- a place with a control lies within the program
 pub control_within : (bs : List ControlBlock) (i : ℕ) (c : Control) → control_at bs i ≡ Some c → i < length bs
@@ -91,7 +79,9 @@ closes_where ld bs head close apart heads is = (λ t. (head, loop, decides.0 t),
     loop = (heads head).0 refl
 
     decides : IsTrue apart ↔ (stretch ld bs head ≢ stretch ld bs close)
-    decides = is (control_within bs head loop.first loop.is_first) (control_within bs close (EndLoop loop.name) loop.is_close)
+    decides =
+        let within = close_within bs head close loop in
+        is (omega (arith, within, (loop_facts bs head close loop).order)) within
 
     back : ClosesElsewhere ld bs close → IsTrue apart
     back (other, other_loop, differs) =

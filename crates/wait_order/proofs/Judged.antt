@@ -1,10 +1,11 @@
--- The faults of waits are the strays and the ninth calls, and the first of them is the lesser line's, or the jump's on one line.
+-- The faults of waits are the strays and the ninth calls, and the first of them is the lesser
+-- line's, or the jump's on one line.
 use Rattle.std.proofs.Common.{◌≡◌, ℕ, suc, ◌<◌, ◌≤◌, ◌⊎◌, inl, inr, List, Option, Some, None, refl, subst, arith}
 use Rattle.nc_number.specs.declared.cause.Cause.{Cause}
 use Rattle.nc_number.specs.declared.cause.Cause.TheVariants.{BranchAtWait, WaitTooDeep}
 use Rattle.nc_number.specs.Causes.{cause_number}
 use Rattle.block_order.specs.declared.program.ControlProgram.{ControlProgram}
-use Rattle.block_order.specs.Faults.{Stage, Waiting, HasFault, twice, mismatch, lost, unknown, into, strays, deep, IsClear, IsNoLater}
+use Rattle.block_order.specs.Faults.{Stage, Waiting, HasFault, twice, mismatch, lost, unknown, strays, deep, IsClear, IsNoLater}
 use Rattle.wait_order.specs.Deep.{IsDeepLine}
 use Rattle.wait_order.specs.TapeFaults.{IsTapeStrayLine}
 use Rattle.wait_order.specs.Waiting.{IsLeast, IsAtMost}
@@ -18,9 +19,8 @@ judged : (tape : List ControlProgram) (stage : Stage) (line : ℕ) (cause : Caus
     → Judged tape line cause
 judged tape _ _ _ (twice before after program is again) e = absurd cc
 judged tape _ _ _ (mismatch program place block on at is) e = absurd cc
-judged tape _ _ _ (lost program place n block stands jumps none) e = absurd cc
+judged tape _ _ _ (lost program place n block cause stands jumps none) e = absurd cc
 judged tape _ _ _ (unknown program place called repeats block stands calls none) e = absurd cc
-judged tape _ _ _ (into program place n target block stands jumps found not_so) e = absurd cc
 judged tape _ _ _ (strays program place block stands is) e = inl ((program, (place, block, stands, is, refl)), refl)
 judged tape _ _ _ (deep program place called repeats block by stands calls is_loud) e =
     inr ((program, by, (place, block, called, stands, (repeats, calls, is_loud), refl)), refl)

@@ -9,6 +9,7 @@ use Rattle.block_order.specs.Places.{IsFinder, IsNumbered}
 use Rattle.block_order.specs.Table.{IsWithin}
 use Rattle.wait_order.specs.Waiting.{IsLedTo, IsOtherIn, MayLeadTo, MayLeadBelow, IsSearchStray, IsLeast, sooner}
 use Rattle.wait_order.proofs.Least.{least_same, least_none, least_either}
+use Rattle.block_order.proofs.Searches.{led, leads_to}
 use Rattle.block_order.proofs.Targets.{seek_stands}
 use Rattle.wait_order.proofs.Nearest.{searcher_within}
 
@@ -21,13 +22,13 @@ pub record Known (ld : ℕ → Bool) (bs : List ControlBlock) (n target : ℕ) (
 ahead_leads : (ld : ℕ → Bool) (q : Control → Bool) (bs : List ControlBlock) (n target : ℕ) (finders : Finders) (reach : Reach) → Known ld bs n target finders reach
     → (b : ℕ) → IsOtherIn ld q bs finders.low finders.high reach target b → IsLedTo ld q bs n target b
 ahead_leads ld q bs n target finders reach known b (from, to, within, at, apart) =
-    (at, record { found = (known.finds b).1 (inl (from, to)); permitted = (known.reaches b (searcher_within q bs b at)).1 within }, apart)
+    (at, leads_to bs b n target ((known.finds b).1 (inl (from, to))) ((known.reaches b (searcher_within q bs b at)).1 within), apart)
 
 around_leads : (ld : ℕ → Bool) (q : Control → Bool) (bs : List ControlBlock) (n target low high : ℕ) (finders : Finders) (reach : Reach)
     → Known ld bs n target finders reach → finders.around ≡ Some low
     → (b : ℕ) → IsOtherIn ld q bs low high reach target b → IsLedTo ld q bs n target b
 around_leads ld q bs n target low high finders reach known around b (from, to, within, at, apart) =
-    (at, record { found = (known.finds b).1 (inr (low, around, from)); permitted = (known.reaches b (searcher_within q bs b at)).1 within }, apart)
+    (at, leads_to bs b n target ((known.finds b).1 (inr (low, around, from))) ((known.reaches b (searcher_within q bs b at)).1 within), apart)
 
 -- both rows, where the search begins anew at the program's start
 pub least_around : (ld : ℕ → Bool) (q : Control → Bool) (bs : List ControlBlock) (n target low high : ℕ) (finders : Finders) (reach : Reach) (a b : Option ℕ)
@@ -42,8 +43,9 @@ least_around ld q bs n target low high finders reach a b known around wide first
         → IsOtherIn ld q bs finders.low finders.high reach target k ⊎ IsOtherIn ld q bs low high reach target k
     either k (at, leads, apart) =
         let inside = searcher_within q bs k at in
-        let within = (known.reaches k inside).0 leads.permitted in
-        elim ((known.finds k).0 leads.found) [
+        let way = led bs k n target leads in
+        let within = (known.reaches k inside).0 way.1 in
+        elim ((known.finds k).0 way.0) [
           | inl h ↦ inl (h.0, h.1, within, at, apart)
           | inr h ↦
               let same : Some low ≡ Some h.0 = sym around ∙ h.1 in
@@ -62,8 +64,9 @@ least_ahead ld q bs n target finders reach a known around p =
   where
     back : (k : ℕ) → IsLedTo ld q bs n target k → IsOtherIn ld q bs finders.low finders.high reach target k
     back k (at, leads, apart) =
-        let within = (known.reaches k (searcher_within q bs k at)).0 leads.permitted in
-        elim ((known.finds k).0 leads.found) [
+        let way = led bs k n target leads in
+        let within = (known.reaches k (searcher_within q bs k at)).0 way.1 in
+        elim ((known.finds k).0 way.0) [
           | inl h ↦ (h.0, h.1, within, at, apart)
           | inr h ↦ absurd (let same : ◌≡◌ {A = Option ℕ} None (Some h.0) = sym around ∙ h.1 in cc)
         ]
@@ -92,7 +95,7 @@ least_numbered ld q may bs number target sequence a is e sought least =
   where
     back : (b : ℕ) → MayLeadTo ld q may bs target b → IsLedTo ld q bs number target b
     back b (m, is_so, (at, leads, apart)) =
-        let own : sequence ≡ Some m = (is m).0 (seek_stands bs b m target leads.found).1 in
+        let own : sequence ≡ Some m = (is m).0 (seek_stands bs b m target (led bs b m target leads).0).1 in
         let both : Some m ≡ Some number = sym own ∙ e in
         let same : m ≡ number = cc in
         (at, subst (λ k. Leads bs b k target) same leads, apart)
@@ -105,7 +108,7 @@ least_unsought ld q may bs number target sequence is e unsought = least_none {P 
   where
     none : (b : ℕ) → MayLeadTo ld q may bs target b → ⊥
     none b (m, is_so, (at, leads, apart)) =
-        let own : sequence ≡ Some m = (is m).0 (seek_stands bs b m target leads.found).1 in
+        let own : sequence ≡ Some m = (is m).0 (seek_stands bs b m target (led bs b m target leads).0).1 in
         let both : Some m ≡ Some number = sym own ∙ e in
         let same : m ≡ number = cc in
         let not_so : may m ≡ false = ap may same ∙ unsought in
@@ -117,7 +120,7 @@ least_unnumbered ld q may bs target sequence is e = least_none {P = MayLeadTo ld
   where
     none : (b : ℕ) → MayLeadTo ld q may bs target b → ⊥
     none b (m, is_so, (at, leads, apart)) =
-        let own : sequence ≡ Some m = (is m).0 (seek_stands bs b m target leads.found).1 in
+        let own : sequence ≡ Some m = (is m).0 (seek_stands bs b m target (led bs b m target leads).0).1 in
         let both : ◌≡◌ {A = Option ℕ} None (Some m) = sym e ∙ own in
         absurd cc
 
@@ -150,7 +153,7 @@ least_all ld q may bs a p = least_same {R = IsSearchStray ld q may bs} a p to ba
     to k (target, below, (n, is_so, (at, leads, apart))) = (at, n, is_so, (target, leads, apart))
 
     back : (k : ℕ) → IsSearchStray ld q may bs k → MayLeadBelow ld q may bs (length bs) k
-    back k (at, n, is_so, (target, leads, apart)) = (target, (seek_stands bs k n target leads.found).0, (n, is_so, (at, leads, apart)))
+    back k (at, n, is_so, (target, leads, apart)) = (target, (seek_stands bs k n target (led bs k n target leads).0).0, (n, is_so, (at, leads, apart)))
 
 -- the block at a place as a target
 pub target_step : (ld : ℕ → Bool) (q : Control → Bool) (may : ℕ → Bool) (bs : List ControlBlock) (i place : ℕ) (d : ControlBlock) (first nearest : Option ℕ)

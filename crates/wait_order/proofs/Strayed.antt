@@ -1,5 +1,7 @@
--- A block that may lead to another stretch does so by one of the tape's searches, or by its one number or few returns.
-use Rattle.std.proofs.Common.{◌≡◌, ◌≢◌, ℕ, ◌<◌, ◌≤◌, ◌⊎◌, inl, inr, false, List, length, Option, Some, None, slice_get, slice_index_or, refl, ap, sym, subst, ◌∙◌, arith}
+-- A block that may lead to another stretch does so by one of the tape's searches, or by its one
+-- number or few returns.
+use Rattle.std.proofs.Common.{◌≡◌, ◌≢◌, IsTrue, ℕ, ◌+◌, ◌<◌, ◌≤◌, ◌⊎◌, inl, inr, false, List, length, Option, Some, None, slice_get, slice_index_or, refl, ap, sym, subst, ◌∙◌, arith}
+use Rattle.nc_number.proofs.Counts.{last_or_before}
 use Rattle.block_order.specs.declared.control.Control.{Control}
 use Rattle.block_order.specs.declared.control.Control.TheVariants.{Next, Goto, While, Do, EndLoop, Wait, End, Call, Back, BackTo}
 use Rattle.block_order.specs.declared.program.ControlBlock.{ControlBlock}
@@ -14,6 +16,7 @@ use Rattle.wait_order.specs.Searchers.{is_searcher, is_sought}
 use Rattle.wait_order.specs.Searches.{IsLongQuiet, IsReturnSearch, AreSearches, IsSearchStrayBelow}
 use Rattle.wait_order.specs.Waiting.{LeadsElsewhere, IsSearchStray, IsFixedStray, IsFixedStrayAt, IsStray, IsStrayLine, HasRisingLines, IsLeast, sooner}
 use Rattle.block_order.proofs.Faultless.{block_of_control}
+use Rattle.block_order.proofs.Searches.{loop_facts}
 use Rattle.wait_order.proofs.Counted.{on_tape}
 use Rattle.wait_order.proofs.Least.{least_none, least_either}
 use Rattle.wait_order.proofs.Leading.{stands_at}
@@ -117,7 +120,8 @@ split_strays : (tape : List ControlProgram) (searches : List Search) (program pl
     → IsFixedStrayAt tape program place ⊎ IsSearchStrayBelow (loud tape) searches (length searches) (blocks tape program) place
 split_strays tape searches program place b are stands (jump target counts is apart) =
     split_jump tape searches program place target b.control are (control_of_block (blocks tape program) place b stands) is apart
-split_strays tape searches program place b are stands (loop head counts is apart) = inl (EndLoop is.name, is.is_close, (head, is, apart))
+split_strays tape searches program place b are stands (loop head counts is apart) =
+    let facts = loop_facts (blocks tape program) head place is in inl (EndLoop facts.name, facts.is_close, (head, is, apart))
 split_strays tape searches program place b are stands (back n is_loud other e) =
     inl (BackTo n, control_of_block (blocks tape program) place b stands ∙ ap (λ c. Some c) e, inl other)
 
@@ -163,6 +167,20 @@ least_no_line tape program least = least_none {P = IsStrayLine tape program} non
   where
     none : (n : ℕ) → IsStrayLine tape program n → ⊥
     none n (k, other, stands, strays, e) = least.least k (other, stands, strays)
+
+-- of no block up to this one, where it is so of none before it
+pub none_more : (P : ℕ → Control → Type 0) (bs : List ControlBlock) (i place : ℕ) (d : ControlBlock) → place ≡ i → i < length bs
+    → (P place (slice_index_or bs i d).control → IsTrue false)
+    → ((k : ℕ) (c : Control) → k < i → control_at bs k ≡ Some c → P k c → ⊥)
+    → (k : ℕ) (c : Control) → k < i + 1 → control_at bs k ≡ Some c → P k c → ⊥
+none_more P bs i place d same within here before k c l at p = elim (last_or_before k i l) [
+  | inl e ↦
+      let there : control_at bs i ≡ Some (slice_index_or bs i d).control = ap control_of (stands_at bs i d within) in
+      let both : Some c ≡ Some (slice_index_or bs i d).control = sym at ∙ (ap (control_at bs) e ∙ there) in
+      let own : c ≡ (slice_index_or bs i d).control = cc in
+      let test = here (subst (λ j. P j (slice_index_or bs i d).control) (e ∙ sym same) (subst (P k) own p)) in cc
+  | inr less ↦ before k c less at p
+]
 
 -- the first such block stands in the program
 pub stray_within : (tape : List ControlProgram) (program place : ℕ) (bs : List ControlBlock) → blocks tape program ≡ bs

@@ -11,7 +11,8 @@ pub record AreAhead (loud : ℕ → Bool) (searches : Control → Bool) (bs : Li
   pub next : AreNext searches bs 0 ahead.next.items
   pub later : AreLater loud searches bs 0 ahead.later.items
 
--- the first block from a place on that searches and lies in another stretch than the target, or the place behind the last block
+-- the first block from a place on that searches and lies in another stretch than the target, or the
+-- place behind the last block
 pub record IsFirstOther (loud : ℕ → Bool) (searches : Control → Bool) (bs : List ControlBlock) (from target found : ℕ) : Type 0 where
   pub within : found ≤ length bs
   pub is : found < length bs → (from ≤ found) × IsSearcherAt searches bs found × (stretch loud bs found ≢ stretch loud bs target)

@@ -5,7 +5,8 @@ use Rattle.block_order.specs.Order.{blocks}
 use Rattle.block_order.specs.Fitting.{Fits}
 use Rattle.wait_order.specs.Waiting.{IsStrayLine, HasRisingLines}
 
--- a program of the tape that is the first of its number, has not too many blocks, loops that fit, and lines that rise
+-- a program of the tape that is the first of its number, has not too many blocks, loops that fit,
+-- and lines that rise
 pub record IsProgramOf (tape : List ControlProgram) (program : ControlProgram) : Type 0 where
   pub own : blocks tape program.number ≡ program.blocks
   pub few : length program.blocks ≤ 20000

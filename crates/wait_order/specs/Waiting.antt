@@ -11,7 +11,7 @@ use Rattle.block_order.specs.Table.{IsWithin}
 use Rattle.wait_order.specs.Searchers.{IsSearcherAt}
 use Rattle.block_order.specs.Faults.{Stands, Strays}
 
--- the search for the number n from the block leads to another stretch
+-- a jump from the block to the number n leads to another stretch
 abbrev pub LeadsElsewhere : (ℕ → Bool) → List ControlBlock → ℕ → ℕ → Type 0
 LeadsElsewhere loud bs block n =
     (target : ℕ) × Leads bs block n target × (stretch loud bs block ≢ stretch loud bs target)
@@ -24,7 +24,8 @@ ClosesElsewhere loud bs close = (head : ℕ) × IsLoop bs head close × (stretch
 abbrev pub HasBack : List ControlBlock → ℕ → Type 0
 HasBack bs n = (inner : ℕ) × (control_at bs inner ≡ Some (BackTo n))
 
--- a block that searches, for one of the numbers that it may search for, and so may lead to another stretch
+-- a block that searches, for one of the numbers that it may search for, and so may lead to another
+-- stretch
 abbrev pub IsSearchStray : (ℕ → Bool) → (Control → Bool) → (ℕ → Bool) → List ControlBlock → ℕ → Type 0
 IsSearchStray loud searches sought bs place =
     IsSearcherAt searches bs place × (n : ℕ) × (sought n ≡ true) × LeadsElsewhere loud bs place n
@@ -42,7 +43,8 @@ CallsElsewhere tape program place called =
 abbrev pub IsShort : List ControlBlock → Type 0
 IsShort bs = length bs ≤ 64
 
--- a block of this control, which searches for one number or is a call of few blocks, may lead to another stretch
+-- a block of this control, which searches for one number or is a call of few blocks, may lead to
+-- another stretch
 abbrev pub IsFixedStray : List ControlProgram → ℕ → ℕ → Control → Type 0
 IsFixedStray tape program place (Goto None) = ⊥
 IsFixedStray tape program place (Goto (Some n)) = LeadsElsewhere (loud tape) (blocks tape program) place n

@@ -2,12 +2,10 @@
 use Rattle.std.specs.Prelude.{◌≡◌, ◌≤◌, ℕ, Bool, length}
 use Rattle.wait_order.specs.declared.ways.ProgramWays.{ProgramWays}
 use Rattle.wait_order.specs.Stretches.{stretches_from}
-use Rattle.block_order.specs.Places.{IsIndexOf}
-use Rattle.block_order.specs.Table.{IsLoopTable}
+use Rattle.block_order.specs.TapeTable.{IsProgramTables}
 
 -- the stretches and tables are those of the program's blocks, of which there are not too many
 pub record AreWays (loud : ℕ → Bool) (ways : ProgramWays) : Type 0 where
   pub few : length ways.blocks.now ≤ 20000
   pub stretches : ways.stretches.now ≡ stretches_from loud 0 ways.blocks.now
-  pub sequences : IsIndexOf ways.blocks.now ways.sequences.now
-  pub loops : IsLoopTable ways.blocks.now ways.loops.now
+  pub tables : IsProgramTables ways.blocks.now ways.tables.now

@@ -10,7 +10,7 @@ use block_order::{BlockOrder, ControlProgram, DraftOrder, OrderFault};
 use nc_number::{Failing, NoMemory};
 use std::alloc::Global;
 
-// The first fault of waits of an order that is a draft.
+/// The first fault of waits of an order that is a draft.
 fn fault_of(alloc: Global, draft: &DraftOrder) -> Result<Option<OrderFault>, NoMemory>
     ensures fits { IsClear draft.now Fitting }
     ensures finds { IsClear draft.now Finding }

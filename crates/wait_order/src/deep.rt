@@ -23,7 +23,7 @@ fn is_loud_call(loud: &LoudPrograms, control: &Control) -> bool
     }
 }
 
-// The line of the first call of a loud program.
+/// The line of the first call of a loud program.
 fn first_call_line(loud: &LoudPrograms, blocks: &[ControlBlock]) -> Option<u32>
     ensures { (tape : List ControlProgram) → IsKnown tape loud.now → HasRisingLines blocks.now
         → IsLeast (IsCallLine tape blocks.now) result }
@@ -36,7 +36,7 @@ fn first_call_line(loud: &LoudPrograms, blocks: &[ControlBlock]) -> Option<u32>
     None
 }
 
-// The same in a program that is flagged.
+/// The same in a program that is flagged.
 fn reached_line(loud: &LoudPrograms, reached: &[bool], program: &ControlProgram) -> Option<u32>
     ensures { (tape : List ControlProgram) → IsKnown tape loud.now → HasRisingLines program.now.blocks
         → IsLeast (IsReachedLine tape reached.now program.now) result }

@@ -10,7 +10,7 @@ use block_order::{Control, ControlBlock, ControlProgram, LoudPrograms};
 use nc_number::NoMemory;
 use std::alloc::Global;
 
-// Flags the program that a block calls, if that is loud.
+/// Flags the program that a block calls, if that is loud.
 fn flag_called(flags: &mut [bool], loud: &LoudPrograms, control: &Control)
     ensures { (tape : List ControlProgram) → IsKnown tape loud.now → length flags.old ≡ length tape
         → (q : ℕ) → (flagged tape flags.new q ≡ true) ↔ ((flagged tape flags.old q ≡ true) ⊎ IsLoudCall tape control.now q) }
@@ -39,7 +39,7 @@ fn flag_calls(flags: &mut [bool], loud: &LoudPrograms, blocks: &[ControlBlock])
     }
 }
 
-// The programs that a flagged program calls, of the loud ones.
+/// The programs that a flagged program calls, of the loud ones.
 fn flag_from(next: &mut [bool], loud: &LoudPrograms, reached: &[bool], program: &ControlProgram)
     ensures { (tape : List ControlProgram) → IsKnown tape loud.now → length next.old ≡ length tape
         → (q : ℕ) → (flagged tape next.new q ≡ true) ↔ ((flagged tape next.old q ≡ true)
@@ -50,7 +50,7 @@ fn flag_from(next: &mut [bool], loud: &LoudPrograms, reached: &[bool], program: 
     }
 }
 
-// The programs that flagged programs call, of the loud ones.
+/// The programs that flagged programs call, of the loud ones.
 fn flag_all(next: &mut [bool], loud: &LoudPrograms, reached: &[bool], programs: &[ControlProgram])
     requires known { IsKnown programs.now loud.now }
     requires count { length next.old ≡ length programs.now }
@@ -62,7 +62,7 @@ fn flag_all(next: &mut [bool], loud: &LoudPrograms, reached: &[bool], programs: 
     }
 }
 
-// The programs that are reached by one call more.
+/// The programs that are reached by one call more.
 fn called_from(
     alloc: Global,
     programs: &[ControlProgram],
@@ -78,7 +78,7 @@ fn called_from(
     Ok(next)
 }
 
-// The main program alone.
+/// The main program alone.
 fn main_reached(alloc: Global, programs: &[ControlProgram]) -> Result<Vec<bool>, NoMemory>
     requires some { 0 < length programs.now }
     ensures { IfOk result (λ reached. AreReached programs.now 0 reached.items) }
@@ -88,7 +88,8 @@ fn main_reached(alloc: Global, programs: &[ControlProgram]) -> Result<Vec<bool>,
     Ok(reached)
 }
 
-/// The programs that are reached by eight calls of loud programs from the main one, by their places.
+/// The programs that are reached by eight calls of loud programs from the main one, by their
+/// places.
 pub(crate) fn reached_by_eight(
     alloc: Global,
     programs: &[ControlProgram],

@@ -1,8 +1,9 @@
 //! The order of a tape's blocks, judged: no jump passes a wait, and no ninth call leads to one.
 //!
-//! [`check_order`] answers the order of a tape in which nothing is wrong, or the tape's first fault.
-//! Computed GOTOs, and the returns of long programs, may lead to any of several numbers: where such
-//! a search may pass a wait is found in one walk over the numbers, not for each block anew.
+//! [`check_order`] answers the order of a tape in which nothing is wrong, or the tape's first
+//! fault. Computed GOTOs, and the returns of long programs, may lead to any of several numbers:
+//! where such a search may pass a wait is found in one walk over the numbers, not for each block
+//! anew.
 #![tactic(auto)]
 
 mod checking;

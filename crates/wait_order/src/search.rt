@@ -9,8 +9,8 @@ use indexmap::IndexSet;
 use nc_number::NoMemory;
 use std::alloc::Global;
 
-/// Which blocks search, and for what: each computed GOTO for every number, or each call of a program
-/// for the numbers of its returns.
+/// Which blocks search, and for what: each computed GOTO for every number, or each call of a
+/// program for the numbers of its returns.
 #[derive(Drop)]
 pub(crate) enum Search {
     Computed,
@@ -38,7 +38,7 @@ fn is_call_of(called: u16, control: &Control) -> bool
     }
 }
 
-// Puts the number of a return to the others.
+/// Puts the number of a return to the others.
 fn note_return(numbers: &mut IndexSet<u32>, control: &Control) -> Result<(), NoMemory>
     ensures { OnOk result ((n : ℕ) → contains nat_eq numbers.new n
         ≡ (contains nat_eq numbers.old n || is_back_to n control.now)) }
@@ -49,7 +49,7 @@ fn note_return(numbers: &mut IndexSet<u32>, control: &Control) -> Result<(), NoM
     Ok(())
 }
 
-// The numbers of the returns among these blocks.
+/// The numbers of the returns among these blocks.
 fn return_numbers(alloc: Global, blocks: &[ControlBlock]) -> Result<IndexSet<u32>, NoMemory>
     ensures { IfOk result (λ numbers. (n : ℕ) → contains nat_eq numbers n ≡ has_back_to blocks.now n) }
 {

@@ -23,8 +23,8 @@ pub(crate) fn sooner(one: Option<u32>, other: Option<u32>) -> Option<u32>
     }
 }
 
-// The first block that searches from `low` on, before `high`, from where the target is within reach
-// and lies in another stretch.
+/// The first block that searches from `low` on, before `high`, from where the target is within
+/// reach and lies in another stretch.
 fn first_in(
     ways: &ProgramWays,
     ahead: &SearchersAhead,
@@ -51,8 +51,8 @@ fn first_in(
     }
 }
 
-// The first block that searches and is led by this number to the target, a block of the number in
-// another stretch.
+/// The first block that searches and is led by this number to the target, a block of the number in
+/// another stretch.
 fn first_to(ways: &ProgramWays, ahead: &SearchersAhead, number: u32, target: u32) -> Option<u32>
     requires { length ways.now.blocks.now ≤ 20000 }
     ensures { (loud : ℕ → Bool) (searches : Control → Bool) → AreWays loud ways.now
@@ -60,8 +60,8 @@ fn first_to(ways: &ProgramWays, ahead: &SearchersAhead, number: u32, target: u32
         → IsNumbered ways.now.blocks.now target number
         → IsLeast (IsLedTo loud searches ways.now.blocks.now number target) result }
 {
-    let finders = ways.sequences.finders(number, target);
-    let reach = ways.loops.reach(target);
+    let finders = ways.tables.index.finders(number, target);
+    let reach = ways.tables.loops.reach(target);
     let before = first_in(ways, ahead, finders.low, finders.high, reach, target);
     match finders.around {
         Some(low) => {
@@ -72,7 +72,7 @@ fn first_to(ways: &ProgramWays, ahead: &SearchersAhead, number: u32, target: u32
     }
 }
 
-// The first block that searches and may lead to the block of this sequence number, if it has one.
+/// The first block that searches and may lead to the block of this sequence number, if it has one.
 fn first_of_block(
     ways: &ProgramWays,
     ahead: &SearchersAhead,

@@ -18,8 +18,8 @@ fn places_behind(alloc: Global, len: usize) -> Result<Vec<usize>, NoMemory>
     Ok(places)
 }
 
-// The first block that searches at or behind each place; the place behind the last block where there
-// is none.
+/// The first block that searches at or behind each place; the place behind the last block where
+/// there is none.
 fn next_searchers(
     alloc: Global,
     blocks: &[ControlBlock],
@@ -47,8 +47,8 @@ fn behind_marks(marks: usize, next: usize, later: usize) -> usize
     if marks == 0 { later } else { next }
 }
 
-// The first block that searches behind the stretch of each place; the place behind the last block
-// where there is none.
+/// The first block that searches behind the stretch of each place; the place behind the last block
+/// where there is none.
 fn later_searchers(
     alloc: Global,
     loud: &LoudPrograms,
@@ -104,8 +104,8 @@ impl SearchersAhead {
         Ok(SearchersAhead { next, later })
     }
 
-    /// The first block from a place on that searches and lies in another stretch than the target; the
-    /// place behind the last block where there is none.
+    /// The first block from a place on that searches and lies in another stretch than the target;
+    /// the place behind the last block where there is none.
     pub(crate) fn first_other(&self, stretches: &[usize], from: usize, target: usize) -> usize
         ensures { (loud : ℕ → Bool) (searches : Control → Bool) (bs : List ControlBlock)
             → AreAhead loud searches bs self.now → stretches.now ≡ stretches_from loud 0 bs

@@ -11,7 +11,7 @@ use block_order::{ControlBlock, ControlProgram, LoudPrograms};
 use nc_number::NoMemory;
 use std::alloc::Global;
 
-// From how many blocks on the numbers of a program's returns are gathered once for all its calls.
+/// From how many blocks on the numbers of a program's returns are gathered once for all its calls.
 const MANY_BLOCKS: usize = 65;
 
 /// Whether these are so few blocks that each call of their program looks at all of them.
@@ -21,7 +21,7 @@ pub(crate) fn is_short(blocks: &[ControlBlock]) -> bool
     blocks.len() < MANY_BLOCKS
 }
 
-// Whether the program is quiet and has more blocks.
+/// Whether the program is quiet and has more blocks.
 fn is_long_quiet(loud: &LoudPrograms, program: &ControlProgram) -> bool
     ensures { (tape : List ControlProgram) → IsKnown tape loud.now → IsProgramOf tape program.now
         → IsTrue result ↔ IsLongQuiet tape program.now.number }
@@ -29,7 +29,7 @@ fn is_long_quiet(loud: &LoudPrograms, program: &ControlProgram) -> bool
     !is_short(program.blocks.as_slice()) && !loud.is_loud(program.number)
 }
 
-// Puts the search of the program's calls behind the others, if it is a long quiet one.
+/// Puts the search of the program's calls behind the others, if it is a long quiet one.
 fn note_calls(
     alloc: Global,
     loud: &LoudPrograms,

@@ -1,3 +1,4 @@
+//! The stretches of a program between its marks.
 ghost use Rattle.std.specs.Prelude.{◌≡◌, ◌≤◌, length, IfOk};
 ghost use Rattle.block_order.specs.Loud.{mark_of};
 ghost use Rattle.block_order.specs.Heard.{heard};
@@ -7,7 +8,7 @@ use block_order::{Control, ControlBlock, LoudPrograms};
 use nc_number::NoMemory;
 use std::alloc::Global;
 
-// How many marks the block is: 1, or none.
+/// How many marks the block is: 1, or none.
 pub(crate) fn mark_count(loud: &LoudPrograms, control: &Control) -> usize
     ensures is { result ≡ length (mark_of (heard loud.now) control.now) }
     ensures few { result ≤ 1 }

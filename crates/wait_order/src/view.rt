@@ -26,19 +26,7 @@ pub(crate) struct ProgramView<'a> {
     pub(crate) ways: ProgramWays<'a>,
 }
 
-// The blocks of the program with this O number, and none of no program.
-pub(crate) fn blocks_of<'a>(
-    programs: &'a [ControlProgram],
-    loud: &LoudPrograms,
-    number: u16,
-) -> &'a [ControlBlock]
-    requires { KnowsPlaces programs.now loud.now.numbers }
-    ensures { result.now ≡ blocks programs.now number }
-{
-    loud.blocks_of(programs, number)
-}
-
-// One of these blocks is an M99 with a number that leads from the block to another stretch.
+/// One of these blocks is an M99 with a number that leads from the block to another stretch.
 fn returns_elsewhere(ways: &ProgramWays, place: u32, called: &[ControlBlock]) -> bool
     ensures { (loud : ℕ → Bool) → AreWays loud ways.now → place < length ways.now.blocks.now
         → IsTrue result ↔ ReturnsElsewhere loud ways.now.blocks.now place called.now }
@@ -65,22 +53,22 @@ impl ProgramView<'_> {
     ghost use Rattle.wait_order.specs.Waiting.{CallsElsewhere, IsShort, IsSearchStray, IsFixedStray, IsFixedStrayAt, IsStray, IsStrayLine, IsLeast, HasRisingLines};
     ghost use Rattle.wait_order.specs.View.{IsView};
 
-    // Whether a return from this program, if it is quiet and short, leads from the call to another
-    // stretch.
+    /// Whether a return from this program, if it is quiet and short, leads from the call to another
+    /// stretch.
     fn calls_elsewhere(&self, place: u32, called: u16) -> bool
         requires view { IsView self.now }
         requires within { place < length self.now.ways.blocks.now }
         ensures { IsTrue result ↔ (IsShort (blocks self.now.programs.now called)
             × CallsElsewhere self.now.programs.now self.now.number place called) }
     {
-        let blocks = blocks_of(self.programs, self.loud, called);
+        let blocks = self.loud.blocks_of(self.programs, called);
         !self.loud.is_loud(called)
             && is_short(blocks)
             && returns_elsewhere(&self.ways, place, blocks)
     }
 
-    // Whether the block of this control, and no search for several numbers, may lead to another
-    // stretch.
+    /// Whether the block of this control, and no search for several numbers, may lead to another
+    /// stretch.
     fn is_fixed_stray(&self, place: u32, control: &Control) -> bool
         requires view { IsView self.now }
         requires within { place < length self.now.ways.blocks.now }
@@ -100,7 +88,7 @@ impl ProgramView<'_> {
         }
     }
 
-    // The first block, and no search for several numbers, that may lead to another stretch.
+    /// The first block, and no search for several numbers, that may lead to another stretch.
     fn first_fixed_stray(&self) -> Option<u32>
         requires view { IsView self.now }
         requires few { length self.now.ways.blocks.now ≤ 20000 }
@@ -116,7 +104,7 @@ impl ProgramView<'_> {
         None
     }
 
-    // The first block of this search that may lead to another stretch.
+    /// The first block of this search that may lead to another stretch.
     fn first_of_search(&self, alloc: Global, search: &Search) -> Result<Option<u32>, NoMemory>
         requires view { IsView self.now }
         requires few { length self.now.ways.blocks.now ≤ 20000 }
@@ -134,7 +122,7 @@ impl ProgramView<'_> {
         Ok(first)
     }
 
-    // The first block of one of these searches that may lead to another stretch.
+    /// The first block of one of these searches that may lead to another stretch.
     fn first_of_searches(&self, alloc: Global, searches: &[Search]) -> Result<Option<u32>, NoMemory>
         requires view { IsView self.now }
         requires few { length self.now.ways.blocks.now ≤ 20000 }
@@ -149,7 +137,7 @@ impl ProgramView<'_> {
         Ok(first)
     }
 
-    // The first block that may lead to another stretch.
+    /// The first block that may lead to another stretch.
     fn first_stray(&self, alloc: Global, searches: &[Search]) -> Result<Option<u32>, NoMemory>
         requires view { IsView self.now }
         requires few { length self.now.ways.blocks.now ≤ 20000 }
@@ -163,7 +151,7 @@ impl ProgramView<'_> {
         Ok(first)
     }
 
-    // The line of this block, if it is one.
+    /// The line of this block, if it is one.
     fn line_of(&self, place: Option<u32>) -> Option<u32>
         requires view { IsView self.now }
         requires rising { HasRisingLines self.now.ways.blocks.now }

@@ -23,11 +23,11 @@ use crate::searches::searches;
 use crate::stretch::stretches;
 use crate::view::ProgramView;
 use crate::ways::ProgramWays;
-use block_order::{ControlProgram, LoudPrograms, OrderFault, ProgramTables, TapeTables};
+use block_order::{ControlProgram, LoudPrograms, OrderFault, ProgramTables};
 use nc_number::{Cause, NoMemory};
 use std::alloc::Global;
 
-// The O number of the main program.
+/// The O number of the main program.
 fn main_of(programs: &[ControlProgram]) -> u16
     ensures { result ≡ main_number programs.now }
 {
@@ -37,7 +37,7 @@ fn main_of(programs: &[ControlProgram]) -> u16
     }
 }
 
-// The line of the first block of a program that may pass a wait; labels hang on the program.
+/// The line of the first block of a program that may pass a wait; labels hang on the program.
 fn program_line<'a>(
     alloc: Global,
     programs: &'a [ControlProgram],
@@ -58,8 +58,7 @@ fn program_line<'a>(
     let ways = ProgramWays {
         blocks,
         stretches: &found,
-        sequences: &own.index,
-        loops: &own.loops,
+        tables: own,
     };
     let view = ProgramView {
         programs,
@@ -72,7 +71,7 @@ fn program_line<'a>(
     Ok(line)
 }
 
-// The same of any program; where no labels hang on it nothing passes a wait.
+/// The same of any program; where no labels hang on it nothing passes a wait.
 fn counted_line<'a>(
     alloc: Global,
     programs: &'a [ControlProgram],
@@ -94,11 +93,11 @@ fn counted_line<'a>(
     }
 }
 
-// The line of the tape's first block that may pass a wait.
+/// The line of the tape's first block that may pass a wait.
 fn stray_line(
     alloc: Global,
     programs: &[ControlProgram],
-    tables: &TapeTables,
+    tables: &[ProgramTables],
     loud: &LoudPrograms,
 ) -> Result<Option<u32>, NoMemory>
     requires known { IsKnown programs.now loud.now }
@@ -109,7 +108,7 @@ fn stray_line(
     let searches = searches(alloc, programs, loud)?;
     let mut first = None;
     for (at, program) in programs.iter().enumerate() {
-        let own = &tables.programs[at];
+        let own = &tables[at];
         let line = counted_line(alloc, programs, loud, &searches, own, program)?;
         first = sooner(first, line);
     }
@@ -136,7 +135,7 @@ fn wait_too_deep(line: u32) -> OrderFault
     }
 }
 
-// The fault of the lesser line, and on one line the jump.
+/// The fault of the lesser line, and on one line the jump.
 fn first_fault(stray: Option<u32>, deep: Option<u32>) -> Option<OrderFault>
     ensures { (tape : List ControlProgram) → IsLeast (IsTapeStrayLine tape) stray → IsLeast (IsDeepLine tape) deep
         → IsFirstOf tape Waiting result }
@@ -161,7 +160,7 @@ fn first_fault(stray: Option<u32>, deep: Option<u32>) -> Option<OrderFault>
 pub(crate) fn waiting_fault(
     alloc: Global,
     programs: &[ControlProgram],
-    tables: &TapeTables,
+    tables: &[ProgramTables],
     loud: &LoudPrograms,
 ) -> Result<Option<OrderFault>, NoMemory>
     requires listed { IsListed programs.now }

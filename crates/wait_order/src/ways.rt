@@ -1,20 +1,18 @@
 //! Where the jumps of one program lead, and in which stretch its blocks lie.
 
-use block_order::{ControlBlock, LoopTable, SequenceIndex};
+use block_order::{ControlBlock, ProgramTables};
 
-/// One program's blocks, their stretches, and the tables of its sequence numbers and its loops.
+/// One program's blocks, their stretches, and its tables.
 #[derive(Clone, Copy)]
 pub(crate) struct ProgramWays<'a> {
     pub(crate) blocks: &'a [ControlBlock],
     pub(crate) stretches: &'a [usize],
-    pub(crate) sequences: &'a SequenceIndex,
-    pub(crate) loops: &'a LoopTable,
+    pub(crate) tables: &'a ProgramTables,
 }
 
 impl ProgramWays<'_> {
     ghost use Rattle.std.specs.Prelude.{◌≡◌, ◌≢◌, ◌↔◌, ◌<◌, ◌-◌, ℕ, Bool, IsTrue, length, slice_index};
     ghost use Rattle.wait_order.specs.Waiting.{LeadsElsewhere, ClosesElsewhere};
-    ghost use Rattle.block_order.specs.Order.{IsPermitted};
     ghost use Rattle.block_order.specs.Loud.{stretch};
     ghost use Rattle.wait_order.specs.Ways.{AreWays};
 
@@ -24,7 +22,7 @@ impl ProgramWays<'_> {
         self.stretches.get(place as usize).copied().unwrap_or(0)
     }
 
-    // The stretch of the last block.
+    /// The stretch of the last block.
     fn last_stretch(&self) -> usize
         ensures { result ≡ slice_index self.now.stretches.now (length self.now.blocks.now - 1) }
     {
@@ -50,24 +48,14 @@ impl ProgramWays<'_> {
         self.stretch_at(one) != self.stretch_at(other)
     }
 
-    fn is_permitted(&self, block: u32, target: u32) -> bool
-        ensures { (loud : ℕ → Bool) → AreWays loud self.now
-            → block < length self.now.blocks.now → target < length self.now.blocks.now
-            → IsTrue result ↔ IsPermitted self.now.blocks.now block target }
-    {
-        let reach = self.loops.reach(target);
-        reach.low <= block && block <= reach.high
-    }
-
-    /// Whether the search for this number leads from the block to a permitted target in another
-    /// stretch.
+    /// Whether a jump from the block to this number leads to another stretch.
     pub(crate) fn leads_elsewhere(&self, block: u32, number: u32) -> bool
         ensures { (loud : ℕ → Bool) → AreWays loud self.now → block < length self.now.blocks.now
             → IsTrue result ↔ LeadsElsewhere loud self.now.blocks.now block number }
     {
-        match self.sequences.seek(block, number) {
-            Some(target) => self.is_permitted(block, target) && self.are_apart(block, target),
-            None => false,
+        match self.tables.target(block, number) {
+            Ok(target) => self.are_apart(block, target),
+            Err(_) => false,
         }
     }
 
@@ -76,7 +64,7 @@ impl ProgramWays<'_> {
         ensures { (loud : ℕ → Bool) → AreWays loud self.now
             → IsTrue result ↔ ClosesElsewhere loud self.now.blocks.now close }
     {
-        match self.loops.head_of(close) {
+        match self.tables.loops.head_of(close) {
             Some(head) => self.are_apart(head, close),
             None => false,
         }

@@ -11,7 +11,7 @@ returns-in-Goto-Some c = λ tape p t own main l.
     lift-jump tape p c.args.place c.in-Goto-Some.number c.args.control c.jump_fault.result
     (ap (fixed_number tape p.number) is)
     (λ called repeats e. let f : Goto (Some c.in-Goto-Some.number) ≡ Call called repeats = sym is ∙ e in absurd cc)
-    (c.jump_fault.ensures p.blocks own l)
+    (c.jump_fault.ensures p.blocks own)
 
 pub returns-then-is_main : goal.returns-then-is_main
 returns-then-is_main c = λ tape p t own main l.
@@ -19,7 +19,7 @@ returns-then-is_main c = λ tape p t own main l.
     lift-jump tape p c.args.place c.in-BackTo.number c.args.control c.jump_fault-then-is_main.result
     (ap (fixed_number tape p.number) is ∙ main-fixed tape p.number c.in-BackTo.number (main.0 c.if-is_main.true))
     (λ called repeats e. let f : BackTo c.in-BackTo.number ≡ Call called repeats = sym is ∙ e in absurd cc)
-    (c.jump_fault-then-is_main.ensures p.blocks own l)
+    (c.jump_fault-then-is_main.ensures p.blocks own)
 
 pub returns-in-Call : goal.returns-in-Call
 returns-in-Call c = λ tape p t own main l.

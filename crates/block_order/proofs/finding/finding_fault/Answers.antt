@@ -13,9 +13,9 @@ returns-in-Some c =
     let p = c.index-tape-at.result in
     let at = slice_get_read tape (length tape) i p refl c.loop-at-test.true c.index-tape-at.is in
     let made = c.requires.made.each i p at in
-    let own_is : c.index-own.result.now ≡ made.0 =
-    c.index-own.ensures ∙ get_or_from_slice_get c.args.tables.now.programs.items i made.0 c.index-own.result.now made.1 in
-    let own : IsProgramTables p.blocks c.index-own.result.now =
+    let own_is : c.index-tables-at.result ≡ made.0 =
+    c.index-tables-at.is ∙ get_or_from_slice_get c.args.tables.now i made.0 c.index-tables-at.result made.1 in
+    let own : IsProgramTables p.blocks c.index-tables-at.result =
     subst (λ (t : ProgramTables). IsProgramTables p.blocks t) (sym own_is) made.2 in
     let main = ap (λ x. x.number) (sym c.index-tape-0.is) ∙ main-is tape c.index-tape-0.result c.requires.listed.some c.index-tape-0.is in
     let told = c.program_fault.ensures tape c.requires.known own main in
@@ -29,9 +29,9 @@ loop-at-preserved c =
     let p = c.index-tape-at.result in
     let at = slice_get_read tape (length tape) i p refl c.loop-at-test.true c.index-tape-at.is in
     let made = c.requires.made.each i p at in
-    let own_is : c.index-own.result.now ≡ made.0 =
-    c.index-own.ensures ∙ get_or_from_slice_get c.args.tables.now.programs.items i made.0 c.index-own.result.now made.1 in
-    let own : IsProgramTables p.blocks c.index-own.result.now =
+    let own_is : c.index-tables-at.result ≡ made.0 =
+    c.index-tables-at.is ∙ get_or_from_slice_get c.args.tables.now i made.0 c.index-tables-at.result made.1 in
+    let own : IsProgramTables p.blocks c.index-tables-at.result =
     subst (λ (t : ProgramTables). IsProgramTables p.blocks t) (sym own_is) made.2 in
     let main = ap (λ x. x.number) (sym c.index-tape-0.is) ∙ main-is tape c.index-tape-0.result c.requires.listed.some c.index-tape-0.is in
     let told = c.program_fault.ensures tape c.requires.known own main in

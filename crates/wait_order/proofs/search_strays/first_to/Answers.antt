@@ -9,8 +9,8 @@ returns-in-Some c loud searches ways ahead within numbered =
     c.first_in-before.result c.first_in-around.result
     (record {
       few = ways.few;
-      finds = c.finders-finders.ensures bs ways.sequences numbered;
-      reaches = λ block l. c.reach-reach.ensures bs ways.loops within block (omega (arith, ways.few));
+      finds = c.finders-finders.ensures bs ways.tables.index numbered;
+      reaches = λ block l. c.reach-reach.ensures bs ways.tables.loops within block (omega (arith, ways.few));
     }) c.in-Some.is (omega arith) (c.first_in-before.ensures loud searches ways ahead within) (c.first_in-around.ensures loud searches ways ahead within) in
     rw c.sooner.ensures least
 
@@ -20,6 +20,6 @@ returns-in-None c loud searches ways ahead within numbered =
     least_ahead loud searches bs c.args.number c.args.target c.finders-finders.result c.reach-reach.result c.first_in-before.result
     (record {
       few = ways.few;
-      finds = c.finders-finders.ensures bs ways.sequences numbered;
-      reaches = λ block l. c.reach-reach.ensures bs ways.loops within block (omega (arith, ways.few));
+      finds = c.finders-finders.ensures bs ways.tables.index numbered;
+      reaches = λ block l. c.reach-reach.ensures bs ways.tables.loops within block (omega (arith, ways.few));
     }) c.in-None.is (c.first_in-before.ensures loud searches ways ahead within)

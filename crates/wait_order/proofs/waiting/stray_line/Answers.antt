@@ -15,8 +15,8 @@ counted_line-requires-clause-tables c =
     let p = c.index-programs-at.result in
     let at = stands tape i p (omega arith) ∙ ap (λ x. Some x) (sym c.index-programs-at.is) in
     let made = c.requires.tables.each i p at in
-    let own_is : c.index-own.result.now ≡ made.0 =
-    c.index-own.ensures ∙ get_or_from_slice_get c.args.tables.now.programs.items i made.0 c.index-own.result.now made.1 in
+    let own_is : c.index-tables-at.result ≡ made.0 =
+    c.index-tables-at.is ∙ get_or_from_slice_get c.args.tables.now i made.0 c.index-tables-at.result made.1 in
     subst (λ (t : ProgramTables). IsProgramTables p.blocks t) (sym own_is) made.2
 
 pub counted_line-requires-clause-own : goal.counted_line-requires-clause-own

@@ -1,15 +1,14 @@
 use Rattle.std.proofs.Common.{◌≡◌, ℕ, Some, None, sym, ◌∙◌, subst}
-use Rattle.block_order.specs.declared.control.Control.TheVariants.{EndLoop}
 use Rattle.block_order.specs.Order.{IsLoop}
 use Rattle.block_order.proofs.Items.{eq-some, eq-not}
-use Rattle.block_order.proofs.Opened.{within_control, closed-head}
+use Rattle.block_order.proofs.Opened.{close_within, closed-head}
 use Rattle.block_order.proofs.loops.LoopTable.head_of.Goals as goal
 
 pub returns-in_err-head : goal.returns-in_err-head
 returns-in_err-head c = λ bs table head. (
   λ e. let f = c.from_residual.ensures in absurd (let k : None ≡ Some head = sym f ∙ e in cc),
   λ (loop : IsLoop bs head c.args.close).
-      let within = within_control bs c.args.close (EndLoop loop.name) loop.is_close in
+      let within = close_within bs head c.args.close loop in
       c.from_residual.ensures ∙ sym c.in_err-head.was ∙ c.head_around.ensures bs table within
       ∙ closed-head bs head c.args.close table.fits loop,
 )
@@ -19,9 +18,9 @@ returns-then-eq c = λ bs table head.
     let is = eq-some c.end_of.result c.args.close (sym c.eq.ensures ∙ c.if-eq.true) in (
       λ e.
           let k : c.in_ok-head.head ≡ head = cc in
-          subst (λ (h : ℕ). IsLoop bs h c.args.close) k ((c.end_of.ensures bs table c.args.close).0 is),
+          subst (λ (h : ℕ). IsLoop bs h c.args.close) k (sym (c.end_of.ensures bs table) ∙ is),
       λ (loop : IsLoop bs head c.args.close).
-          let within = within_control bs c.args.close (EndLoop loop.name) loop.is_close in
+          let within = close_within bs head c.args.close loop in
           sym c.in_ok-head.was ∙ c.head_around.ensures bs table within ∙ closed-head bs head c.args.close table.fits loop,
     )
 
@@ -29,11 +28,11 @@ pub returns-else-eq : goal.returns-else-eq
 returns-else-eq c = λ bs table head. (
   λ e. absurd cc,
   λ (loop : IsLoop bs head c.args.close).
-      let within = within_control bs c.args.close (EndLoop loop.name) loop.is_close in
+      let within = close_within bs head c.args.close loop in
       let same : Some c.in_ok-head.head ≡ Some head =
       sym c.in_ok-head.was ∙ c.head_around.ensures bs table within ∙ closed-head bs head c.args.close table.fits loop in
       let k : c.in_ok-head.head ≡ head = cc in
       let is : c.end_of.result ≡ Some c.args.close =
-      (c.end_of.ensures bs table c.args.close).1 (subst (λ (h : ℕ). IsLoop bs h c.args.close) (sym k) loop) in
+      c.end_of.ensures bs table ∙ subst (λ (h : ℕ). IsLoop bs h c.args.close) (sym k) loop in
       absurd (eq-not c.end_of.result c.args.close (sym c.eq.ensures ∙ c.if-eq.false) is),
 )

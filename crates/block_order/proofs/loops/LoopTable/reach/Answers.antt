@@ -9,7 +9,7 @@ returns-in-Some c = λ bs table within block l.
     let top : innermost bs c.args.target ≡ Some c.in-Some.head =
     sym (c.head_around.ensures bs table within) ∙ c.in-Some.is in
     let ends = innermost-ends bs c.args.target c.in-Some.head table.fits (omega arith) top in
-    let at : c.end_of.result ≡ Some ends.0 = (c.end_of.ensures bs table ends.0).1 ends.3 in
+    let at : c.end_of.result ≡ Some ends.0 = c.end_of.ensures bs table ∙ ends.3 in
     let high : c.unwrap_or.result ≡ ends.0 = c.unwrap_or.ensures ∙ ap (λ o. unwrap_or o c.in-Some.head) at in
     let low : c.saturating_add.result ≡ c.in-Some.head + 1 = omega (arith, c.saturating_add.ensures, ends.1, table.few) in
     let sides = reach-some bs c.args.target block c.in-Some.head ends.0 table.fits (omega arith) top ends.1 ends.2 ends.3 in (

@@ -1,9 +1,9 @@
-use Rattle.std.proofs.Common.{◌≡◌, ℕ, drop, nat_eq}
-use Rattle.indexmap.specs.IndexMap.{get}
+use Rattle.std.proofs.Common.{◌≡◌, ℕ, drop}
 use Rattle.block_order.specs.Order.{or_else}
+use Rattle.block_order.specs.Numbers.{place_kept}
 use Rattle.block_order.specs.ProgramPlaces.{place_from, place_of}
 use Rattle.block_order.proofs.numbers.ProgramNumbers.of.Given as goal
 
 abbrev pub invariant-loop-place : goal.invariant-loop-place
 invariant-loop-place l =
-    (q : ℕ) → or_else (get nat_eq l.places q) (place_from (drop l.place l.programs) l.place q) ≡ place_of l.programs q
+    (q : ℕ) → or_else (place_kept l.places.items q) (place_from (drop l.place l.programs) l.place q) ≡ place_of l.programs q

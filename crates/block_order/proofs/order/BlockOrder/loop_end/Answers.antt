@@ -1,25 +1,20 @@
-use Rattle.std.proofs.Common.{◌≡◌, ◌↔◌, ℕ, ◌<◌, ◌≤◌, List, length, Option, Some, None, IfSome, refl, arith}
-use Rattle.block_order.specs.declared.control.Control.TheVariants.{EndLoop}
+use Rattle.std.proofs.Common.{◌≡◌, ℕ, ◌<◌, ◌≤◌, List, length, Option, Some, None, IfSome, refl, sym, ap, arith}
 use Rattle.block_order.specs.declared.program.ControlBlock.{ControlBlock}
-use Rattle.block_order.specs.Order.{blocks, IsLoop}
-use Rattle.block_order.proofs.Answered.{end_answered, no_end_answered}
-use Rattle.block_order.proofs.Opened.{within_control}
+use Rattle.block_order.specs.Order.{blocks, end_of_loop}
+use Rattle.block_order.proofs.Opened.{close_within}
 use Rattle.block_order.proofs.order.BlockOrder.loop_end.Goals as goal
 
 -- an END is one of the few blocks
-end_behind : (bs : List ControlBlock) (head : ℕ) (end : Option ℕ) → length bs ≤ 20000
-    → ((close : ℕ) → (end ≡ Some close) ↔ IsLoop bs head close) → IfSome end (λ close. close < 4294967295)
+end_behind : (bs : List ControlBlock) (head : ℕ) (end : Option ℕ) → length bs ≤ 20000 → end ≡ end_of_loop bs head
+    → IfSome end (λ close. close < 4294967295)
 end_behind bs head None few ends = tt
-end_behind bs head (Some close) few ends =
-    let loop = (ends close).0 refl in omega (arith, within_control bs close (EndLoop loop.name) loop.is_close)
+end_behind bs head (Some close) few ends = omega (arith, few, close_within bs head close (sym ends))
 
 pub returns-in-Some-clause-ends : goal.returns-in-Some-clause-ends
-returns-in-Some-clause-ends c =
-    let bs = blocks c.args.self.now c.args.program in
-    end_answered bs c.args.head c.end_of.result (c.end_of.ensures bs c.in-Some.ensures.some.loops)
+returns-in-Some-clause-ends c = c.end_of.ensures (blocks c.args.self.now c.args.program) c.in-Some.ensures.some.loops
 
 pub returns-in-None-clause-ends : goal.returns-in-None-clause-ends
-returns-in-None-clause-ends c = no_end_answered (blocks c.args.self.now c.args.program) c.args.head (c.in-None.ensures.none refl)
+returns-in-None-clause-ends c = sym (ap (λ bs. end_of_loop bs c.args.head) (c.in-None.ensures.none refl))
 
 pub returns-in-Some-clause-behind : goal.returns-in-Some-clause-behind
 returns-in-Some-clause-behind c =

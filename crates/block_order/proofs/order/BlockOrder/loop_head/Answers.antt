@@ -1,6 +1,6 @@
 use Rattle.std.proofs.Common.{refl}
 use Rattle.block_order.specs.Order.{blocks}
-use Rattle.block_order.proofs.Answered.{head_answered, no_head_answered}
+use Rattle.block_order.proofs.Searches.{head_answered, no_head_answered}
 use Rattle.block_order.proofs.order.BlockOrder.loop_head.Goals as goal
 
 pub returns-in-Some : goal.returns-in-Some

@@ -14,8 +14,8 @@ index-requires c =
     let tape = c.self.inside.programs.items in
     let at : Some c.in-Some.place ≡ place_of tape c.args.program =
     sym c.in-Some.is ∙ (c.place_of.ensures ∙ c.self.invariant.loud_are.places c.args.program) in
-    let within = tables_within tape c.self.inside.tables c.args.program c.in-Some.place c.self.invariant.tables_are at in
-    let counted : vec_len c.self.inside.tables.programs ≡ length c.self.inside.tables.programs.items = search rules in
+    let within = tables_within tape c.self.inside.tables.items c.args.program c.in-Some.place c.self.invariant.tables_are at in
+    let counted : vec_len c.self.inside.tables ≡ length c.self.inside.tables.items = search rules in
     omega (arith, within, counted)
 
 pub returns-in-Some-clause-some : goal.returns-in-Some-clause-some
@@ -23,9 +23,9 @@ returns-in-Some-clause-some c =
     let tape = c.self.inside.programs.items in
     let at : Some c.in-Some.place ≡ place_of tape c.args.program =
     sym c.in-Some.is ∙ (c.place_of.ensures ∙ c.self.invariant.loud_are.places c.args.program) in
-    let found = tables_there tape c.self.inside.tables c.args.program c.in-Some.place c.self.invariant.tables_are at in
+    let found = tables_there tape c.self.inside.tables.items c.args.program c.in-Some.place c.self.invariant.tables_are at in
     let is : c.index.result.now ≡ found.0 =
-    c.index.ensures ∙ get_or_from_slice_get c.self.inside.tables.programs.items c.in-Some.place found.0 c.index.result.now found.1 in
+    c.index.ensures ∙ get_or_from_slice_get c.self.inside.tables.items c.in-Some.place found.0 c.index.result.now found.1 in
     let here : IsProgramTables (blocks tape c.args.program) c.index.result.now =
     subst (λ (t : ProgramTables). IsProgramTables (blocks tape c.args.program) t) (sym is) found.2 in
     subst (λ tape. IsProgramTables (blocks tape c.args.program) c.index.result.now) c.self.view_is here

@@ -4,7 +4,7 @@ use Rattle.std.proofs.lemmas.Option.{slice_get_read, slice_get_within}
 use Rattle.block_order.proofs.Lines.{blocks-few}
 use Rattle.block_order.proofs.Located.{clear-fits}
 use Rattle.block_order.proofs.MoreTables.{EachTables, each-more}
-use Rattle.block_order.proofs.tables.TapeTables.of.Goals as goal
+use Rattle.block_order.proofs.tables.tape_tables.Goals as goal
 
 pub loop-program-init : goal.loop-program-init
 loop-program-init c = record {

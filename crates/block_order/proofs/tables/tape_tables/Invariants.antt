@@ -1,6 +1,6 @@
 use Rattle.std.proofs.Common.{◌≡◌, length}
 use Rattle.block_order.proofs.MoreTables.{EachTables}
-use Rattle.block_order.proofs.tables.TapeTables.of.Given as goal
+use Rattle.block_order.proofs.tables.tape_tables.Given as goal
 
 abbrev pub invariant-loop-program : goal.invariant-loop-program
 invariant-loop-program l = record {

@@ -1,0 +1,8 @@
+use Rattle.block_order.proofs.Searches.{loop_nearest, permitted_held}
+use Rattle.block_order.proofs.laws.a_loop_ends_at_its_nearest_end.Goals as goal
+
+pub returns-clause-ends : goal.returns-clause-ends
+returns-clause-ends c = loop_nearest
+
+pub returns-clause-jumps : goal.returns-clause-jumps
+returns-clause-jumps c = permitted_held
