@@ -1,10 +1,11 @@
 -- The first refusal that holds, in the order of their numbers, is the least.
 use Rattle.std.proofs.Common.{◌≡◌, ℕ, ◌≤◌, nat_le, Bool, true, false, cond, ◌&&◌, ◌⊎◌, inl, inr, List, [], ◌∷◌, Option, Some, None, ◌↔◌, refl, sym, ◌∙◌, ap, arith, lit≤}
 use Rattle.std.specs.List.{find, list_all}
-use Rattle.std.proofs.lemmas.Bool.Decides.{nat_tests}
 use Rattle.nc_number.specs.Causes.{cause_number}
 use Rattle.nc_number.specs.declared.cause.Cause.{Cause}
 use Rattle.nc_number.specs.declared.cause.Cause.TheVariants.{NotFixed, UnknownCode, WaitNotAlone, WaitPaths, TwoM, BadCall, AxisTwice, WordRange}
+use Rattle.nc_number.proofs.Bools.{both}
+use Rattle.nc_number.proofs.Counts.{true_le}
 use Rattle.nc_number.proofs.CauseTable.{number_has_one_cause}
 use Rattle.block_words.specs.declared.dialect.Dialect.{Dialect}
 use Rattle.block_words.specs.declared.word.FlowWord.{FlowWord}
@@ -55,24 +56,17 @@ refuses_so dialect words AxisTwice e = axis_twice e
 refuses_so dialect words WordRange e = out_of_range e
 refuses_so dialect words _ e = absurd (cc)
 
-both_hold : (a b : Bool) → (a && b) ≡ true → (a ≡ true) × (b ≡ true)
-both_hold true b e = (refl, e)
-both_hold false b e = absurd (cc)
-
 all_at_least : (n : ℕ) (xs : List Cause) → list_all (λ cause. nat_le n (cause_number cause)) xs ≡ true → (other : Cause) → IsAmong other xs → n ≤ cause_number other
 all_at_least n [] all other among = absurd among
 all_at_least n (x ∷ xs) all other (inl e) =
-    let first : nat_le n (cause_number x) ≡ true = (both_hold _ _ all).0 in
-    rw e (at_least n (cause_number x) first)
-  where
-    at_least : (a b : ℕ) → nat_le a b ≡ true → a ≤ b
-    at_least a b le = grind (arith, nat_tests)
-all_at_least n (x ∷ xs) all other (inr later) = all_at_least n xs (both_hold _ _ all).1 other later
+    let first : nat_le n (cause_number x) ≡ true = (both _ _ all).0 in
+    rw e (true_le n (cause_number x) first)
+all_at_least n (x ∷ xs) all other (inr later) = all_at_least n xs (both _ _ all).1 other later
 
 first_is_least : (p : Cause → Bool) (xs : List Cause) (cause : Cause) → rises xs ≡ true → find p xs ≡ Some cause → (p cause ≡ true) × ((other : Cause) → IsAmong other xs → p other ≡ true → cause_number cause ≤ cause_number other)
 first_is_least p [] cause rise found = absurd (cc)
 first_is_least p (x ∷ xs) cause rise found =
-    go (p x) refl (both_hold _ _ rise).0 (first_is_least p xs cause (both_hold _ _ rise).1) found
+    go (p x) refl (both _ _ rise).0 (first_is_least p xs cause (both _ _ rise).1) found
   where
     this : (b : Bool) → p x ≡ b → list_all (λ later. nat_le (cause_number x) (cause_number later)) xs ≡ true → (other : Cause) → IsAmong other (x ∷ xs) → cause_number x ≤ cause_number other
     this b e all other (inl same) = rw same (omega arith)

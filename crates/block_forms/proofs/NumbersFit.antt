@@ -1,7 +1,8 @@
 -- Numbers of words that are in their range.
-use Rattle.std.proofs.Common.{◌≡◌, ℕ, ◌≤◌, Bool, true, false, cond, not, ◌||◌, List, [], ◌∷◌, Option, Some, None, IfSome, ℤ, pos, negsuc, refl, arith}
+use Rattle.std.proofs.Common.{◌≡◌, ℕ, ◌≤◌, Bool, true, false, cond, not, List, [], ◌∷◌, Option, Some, None, IfSome, ℤ, pos, negsuc, refl, arith}
 use Rattle.std.specs.List.{list_any, filter_map}
 use Rattle.std.proofs.lemmas.Bool.Decides.{nat_tests}
+use Rattle.nc_number.proofs.Bools.{neither, not_false}
 use Rattle.code_tables.specs.Codes.{last_of}
 use Rattle.block_words.specs.declared.purpose.Purpose.{Purpose}
 use Rattle.block_words.specs.declared.range.Range.TheVariants.{Between}
@@ -25,14 +26,6 @@ value_within : (least greatest : ℕ) (value : WordValue) → fits_value (Betwee
 value_within least greatest (Fixed literal) is = number_within least greatest _ is
 value_within least greatest (Computed minus tree) is = tt
 
-passes : (b : Bool) → not b ≡ false → b ≡ true
-passes true e = refl
-passes false e = absurd (cc)
-
-either_fails : (a b : Bool) → (a || b) ≡ false → (a ≡ false) × (b ≡ false)
-either_fails true b e = absurd (cc)
-either_fails false b e = (refl, e)
-
 letter_is : (letter own : ℕ) → is_one_of (letter ∷ []) own ≡ true → own ≡ letter
 letter_is letter own e = grind (arith, nat_tests)
 
@@ -47,9 +40,9 @@ word_within purpose letter least greatest word range same fits =
 pub last_within : (purpose : Purpose) (letter least greatest : ℕ) (words : List FlowWord) → range_of purpose letter ≡ Between least greatest → list_any (λ word. not (is_in_range purpose word)) words ≡ false → IsWithin least greatest (natural (last_whole (letter ∷ []) words))
 last_within purpose letter least greatest [] range all = tt
 last_within purpose letter least greatest (w ∷ ws) range all =
-    let both = either_fails _ _ all in
+    let both = neither _ _ all in
     go (is_one_of (letter ∷ []) w.letter) (words_of (letter ∷ []) ws) (last_of (words_of (letter ∷ []) ws)) refl
-    (λ same. word_within purpose letter least greatest w range same (passes _ both.0))
+    (λ same. word_within purpose letter least greatest w range same (not_false _ both.0))
     (last_within purpose letter least greatest ws range both.1)
   where
     go : (b : Bool) (rest : List FlowWord) (later : Option FlowWord) → last_of rest ≡ later → (b ≡ true → IsWithin least greatest (natural (whole_value w.value))) → IsWithin least greatest (natural (whole_of_last (value_of_last (last_of rest)))) → IsWithin least greatest (natural (whole_of_last (value_of_last (last_of (cond b (w ∷ rest) rest)))))
@@ -61,9 +54,9 @@ last_within purpose letter least greatest (w ∷ ws) range all =
 pub first_within : (purpose : Purpose) (letter least greatest : ℕ) (words : List FlowWord) → range_of purpose letter ≡ Between least greatest → list_any (λ word. not (is_in_range purpose word)) words ≡ false → IsWithin least greatest (first (filter_map (λ word. natural (whole_value word.value)) (words_of (letter ∷ []) words)))
 first_within purpose letter least greatest [] range all = tt
 first_within purpose letter least greatest (w ∷ ws) range all =
-    let both = either_fails _ _ all in
+    let both = neither _ _ all in
     go (is_one_of (letter ∷ []) w.letter) (natural (whole_value w.value)) (words_of (letter ∷ []) ws) refl
-    (λ same. word_within purpose letter least greatest w range same (passes _ both.0))
+    (λ same. word_within purpose letter least greatest w range same (not_false _ both.0))
     (first_within purpose letter least greatest ws range both.1)
   where
     go : (b : Bool) (number : Option ℕ) (rest : List FlowWord) → natural (whole_value w.value) ≡ number → (b ≡ true → IsWithin least greatest number) → IsWithin least greatest (first (filter_map (λ word. natural (whole_value word.value)) rest)) → IsWithin least greatest (first (filter_map (λ word. natural (whole_value word.value)) (cond b (w ∷ rest) rest)))

@@ -70,8 +70,8 @@ abbrev pub is_sequence : Option ℕ → Bool
 is_sequence None = true
 is_sequence (Some n) = nat_le n 99999
 
--- A control that a block may have: loops are 1, 2 and 3; sequence numbers end at 99,999; a call is of program 0 to 9,999, of
--- which 0 is on no tape, and repeats 1 to 9,999 times.
+-- A control that a block may have: loops are 1, 2 and 3; sequence numbers end at 99,999; a call is
+-- of program 0 to 9,999, of which 0 is on no tape, and repeats 1 to 9,999 times.
 abbrev pub is_allowed : Control → Bool
 is_allowed control.Next = true
 is_allowed (control.Goto target) = is_sequence target

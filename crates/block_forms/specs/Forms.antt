@@ -2,6 +2,7 @@
 use Rattle.std.specs.Prelude.{ℕ, Bool, ◌+◌, nat_lt, nat_le, List, [], ◌∷◌, ◌++◌, Option, Some, None, Result, Ok, Err, if◌then◌else◌}
 use Rattle.nc_number.specs.declared.cause.Cause.{Cause}
 use Rattle.nc_number.specs.declared.cause.Cause.TheVariants.{TooManyDigits, TooManyVariables}
+use Rattle.nc_number.specs.declared.limits.TheConstants.{MOST_READS}
 use Rattle.nc_number.specs.declared.literal.Literal.{Literal}
 use Rattle.nc_number.specs.declared.fault.NumberFault.{NumberFault}
 use Rattle.nc_number.specs.Causes.{cause_number}
@@ -59,7 +60,8 @@ abbrev pub lesser : Option ℕ → ℕ → ℕ
 lesser None number = number
 lesser (Some before) number = if nat_le before number then before else number
 
--- the words that were read, where each was, and the least number of those that don't read, before what the rest says
+-- the words that were read, where each was, and the least number of those that don't read, before
+-- what the rest says
 abbrev pub gathered : List FlowWord → Option ℕ → Result (List FlowWord) ℕ → Result (List FlowWord) ℕ
 gathered done None (Ok words) = Ok (done ++ words)
 gathered done None (Err number) = Err number
@@ -72,7 +74,7 @@ signs_in [] = 0
 signs_in (word ∷ words) = variable_signs word.text + signs_in words
 
 abbrev pub has_many_variables : List Word → Bool
-has_many_variables words = nat_lt 32 (signs_in words)
+has_many_variables words = nat_lt MOST_READS (signs_in words)
 
 abbrev pub with_refusal : Option Cause → List FlowWord → Result (List FlowWord) ℕ
 with_refusal None words = Ok words
@@ -87,7 +89,8 @@ judged dialect many (Err number) = Err number
 abbrev pub words_or_refusal : Dialect → List Word → Result (List FlowWord) ℕ
 words_or_refusal dialect words = judged dialect (has_many_variables words) (all_words words)
 
--- what stands in a block that was read: words, whose codes mean what the dialect says, or a statement
+-- what stands in a block that was read: words, whose codes mean what the dialect says, or a
+-- statement
 pub data Form : Type 0 where
   OfWords : Dialect → List FlowWord → Form
   OfSentence : Sentence → Form

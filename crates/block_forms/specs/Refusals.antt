@@ -1,4 +1,5 @@
--- When a block of words is refused. Each refusal is a condition of the whole block, apart from the others.
+-- When a block of words is refused. Each refusal is a condition of the whole block, apart from the
+-- others.
 use Rattle.std.specs.Prelude.{◌≡◌, ◌≤◌, ℕ, Bool, true, false, not, ◌&&◌, ◌||◌, nat_lt, nat_le, List, [], ◌∷◌, length, map, Option, Some, None, codes, if◌then◌else◌}
 use Rattle.std.specs.List.{list_any}
 use Rattle.nc_number.specs.Causes.{cause_number}
@@ -39,7 +40,8 @@ abbrev pub is_unknown_letter : System → List FlowWord → ℕ → Bool
 is_unknown_letter system words letter =
     not (is_one_of (known_letters system) letter || (is_one_of (codes "Q") letter && gives system is_setting words))
 
--- the highest speed of the spindle needs S, and X, Z, U and W have no meaning beside it; G53 goes to absolute positions alone
+-- the highest speed of the spindle needs S, and X, Z, U and W have no meaning beside it; G53 goes
+-- to absolute positions alone
 abbrev pub is_bad_limit : System → List FlowWord → Bool
 is_bad_limit system words = gives system is_limit words && (not (has (codes "S") words) || has (codes "XZUW") words)
 
@@ -130,7 +132,8 @@ is_bad_block system purpose words =
     ((is_subprogram purpose && is_bad_subprogram words) || is_crowded_call system words)
     || ((has (codes "P") words && is_idle_p purpose) || (has (codes "L") words && is_idle_l purpose))
 
--- 61: a call without its program or with words that don't fit together; P or L where they have no meaning
+-- 61: a call without its program or with words that don't fit together; P or L where they have no
+-- meaning
 abbrev pub is_bad_call : Dialect → List FlowWord → Bool
 is_bad_call dialect words =
     if gives dialect.system is_macro_call words then is_bad_macro_call words

@@ -1,4 +1,6 @@
+//! A block that is not refused, and the call that it is.
 ghost use Rattle.std.specs.Prelude.{◌≡◌, ◌≤◌, true, None};
+ghost use Rattle.nc_number.specs.declared.limits.TheConstants.{MOST_READS};
 ghost use Rattle.block_forms.specs.Controls.{is_allowed};
 ghost use Rattle.block_forms.specs.Variables.{variables_of_body};
 ghost use Rattle.block_forms.specs.Views.{refusal_of_body, control_of, call_of, kind_of_call, called_by};
@@ -22,7 +24,7 @@ pub struct FlowBlock {
     ghost controls: { control ≡ control_of body },
     ghost allowed: { is_allowed control ≡ true },
     ghost accepted: { refusal_of_body body ≡ None },
-    ghost few: { variables_of_body body ≤ 32 },
+    ghost few: { variables_of_body body ≤ MOST_READS },
 }
 
 impl FlowBlock {
@@ -41,6 +43,7 @@ impl FlowBlock {
     }
 }
 
+/// A block that calls does so by G65 where its words are a macro call, else by M98.
 fn kind_of_call(purpose: Purpose) -> CallKind
     ensures { result ≡ kind_of_call purpose }
 {
@@ -50,6 +53,7 @@ fn kind_of_call(purpose: Purpose) -> CallKind
     }
 }
 
+/// Only a call has a program and repeats.
 fn called_by(kind: CallKind, control: Control) -> Option<Called>
     ensures { result ≡ called_by kind control }
 {

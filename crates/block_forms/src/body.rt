@@ -1,3 +1,4 @@
+//! What stands in a block: words or a statement.
 use crate::statement::FlowStatement;
 use crate::words::FlowWords;
 

@@ -1,3 +1,5 @@
+//! The call that a block makes.
+
 /// How a program is called.
 #[derive(Clone, Copy, Debug, Default, PartialEq, Eq)]
 pub enum CallKind {

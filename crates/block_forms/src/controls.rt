@@ -1,3 +1,4 @@
+//! What the words or the statement of a block do to the order of blocks.
 ghost use Rattle.std.specs.Prelude.{◌≡◌, ◌≤◌, codes, IfSome};
 ghost use Rattle.macro_expr.specs.Tree.{aim_of, sentence_of};
 ghost use Rattle.block_forms.specs.Controls.{number_of, or_number, call_of_p, back_to, wait_at, end_or_next, number_of_aim, control_of_sentence};
@@ -46,6 +47,7 @@ fn back_to(sequence: Option<u32>) -> Control
     }
 }
 
+/// Words that wait have a waiting code, so the other case is never asked.
 fn wait_at(code: Option<u16>) -> Control
     ensures { result ≡ wait_at code }
 {

@@ -1,3 +1,4 @@
+//! Why a block is refused.
 ghost use Rattle.std.specs.Prelude.{◌≡◌};
 ghost use Rattle.nc_number.specs.Causes.{cause_number};
 
@@ -13,6 +14,7 @@ pub struct FormFault {
 }
 
 impl FormFault {
+    /// The refusal of a cause, under the number that it is printed with.
     pub(crate) fn of(cause: Cause) -> FormFault
         ensures { result.number ≡ cause_number cause }
     {

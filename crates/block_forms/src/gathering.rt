@@ -1,3 +1,4 @@
+//! The words of a block, gathered one by one with the least refusal.
 ghost use Rattle.std.specs.Prelude.{◌≡◌, ◌≤◌, ◌+◌, List, ℕ, Result, OnOk, IfOk};
 ghost use Rattle.nc_number.specs.Answers.{GivesBy};
 ghost use Rattle.block_words.specs.declared.word.FlowWord.{FlowWord};

@@ -1,3 +1,4 @@
+//! Laws of refused blocks.
 ghost use Rattle.std.specs.Prelude.{◌≡◌, ◌↔◌, ℕ, List};
 ghost use Rattle.nc_number.specs.declared.cause.Cause.{Cause};
 ghost use Rattle.line_text.specs.declared.body.Word.{Word};
@@ -18,8 +19,8 @@ pub fn the_least_refusal_is_answered()
         → (refusal_of dialect words ≡ None) ↔ ((cause : Cause) → ¬ (Refuses dialect words cause)) }
 {}
 
-/// The same of the text of a block of words: of words that don't read, of its variables, and of what
-/// its words say where each reads.
+/// The same of the text of a block of words: of words that don't read, of its variables, and of
+/// what its words say where each reads.
 pub fn the_least_refusal_of_a_text_is_answered()
     ensures least { (dialect : Dialect) (texts : List Word) (number : ℕ)
         → (words_or_refusal dialect texts ≡ Err number) ↔ IsLeastOfText dialect texts number }

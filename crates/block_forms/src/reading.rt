@@ -1,5 +1,7 @@
+//! A block read from its text, or the least of the refusals that hold of it.
 ghost use Rattle.std.specs.Prelude.{◌≡◌, ◌≤◌, IfOk, None, true};
 ghost use Rattle.nc_number.specs.Answers.{GivesBy};
+ghost use Rattle.nc_number.specs.declared.limits.TheConstants.{MOST_READS};
 ghost use Rattle.nc_number.specs.Literals.{IsLiteral, behind_sign, has_minus, word_literal};
 ghost use Rattle.macro_expr.specs.Answers.{expression_of, statement_of};
 ghost use Rattle.macro_expr.specs.Limits.{variable_signs};
@@ -21,7 +23,7 @@ use crate::words::FlowWords;
 use block_words::{Dialect, FlowWord, FlowWordList, WordValue};
 use macro_eval::{compile, compile_statement};
 use macro_expr::{parse_expr, parse_statement};
-use nc_number::{Cause, Failing, is_literal, parse_word};
+use nc_number::{Cause, Failing, MOST_READS, is_literal, parse_word};
 use nc_text::{Block, Body, Word};
 use std::alloc::Global;
 
@@ -35,12 +37,14 @@ fn without_sign(text: &[u8]) -> &[u8]
     }
 }
 
+/// The sign before a variable or an expression is the word's own, not the expression's.
 fn is_minus(text: &[u8]) -> bool
     ensures { result ≡ has_minus text.now }
 {
     matches!(text, [b'-', ..])
 }
 
+/// A literal is refused for its digits alone; its range is asked later, with the other words.
 fn read_literal(text: &[u8]) -> Result<WordValue, Failing<FormFault>>
     requires { IsLiteral text.now }
     ensures exact { GivesBy (λ value. value) (λ fault. fault.number) result (fixed_value (word_literal text.now)) }
@@ -72,6 +76,7 @@ fn read_expression(alloc: Global, text: &[u8]) -> Result<WordValue, Failing<Form
     }
 }
 
+/// A value that is no literal is an expression, and refused as that where it is neither.
 fn read_value(alloc: Global, text: &[u8]) -> Result<WordValue, Failing<FormFault>>
     ensures exact { GivesBy (λ value. value) (λ fault. fault.number) result (value_of text.now) }
     ensures named { IfOk result (λ value. variables_of_value value ≤ variable_signs text.now) }
@@ -111,19 +116,18 @@ fn read_all(alloc: Global, words: &[Word]) -> Result<FlowWordList, Failing<FormF
     gathered.finish()
 }
 
+/// Every sign of a variable counts, those inside expressions too.
 fn count_signs(text: &[u8]) -> usize
     ensures { result ≡ variable_signs text.now }
 {
     text.iter().filter(|b| **b == b'#').count()
 }
 
-const VARIABLES: usize = 32;
-
-/// Whether the words name more than 32 variables.
+/// Whether the words name more variables than one block may read.
 fn names_many_variables(words: &[Word]) -> bool
     ensures { result ≡ has_many_variables words.now }
 {
-    let mut room = VARIABLES;
+    let mut room = MOST_READS;
     for word in words {
         let signs = count_signs(word.text.as_slice());
         if room < signs {
@@ -137,8 +141,8 @@ fn names_many_variables(words: &[Word]) -> bool
 /// What the words of a block say, and what its codes make of them.
 ///
 /// A block that is not allowed is refused with the least number of the refusals that hold of it: of
-/// words that don't read 5 and 20 to 25, of the block's variables 25, and of what its words say 54 to
-/// 64.
+/// words that don't read 5 and 20 to 25, of the block's variables 25, and of what its words say 54
+/// to 64.
 pub fn read_words(
     alloc: Global,
     words: &[Word],
@@ -148,7 +152,7 @@ pub fn read_words(
         (words_or_refusal dialect.now words.now) }
     ensures dialect { IfOk result (λ read. read.dialect ≡ dialect.now) }
     ensures accepted { IfOk result (λ read. refusal_of read.dialect read.words ≡ None) }
-    ensures few { IfOk result (λ read. variables_of_words read.words ≤ 32) }
+    ensures few { IfOk result (λ read. variables_of_words read.words ≤ MOST_READS) }
 {
     let list = match read_all(alloc, words) {
         Ok(list) => list,
@@ -172,7 +176,7 @@ pub fn read_statement(alloc: Global, text: &[u8]) -> Result<FlowStatement, Faili
     ensures exact { GivesBy (λ read. sentence_of read.statement) (λ fault. fault.number) result
         (sentence_or_refusal (statement_of text.now)) }
     ensures ranges { IfOk result (λ read. IsInRange (sentence_of read.statement)) }
-    ensures few { IfOk result (λ read. variables_in (evaluated (sentence_of read.statement)) ≤ 32) }
+    ensures few { IfOk result (λ read. variables_in (evaluated (sentence_of read.statement)) ≤ MOST_READS) }
 {
     match parse_statement(alloc, text) {
         Ok(statement) => {
@@ -190,7 +194,7 @@ pub fn read_statement(alloc: Global, text: &[u8]) -> Result<FlowStatement, Faili
 #[tactic(auto, using(crate::proofs::Accepted::sentence_allowed, crate::proofs::Accepted::sentence_waits))]
 fn block_of_statement(line: u32, sequence: Option<u32>, statement: FlowStatement) -> FlowBlock
     requires ranges { IsInRange (sentence_of statement.statement) }
-    requires few { variables_in (evaluated (sentence_of statement.statement)) ≤ 32 }
+    requires few { variables_in (evaluated (sentence_of statement.statement)) ≤ MOST_READS }
     ensures form { block_form result ≡ form_at line sequence (OfSentence (sentence_of statement.statement))
         (control_of_sentence (sentence_of statement.statement)) }
     ensures waits { (dialect : Dialect) → waits_by_a_code dialect result.control ≡ true }
@@ -208,7 +212,7 @@ fn block_of_statement(line: u32, sequence: Option<u32>, statement: FlowStatement
 #[tactic(auto, using(crate::proofs::Accepted::words_allowed, crate::proofs::Accepted::words_wait))]
 fn block_of_words(line: u32, sequence: Option<u32>, words: FlowWords) -> FlowBlock
     requires accepted { refusal_of words.dialect words.words ≡ None }
-    requires few { variables_of_words words.words ≤ 32 }
+    requires few { variables_of_words words.words ≤ MOST_READS }
     ensures form { block_form result ≡ form_at line sequence (OfWords words.dialect words.words)
         (control_of_words words.dialect words.words) }
     ensures waits { waits_by_a_code words.dialect result.control ≡ true }

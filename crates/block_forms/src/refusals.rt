@@ -1,3 +1,4 @@
+//! Why words that read are refused, each refusal apart from the others.
 ghost use Rattle.std.specs.Prelude.{◌≡◌, codes};
 ghost use Rattle.std.specs.List.{list_any};
 ghost use Rattle.block_words.specs.Words.{words_of};
@@ -38,6 +39,7 @@ fn is_unknown_code(system: System, word: &FlowWord) -> bool
     !word.value.is_computed() && is_refused_row(row_of_word(system, word))
 }
 
+/// A computed G word is no unknown code: it is refused because it is computed.
 fn has_unknown_code(system: System, words: &[FlowWord]) -> bool
     ensures { result ≡ list_any (is_unknown_code system) (words_of (codes "G") words.now) }
 {
@@ -132,6 +134,7 @@ impl FlowWords {
             || (is_one_of(b"Q", letter) && self.gives_setting()))
     }
 
+    /// Outside macro calls alone: there every letter but a few is an argument.
     fn has_unknown_letter(&self) -> bool
         ensures { result ≡ list_any
             (λ word. is_unknown_letter self.now.dialect.system self.now.words word.letter) self.now.words }
@@ -140,8 +143,8 @@ impl FlowWords {
         words.iter().any(|word| self.is_unknown_letter(word.letter))
     }
 
-    /// The highest speed of the spindle, G50 of system A and G92 of system B, needs S, and X, Z, U and
-    /// W have no meaning beside it.
+    /// The highest speed of the spindle, G50 of system A and G92 of system B, needs S, and X, Z, U
+    /// and W have no meaning beside it.
     fn is_bad_limit(&self) -> bool
         ensures { result ≡ is_bad_limit self.now.dialect.system self.now.words }
     {
@@ -156,7 +159,8 @@ impl FlowWords {
         self.gives_machine() && has(self.words.as_slice(), b"UW")
     }
 
-    /// 56: a letter or a code that the system lacks, or that the control refuses or does not allow there.
+    /// 56: a letter or a code that the system lacks, or that the control refuses or does not allow
+    /// there.
     fn is_unknown(&self) -> bool
         ensures { result ≡ is_unknown self.now.dialect.system self.now.words }
     {
@@ -234,6 +238,7 @@ impl FlowWords {
         !has(words, b"P") || (has_repeats(words) && has(words, b"L"))
     }
 
+    /// The rules of P and L outside macro calls.
     fn is_bad_block(&self) -> bool
         ensures { result ≡ is_bad_block self.now.dialect.system self.now.purpose self.now.words }
     {

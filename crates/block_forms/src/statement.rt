@@ -1,3 +1,4 @@
+//! A statement in a block.
 ghost use Rattle.std.specs.Prelude.{◌≡◌};
 ghost use Rattle.macro_expr.specs.Tree.{sentence_of, evaluated};
 
@@ -9,8 +10,8 @@ use macro_expr::Statement;
 pub struct FlowStatement {
     /// Its tree.
     pub statement: Statement,
-    /// Of a condition left and right, then of a computed number on the left side, then of the value;
-    /// of a jump that of its computed target.
+    /// Of a condition left and right, then of a computed number on the left side, then of the
+    /// value; of a jump that of its computed target.
     pub codes: CodeList,
     ghost agrees: { codes ≡ evaluated (sentence_of statement) },
 }

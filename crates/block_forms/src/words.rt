@@ -1,3 +1,4 @@
+//! A block of words.
 ghost use Rattle.std.specs.Prelude.{◌≡◌};
 ghost use Rattle.block_words.specs.Codes.{rows as rows_in, one_shot as one_shot_in, purpose_of};
 
@@ -56,8 +57,8 @@ impl FlowWords {
         })
     }
 
-    /// The M code of the block: the first one. A block that is not refused and calls no macro has no
-    /// two, and its code is at most 999.
+    /// The M code of the block: the first one. A block that is not refused and calls no macro has
+    /// no two, and its code is at most 999.
     #[tactic(auto, using(crate::proofs::Accepted::code_at_most))]
     pub fn code(&self) -> Option<u32>
         ensures value { result ≡ m_code self.now.words }

@@ -8,7 +8,7 @@ use Rattle.block_words.specs.Words.{is_one_of, words_of, whole_value, value_of_l
 use Rattle.block_words.specs.Codes.{natural}
 
 -- the last of a list with one more is that one
-last_of_push : {X : Type 0} (xs : List X) (x : X) → last_of (xs ++ x ∷ []) ≡ Some x
+pub last_of_push : {X : Type 0} (xs : List X) (x : X) → last_of (xs ++ x ∷ []) ≡ Some x
 last_of_push [] x = refl
 last_of_push (y ∷ ys) x = rw (last_of_push ys x) refl
 

@@ -73,7 +73,8 @@ abbrev pub first : List ℕ → Option ℕ
 first [] = None
 first (code ∷ codes) = Some code
 
--- the M code of the block: the first one, and in a block that is not refused the only one outside a macro call
+-- the M code of the block: the first one, and in a block that is not refused the only one outside a
+-- macro call
 abbrev pub m_code : List FlowWord → Option ℕ
 m_code words = first (m_codes words)
 
@@ -96,7 +97,8 @@ purpose_by (Some Dwell) = purpose.Dwell
 purpose_by (Some Setting) = purpose.Setting
 purpose_by other = purpose.Other
 
--- What decides the meaning of P and L: a macro call; a call, a return or a wait; else the one-shot code in force.
+-- What decides the meaning of P and L: a macro call; a call, a return or a wait; else the one-shot
+-- code in force.
 abbrev pub purpose_of : Dialect → List FlowWord → Purpose
 purpose_of dialect words =
     if gives dialect.system is_macro_call words then purpose.MacroCall

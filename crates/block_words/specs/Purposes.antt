@@ -3,8 +3,8 @@ use Rattle.std.specs.Prelude.{ℕ, Bool, true, false, ◌==◌, ◌||◌, List, 
 use Rattle.block_words.specs.declared.purpose.Purpose.{Purpose}
 use Rattle.block_words.specs.declared.purpose.Purpose.TheVariants.{MacroCall, Subprogram, Return, Wait, Dwell, Setting, Other}
 
--- the letters whose words must be written out: G, N and O everywhere, M outside macro calls, P and L of calls and returns, L of
--- the setting of an offset
+-- the letters whose words must be written out: G, N and O everywhere, M outside macro calls, P and
+-- L of calls and returns, L of the setting of an offset
 abbrev pub fixed_letters : Purpose → List ℕ
 fixed_letters MacroCall = codes "GNOPL"
 fixed_letters Subprogram = codes "GNOMPL"

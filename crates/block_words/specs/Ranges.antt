@@ -24,8 +24,8 @@ fits NotNegative literal = not (is_negative literal.value)
 fits Whole literal = is_some (whole_of literal.value)
 fits (Between least greatest) literal = is_between least greatest (whole_of literal.value)
 
--- P: milliseconds of a dwell; the number of an offset; a program, with repeats before its four digits or without; the sequence
--- number of a return; the program of a macro call
+-- P: milliseconds of a dwell; the number of an offset; a program, with repeats before its four
+-- digits or without; the sequence number of a return; the program of a macro call
 abbrev pub range_of_p : Purpose → Range
 range_of_p MacroCall = Between 1 9999
 range_of_p Subprogram = Between 1 99999999

@@ -1,3 +1,4 @@
+//! The G and M codes of a block, and what they make of its P and L.
 ghost use Rattle.std.specs.Prelude.{◌≡◌, ◌≤◌, IfSome, IfOk};
 ghost use Rattle.std.specs.List.{list_any};
 ghost use Rattle.code_tables.specs.Codes.{last_of_group};
@@ -22,6 +23,7 @@ pub fn row_of_word(system: System, word: &FlowWord) -> Option<Row>
     }
 }
 
+/// A code that the system lacks has no row, and is left out here.
 fn collect_rows(alloc: Global, system: System, words: &[FlowWord]) -> Result<Vec<Row>, AllocError>
     ensures { IfOk result (λ found. found.items ≡ rows system words.now) }
 {

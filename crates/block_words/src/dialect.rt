@@ -1,3 +1,4 @@
+//! How a tape is read, as the settings say.
 ghost use Rattle.std.specs.Prelude.{◌≡◌};
 ghost use Rattle.code_tables.specs.Codes.{row_of};
 ghost use Rattle.code_tables.specs.Systems.{rows_of_system};
@@ -5,15 +6,16 @@ ghost use Rattle.code_tables.specs.Systems.{rows_of_system};
 use cell_settings::Settings;
 use code_tables::{Row, System, row_of_code};
 
-/// What the settings say of how a tape is read: which M codes wait for the other path, how the P of a
-/// wait names both paths, and which system its G codes are of.
+/// What the settings say of how a tape is read: which M codes wait for the other path, how the P of
+/// a wait names both paths, and which system its G codes are of.
 #[derive(Clone, Copy, Debug, PartialEq, Eq)]
 pub struct Dialect {
     /// The first waiting code, 100 or above.
     pub low: u16,
     /// The last waiting code.
     pub high: u16,
-    /// P names the paths by bits: 3 for both. Else by their numbers, one behind the other: 12 or 21.
+    /// P names the paths by bits: 3 for both. Else by their numbers, one behind the other: 12 or
+    /// 21.
     pub bits: bool,
     /// The system of the G codes.
     pub system: System,

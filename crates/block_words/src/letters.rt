@@ -1,3 +1,4 @@
+//! The words of a block by their letters.
 ghost use Rattle.std.specs.Prelude.{◌≡◌, ◌≤◌, IfSome, length, if◌then◌else◌};
 ghost use Rattle.block_words.specs.Words.{is_one_of, words_of, has, has_computed, whole_value, last_whole};
 ghost use Rattle.block_words.specs.Codes.{natural};
@@ -52,8 +53,8 @@ fn later_number(before: Option<u32>, word: &FlowWord, letters: &[u8]) -> Option<
     }
 }
 
-/// The number that the last word of these letters says, where it is written out, whole and not below
-/// 0.
+/// The number that the last word of these letters says, where it is written out, whole and not
+/// below 0.
 #[tactic(auto, using(crate::proofs::LastWord::last_number_more))]
 pub fn number_of(words: &[FlowWord], letters: &[u8]) -> Option<u32>
     ensures value { result ≡ natural (last_whole letters.now words.now) }

@@ -1,3 +1,4 @@
+//! What a block is for.
 ghost use Rattle.std.specs.Prelude.{◌≡◌};
 
 /// What decides the meaning of the addresses P and L, and in a dwell of X and U.

@@ -1,3 +1,4 @@
+//! Which numbers a word may write out.
 ghost use Rattle.std.specs.Prelude.{◌≡◌};
 ghost use Rattle.block_words.specs.Ranges.{fits, range_of_p, range_of_l, range_of_way, range_of_letter, range_of_argument, range_of, is_between, is_in_range};
 
@@ -19,6 +20,7 @@ pub enum Range {
     Between { least: u32, greatest: u32 },
 }
 
+/// A range of whole numbers, both ends in it.
 fn between(least: u32, greatest: u32) -> Range
     ensures { result ≡ Range.Between least greatest }
 {
@@ -61,6 +63,7 @@ fn range_of_way(purpose: Purpose) -> Range
     }
 }
 
+/// The ranges outside macro calls.
 fn range_of_letter(purpose: Purpose, letter: u8) -> Range
     ensures { result ≡ range_of_letter purpose letter }
 {
@@ -97,6 +100,7 @@ fn range_of(purpose: Purpose, letter: u8) -> Range
     }
 }
 
+/// A literal with a fraction is in no range of whole numbers.
 fn is_between(least: u32, greatest: u32, number: Option<i64>) -> bool
     ensures { result ≡ is_between least greatest number }
 {
@@ -106,6 +110,7 @@ fn is_between(least: u32, greatest: u32, number: Option<i64>) -> bool
     }
 }
 
+/// A range of whole numbers takes a literal with a point, where its fraction is 0.
 fn fits(range: Range, literal: &Literal) -> bool
     ensures { result ≡ fits range literal.now }
 {

@@ -1,8 +1,8 @@
+//! A word of a block, and its value.
 ghost use Rattle.std.specs.Prelude.{◌≡◌, ◌≤◌, Some, IfSome, unsigned_abs};
 
 use macro_eval::Code;
-use nc_number::Literal;
-use std::marker::Model;
+use nc_number::{ListOf, Literal};
 
 /// The value of a word.
 #[derive(Debug, Drop)]
@@ -24,38 +24,7 @@ pub struct FlowWord {
 }
 
 /// The words of a block, in the order of the text.
-#[derive(Debug, Drop)]
-pub struct FlowWordList {
-    words: Vec<FlowWord>,
-}
-
-impl Model for FlowWordList {
-    ghost use Rattle.std.specs.Prelude.{List};
-    ghost use Rattle.std.specs.Coded.{coded_list};
-    ghost use Rattle.block_words.specs.declared.word.FlowWord.{FlowWord};
-    ghost use Rattle.block_words.specs.contracts.word.FlowWord.{the_row};
-
-    ghost Value = { List FlowWord };
-
-    ghost coded = { coded_list the_row.coded };
-
-    ghost view = { λ list. list.words.items };
-}
-
-impl FlowWordList {
-    pub fn of(words: Vec<FlowWord>) -> Self
-        ensures { result ≡ words.items }
-    {
-        FlowWordList { words }
-    }
-
-    /// The words, first to last.
-    pub fn as_slice(&self) -> &[FlowWord]
-        ensures { result.now ≡ self.now }
-    {
-        self.words.as_slice()
-    }
-}
+pub type FlowWordList = ListOf<FlowWord>;
 
 impl WordValue {
     ghost use Rattle.block_words.specs.Words.{is_computed, whole_value};

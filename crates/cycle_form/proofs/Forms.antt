@@ -1,20 +1,14 @@
 -- What the tests of a form say of it.
-use Rattle.std.proofs.Common.{◌≡◌, ℕ, ◌≤◌, Bool, true, false, not, ◌&&◌, List, [], ◌∷◌, ℤ, pos, ◌+ℤ◌, ◌≤ℤ◌, refl, arith, All}
+use Rattle.std.proofs.Common.{◌≡◌, ◌≤◌, true, not, ◌&&◌, List, [], ◌∷◌, pos, ◌+ℤ◌, All}
 use Rattle.std.specs.Prelude.{int_le}
-use Rattle.std.proofs.lemmas.Int.{ints}
 use Rattle.std.proofs.lemmas.List.Elements.{All-head, All-tail}
 use Rattle.nc_number.specs.declared.point.Point.{Point}
+use Rattle.nc_number.proofs.Bools.{both}
 use Rattle.rough_cycle.specs.Contour.{Descends, last_of}
 use Rattle.rough_cycle.specs.Form.{IsWritten}
 use Rattle.rough_cycle.specs.Roughing.{Rough, IsForm, IsFinishStart}
+use Rattle.rough_cycle.proofs.Orders.{le_is}
 use Rattle.cycle_form.specs.Forms.{goes_down, descends, is_form, is_finish_start}
-
-both : (a b : Bool) → (a && b) ≡ true → (a ≡ true) × (b ≡ true)
-both true b e = (refl, e)
-both false b e = absurd (let wrong : false ≡ true = e in cc)
-
-le_is : (a b : ℤ) → int_le a b ≡ true → a ≤ℤ b
-le_is a b e = grind (arith, ints)
 
 falls : (p : Point) (points : List Point) → descends p points ≡ true → Descends p points
 falls p [] e = tt

@@ -1,7 +1,6 @@
 -- One block more of a contour.
-use Rattle.std.proofs.Common.{◌≡◌, ℕ, ◌+◌, ◌<◌, Bool, true, false, List, [], ◌∷◌, ◌++◌, drop, length, get_or, Option, Some, None, refl, ap, sym, ◌∙◌}
+use Rattle.std.proofs.Common.{◌≡◌, ℕ, ◌+◌, ◌<◌, true, false, List, [], ◌∷◌, ◌++◌, drop, length, get_or, Option, Some, None, refl, ap, sym, ◌∙◌}
 use Rattle.std.proofs.lemmas.List.{drop_more}
-use Rattle.nc_number.specs.Options.{◌>>=◌}
 use Rattle.nc_text.specs.declared.tape.Block.{Block}
 use Rattle.nc_number.specs.declared.point.Point.{Point}
 use Rattle.cycle_form.specs.Contour.{contour_point, points_behind, is_numbered}

@@ -1,8 +1,9 @@
 -- One part more of a tape that has so many blocks.
-use Rattle.std.proofs.Common.{◌≡◌, ℕ, ◌+◌, ◌<◌, ◌≤◌, true, false, List, [], ◌∷◌, drop, length, get_or, Result, Ok, Err, refl, ap, sym, ◌∙◌, arith}
+use Rattle.std.proofs.Common.{◌≡◌, ℕ, ◌+◌, ◌<◌, ◌≤◌, true, false, List, [], ◌∷◌, drop, length, get_or, Result, Ok, Err, refl, ap, sym, ◌∙◌}
 use Rattle.std.specs.Prelude.{nat_lt, ⊤}
 use Rattle.std.proofs.lemmas.List.{drop_more}
-use Rattle.std.proofs.lemmas.Bool.Decides.{nat_tests}
+use Rattle.nc_number.specs.declared.limits.TheConstants.{MOST_BLOCKS}
+use Rattle.nc_number.proofs.Counts.{lt_true, lt_false}
 use Rattle.cycle_form.specs.declared.fault.CycleFault.{CycleFault}
 use Rattle.cycle_form.specs.declared.fault.CycleFault.TheVariants.{TooLarge}
 use Rattle.cycle_form.specs.Parts.{PartView}
@@ -12,12 +13,12 @@ fits : (blocks : ℕ) → sized blocks [] ≡ Ok tt
 unfolding sized
 fits blocks = refl
 
-too_large : (blocks : ℕ) (part : PartView) (parts : List PartView) → nat_lt 20000 (blocks_with blocks part) ≡ true
+too_large : (blocks : ℕ) (part : PartView) (parts : List PartView) → nat_lt MOST_BLOCKS (blocks_with blocks part) ≡ true
     → sized blocks (part ∷ parts) ≡ Err (TooLarge (first_line part.lines))
 unfolding sized
 too_large blocks part parts large = rw large refl
 
-goes_on : (blocks : ℕ) (part : PartView) (parts : List PartView) → nat_lt 20000 (blocks_with blocks part) ≡ false
+goes_on : (blocks : ℕ) (part : PartView) (parts : List PartView) → nat_lt MOST_BLOCKS (blocks_with blocks part) ≡ false
     → sized blocks (part ∷ parts) ≡ sized (blocks_with blocks part) parts
 unfolding sized
 goes_on blocks part parts small = rw small refl
@@ -25,27 +26,21 @@ goes_on blocks part parts small = rw small refl
 rest_is : (parts : List PartView) (i : ℕ) (part : PartView) → part ≡ get_or parts i part → i < length parts → drop i parts ≡ part ∷ drop (i + 1) parts
 rest_is parts i part is before = drop_more parts i part before ∙ ap (λ p. p ∷ drop (i + 1) parts) (sym is)
 
-is_above : (n : ℕ) → 20000 < n → nat_lt 20000 n ≡ true
-is_above n more = grind (arith, nat_tests)
-
-is_not_above : (n : ℕ) → n ≤ 20000 → nat_lt 20000 n ≡ false
-is_not_above n few = grind (arith, nat_tests)
-
 pub at_end : (blocks : ℕ) (rest : List PartView) (all : Result ⊤ CycleFault) → rest ≡ [] → sized blocks rest ≡ all → all ≡ Ok tt
 at_end blocks rest all empty so_far = sym so_far ∙ ap (sized blocks) empty ∙ fits blocks
 
 pub at_large : (blocks more line : ℕ) (lines : List ℕ) (parts : List PartView) (i : ℕ) (part : PartView) (all : Result ⊤ CycleFault)
-    → part ≡ get_or parts i part → i < length parts → more ≡ blocks_with blocks part → 20000 < more → lines ≡ part.lines → line ≡ first_line lines
+    → part ≡ get_or parts i part → i < length parts → more ≡ blocks_with blocks part → MOST_BLOCKS < more → lines ≡ part.lines → line ≡ first_line lines
     → sized blocks (drop i parts) ≡ all → all ≡ Err (TooLarge line)
 at_large blocks more line lines parts i part all is before more_is large lines_are line_is so_far =
     sym so_far ∙ ap (sized blocks) (rest_is parts i part is before)
-    ∙ too_large blocks part (drop (i + 1) parts) (ap (nat_lt 20000) (sym more_is) ∙ is_above more large)
+    ∙ too_large blocks part (drop (i + 1) parts) (ap (nat_lt MOST_BLOCKS) (sym more_is) ∙ lt_true MOST_BLOCKS more large)
     ∙ ap (λ l. Err (TooLarge l)) (sym (line_is ∙ ap first_line lines_are))
 
 pub at_next : (blocks more : ℕ) (parts : List PartView) (i : ℕ) (part : PartView) (all : Result ⊤ CycleFault)
-    → part ≡ get_or parts i part → i < length parts → more ≡ blocks_with blocks part → more ≤ 20000
+    → part ≡ get_or parts i part → i < length parts → more ≡ blocks_with blocks part → more ≤ MOST_BLOCKS
     → sized blocks (drop i parts) ≡ all → sized more (drop (i + 1) parts) ≡ all
 at_next blocks more parts i part all is before more_is few so_far =
     ap (λ n. sized n (drop (i + 1) parts)) more_is
-    ∙ sym (goes_on blocks part (drop (i + 1) parts) (ap (nat_lt 20000) (sym more_is) ∙ is_not_above more few))
+    ∙ sym (goes_on blocks part (drop (i + 1) parts) (ap (nat_lt MOST_BLOCKS) (sym more_is) ∙ lt_false MOST_BLOCKS more few))
     ∙ ap (sized blocks) (sym (rest_is parts i part is before)) ∙ so_far

@@ -1,12 +1,12 @@
 -- The blocks of a contour.
-use Rattle.std.specs.Prelude.{ℕ, ◌-◌, Bool, true, false, ◌&&◌, ◌==◌, List, [], ◌∷◌, ◌++◌, length, drop, Option, Some, None, ℤ, pos, option_map, if◌then◌else◌}
+use Rattle.std.specs.Prelude.{ℕ, Bool, false, ◌==◌, List, [], ◌∷◌, ◌++◌, length, drop, Option, Some, None, ℤ, pos, if◌then◌else◌}
 use Rattle.nc_number.specs.Options.{◌>>=◌}
 use Rattle.line_text.specs.declared.body.Word.{Word}
 use Rattle.nc_text.specs.declared.tape.Block.{Block}
 use Rattle.line_text.specs.declared.body.Body.{Body}
 use Rattle.line_text.specs.declared.body.Body.TheVariants.{Words, Statement}
 use Rattle.nc_number.specs.declared.point.Point.{Point}
-use Rattle.cycle_form.specs.Words.{literal_at, length_at, is_code, start_of}
+use Rattle.cycle_form.specs.Words.{literal_at, length_at, is_code}
 
 -- the words of a block that is no statement
 abbrev pub words_of : Body → Option (List Word)

@@ -1,5 +1,5 @@
 -- The forms of G71 and G70 in the blocks of a program.
-use Rattle.std.specs.Prelude.{ℕ, ◌+◌, Bool, true, false, not, ◌&&◌, ◌==◌, nat_le, List, [], ◌∷◌, length, map, take, drop, Option, Some, None, slice_get, ℤ, pos, ◌+ℤ◌, int_le, if◌then◌else◌}
+use Rattle.std.specs.Prelude.{ℕ, ◌+◌, Bool, true, not, ◌&&◌, ◌==◌, nat_le, List, [], ◌∷◌, length, map, take, drop, Option, Some, None, slice_get, pos, ◌+ℤ◌, int_le, if◌then◌else◌}
 use Rattle.std.specs.List.{list_all}
 use Rattle.nc_number.specs.Options.{◌>>=◌}
 use Rattle.nc_number.specs.declared.point.Point.{Point}
@@ -67,7 +67,8 @@ form_of marks a head points blocks =
     then Some (roughing_part head points blocks)
     else None
 
--- the form that begins with the block `a`: after it stand G71, G71, the contour's first block, and the others up to the last
+-- the form that begins with the block `a`: after it stand G71, G71, the contour's first block, and
+-- the others up to the last
 unfoldable pub form_at : List Bool → Block → List Block → Option PartView
 form_at marks a rest = do
   head ← head_at a rest
@@ -124,7 +125,8 @@ finish_call_in block = do
   words ← plain_words block
   finish_call_of words
 
--- G70 in `b`, from the start in the block `a` before it, along the contour of the latest form of these parts with its numbers
+-- G70 in `b`, from the start in the block `a` before it, along the contour of the latest form of
+-- these parts with its numbers
 unfoldable pub finish_at : List Bool → Block → Block → List PartView → Option PartView
 finish_at marks a b done = do
   start ← start_in a

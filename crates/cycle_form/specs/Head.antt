@@ -1,10 +1,9 @@
 -- What the first four blocks of a G71 form say.
-use Rattle.std.specs.Prelude.{◌≡◌, ℕ, zero, suc, ◌+◌, ◌≤◌, Bool, true, false, not, ◌&&◌, ◌==◌, nat_le, nat_lt, List, [], ◌∷◌, length, Option, Some, None, is_none, ℤ, pos, negsuc, ◌+ℤ◌, int_lt, int_le, unsigned_abs, if◌then◌else◌}
+use Rattle.std.specs.Prelude.{◌≡◌, ℕ, ◌≤◌, ◌&&◌, ◌==◌, nat_lt, List, [], ◌∷◌, length, Option, Some, None, is_none, ℤ, pos, negsuc, int_lt, if◌then◌else◌}
 use Rattle.nc_number.specs.Arithmetic.{whole_of}
 use Rattle.nc_number.specs.Options.{◌>>=◌}
 use Rattle.line_text.specs.declared.body.Word.{Word}
 use Rattle.nc_text.specs.declared.tape.Block.{Block}
-use Rattle.nc_number.specs.declared.point.Point.{Point}
 use Rattle.rough_cycle.specs.Form.{IsWritten}
 use Rattle.cycle_form.specs.declared.head.Cut.{Cut}
 use Rattle.cycle_form.specs.declared.head.Call.{Call}
@@ -91,7 +90,8 @@ pub record IsSoundCall (call : Call) : Type 0 where
   pub across : call.across ≤ 100000000000
   pub along : call.along ≤ 100000000000
 
--- all lengths are those that a literal can write, the depth is above 0, and the contour begins at the start's Z
+-- all lengths are those that a literal can write, the depth is above 0, and the contour begins at
+-- the start's Z
 pub record IsSoundHead (head : Head) : Type 0 where
   pub start : IsWritten head.start
   pub cut : IsSoundCut head.cut

@@ -1,6 +1,5 @@
 -- The parts of a tape that are written out.
 use Rattle.std.specs.Prelude.{ℕ, Bool, true, false, ◌&&◌, ◌==◌, List, ℤ}
-use Rattle.nc_number.specs.declared.point.Point.{Point}
 use Rattle.rough_cycle.specs.declared.block.PlainBlock.{PlainBlock}
 use Rattle.rough_cycle.specs.Form.{IsNearForm}
 use Rattle.rough_cycle.specs.Moves.{AreClear}
@@ -8,7 +7,8 @@ use Rattle.rough_cycle.specs.Roughing.{Rough, IsForm, IsFinishStart, first_moved
 use Rattle.cycle_form.specs.declared.part.PartKind.{PartKind}
 use Rattle.cycle_form.specs.declared.part.PartKind.TheVariants.{Roughing, Finishing}
 
--- what contracts see of a part: its form, the sequence numbers of its contour, its feed, and the lines of its blocks
+-- what contracts see of a part: its form, the sequence numbers of its contour, its feed, and the
+-- lines of its blocks
 pub record PartView : Type 0 where
   pub kind : PartKind
   pub rough : Rough

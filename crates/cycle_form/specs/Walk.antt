@@ -1,5 +1,6 @@
--- The parts of a tape that are written out, in the order of the text, or the first block with a cycle that is part of none.
-use Rattle.std.specs.Prelude.{ℕ, zero, suc, ◌-◌, Bool, true, false, List, [], ◌∷◌, ◌++◌, length, drop, Option, Some, None, Result, Ok, Err, slice_get, ℤ, pos, if◌then◌else◌}
+-- The parts of a tape that are written out, in the order of the text, or the first block with a
+-- cycle that is part of none.
+use Rattle.std.specs.Prelude.{ℕ, zero, suc, ◌-◌, Bool, false, List, [], ◌∷◌, ◌++◌, length, drop, Option, Some, None, Result, Ok, Err, slice_get, ℤ, pos, if◌then◌else◌}
 use Rattle.std.specs.List.{list_any}
 use Rattle.nc_number.specs.Options.{◌>>=◌}
 use Rattle.line_text.specs.declared.body.Word.{Word}
@@ -43,8 +44,8 @@ form_behind marks passed rest = block_before passed >>= (λ a. form_at marks a r
 abbrev pub finish_behind : List Bool → List Block → Block → List PartView → Option PartView
 finish_behind marks passed block done = block_before passed >>= (λ a. finish_at marks a block done)
 
--- What begins in a block: nothing, a part, or a cycle that is part of none. It depends on the blocks that were passed, on the
--- parts of the program so far, and on the blocks from this one on.
+-- What begins in a block: nothing, a part, or a cycle that is part of none. It depends on the
+-- blocks that were passed, on the parts of the program so far, and on the blocks from this one on.
 abbrev pub part_in : List Bool → List Block → List PartView → Block → List Block → Found
 part_in marks passed done block rest =
     if has_code (pos 71) block.body then part_or_bad (form_behind marks passed rest)
@@ -63,8 +64,8 @@ found_next line found.Nothing rest more = rest
 found_next line found.Bad rest more = Err (BadCycle line)
 found_next line (found.One part) rest more = more part
 
--- The parts so far and those of these blocks of a program. So many of the first blocks belong to the part before them, and
--- the parts of the program begin at a place in the list of parts.
+-- The parts so far and those of these blocks of a program. So many of the first blocks belong to
+-- the part before them, and the parts of the program begin at a place in the list of parts.
 unfoldable pub parts_from : List Bool → ℕ → ℕ → List Block → List PartView → List Block → Answer
 parts_from marks from skip passed done [] = Ok done
 parts_from marks from (suc skip) passed done (block ∷ blocks) = parts_from marks from skip (passed ++ block ∷ []) done blocks

@@ -1,5 +1,5 @@
 -- The words that a form may have.
-use Rattle.std.specs.Prelude.{ℕ, ◌+◌, Bool, true, false, ◌==◌, List, [], ◌∷◌, length, Option, Some, None, Result, Ok, Err, ℤ, pos, slice_get, if◌then◌else◌}
+use Rattle.std.specs.Prelude.{ℕ, Bool, false, ◌==◌, List, length, Option, Some, None, Result, Ok, Err, ℤ, pos, slice_get, if◌then◌else◌}
 use Rattle.std.specs.Ordering.{int_eq}
 use Rattle.nc_number.specs.declared.literal.Literal.{Literal}
 use Rattle.nc_number.specs.declared.fault.NumberFault.{NumberFault}

@@ -1,3 +1,4 @@
+//! The contour that a roughing cycle names.
 ghost use Rattle.std.specs.Prelude.{◌≡◌, [], Some, IfOk, IfSome, All, option_map};
 ghost use Rattle.rough_cycle.specs.Form.{IsWritten};
 ghost use Rattle.cycle_form.specs.Contour.{behind_line, target_of, contour_point, points_behind, is_numbered};
@@ -7,6 +8,7 @@ use nc_number::Point;
 use nc_text::{Block, Body, Word};
 use std::alloc::{AllocError, Global};
 
+/// The words behind the G01 that a line of a contour may begin with.
 #[tactic(auto, unfolding(crate::specs::Contour::behind_line))]
 fn behind_line(words: &[Word]) -> &[Word]
     ensures { result.now ≡ behind_line words.now }
@@ -18,6 +20,7 @@ fn behind_line(words: &[Word]) -> &[Word]
     }
 }
 
+/// An axis that is not named stays where it is.
 #[tactic(auto, unfolding(crate::specs::Contour::target_of))]
 fn target_of(from: &Point, words: &[Word]) -> Option<Point>
     requires { IsWritten from.now }
@@ -43,6 +46,7 @@ fn target_of(from: &Point, words: &[Word]) -> Option<Point>
     }
 }
 
+/// A line of a contour has no word but G01 and its axes; any other block ends the form.
 #[tactic(auto, unfolding(crate::specs::Contour::contour_point))]
 fn contour_point(from: &Point, body: &Body) -> Option<Point>
     requires { IsWritten from.now }

@@ -1,3 +1,4 @@
+//! Why the roughing cycles of a tape can't be written out.
 ghost use Rattle.std.specs.Prelude.{◌≡◌};
 
 use thiserror::Error;
@@ -5,11 +6,12 @@ use thiserror::Error;
 /// Why the roughing cycles of a tape can't be written out.
 #[derive(Clone, Copy, Debug, PartialEq, Eq, Error)]
 pub enum CycleFault {
-    /// This line has a block with G70 or G71 that is part of no form, or the first G71 of a form with more than 1,000
-    /// passes.
+    /// This line has a block with G70 or G71 that is part of no form, or the first G71 of a form
+    /// with more than 1,000 passes.
     #[error("refusal 93 at line {0}")]
     BadCycle(u32),
-    /// With the part that is replaced from this line on, the whole tape first has more than 20,000 blocks.
+    /// With the part that is replaced from this line on, the whole tape first has more than 20,000
+    /// blocks.
     #[error("refusal 94 at line {0}")]
     TooLarge(u32),
 }

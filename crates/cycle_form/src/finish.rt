@@ -1,3 +1,4 @@
+//! The finishing cycle G70.
 ghost use Rattle.std.specs.Prelude.{◌≡◌, None, IfOk, IfSome, option_copied};
 ghost use Rattle.rough_cycle.specs.Form.{rough_of};
 ghost use Rattle.cycle_form.specs.Parts.{IsSoundPart};
@@ -21,6 +22,7 @@ pub struct FinishCall {
     pub feed: Value,
 }
 
+/// G70 P Q F, its words in this order and no others.
 #[tactic(auto, unfolding(crate::specs::Forms::finish_call_of))]
 fn finish_call_of(words: &[Word]) -> Option<FinishCall>
     ensures { result ≡ finish_call_of words.now }
@@ -34,6 +36,7 @@ fn finish_call_of(words: &[Word]) -> Option<FinishCall>
     Some(FinishCall { first, last, feed })
 }
 
+/// A later form with the same numbers replaces an earlier one.
 fn later(first: u32, last: u32, part: &Part, i: usize, found: Option<usize>) -> Option<usize>
     ensures { result ≡ later first last part.now i found }
 {
@@ -44,6 +47,7 @@ fn later(first: u32, last: u32, part: &Part, i: usize, found: Option<usize>) -> 
     }
 }
 
+/// Forms before the first of these parts are another program's, and not seen.
 fn latest_place(first: u32, last: u32, parts: &[Part]) -> Option<usize>
     ensures { result ≡ latest_from first last None 0 parts.now }
 {
@@ -63,7 +67,7 @@ fn latest(first: u32, last: u32, parts: &[Part]) -> Option<&Part>
     parts.get(place)
 }
 
-// A start above and before the contour.
+/// A start above and before the contour.
 fn is_finish_start(rough: &RoughForm, start: &Point) -> bool
     ensures { result ≡ is_finish_start (rough_of rough.now) start.now }
 {
@@ -71,6 +75,7 @@ fn is_finish_start(rough: &RoughForm, start: &Point) -> bool
     last.x <= start.x && rough.first.z <= start.z
 }
 
+/// A finish stands for its own part of the tape, so it has a contour of its own.
 fn copy_of(alloc: Global, rough: &RoughForm) -> Result<RoughForm, AllocError>
     ensures { IfOk result (λ copy. rough_of copy ≡ rough_of rough.now) }
 {
@@ -86,6 +91,7 @@ fn copy_of(alloc: Global, rough: &RoughForm) -> Result<RoughForm, AllocError>
     })
 }
 
+/// The start is a block by itself, without a sequence number.
 #[tactic(auto, unfolding(crate::specs::Forms::start_in))]
 fn start_in(block: &Block) -> Option<Point>
     ensures { result ≡ start_in block.now }
@@ -94,6 +100,7 @@ fn start_in(block: &Block) -> Option<Point>
     start_of(words)
 }
 
+/// The call has no sequence number either.
 #[tactic(auto, unfolding(crate::specs::Forms::finish_call_in))]
 fn finish_call_in(block: &Block) -> Option<FinishCall>
     ensures { result ≡ finish_call_in block.now }
@@ -102,6 +109,7 @@ fn finish_call_in(block: &Block) -> Option<FinishCall>
     finish_call_of(words)
 }
 
+/// A start below or behind the contour makes no finish, and its G70 belongs to no form.
 fn finish_by(
     alloc: Global,
     form: &Part,
@@ -128,8 +136,8 @@ fn finish_by(
     )))
 }
 
-/// G70 in `b`, from the start in the block `a` before it, along the contour of the latest form of these parts with its
-/// numbers.
+/// G70 in `b`, from the start in the block `a` before it, along the contour of the latest form of
+/// these parts with its numbers.
 #[tactic(auto, unfolding(crate::specs::Forms::finish_at))]
 pub(crate) fn finish_at(
     alloc: Global,

@@ -1,3 +1,4 @@
+//! The forms of the roughing cycle G71.
 ghost use Rattle.std.specs.Prelude.{◌≡◌, ◌+◌, ◌≤◌, IfOk, IfSome, IsTrue, All, take, drop, map};
 ghost use Rattle.rough_cycle.specs.Contour.{last_of};
 ghost use Rattle.rough_cycle.specs.Form.{rough_of, IsNearForm, IsWritten};
@@ -39,6 +40,7 @@ pub(crate) fn form_at(
     form_of(alloc, marks, a, &head, points, blocks)
 }
 
+/// A form with too many passes, or with a skip sign or a comment in it, is none.
 fn form_of(
     alloc: Global,
     marks: &[bool],
@@ -73,6 +75,7 @@ fn form_of(
     )))
 }
 
+/// The head and the points as the one thing that the passes are made of.
 fn rough_by(head: &Head, points: Vec<Point>) -> RoughForm
     requires head { IsSoundHead head.now }
     requires points { All IsWritten points.items }
@@ -92,7 +95,7 @@ fn rough_by(head: &Head, points: Vec<Point>) -> RoughForm
     }
 }
 
-// All conditions of a form but for its count of passes.
+/// All conditions of a form but for its count of passes.
 fn is_form(rough: &RoughForm) -> bool
     requires { IsNearForm (rough_of rough.now) }
     ensures { result ≡ is_form (rough_of rough.now) }
@@ -101,7 +104,7 @@ fn is_form(rough: &RoughForm) -> bool
     descends(&rough.first, &rough.points) && is_below_start(&last, rough.across, &rough.start)
 }
 
-// The last X of a contour with its allowance is at most the start's.
+/// The last X of a contour with its allowance is at most the start's.
 fn is_below_start(last: &Point, across: u64, start: &Point) -> bool
     requires last { IsWritten last.now }
     requires across { across ≤ 100000000000 }
@@ -110,6 +113,7 @@ fn is_below_start(last: &Point, across: u64, start: &Point) -> bool
     last.x + across as i64 <= start.x
 }
 
+/// Each point of a contour goes down from the one before it.
 fn descends(first: &Point, points: &[Point]) -> bool
     ensures { result ≡ descends first.now points.now }
 {
@@ -123,7 +127,7 @@ fn descends(first: &Point, points: &[Point]) -> bool
     true
 }
 
-// X does not fall, Z does not rise, and one of them changes.
+/// X does not fall, Z does not rise, and one of them changes.
 fn goes_down(p: &Point, q: &Point) -> bool
     ensures { result ≡ goes_down p.now q.now }
 {
@@ -141,7 +145,8 @@ pub(crate) fn last_of(first: &Point, points: &[Point]) -> Point
     last
 }
 
-// A pass has four blocks, and the way along the contour four and one for each point after the first.
+/// A pass has four blocks, and the way along the contour four and one for each point after the
+/// first.
 #[tactic(auto, using(crate::proofs::PassCount::short))]
 fn is_short(alloc: Global, rough: &RoughForm) -> Result<bool, AllocError>
     requires { IsNearForm (rough_of rough.now) }
@@ -152,13 +157,14 @@ fn is_short(alloc: Global, rough: &RoughForm) -> Result<bool, AllocError>
     Ok(blocks.len() as u128 <= 4 * MOST_PASSES + 4 + points)
 }
 
+/// The blocks from the second point of a contour on.
 fn behind_three(blocks: &[Block]) -> &[Block]
     ensures { result.now ≡ drop 3 blocks.now }
 {
     blocks.get(3..).unwrap_or(&[])
 }
 
-// The three blocks before a contour's second point, and those of so many further points.
+/// The three blocks before a contour's second point, and those of so many further points.
 fn first_blocks(blocks: &[Block], points: usize) -> &[Block]
     ensures { result.now ≡ take (points + 3) blocks.now }
 {
@@ -169,6 +175,7 @@ fn first_blocks(blocks: &[Block], points: usize) -> &[Block]
     front
 }
 
+/// The lines that go when the form is written out.
 fn lines_of(alloc: Global, blocks: &[Block]) -> Result<Vec<u32>, AllocError>
     ensures { IfOk result (λ lines. lines.items ≡ map (λ block. block.line) blocks.now) }
 {

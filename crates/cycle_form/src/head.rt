@@ -1,3 +1,4 @@
+//! The two blocks that a roughing cycle begins with.
 ghost use Rattle.std.specs.Prelude.{◌≡◌, ◌≤◌, IfSome, Some, option_map, unsigned_abs};
 ghost use Rattle.cycle_form.specs.Head.{natural, size_at, number_at, feed_at, cut_of, call_of, plain_words, first_of, head_of, head_at, IsSoundCall, IsSoundCut, IsSoundHead};
 ghost use Rattle.rough_cycle.specs.Form.{IsWritten};
@@ -14,8 +15,8 @@ pub struct Cut {
     pub retreat: u64,
 }
 
-/// Which contour a form calls, by the sequence numbers of its first and last block, and how: allowances in 0.001 mm, and a
-/// feed.
+/// Which contour a form calls, by the sequence numbers of its first and last block, and how:
+/// allowances in 0.001 mm, and a feed.
 #[derive(Clone, Copy, Debug, PartialEq, Eq)]
 pub struct Call {
     pub first: u32,
@@ -34,12 +35,14 @@ pub struct Head {
     pub first: Point,
 }
 
+/// A size is no negative length.
 fn natural(n: i64) -> Option<u64>
     ensures { result ≡ natural n }
 {
     if n < 0 { None } else { Some(n as u64) }
 }
 
+/// A length in 0.001 mm that the word at this place writes.
 #[tactic(auto, unfolding(crate::specs::Head::size_at))]
 fn size_at(words: &[Word], i: usize, letter: u8) -> Option<u64>
     ensures size { result ≡ size_at words.now i letter }
@@ -49,6 +52,7 @@ fn size_at(words: &[Word], i: usize, letter: u8) -> Option<u64>
     natural(z)
 }
 
+/// A sequence number that the word at this place writes.
 #[tactic(auto, unfolding(crate::specs::Head::number_at))]
 pub(crate) fn number_at(words: &[Word], i: usize, letter: u8) -> Option<u32>
     ensures { result ≡ number_at words.now i letter }
@@ -58,6 +62,7 @@ pub(crate) fn number_at(words: &[Word], i: usize, letter: u8) -> Option<u32>
     if n < 0 { None } else { Some(n as u32) }
 }
 
+/// A feed is above 0.
 #[tactic(auto, unfolding(crate::specs::Head::feed_at))]
 pub(crate) fn feed_at(words: &[Word], i: usize, letter: u8) -> Option<Value>
     ensures { result ≡ feed_at words.now i letter }
@@ -67,6 +72,7 @@ pub(crate) fn feed_at(words: &[Word], i: usize, letter: u8) -> Option<Value>
     if 0 < feed.micro() { Some(feed) } else { None }
 }
 
+/// G71 U R, its words in this order and no others.
 #[tactic(auto, unfolding(crate::specs::Head::cut_of))]
 fn cut_of(words: &[Word]) -> Option<Cut>
     ensures cut { result ≡ cut_of words.now }
@@ -84,6 +90,7 @@ fn cut_of(words: &[Word]) -> Option<Cut>
     }
 }
 
+/// G71 P Q U W F, its words in this order and no others.
 #[tactic(auto, unfolding(crate::specs::Head::call_of))]
 fn call_of(words: &[Word]) -> Option<Call>
     ensures call { result ≡ call_of words.now }
@@ -120,6 +127,7 @@ pub(crate) fn plain_words(block: &Block) -> Option<&[Word]>
     }
 }
 
+/// The first block of the contour: G00 to an X, under the number that P names.
 #[tactic(auto, unfolding(crate::specs::Head::first_of))]
 fn first_of(number: u32, block: &Block) -> Option<i64>
     ensures first { result ≡ first_of number block.now }
@@ -138,6 +146,7 @@ fn first_of(number: u32, block: &Block) -> Option<i64>
     length_at(words, 1, b'X')
 }
 
+/// The contour begins at the Z of the start.
 #[tactic(auto, unfolding(crate::specs::Head::head_of))]
 fn head_of(a: &Block, b: &Block, c: &Block, d: &Block) -> Option<Head>
     ensures head { result ≡ head_of a.now b.now c.now d.now }

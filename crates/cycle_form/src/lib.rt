@@ -1,8 +1,8 @@
 //! The forms of G71 and G70 in the blocks of a tape.
 //!
-//! `parts_of` finds the parts of a tape that its roughing cycles stand for, in the order of the text, or the first block
-//! with G70 or G71 that is part of no form. A `Part` is sound by its type: the layer above has its blocks, which never
-//! enter the contour (`a_sound_part_is_clear`).
+//! `parts_of` finds the parts of a tape that its roughing cycles stand for, in the order of the
+//! text, or the first block with G70 or G71 that is part of no form. A `Part` is sound by its type:
+//! the layer above has its blocks, which never enter the contour (`a_sound_part_is_clear`).
 #![tactic(auto)]
 
 mod contour;

@@ -1,3 +1,4 @@
+//! Which lines of a text have a skip sign or a comment.
 ghost use Rattle.std.specs.Prelude.{◌≡◌, ◌||◌, IfOk};
 ghost use Rattle.std.specs.List.{list_all};
 ghost use Rattle.cycle_form.specs.Marks.{is_mark, marks_of, is_plain};
@@ -23,6 +24,7 @@ pub fn marks_of(alloc: Global, text: &[u8]) -> Result<Vec<bool>, AllocError>
     Ok(marks)
 }
 
+/// A bracket begins a comment, a slash is a skip sign.
 fn is_marked(before: bool, b: u8) -> bool
     ensures { result ≡ (before || is_mark b) }
 {
@@ -39,6 +41,7 @@ pub(crate) fn is_plain(marks: &[bool], block: &Block) -> bool
     }
 }
 
+/// Writing a form out would lose a comment, and a skip sign would skip a part of it.
 pub(crate) fn are_plain(marks: &[bool], blocks: &[Block]) -> bool
     ensures { result ≡ list_all (is_plain marks.now) blocks.now }
 {

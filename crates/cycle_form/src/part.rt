@@ -1,3 +1,4 @@
+//! A part of a tape that stands for plain blocks.
 ghost use Rattle.std.specs.Prelude.{◌≡◌, IfOk, List, length};
 ghost use Rattle.rough_cycle.specs.Form.{rough_of};
 ghost use Rattle.cycle_form.specs.Parts.{PartView, IsSoundPart, IsClearPart, part_blocks, is_called};
@@ -16,10 +17,11 @@ pub enum PartKind {
     Finishing(Point),
 }
 
-/// A part of a tape that is written out as plain blocks: G71 with the contour that it calls, or G70.
+/// A part of a tape that is written out as plain blocks: G71 with the contour that it calls, or
+/// G70.
 ///
-/// By its type the form is one (`IsForm`), its lengths are those that literals can write, and a finish starts above and
-/// before the contour.
+/// By its type the form is one (`IsForm`), its lengths are those that literals can write, and a
+/// finish starts above and before the contour.
 #[derive(Debug, Drop)]
 pub struct Part {
     kind: PartKind,
@@ -107,8 +109,8 @@ impl Part {
     }
 }
 
-/// No whole point on a move of a sound part lies inside its contour: of G71 the one with its allowances, of G70 the one
-/// itself.
+/// No whole point on a move of a sound part lies inside its contour: of G71 the one with its
+/// allowances, of G70 the one itself.
 pub fn a_sound_part_is_clear()
     ensures { (part : PartView) → IsSoundPart part → IsClearPart part }
 {

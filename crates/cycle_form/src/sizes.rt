@@ -1,15 +1,15 @@
+//! How many blocks a tape has with its cycles written out.
 ghost use Rattle.std.specs.Prelude.{◌≡◌, ◌≤◌, IfOk};
 ghost use Rattle.nc_number.specs.Answers.{Gives};
+ghost use Rattle.nc_number.specs.declared.limits.TheConstants.{MOST_BLOCKS};
 ghost use Rattle.cycle_form.specs.Sizes.{blocks_with, first_line, sized};
 
 use crate::fault::CycleFault;
 use crate::part::Part;
-use nc_number::Failing;
+use nc_number::{Failing, MOST_BLOCKS};
 use std::alloc::{AllocError, Global};
 
-/// The blocks that a tape may have.
-const MOST_BLOCKS: u128 = 20_000;
-
+/// Every part has a line, so 0 is never told.
 fn first_line(lines: &[u32]) -> u32
     ensures { result ≡ first_line lines.now }
 {
@@ -19,8 +19,9 @@ fn first_line(lines: &[u32]) -> u32
     }
 }
 
+/// The blocks of a part take the place of its lines.
 fn blocks_with(alloc: Global, blocks: u128, part: &Part) -> Result<u128, AllocError>
-    requires { blocks ≤ 20000 }
+    requires { blocks ≤ MOST_BLOCKS }
     ensures { IfOk result (λ more. more ≡ blocks_with blocks part.now) }
 {
     let made = part.blocks(alloc)?.len() as u128;
@@ -31,13 +32,13 @@ fn blocks_with(alloc: Global, blocks: u128, part: &Part) -> Result<u128, AllocEr
 ///
 /// Errors: 94 at the first line of the part with which it first has more.
 pub fn check_sizes(alloc: Global, blocks: usize, parts: &[Part]) -> Result<(), Failing<CycleFault>>
-    requires { blocks ≤ 20000 }
+    requires { blocks ≤ MOST_BLOCKS }
     ensures { Gives (λ _. tt) result (sized blocks parts.now) }
 {
     let mut count = blocks as u128;
     for part in parts {
         count = blocks_with(alloc, count, part)?;
-        if MOST_BLOCKS < count {
+        if count > MOST_BLOCKS as u128 {
             return Err(Failing::Fault(CycleFault::TooLarge(first_line(part.lines()))));
         }
     }

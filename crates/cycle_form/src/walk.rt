@@ -1,3 +1,4 @@
+//! The parts of a program, from its first block to its last.
 ghost use Rattle.std.specs.Prelude.{◌≡◌, [], IfOk, IfSome, All, length, drop};
 ghost use Rattle.cycle_form.specs.Parts.{IsSoundPart};
 ghost use Rattle.std.specs.List.{list_any};
@@ -24,18 +25,21 @@ pub enum Found {
     Bad,
 }
 
+/// Whether the word writes this G code out.
 fn has_word(code: i64, word: &Word) -> bool
     ensures { result ≡ has_word code word.now }
 {
     is_code(code, literal_of(b'G', word))
 }
 
+/// Whether one of the words writes this G code out.
 fn some_word(code: i64, words: &[Word]) -> bool
     ensures { result ≡ list_any (has_word code) words.now }
 {
     words.iter().any(|word| has_word(code, word))
 }
 
+/// A statement has no G code.
 fn has_code(code: i64, body: &Body) -> bool
     ensures { result ≡ has_code code body.now }
 {
@@ -45,6 +49,7 @@ fn has_code(code: i64, body: &Body) -> bool
     }
 }
 
+/// A cycle that is no form is refused, not passed by.
 fn part_or_bad(part: Option<Part>) -> Found
     requires { IfSome part IsSoundPart }
     ensures found { result ≡ part_or_bad part }
@@ -56,7 +61,7 @@ fn part_or_bad(part: Option<Part>) -> Found
     }
 }
 
-// A form whose first G71 is the first of these blocks.
+/// A form whose first G71 is the first of these blocks.
 fn form_behind(
     alloc: Global,
     marks: &[bool],
@@ -72,6 +77,7 @@ fn form_behind(
     }
 }
 
+/// A finish over a form of the same program.
 fn finish_behind(
     alloc: Global,
     marks: &[bool],
@@ -88,6 +94,7 @@ fn finish_behind(
     }
 }
 
+/// G71 comes before G70, where a block has both.
 fn part_in(
     alloc: Global,
     marks: &[bool],
@@ -110,7 +117,7 @@ fn part_in(
     Ok(Found::Nothing)
 }
 
-// The parts so far, and those of a program.
+/// The parts so far, and those of a program.
 fn with_program(
     alloc: Global,
     marks: &[bool],
@@ -142,23 +149,25 @@ fn with_program(
     Ok(parts)
 }
 
+/// The parts of the present program alone.
 fn behind(parts: &[Part], from: usize) -> &[Part]
     ensures { result.now ≡ drop from parts.now }
 {
     parts.get(from..).unwrap_or(&[])
 }
 
+/// The blocks of a part behind its first belong to it, whatever they say.
 fn blocks_left(part: &Part) -> usize
     ensures { result ≡ blocks_left part.now }
 {
     part.lines().len().saturating_sub(1)
 }
 
-/// The parts of a tape that are written out, in the order of the text. `marks` tells of each line of its text whether it has
-/// a skip sign or a comment.
+/// The parts of a tape that are written out, in the order of the text. `marks` tells of each line
+/// of its text whether it has a skip sign or a comment.
 ///
-/// Errors: 93 at the least line with a block that has G70 or G71 and is part of no form, or with the first G71 of a form
-/// with more than 1,000 passes.
+/// Errors: 93 at the least line with a block that has G70 or G71 and is part of no form, or with
+/// the first G71 of a form with more than 1,000 passes.
 pub fn parts_of(
     alloc: Global,
     marks: &[bool],

@@ -1,3 +1,4 @@
+//! The words of a block, as lengths and codes.
 ghost use Rattle.std.specs.Prelude.{◌≡◌, ◌≤◌, IfSome, Some, unsigned_abs};
 ghost use Rattle.rough_cycle.specs.Form.{IsWritten};
 ghost use Rattle.cycle_form.specs.Words.{literal_of, literal_at, length_at, is_code, start_of};
@@ -5,7 +6,8 @@ ghost use Rattle.cycle_form.specs.Words.{literal_of, literal_at, length_at, is_c
 use nc_number::{Literal, Point, is_literal, parse_word};
 use nc_text::Word;
 
-/// The literal of the word in this place, if it has this letter and no more digits than are allowed.
+/// The literal of the word in this place, if it has this letter and no more digits than are
+/// allowed.
 #[tactic(auto, unfolding(crate::specs::Words::literal_at))]
 pub(crate) fn literal_at(words: &[Word], i: usize, letter: u8) -> Option<Literal>
     ensures { result ≡ literal_at words.now i letter }

@@ -1,12 +1,10 @@
 -- The least number of which something holds.
-use Rattle.std.proofs.Common.{ℕ, zero, suc, ◌<◌, ◌≤◌, ◌⊎◌, inl, inr, arith}
-
-no_less : (n m : ℕ) → (n ≤ m) ⊎ (m < n)
-no_less n m = grind arith
+use Rattle.std.proofs.Common.{ℕ, zero, suc, ◌<◌, ◌≤◌, inl, inr, arith}
+use Rattle.nc_number.proofs.Counts.{le_or_lt}
 
 none_below : (P : ℕ → Type 0) → ((n : ℕ) → P n → ((m : ℕ) → P m → n ≤ m) → ⊥) → (k n : ℕ) → n < k → P n → ⊥
 none_below P not_least zero n below holds = absurd (omega arith)
-none_below P not_least (suc k) n below holds = not_least n holds (λ m other. elim (no_less n m) [
+none_below P not_least (suc k) n below holds = not_least n holds (λ m other. elim (le_or_lt n m) [
   | inl le ↦ le
   | inr less ↦ absurd (none_below P not_least k m (omega arith) other)
 ])

@@ -4,7 +4,8 @@ use Rattle.nc_number.specs.declared.cause.Cause.{Cause}
 use Rattle.nc_number.specs.Causes.{cause_number}
 use Rattle.nc_text.specs.declared.tape.Block.{Block}
 use Rattle.nc_text.specs.declared.tape.Program.{Program}
-use Rattle.nc_text.specs.Shape.{RiseFrom, blocks_in}
+use Rattle.nc_number.specs.Rising.{RiseFrom}
+use Rattle.nc_text.specs.Shape.{blocks_in}
 use Rattle.block_words.specs.declared.dialect.Dialect.{Dialect}
 use Rattle.block_forms.specs.Forms.{BlockForm, block_or_refusal}
 use Rattle.block_order.specs.declared.program.ControlProgram.{ControlProgram}
@@ -14,7 +15,8 @@ use Rattle.tape_flow.specs.Forms.{ProgramForm, at_line, programs_read}
 use Rattle.tape_flow.specs.Controls.{controls}
 use Rattle.tape_flow.specs.Exact.{HasBlockFault, IsAccepted, IsRefused}
 use Rattle.tape_flow.specs.Exact.IsRefused.{block, order}
-use Rattle.tape_flow.proofs.FirstRefused.{refusal_or, first_refusal, Tells, programs_tell}
+use Rattle.tape_flow.proofs.FirstRefused.{refusal_or, first_refusal, programs_tell, comes_to}
+use Rattle.tape_flow.proofs.Accepted.{nothing_found}
 use Rattle.flow_laws.specs.Answers.{CantBothFail, HasRisingBlocks}
 use Rattle.flow_laws.proofs.Least.{none_at_all}
 
@@ -60,10 +62,6 @@ one_block (x ∷ xs) low a b rise has other same =
 
 -- Where all blocks read, none is refused.
 
-none_first : {A : Type 0} (read : Result A FlowFault) (x : A) (first : Option FlowFault) → Tells read first None → read ≡ Ok x
-    → first ≡ None
-none_first read x first told is = rw is at told
-
 none_refused_at : (dialect : Dialect) (x : Block) (xs : List Block) (read : Result BlockForm ℕ) → block_or_refusal dialect x ≡ read
     → refusal_or (at_line x.line read) (first_refusal dialect xs) ≡ None
     → (first_refusal dialect xs ≡ None → (y : Block) (number : ℕ) → Contains xs y → block_or_refusal dialect y ≡ Err number → ⊥)
@@ -86,7 +84,7 @@ no_block_fault : (dialect : Dialect) (tape : List Program) (programs : List Prog
     → programs_read dialect tape ≡ Ok programs → HasBlockFault dialect tape line number → ⊥
 no_block_fault dialect tape programs line number read has =
     none_refused dialect (blocks_in tape)
-    (none_first (programs_read dialect tape) programs (first_refusal dialect (blocks_in tape)) (programs_tell dialect tape []) read) has.0
+    (nothing_found (programs_read dialect tape) programs (first_refusal dialect (blocks_in tape)) (programs_tell dialect tape []) read) has.0
     number has.1 has.3
 
 -- One refusal.
@@ -119,10 +117,6 @@ one_refusal law dialect tape line other_line number other rising (order programs
 
 -- Some answer.
 
-first_of : {A : Type 0} (read : Result A FlowFault) (fault : FlowFault) (first : Option FlowFault) → Tells read first None
-    → read ≡ Err fault → first ≡ Some fault
-first_of read fault first told is = rw is at told
-
 -- a block of the list is refused
 abbrev HasRefused : Dialect → List Block → Type 0
 HasRefused dialect xs = (y : Block) × (number : ℕ) × Contains xs y × (block_or_refusal dialect y ≡ Err number)
@@ -151,7 +145,7 @@ some_answer law dialect tape unaccepted unrefused = go (programs_read dialect ta
         (λ first. unrefused (first.0, cause_number first.1, order programs read (first.1, first.2, refl)))
     go (Err fault) read =
         let has = some_refused dialect (blocks_in tape) fault
-        (first_of (programs_read dialect tape) fault (first_refusal dialect (blocks_in tape)) (programs_tell dialect tape []) read) in
+        (comes_to (programs_read dialect tape) fault (first_refusal dialect (blocks_in tape)) (programs_tell dialect tape []) read) in
         none_at_all (λ line. (number : ℕ) × HasBlockFault dialect tape line number)
         (λ line own least. unrefused (line, own.0, block own.1 (λ other_line other other_has. least other_line (other, other_has))))
         has.0.line (has.1, (has.0, has.2, refl, has.3))

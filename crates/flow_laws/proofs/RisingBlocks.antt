@@ -11,7 +11,8 @@ use Rattle.line_text.specs.declared.said.Said.{Said}
 use Rattle.line_text.specs.declared.said.Said.TheVariants as said
 use Rattle.nc_text.specs.Lines.{Line, lines_of, is_percent}
 use Rattle.line_text.specs.Said.{line_says}
-use Rattle.nc_text.specs.Shape.{RiseFrom, blocks_in}
+use Rattle.nc_number.specs.Rising.{RiseFrom}
+use Rattle.nc_text.specs.Shape.{blocks_in}
 use Rattle.nc_text.specs.ReadShape.{RiseTo}
 use Rattle.nc_text.specs.Tape.{Before, Answer, nothing_read, programs_of, next, with_said, with_block, program_at, block_at, said_refusal, percent_refusal, outer_refusal, unless_refused, after_said, goes_on, in_rest, in_body, in_leader, begun, tape_of}
 use Rattle.flow_laws.specs.Answers.{HasRisingBlocks}

@@ -10,8 +10,9 @@ use Rattle.block_order.specs.declared.program.ControlProgram.{ControlProgram}
 use Rattle.block_order.specs.Order.{blocks, main_number, control_at, control_of, IsLoop}
 use Rattle.block_order.specs.Loud.{loud, stretch}
 use Rattle.block_order.specs.Labels.{IsTarget, Chain, Counts, IsStraight, IsUnforked}
-use Rattle.block_order.specs.Faults.{Stage, Waiting, HasFault, IsReachedBy, Stands, Strays, twice, mismatch, lost, unknown, into, strays, deep, jump, loop, back, IsClear}
+use Rattle.block_order.specs.Faults.{Stage, Waiting, HasFault, IsReachedBy, Stands, Strays, twice, mismatch, lost, unknown, strays, deep, jump, loop, back, IsClear}
 use Rattle.block_order.proofs.Faultless.{block_of_control}
+use Rattle.block_order.proofs.Searches.{loop_facts}
 use Rattle.flow_laws.specs.Waits.{IsFreeOf, AreWaitFaultsExact}
 
 same_number : (a b : ℕ) → (a ≢ b → ⊥) → a ≡ b
@@ -36,7 +37,8 @@ loops_straight : (tape : List ControlProgram) → IsFreeOf tape BranchAtWait →
     → IsLoop (blocks tape program) head close
     → stretch (loud tape) (blocks tape program) head ≡ stretch (loud tape) (blocks tape program) close
 loops_straight tape free program head close counts is_loop =
-    let b = block_of_control (blocks tape program) close (EndLoop is_loop.name) is_loop.is_close in
+    let facts = loop_facts (blocks tape program) head close is_loop in
+    let b = block_of_control (blocks tape program) close (EndLoop facts.name) facts.is_close in
     same_number (stretch (loud tape) (blocks tape program) head) (stretch (loud tape) (blocks tape program) close)
     (λ differ. free b.0.line (strays program close b.0 b.1 (loop head counts is_loop differ)))
 
@@ -91,9 +93,8 @@ wait_fault : (tape : List ControlProgram) (stage : Stage) (line : ℕ) (cause : 
     → IsWaitFault tape cause
 wait_fault tape _ _ _ (twice before after program is again) e = absurd cc
 wait_fault tape _ _ _ (mismatch program place block on at is) e = absurd cc
-wait_fault tape _ _ _ (lost program place n block stands jumps none) e = absurd cc
+wait_fault tape _ _ _ (lost program place n block cause stands jumps none) e = absurd cc
 wait_fault tape _ _ _ (unknown program place called repeats block stands calls none) e = absurd cc
-wait_fault tape _ _ _ (into program place n target block stands jumps found not_so) e = absurd cc
 wait_fault tape _ _ _ (strays program place block stands is) e = inl (refl, λ own. no_stray tape program place block own stands is)
 wait_fault tape _ _ _ (deep program place called repeats block by stands calls noisy) e =
     let at : control_at (blocks tape program) place ≡ Some (Call called repeats) =

@@ -1,7 +1,8 @@
 -- How the laws of answers are said.
 use Rattle.std.specs.Prelude.{List, map}
 use Rattle.nc_text.specs.declared.tape.Program.{Program}
-use Rattle.nc_text.specs.Shape.{RiseFrom, blocks_in}
+use Rattle.nc_number.specs.Rising.{RiseFrom}
+use Rattle.nc_text.specs.Shape.{blocks_in}
 
 -- one of the two holds: it can't be that neither does
 abbrev pub CantBothFail : Type 0 → Type 0 → Type 0

@@ -7,7 +7,8 @@ use Rattle.block_order.specs.Labels.{IsUnforked}
 use Rattle.tape_flow.specs.Controls.{controls}
 use Rattle.tape_flow.specs.Forms.{ProgramForm, programs_read}
 
--- All blocks read so, programs and loops fit together, jumps and calls find what they name, and the tape has one list of labels.
+-- All blocks read so, programs and loops fit together, jumps and calls find what they name, and the
+-- tape has one list of labels.
 pub record ReadsWithOneList (dialect : Dialect) (tape : List Program) (programs : List ProgramForm) : Type 0 where
   pub reads : programs_read dialect tape ≡ Ok programs
   pub fits : IsClear (controls programs) Fitting

@@ -11,7 +11,8 @@ use Rattle.block_order.specs.Faults.{HasFault, IsClear, Waiting}
 abbrev pub IsFreeOf : List ControlProgram → Cause → Type 0
 IsFreeOf tape cause = (line : ℕ) → HasFault tape Waiting line cause → ⊥
 
--- 65 says exactly that blocks stray, 66 exactly that calls go too deep, and without both the tape has one list of labels
+-- 65 says exactly that blocks stray, 66 exactly that calls go too deep, and without both the tape
+-- has one list of labels
 pub record AreWaitFaultsExact (tape : List ControlProgram) : Type 0 where
   pub strays : IsFreeOf tape BranchAtWait ↔ IsStraight tape
   pub deep : IsFreeOf tape WaitTooDeep ↔ (Chain tape 9 (main_number tape) → ⊥)

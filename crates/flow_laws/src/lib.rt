@@ -1,8 +1,8 @@
 //! The laws of the refusals of a tape: each has one, none lacks one, and 65 and 66 are exactly what
 //! keeps a tape from having one list of labels.
 //!
-//! Each law is the contract of a function that does nothing: who calls it has the law. They speak of
-//! definitions alone, of what is read, accepted and refused, whatever code finds it.
+//! Each law is the contract of a function that does nothing: who calls it has the law. They speak
+//! of definitions alone, of what is read, accepted and refused, whatever code finds it.
 #![tactic(auto)]
 
 mod lines;

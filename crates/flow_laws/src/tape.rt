@@ -12,8 +12,8 @@ use crate::order::{
     no_tape_is_unsound_without_a_fault,
 };
 
-/// A law: a tape is accepted exactly if its blocks read, its programs and loops fit together, its jumps
-/// and calls find what they name, and it has one list of labels, whatever its variables hold.
+/// A law: a tape is accepted exactly if its blocks read, its programs and loops fit together, its
+/// jumps and calls find what they name, and it has one list of labels, whatever its variables hold.
 pub fn a_tape_is_accepted_exactly_with_one_list()
     ensures { (dialect : Dialect) (tape : List Program) (programs : List ProgramForm)
         → IsAccepted dialect tape programs ↔ ReadsWithOneList dialect tape programs }

@@ -1,4 +1,5 @@
--- What a line says has the shape of a block or of an O number, and its texts are no longer than the line.
+-- What a line says has the shape of a block or of an O number, and its texts are no longer than the
+-- line.
 use Rattle.std.proofs.Common.{◌≡◌, ℕ, ◌+◌, ◌-◌, ◌≤◌, ◌==◌, Bool, true, false, cond, not, ◌&&◌, ltb, leb, List, [], ◌∷◌, length, take, drop, map, filter, get_or, slice_index, Option, Some, None, is_some, Result, Ok, Err, refl, sym, subst, ◌∙◌, arith, ℤ, pos, negsuc}
 use Rattle.std.specs.Prelude.{All, IfSome}
 use Rattle.std.specs.Char.{is_ascii_uppercase}
@@ -11,6 +12,7 @@ use Rattle.nc_number.specs.declared.literal.Literal.{Literal}
 use Rattle.nc_number.specs.declared.fault.NumberFault.{NumberFault}
 use Rattle.nc_number.specs.Arithmetic.{whole_of}
 use Rattle.nc_number.specs.Literals.{is_literal, word_literal}
+use Rattle.nc_number.proofs.Bools.{both}
 use Rattle.line_text.specs.declared.sign.Sign.{Sign}
 use Rattle.line_text.specs.declared.piece.Piece.{Piece}
 use Rattle.line_text.specs.declared.body.Word.{Word}
@@ -26,11 +28,6 @@ use Rattle.line_text.specs.Said.{is_sequence, is_sound, has_program_letter, stan
 use Rattle.line_text.specs.LineShape.{IsWordShape, IsAlone}
 use Rattle.line_text.specs.LineShape.{IsSaid}
 use Rattle.line_text.proofs.Judged.{judged_ok}
-
-both : (a b : Bool) → (a && b) ≡ true → (a ≡ true) × (b ≡ true)
-both true true e = (refl, refl)
-both true false e = absurd cc
-both false b e = absurd cc
 
 -- Lengths: nothing that is read of a line is longer than the line.
 
@@ -122,7 +119,8 @@ record IsPiece (most : ℕ) (piece : Piece) : Type 0 where
   letter : is_ascii_uppercase piece.letter ≡ true
   short : length piece.text ≤ most
 
--- the value is whole, and an O that is not alone, or is alone and a literal, does not stand among words
+-- the value is whole, and an O that is not alone, or is alone and a literal, does not stand among
+-- words
 record IsGood (most : ℕ) (piece : Piece) : Type 0 where
   piece_is : IsPiece most piece
   value : is_value piece.text ≡ true

@@ -11,8 +11,8 @@ use Rattle.line_text.specs.declared.said.Said.TheVariants as said
 use Rattle.line_text.specs.Front.{is_statement}
 use Rattle.line_text.specs.Values.{is_value}
 
--- A letter and a whole value, on a line of at most so many bytes. N and O among the words are computed: a literal N is the
--- block's sequence number, and a literal O begins a program.
+-- A letter and a whole value, on a line of at most so many bytes. N and O among the words are
+-- computed: a literal N is the block's sequence number, and a literal O begins a program.
 pub record IsWordShape (most : ℕ) (word : Word) : Type 0 where
   pub letter : is_ascii_uppercase word.letter ≡ true
   pub value : is_value word.text ≡ true

@@ -1,7 +1,5 @@
-ghost use Rattle.std.specs.Prelude.{◌≡◌};
-
-use nc_number::ByteList;
-use std::marker::Model;
+//! What stands in a block: words or a statement.
+use nc_number::{ByteList, ListOf};
 
 /// An address letter and its value.
 #[derive(Debug, Drop)]
@@ -12,38 +10,13 @@ pub struct Word {
     pub start: u32,
     /// The place behind the value's last byte.
     pub end: u32,
-    /// The value: a literal, a variable or a bracketed expression, whole; without ignored bytes and in upper case.
+    /// The value: a literal, a variable or a bracketed expression, whole; without ignored bytes and
+    /// in upper case.
     pub text: ByteList,
 }
 
 /// The words of a block, in the order of the text.
-#[derive(Debug, Drop)]
-pub struct WordList {
-    words: Vec<Word>,
-}
-
-impl Model for WordList {
-    ghost use Rattle.std.specs.Prelude.{List};
-    ghost use Rattle.line_text.specs.declared.body.Word.{Word};
-
-    ghost Value = { List Word };
-
-    ghost view = { λ l. l.words.items };
-}
-
-impl WordList {
-    pub(crate) fn of(words: Vec<Word>) -> Self
-        ensures { result ≡ words.items }
-    {
-        WordList { words }
-    }
-
-    pub fn as_slice(&self) -> &[Word]
-        ensures { result.now ≡ self.now }
-    {
-        self.words.as_slice()
-    }
-}
+pub type WordList = ListOf<Word>;
 
 /// What a block says.
 #[derive(Debug, Drop)]

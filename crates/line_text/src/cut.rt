@@ -1,3 +1,4 @@
+//! The words that the signs of a line are cut into: each letter outside square brackets begins one.
 ghost use Rattle.std.specs.Prelude.{◌≡◌, ◌+◌, ◌-◌, ◌^◌, ◌<◌, ◌≤◌, [], ◌∷◌, ◌++◌, length, map, take, drop, All, IfOk};
 ghost use Rattle.std.specs.List.{list_all, position_or_len, before_first};
 ghost use Rattle.line_text.specs.Pieces.{is_comment, depth_behind, begins_word, cut_at, bytes_of, end_of, value_part, piece_of, pieces_of, value_len};
@@ -9,6 +10,7 @@ use crate::sign::Sign;
 use nc_number::ByteList;
 use std::alloc::{AllocError, Global};
 
+/// How many square brackets are open behind a byte. One that closes nothing counts for nothing.
 pub(crate) fn depth_behind(depth: usize, byte: u8) -> usize
     requires { depth < 2 ^ 63 }
     ensures value { result ≡ depth_behind depth byte }
@@ -23,6 +25,7 @@ pub(crate) fn depth_behind(depth: usize, byte: u8) -> usize
     }
 }
 
+/// Letters inside square brackets are names of functions, and begin no word.
 fn begins_word(depth: usize, byte: u8) -> bool
     ensures { result ≡ begins_word depth byte }
 {
@@ -55,6 +58,7 @@ fn part_len(value: &[Sign]) -> usize
     value.iter().take_while(|sign| sign.byte != b'(').count()
 }
 
+/// A comment counts as one sign, whatever it holds.
 fn are_comments(signs: &[Sign]) -> bool
     ensures { result ≡ list_all is_comment signs.now }
 {

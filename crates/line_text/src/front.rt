@@ -1,3 +1,4 @@
+//! What a block may begin with: comments, a skip sign, and the first word of a statement.
 ghost use Rattle.std.specs.Char.{is_ascii_digit};
 ghost use Rattle.std.specs.Prelude.{◌≡◌, ◌≤◌, ◌||◌, ◌==◌, nat_eq, length, IfOk, IfSome};
 ghost use Rattle.std.specs.List.{prefix_len, starts_with};
@@ -23,6 +24,7 @@ pub(crate) fn behind_comments(signs: &[Sign]) -> &[Sign]
     rest
 }
 
+/// A skip sign may name one of nine switches by a digit behind it.
 fn is_switch(byte: u8) -> bool
     ensures { result ≡ is_switch byte }
 {

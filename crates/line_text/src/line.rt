@@ -1,3 +1,4 @@
+//! A whole line: which of the readings its signs have, and its least refusal by itself.
 ghost use Rattle.std.specs.Prelude.{◌≡◌, ◌-◌, ◌^◌, ◌<◌, length, IfOk, IsTrue, IfSome, ◌≤◌};
 ghost use Rattle.nc_number.specs.Answers.{Gives};
 ghost use Rattle.line_text.specs.Places.{ArePlaced};
@@ -58,6 +59,7 @@ fn numbered(alloc: Global, signs: &[Sign]) -> Result<Option<(Vec<u8>, Vec<u8>)>,
     }
 }
 
+/// A statement is never broken here: its text is read by the layers above.
 fn statement(number: Option<u32>, in_range: bool, text: Vec<u8>, long: bool) -> Reading
     ensures { result ≡ statement_reading number in_range text.items long }
 {
@@ -91,6 +93,7 @@ fn read_block(alloc: Global, slash: bool, signs: &[Sign]) -> Result<Reading, All
     read_words(alloc, slash, signs)
 }
 
+/// Bit n of the skips is switch n; a block without a skip sign is never skipped.
 fn is_skipped(skips: u16, switch: Option<u8>) -> bool
     requires { IfSome switch (λ n. n ≤ 9) }
     ensures { result ≡ is_skipped skips switch }

@@ -1,3 +1,4 @@
+//! The room in which lines are read.
 use crate::sign::Sign;
 use std::alloc::Global;
 
@@ -9,6 +10,7 @@ pub struct LineBuffer {
 }
 
 impl LineBuffer {
+    /// An empty one; it takes no memory yet.
     pub fn new(alloc: Global) -> Self {
         LineBuffer {
             alloc,

@@ -1,3 +1,4 @@
+//! A letter with what may be its value.
 use nc_number::ByteList;
 
 /// A letter and what may be its value.

@@ -1,3 +1,4 @@
+//! Why a line is refused.
 ghost use Rattle.std.specs.Prelude.{◌≡◌};
 ghost use Rattle.line_text.specs.Refusals.{cause_of, refusal_number};
 

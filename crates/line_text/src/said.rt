@@ -1,3 +1,4 @@
+//! What a line says.
 use crate::body::Body;
 
 /// A block without its line.

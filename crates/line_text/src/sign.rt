@@ -1,3 +1,4 @@
+//! The bytes of a line that count.
 ghost use Rattle.std.specs.Prelude.{◌≡◌, ◌+◌, ◌-◌, ◌^◌, ◌<◌, ◌≤◌, ◌++◌, ◌&&◌, false, not, length, IfOk, OnOk};
 ghost use Rattle.line_text.specs.Signs.{is_blank, is_allowed, inside_behind, counted_sign, scan_of, without_return, without_blanks, without_last, signs_of, are_allowed};
 ghost use Rattle.line_text.specs.Places.{ArePlaced};
@@ -5,19 +6,22 @@ ghost use Rattle.std.specs.List.{suffix_len};
 
 use std::alloc::AllocError;
 
-/// A byte of a line that counts, in upper case, and its place in the line. A comment is its opening bracket.
+/// A byte of a line that counts, in upper case, and its place in the line. A comment is its opening
+/// bracket.
 #[derive(Clone, Copy, Debug, PartialEq, Eq)]
 pub struct Sign {
     pub place: u32,
     pub byte: u8,
 }
 
+/// Spaces and tabulators are ignored everywhere.
 fn is_blank(byte: u8) -> bool
     ensures { result ≡ is_blank byte }
 {
     byte == b' ' || byte == b'\t'
 }
 
+/// The characters of a tape outside comments, in upper case.
 fn is_allowed(byte: u8) -> bool
     ensures { result ≡ is_allowed byte }
 {
@@ -56,6 +60,7 @@ fn without_return(line: &[u8], ended: bool) -> &[u8]
     }
 }
 
+/// Blanks before the end of a line would hide its semicolon.
 fn blanks_at_end(line: &[u8]) -> usize
     ensures count { result ≡ suffix_len is_blank line.now }
     ensures within { result ≤ length line.now }
@@ -63,6 +68,7 @@ fn blanks_at_end(line: &[u8]) -> usize
     line.iter().rev().take_while(|b| is_blank(**b)).count()
 }
 
+/// A line without the blanks that it ends with.
 fn without_blanks(line: &[u8]) -> &[u8]
     ensures { result.now ≡ without_blanks line.now }
 {
@@ -70,6 +76,7 @@ fn without_blanks(line: &[u8]) -> &[u8]
     front
 }
 
+/// A line without the semicolon that may end its block.
 fn without_semicolon(line: &[u8]) -> &[u8]
     ensures { result.now ≡ without_last 59 line.now }
 {

@@ -1,3 +1,4 @@
+//! What may stand behind an address letter.
 ghost use Rattle.std.specs.Prelude.{◌≡◌, ◌+◌, ◌^◌, ◌<◌, ◌≤◌, length, IfSome, IsTrue};
 ghost use Rattle.std.specs.Char.{is_ascii_digit};
 ghost use Rattle.std.specs.List.{list_all};
@@ -25,6 +26,7 @@ fn closes(text: &[u8]) -> bool
     false
 }
 
+/// The number of a variable has neither sign nor point.
 fn are_digits(text: &[u8]) -> bool
     ensures { result ≡ list_all is_ascii_digit text.now }
 {
@@ -65,12 +67,14 @@ fn is_reference(text: &[u8]) -> bool
     }
 }
 
+/// The signs that may stand before a value.
 fn is_sign(byte: u8) -> bool
     ensures { result ≡ is_sign byte }
 {
     byte == b'+' || byte == b'-'
 }
 
+/// A text without the one sign that it may begin with.
 fn behind_sign(text: &[u8]) -> &[u8]
     ensures value { result.now ≡ behind_sign text.now }
     ensures short { length result.now ≤ length text.now }
@@ -132,6 +136,7 @@ fn unsigned_len(text: &[u8]) -> usize
     digits + fraction_len(rest)
 }
 
+/// How many signs a text begins with: one at most counts.
 fn sign_len(text: &[u8]) -> usize
     ensures count { result ≡ sign_len text.now }
     ensures within { result ≤ length text.now }
@@ -160,6 +165,7 @@ pub(crate) fn has_long_front(text: &[u8]) -> bool
     is_literal(front) && has_too_many_digits(front)
 }
 
+/// A number below 0 is in no range.
 fn in_range(low: u32, high: u32, n: Option<i64>) -> Option<u32>
     ensures value { result ≡ in_range low high n }
     ensures range { IfSome result (λ n. n ≤ high) }

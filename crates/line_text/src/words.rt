@@ -1,3 +1,4 @@
+//! A block of words: its sequence number, its words, or the O number that it is.
 ghost use Rattle.std.specs.Prelude.{◌≡◌, ◌^◌, ◌<◌, ◌≤◌, None, ◌+◌, length, take, if◌then◌else◌, IfOk, IsTrue};
 ghost use Rattle.std.specs.List.{list_all, list_any, prefix_len};
 ghost use Rattle.line_text.specs.Values.{number_in};
@@ -41,12 +42,14 @@ fn sound_len(pieces: &[Piece]) -> usize
     pieces.iter().take_while(|piece| is_sound(piece)).count()
 }
 
+/// Whether one of the pieces is a number with too many digits.
 fn any_long(pieces: &[Piece]) -> bool
     ensures { result ≡ list_any is_long pieces.now }
 {
     pieces.iter().any(|piece| is_long(piece))
 }
 
+/// Whether an O stands among the words, with whatever value.
 fn has_program_letter(pieces: &[Piece]) -> bool
     ensures { result ≡ has_program_letter pieces.now }
 {
@@ -60,6 +63,7 @@ fn stands_alone(slash: bool, pieces: &[Piece]) -> bool
     !has_program_letter(pieces) || (!slash && pieces.len() == 1)
 }
 
+/// The sequence number behind one more piece: a later one replaces an earlier one.
 fn sequence_number(piece: &Piece, before: Option<u32>) -> Option<u32>
     ensures { result ≡ (if is_sequence piece.now then number_in 0 99999 piece.now.text else before) }
 {
@@ -81,18 +85,21 @@ fn sequence(pieces: &[Piece]) -> Option<u32>
     number
 }
 
+/// A sequence number is at most 99,999; any other word is in range here.
 fn is_in_range(piece: &Piece) -> bool
     ensures { result ≡ is_in_range piece.now }
 {
     !is_sequence(piece) || number_in(0, 99_999, piece.text.as_slice()).is_some()
 }
 
+/// Every sequence number counts here, though only the last one stays.
 fn are_in_range(pieces: &[Piece]) -> bool
     ensures { result ≡ list_all is_in_range pieces.now }
 {
     pieces.iter().all(|piece| is_in_range(piece))
 }
 
+/// A piece that was found whole is a word.
 fn into_word(piece: Piece) -> Word
     ensures { result ≡ word_of piece }
 {
@@ -124,6 +131,7 @@ fn words(alloc: Global, pieces: Vec<Piece>) -> Result<Vec<Word>, AllocError>
     Ok(words)
 }
 
+/// An O number stands alone in its block, without a skip sign.
 fn is_program(slash: bool, pieces: &[Piece]) -> bool
     ensures { result ≡ is_program slash pieces.now }
 {
@@ -135,6 +143,7 @@ fn is_program(slash: bool, pieces: &[Piece]) -> bool
     }
 }
 
+/// The O number from 1 to 9,999, or none where it is out of that range.
 fn program_number(slash: bool, pieces: &[Piece]) -> Option<u32>
     requires { IsTrue (is_program slash pieces.now) }
     ensures { result ≡ program_number pieces.now }

@@ -1,6 +1,7 @@
 -- Bytes past the limit need no count.
 use Rattle.std.proofs.Common.{◌≡◌, ◌==◌, ℕ, ◌+◌, ◌<◌, ◌≤◌, Bool, true, false, cond, ltb, List, [], ◌∷◌, length, Option, Some, None, Result, Ok, Err, refl, sym, ap, ◌∙◌, arith}
 use Rattle.std.proofs.lemmas.Bool.{lt-ltb, le-ltb, ltb-true, ltb-false}
+use Rattle.nc_number.specs.declared.limits.TheConstants.{LONGEST_LINE, LONGEST_TAPE}
 use Rattle.line_text.specs.declared.refusal.Refusal.{Refusal}
 use Rattle.line_text.specs.declared.refusal.Refusal.TheVariants.{NoProgramNumber, LineTooLong, TooManyBlocks, TapeTooLong, WordRange}
 use Rattle.line_text.specs.declared.said.Said.{Said}
@@ -21,20 +22,20 @@ ltb_same k a b above below = go (ltb k b) refl
     go true e = lt-ltb k a (above (ltb-true k b e))
     go false e = le-ltb k a (below (ltb-false k b e))
 
-long_counted : (len : ℕ) → ltb 512 (counted len) ≡ ltb 512 len
-long_counted len = ltb_same 512 (counted len) len (λ (h : 512 < len). omega arith) (λ (h : len ≤ 512). omega arith)
+long_counted : (len : ℕ) → ltb LONGEST_LINE (counted len) ≡ ltb LONGEST_LINE len
+long_counted len = ltb_same LONGEST_LINE (counted len) len (λ (h : LONGEST_LINE < len). omega arith) (λ (h : len ≤ LONGEST_LINE). omega arith)
 
 past_counted : (before : Before) (len : ℕ) (ended : Bool) → is_past_end before (counted len) ended ≡ is_past_end before len ended
 past_counted before len true =
     let bytes = before.bytes in
-    ltb_same 4194304 (bytes + (counted len + 1)) (bytes + (len + 1)) (λ (h : 4194304 < bytes + (len + 1)). omega arith) (λ (h : bytes + (len + 1) ≤ 4194304). omega arith)
+    ltb_same LONGEST_TAPE (bytes + (counted len + 1)) (bytes + (len + 1)) (λ (h : LONGEST_TAPE < bytes + (len + 1)). omega arith) (λ (h : bytes + (len + 1) ≤ LONGEST_TAPE). omega arith)
 past_counted before len false =
     let bytes = before.bytes in
-    ltb_same 4194304 (bytes + counted len) (bytes + len) (λ (h : 4194304 < bytes + len). omega arith) (λ (h : bytes + len ≤ 4194304). omega arith)
+    ltb_same LONGEST_TAPE (bytes + counted len) (bytes + len) (λ (h : LONGEST_TAPE < bytes + len). omega arith) (λ (h : bytes + len ≤ LONGEST_TAPE). omega arith)
 
 within_counted : (before : Before) (len : ℕ) (ended : Bool) → is_past_end before len ended ≡ false → counted len ≡ len
-within_counted before len true e = let bytes = before.bytes in let h = ltb-false 4194304 (bytes + (len + 1)) e in omega arith
-within_counted before len false e = let bytes = before.bytes in let h = ltb-false 4194304 (bytes + len) e in omega arith
+within_counted before len true e = let bytes = before.bytes in let h = ltb-false LONGEST_TAPE (bytes + (len + 1)) e in omega arith
+within_counted before len false e = let bytes = before.bytes in let h = ltb-false LONGEST_TAPE (bytes + len) e in omega arith
 
 -- what stands behind a line, where its length may be counted or not
 unless_counted : (at before : Before) (refusal : ℕ → Option Refusal) (len : ℕ) (ended : Bool) → refusal (counted len) ≡ refusal len → (refusal len ≡ None → is_past_end before len ended ≡ false)
@@ -60,7 +61,7 @@ percent_within false false e = refl
 
 percent_counted : (before : Before) (len : ℕ) (ended : Bool) → after_percent before (counted len) ended ≡ after_percent before len ended
 percent_counted before len ended =
-    unless_counted before before (λ n. percent_refusal before n ended) len ended (rw (long_counted len, past_counted before len ended) refl) (percent_within (ltb 512 len) (is_past_end before len ended))
+    unless_counted before before (λ n. percent_refusal before n ended) len ended (rw (long_counted len, past_counted before len ended) refl) (percent_within (ltb LONGEST_LINE len) (is_past_end before len ended))
 
 said_within : (early long many past range : Bool)
     → ◌≡◌ {A = Option Refusal} (cond early (Some NoProgramNumber) (cond long (Some LineTooLong) (cond many (Some TooManyBlocks) (cond past (Some TapeTooLong) (cond range (Some WordRange) None))))) None → past ≡ false

@@ -1,10 +1,12 @@
--- Where a line has ended and nothing is refused, nothing is decided: two texts that may follow have different answers.
+-- Where a line has ended and nothing is refused, nothing is decided: two texts that may follow have
+-- different answers.
 use Rattle.std.proofs.Common.{◌≡◌, ◌==◌, ℕ, ◌+◌, ◌≤◌, Bool, true, false, cond, List, [], ◌∷◌, ◌++◌, length, None, Ok, Err, refl, sym, ap, ◌∙◌, append_assoc, lit≤, arith}
 use Rattle.std.proofs.Math.ListN.{replicate}
 use Rattle.std.specs.Option.{is_none}
 use Rattle.std.proofs.lemmas.Bool.{lt-ltb}
 use Rattle.std.proofs.lemmas.List.{length-replicate}
 use Rattle.std.proofs.lemmas.List.Elements.{All-head, All-tail, All-cons, All-replicate}
+use Rattle.nc_number.specs.declared.limits.TheConstants.{LONGEST_TAPE}
 use Rattle.nc_text.specs.declared.fault.TextFault.{TextFault}
 use Rattle.nc_text.specs.declared.tape.Program.{Program}
 use Rattle.line_text.specs.declared.refusal.Refusal.TheVariants.{BadCharacter, NoEnd, TapeTooLong}
@@ -37,15 +39,15 @@ long_line n = record { bytes = long n; ended = false }
 long_is : (n : ℕ) → lines_of (long n) ≡ long_line n ∷ []
 long_is n = text_ends 88 (replicate n 88) (All-cons InLine 88 (replicate n 88) refl (All-replicate InLine n 88 refl))
 
-long_past : (before : Before) (n : ℕ) → 4194304 ≤ n → is_past_end before (length (long n)) false ≡ true
+long_past : (before : Before) (n : ℕ) → LONGEST_TAPE ≤ n → is_past_end before (length (long n)) false ≡ true
 long_past before n above =
     let bytes = before.bytes in
-    lt-ltb 4194304 (bytes + length (long n)) (omega (arith, length-replicate {A = ℕ} n 88))
+    lt-ltb LONGEST_TAPE (bytes + length (long n)) (omega (arith, length-replicate {A = ℕ} n 88))
 
-rest_long : (before : Before) (n : ℕ) → 4194304 ≤ n → in_rest (lines_of (long n)) before ≡ Err (fault_behind before TapeTooLong)
+rest_long : (before : Before) (n : ℕ) → LONGEST_TAPE ≤ n → in_rest (lines_of (long n)) before ≡ Err (fault_behind before TapeTooLong)
 rest_long before n above = ap (λ (lines : List Line). in_rest lines before) (long_is n) ∙ rw (long_past before n above) refl
 
-leader_long : (skips : ℕ) (before : Before) (n : ℕ) → 4194304 ≤ n → in_leader skips (lines_of (long n)) before ≡ Err (fault_behind before TapeTooLong)
+leader_long : (skips : ℕ) (before : Before) (n : ℕ) → LONGEST_TAPE ≤ n → in_leader skips (lines_of (long n)) before ≡ Err (fault_behind before TapeTooLong)
 leader_long skips before n above = ap (λ (lines : List Line). in_leader skips lines before) (long_is n) ∙ rw (long_past before n above) refl
 
 bad_line : (skips : ℕ) → line_says skips (36 ∷ []) false ≡ Err BadCharacter
@@ -64,7 +66,7 @@ body_number : (none : Bool) (before : Before) → number_of (cond none (Err (no_
 body_number true before e = omega arith
 body_number false before e = omega arith
 
-undecided : (skips : ℕ) (stage : Stage) (before : Before) (fault : TextFault) (n : ℕ) → 4194304 ≤ n → refusal_of stage ≡ None
+undecided : (skips : ℕ) (stage : Stage) (before : Before) (fault : TextFault) (n : ℕ) → LONGEST_TAPE ≤ n → refusal_of stage ≡ None
     → ((more : List ℕ) → continued skips stage (lines_of more) before ≡ Err fault) → ⊥
 undecided skips stages.Leader before fault n above open-is decided =
     let ended : 13 ≡ fault.number = ap number_of (decided []) in
@@ -120,6 +122,6 @@ nothing_decided s stage kept len before open-is skips bytes fault read decided =
     let line = read.1.0 in
     let at : IsAt (state s stage kept len before) bytes line = read.1.1 in
     let behind = stands_before decided.lines decided.rest at.front line at.is_line.one_line (sym decided.bytes_are ∙ at.bytes_are) in
-    undecided s stage before fault 4194304 (lit≤ tt) open-is
+    undecided s stage before fault LONGEST_TAPE (lit≤ tt) open-is
     (λ more. sym (at.whole more) ∙ ap (λ (k : ℕ). tape_of k (at.front ++ more)) read.0 ∙ ap (λ (text : List ℕ). tape_of skips (text ++ more)) behind.1
     ∙ refused_on skips (decided.lines ++ 10 ∷ []) behind.0 fault decided.refused more)

@@ -5,12 +5,14 @@ use Rattle.std.specs.Option.{option_to_list}
 use Rattle.std.proofs.lemmas.List.{append-nil, length-append, map-append}
 use Rattle.std.proofs.lemmas.List.Elements.{All-nil, All-cons, All-head, All-tail, All-append}
 use Rattle.std.proofs.lemmas.Grind.{flat_map-append}
+use Rattle.nc_number.specs.declared.limits.TheConstants.{LONGEST_LINE, MOST_BLOCKS}
 use Rattle.nc_text.specs.declared.tape.Block.{Block}
 use Rattle.nc_text.specs.declared.tape.Program.{Program}
 use Rattle.line_text.specs.declared.said.SaidBlock.{SaidBlock}
 use Rattle.nc_text.specs.Tape.{program_at, block_at, with_block}
 use Rattle.line_text.specs.LineShape.{IsSaidShape}
-use Rattle.nc_text.specs.Shape.{RiseFrom, lines_of_program, lines_in, blocks_in, IsProgramShape, IsBlockShape, IsTapeShape}
+use Rattle.nc_number.specs.Rising.{RiseFrom}
+use Rattle.nc_text.specs.Shape.{lines_of_program, lines_in, blocks_in, IsProgramShape, IsBlockShape, IsTapeShape}
 use Rattle.nc_text.specs.ReadShape.{RiseTo, IsReadShape}
 
 -- Rising numbers.
@@ -113,14 +115,14 @@ pub program_begun : (lines blocks number : ℕ) (done new-done : List Program) (
 program_begun lines blocks number done new-done current new-current is range d c =
     same_shape (lines + 1) blocks (done ++ option_to_list current) new-done (Some (program_at (lines + 1) number)) new-current (program_shaped lines blocks number (done ++ option_to_list current) is range) d c
 
-pub block_added : (lines blocks : ℕ) (done new-done : List Program) (current new-current : Option Program) (block : SaidBlock) → IsReadShape lines blocks (done ++ option_to_list current) → IsSaidShape 512 block.sequence block.body
+pub block_added : (lines blocks : ℕ) (done new-done : List Program) (current new-current : Option Program) (block : SaidBlock) → IsReadShape lines blocks (done ++ option_to_list current) → IsSaidShape LONGEST_LINE block.sequence block.body
     → new-done ≡ done → new-current ≡ with_block (block_at (lines + 1) block) current → IsReadShape (lines + 1) (blocks + 1) (new-done ++ option_to_list new-current)
 block_added lines blocks done new-done current new-current block is shape d c =
     same_shape (lines + 1) (blocks + 1) done new-done (with_block (block_at (lines + 1) block) current) new-current (block_shaped lines blocks done current (block_at (lines + 1) block) is refl shape) d c
 
 -- The shape of a whole tape.
 
-pub tape_shaped : (lines blocks : ℕ) (done programs : List Program) (program : Program) (current : Option Program) → IsReadShape lines blocks (done ++ option_to_list current) → current ≡ Some program → programs ≡ done ++ program ∷ [] → blocks ≤ 20000
+pub tape_shaped : (lines blocks : ℕ) (done programs : List Program) (program : Program) (current : Option Program) → IsReadShape lines blocks (done ++ option_to_list current) → current ≡ Some program → programs ≡ done ++ program ∷ [] → blocks ≤ MOST_BLOCKS
     → IsTapeShape programs
 tape_shaped lines blocks done programs program current is c e few =
     let P : List Program → Type 0 = IsReadShape lines blocks in

@@ -4,7 +4,8 @@ use Rattle.nc_number.specs.declared.fault.Failing.{Failing}
 use Rattle.nc_text.specs.declared.fault.TextFault.{TextFault}
 use Rattle.nc_text.specs.Reading.{IsRefused, FaultIs}
 
--- some first lines of the bytes have ended, and whatever follows their last line feed, the text is refused so
+-- some first lines of the bytes have ended, and whatever follows their last line feed, the text is
+-- refused so
 pub record IsDecided (skips : ℕ) (bytes : List ℕ) (fault : TextFault) : Type 0 where
   pub lines : List ℕ
   pub rest : List ℕ

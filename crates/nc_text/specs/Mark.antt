@@ -37,12 +37,14 @@ first_of (program ∷ programs) = Some program
 abbrev pub with_blocks : Program → List Block → Program
 with_blocks program more = record program { blocks = program.blocks ++ more }
 
--- the program that was being read, if one was, is the first of these, with blocks behind those that it had
+-- the program that was being read, if one was, is the first of these, with blocks behind those that
+-- it had
 abbrev pub GoesOn : Option Program → List Program → Type 0
 GoesOn None programs = Unit {0}
 GoesOn (Some program) programs = (more : List Block) × (others : List Program) × (programs ≡ with_blocks program more ∷ others)
 
--- what is read now begins with what was read at the start: its programs stand, and the one that was being read goes on
+-- what is read now begins with what was read at the start: its programs stand, and the one that was
+-- being read goes on
 abbrev pub Follows : Before → Before → Type 0
 Follows start now = (programs : List Program) × (now.done ≡ start.done ++ programs) × GoesOn start.current (programs ++ option_to_list now.current)
 

@@ -1,7 +1,8 @@
 -- A reader stands for the bytes that it was given, whatever pieces they came in.
-use Rattle.std.specs.Prelude.{◌≡◌, ℕ, Bool, true, false, not, ◌&&◌, ◌==◌, List, [], ◌∷◌, ◌++◌, length, take, min, Option, Some, None, Result, Ok, Err, if◌then◌else◌}
+use Rattle.std.specs.Prelude.{◌≡◌, ℕ, ◌+◌, Bool, true, false, not, ◌&&◌, ◌==◌, List, [], ◌∷◌, ◌++◌, length, take, min, Option, Some, None, Result, Ok, Err, if◌then◌else◌}
 use Rattle.nc_number.specs.declared.fault.Failing.{Failing}
 use Rattle.nc_number.specs.declared.fault.Failing.TheVariants.{Fault, NoMemory}
+use Rattle.nc_number.specs.declared.limits.TheConstants.{LONGEST_TAPE}
 use Rattle.nc_text.specs.declared.fault.TextFault.{TextFault}
 use Rattle.nc_text.specs.declared.stage.Stage.{Stage}
 use Rattle.nc_text.specs.declared.stage.Stage.TheVariants as stages
@@ -43,7 +44,7 @@ more_kept stage (b ∷ kept) bytes = if is_body stage && not (b == 37) then byte
 
 -- bytes are counted up to one more than a tape may have
 abbrev pub counted : ℕ → ℕ
-counted len = min len 4194305
+counted len = min len (LONGEST_TAPE + 1)
 
 -- the line that is being read has these bytes
 pub record IsOpenLine (stage : Stage) (kept : List ℕ) (len : ℕ) (bytes : List ℕ) : Type 0 where
@@ -69,15 +70,15 @@ line_continued skips stages.Body kept len ended lines before =
 line_continued skips stages.Rest kept len ended lines before = goes_on before (after_outer before len ended) (in_rest lines)
 line_continued skips (stages.Refused fault) kept len ended lines before = Err fault
 
--- So much of a text is read that, whatever follows that, what is made of the text from the first place is made of what
--- follows from the later one. The rest of the text is left.
+-- So much of a text is read that, whatever follows that, what is made of the text from the first
+-- place is made of what follows from the later one. The rest of the text is left.
 abbrev pub LeadsTo : ℕ → Stage → Before → List ℕ → Stage → Before → List ℕ → Type 0
 LeadsTo skips stage before text later-stage later rest =
     (front : List ℕ) × (text ≡ front ++ rest)
     × ((more : List ℕ) → continued skips stage (lines_of (front ++ more)) before ≡ continued skips later-stage (lines_of more) later)
 
--- The text ends with the present line so far, and whatever follows what stands before that line, the answer of the whole
--- text is what is made of what follows.
+-- The text ends with the present line so far, and whatever follows what stands before that line,
+-- the answer of the whole text is what is made of what follows.
 pub record IsAt (state : State) (bytes : List ℕ) (line : List ℕ) : Type 0 where
   pub is_line : IsOpenLine state.stage state.kept state.len line
   pub front : List ℕ

@@ -1,14 +1,11 @@
 -- The shape of every tape that was read, so that nobody asks again.
-use Rattle.std.specs.Prelude.{ℕ, ◌<◌, ◌≤◌, List, [], ◌∷◌, length, map, All}
+use Rattle.std.specs.Prelude.{ℕ, ◌<◌, ◌≤◌, List, ◌∷◌, length, map, All}
 use Rattle.std.specs.List.{flat_map}
+use Rattle.nc_number.specs.declared.limits.TheConstants.{LONGEST_LINE, MOST_BLOCKS}
+use Rattle.nc_number.specs.Rising.{RiseFrom}
 use Rattle.line_text.specs.LineShape.{IsSaidShape}
 use Rattle.nc_text.specs.declared.tape.Block.{Block}
 use Rattle.nc_text.specs.declared.tape.Program.{Program}
-
--- each number is above the one before it, and the first above this one
-abbrev pub RiseFrom : ℕ → List ℕ → Type 0
-RiseFrom low [] = Unit {0}
-RiseFrom low (n ∷ ns) = (low < n) × RiseFrom n ns
 
 -- the lines of a program's O number and of its blocks
 abbrev pub lines_of_program : Program → List ℕ
@@ -21,7 +18,7 @@ abbrev pub blocks_in : List Program → List Block
 blocks_in tape = flat_map (λ program. program.blocks) tape
 
 abbrev pub IsBlockShape : Block → Type 0
-IsBlockShape block = IsSaidShape 512 block.sequence block.body
+IsBlockShape block = IsSaidShape LONGEST_LINE block.sequence block.body
 
 abbrev pub IsProgramShape : Program → Type 0
 IsProgramShape program = (1 ≤ program.number) × (program.number ≤ 9999)
@@ -31,5 +28,5 @@ pub record IsTapeShape (tape : List Program) : Type 0 where
   pub numbers : All IsProgramShape tape
   -- the lines of O numbers and blocks, from the first line of the tape to its last
   pub lines : RiseFrom 0 (lines_in tape)
-  pub few : length (blocks_in tape) ≤ 20000
+  pub few : length (blocks_in tape) ≤ MOST_BLOCKS
   pub blocks : All IsBlockShape (blocks_in tape)

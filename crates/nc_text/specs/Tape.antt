@@ -1,7 +1,9 @@
--- A tape: lines before the first that begins with `%`, that line, the lines of the programs, the next line that
--- begins with `%`, and lines behind it. The answer is the programs, or the fault of least line, and on it of least number.
+-- A tape: lines before the first that begins with `%`, that line, the lines of the programs, the
+-- next line that begins with `%`, and lines behind it. The answer is the programs, or the fault of
+-- least line, and on it of least number.
 use Rattle.std.specs.Prelude.{ℕ, ◌+◌, Bool, true, false, not, ◌&&◌, nat_lt, nat_le, List, [], ◌∷◌, ◌++◌, length, Option, Some, None, Result, Ok, Err, is_some, if◌then◌else◌}
 use Rattle.std.specs.Option.{option_to_list, is_none}
+use Rattle.nc_number.specs.declared.limits.TheConstants.{LONGEST_LINE, LONGEST_TAPE, MOST_BLOCKS}
 use Rattle.nc_text.specs.declared.fault.TextFault.{TextFault}
 use Rattle.nc_text.specs.declared.tape.Block.{Block}
 use Rattle.nc_text.specs.declared.tape.Program.{Program}
@@ -37,7 +39,7 @@ fault_behind before refusal = record { number = refusal_number refusal; line = b
 
 -- a line of this length holds the first byte that is too many
 abbrev pub is_past_end : Before → ℕ → Bool → Bool
-is_past_end before len ended = nat_lt 4194304 (before.bytes + size_of len ended)
+is_past_end before len ended = nat_lt LONGEST_TAPE (before.bytes + size_of len ended)
 
 -- with one line more
 abbrev pub next : Before → ℕ → Bool → Before
@@ -46,7 +48,7 @@ next before len ended = record before { lines = before.lines + 1; bytes = before
 -- the least refusal of a line that begins with `%`
 abbrev pub percent_refusal : Before → ℕ → Bool → Option Refusal
 percent_refusal before len ended =
-    if nat_lt 512 len then Some LineTooLong else (if is_past_end before len ended then Some TapeTooLong else None)
+    if nat_lt LONGEST_LINE len then Some LineTooLong else (if is_past_end before len ended then Some TapeTooLong else None)
 
 -- the least refusal of a line before the first and behind the second `%` line
 abbrev pub outer_refusal : Before → ℕ → Bool → Option Refusal
@@ -66,8 +68,8 @@ is_said_in_range (said.Block block) = block.in_range
 abbrev pub said_refusal : Before → ℕ → Bool → Said → Option Refusal
 said_refusal before len ended said =
     if is_block said && is_none before.current then Some NoProgramNumber
-    else (if nat_lt 512 len then Some LineTooLong
-    else (if is_block said && nat_le 20000 before.blocks then Some TooManyBlocks
+    else (if nat_lt LONGEST_LINE len then Some LineTooLong
+    else (if is_block said && nat_le MOST_BLOCKS before.blocks then Some TooManyBlocks
     else (if is_past_end before len ended then Some TapeTooLong
     else (if not (is_said_in_range said) then Some WordRange
     else None))))

@@ -1,3 +1,4 @@
+//! What a reader keeps from one piece to the next.
 ghost use Rattle.std.specs.Prelude.{◌≡◌, ◌∷◌, [], ◌++◌, List, ℕ, IfOk, OnOk, OnErr};
 ghost use Rattle.nc_number.specs.Answers.{Gives};
 ghost use Rattle.nc_text.specs.Lines.{IsOneLine};
@@ -30,6 +31,7 @@ pub(crate) struct Feed {
 impl Feed {
     ghost use Rattle.nc_text.specs.FeedView.{state_of};
 
+    /// What a reader keeps before its first piece; it takes no memory yet.
     pub(crate) fn new(alloc: Global, skips: u16) -> Self
         ensures { HasRead (state_of result) skips [] }
     {

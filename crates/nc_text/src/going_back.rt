@@ -1,14 +1,15 @@
-ghost use Rattle.std.specs.Prelude.{◌≡◌, ◌++◌, List, length};
+//! Back to what was read at a mark, where memory ran out in a piece.
+ghost use Rattle.std.specs.Prelude.{◌≡◌, ◌++◌, List, Some, length};
 ghost use Rattle.std.specs.Option.{option_to_list};
 ghost use Rattle.nc_text.specs.declared.tape.Program.{Program};
 ghost use Rattle.nc_text.specs.Tape.{Before};
 ghost use Rattle.nc_text.specs.View.{before_of};
 ghost use Rattle.nc_text.specs.ReadShape.{IsShaped};
-ghost use Rattle.nc_text.specs.Mark.{IsMarkOf, Follows, StoodAt, block_count, first_of, cut_program};
+ghost use Rattle.nc_text.specs.Mark.{IsMarkOf, Follows, StoodAt, block_count, first_of, first_blocks, cut_program};
 
 use crate::mark::Mark;
 use crate::progress::Progress;
-use crate::tape::Program;
+use crate::tape::{BlockList, Program};
 
 impl Progress {
     /// Where to go back to what was read so far.
@@ -41,6 +42,7 @@ impl Progress {
     }
 }
 
+/// How many blocks a mark keeps of the program that is being read.
 fn block_count(program: &Option<Program>) -> Option<usize>
     ensures { result ≡ block_count program.now }
 {
@@ -61,6 +63,24 @@ fn reopen(done: &mut Vec<Program>, current: &mut Option<Program>, count: usize)
     }
 }
 
+/// The program with its first blocks alone.
+fn with_first_blocks(program: Program, count: usize) -> Program
+    ensures { Some result ≡ first_blocks count (Some program) }
+{
+    let Program {
+        number,
+        line,
+        blocks,
+    } = program;
+    let mut blocks = blocks.into_vec();
+    blocks.truncate(count);
+    Program {
+        number,
+        line,
+        blocks: BlockList::of(blocks),
+    }
+}
+
 /// Leaves the first blocks of a program, or no program.
 fn cut_program(program: &mut Option<Program>, blocks: Option<usize>)
     ensures { program.new ≡ cut_program blocks program.old }
@@ -68,8 +88,8 @@ fn cut_program(program: &mut Option<Program>, blocks: Option<usize>)
     match blocks {
         None => *program = None,
         Some(count) => {
-            if let Some(program) = program {
-                program.blocks.truncate(count);
+            if let Some(cut) = program.take() {
+                *program = Some(with_first_blocks(cut, count));
             }
         }
     }

@@ -1,7 +1,7 @@
 //! The text of a tape, read into blocks.
 //!
-//! `Reader` takes the bytes of a tape in any pieces, and answers with its programs and blocks or with the one refusal
-//! and its line.
+//! `Reader` takes the bytes of a tape in any pieces, and answers with its programs and blocks or
+//! with the one refusal and its line.
 #![tactic(auto)]
 
 mod fault;

@@ -1,3 +1,4 @@
+//! Where a line ends.
 ghost use Rattle.std.specs.Prelude.{◌≡◌, ◌<◌, ◌∷◌, ◌++◌, length, MatchOption, IfSome};
 ghost use Rattle.nc_text.specs.Lines.{IsOneLine};
 

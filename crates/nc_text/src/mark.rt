@@ -1,4 +1,6 @@
+//! A moment of a reading.
 ghost use Rattle.std.specs.Prelude.{◌≤◌};
+ghost use Rattle.nc_number.specs.declared.limits.TheConstants.{LONGEST_TAPE, MOST_BLOCKS};
 
 /// What was read up to some moment, as far as it is needed to go back there.
 #[derive(Drop)]
@@ -12,6 +14,6 @@ pub(crate) struct Mark {
     /// How many blocks that one had.
     pub current: Option<usize>,
     ghost few_lines: { lines ≤ bytes },
-    ghost few_bytes: { bytes ≤ 4194304 },
-    ghost few_blocks: { blocks ≤ 20000 },
+    ghost few_bytes: { bytes ≤ LONGEST_TAPE },
+    ghost few_blocks: { blocks ≤ MOST_BLOCKS },
 }

@@ -1,13 +1,15 @@
+//! The line that is being read.
 ghost use Rattle.std.specs.Prelude.{◌≡◌, ◌≤◌, ◌<◌, ◌+◌, ◌++◌, [], List, ℕ, length, take, IfOk, OnOk, OnErr};
+ghost use Rattle.nc_number.specs.declared.limits.TheConstants.{LONGEST_TAPE};
 ghost use Rattle.nc_text.specs.Lines.{IsOneLine};
 ghost use Rattle.nc_text.specs.Reading.{counted, kept_of, more_kept, IsOpenLine};
 
 use crate::stage::{Stage, is_body};
-use nc_number::NoMemory;
+use nc_number::{LONGEST_TAPE, NoMemory};
 use std::alloc::Global;
 
 /// The bytes of a line are counted up to one more than a tape may have.
-const COUNTED: u32 = 4_194_305;
+const COUNTED: u32 = LONGEST_TAPE as u32 + 1;
 
 /// A line of the programs that is longer than this is answered as want of memory.
 const KEPT: usize = 4_294_967_294;
@@ -16,16 +18,18 @@ const KEPT: usize = 4_294_967_294;
 #[derive(Debug, Drop)]
 pub(crate) struct OpenLine {
     pub stage: Stage,
-    /// Of its bytes only what is needed: all of a line of the programs, the first byte of any other.
+    /// Of its bytes only what is needed: all of a line of the programs, the first byte of any
+    /// other.
     pub kept: Vec<u8>,
     /// How many bytes it has, counted up to one more than a tape may have.
     pub len: u32,
     ghost kept_counted: { counted (length kept.items) ≤ len },
     ghost kept_short: { length kept.items ≤ 4294967294 },
-    ghost len_short: { len ≤ 4194305 },
+    ghost len_short: { len ≤ LONGEST_TAPE + 1 },
 }
 
 impl OpenLine {
+    /// A line of which nothing has come yet; it takes no memory.
     pub(crate) fn empty(alloc: Global, stage: Stage) -> Self
         ensures kept { result.kept.items ≡ [] }
         ensures len { result.len ≡ 0 }
@@ -69,7 +73,7 @@ impl OpenLine {
     /// Goes back to when so many bytes were kept of a line of this length.
     pub(crate) fn cut_back(&mut self, kept: usize, len: u32)
         requires short { counted kept ≤ len }
-        requires fits { len ≤ 4194305 }
+        requires fits { len ≤ LONGEST_TAPE + 1 }
         ensures stage { self.new.stage ≡ self.old.stage }
         ensures kept { self.new.kept.items ≡ take kept self.old.kept.items }
         ensures len { self.new.len ≡ len }
@@ -81,7 +85,7 @@ impl OpenLine {
 
 /// The length of a line that goes on with these bytes.
 pub(crate) fn longer(len: u32, bytes: &[u8]) -> u32
-    requires { len ≤ 4194305 }
+    requires { len ≤ LONGEST_TAPE + 1 }
     ensures { result ≡ counted (len + length bytes.now) }
 {
     match u32::try_from(bytes.len()) {

@@ -1,3 +1,4 @@
+//! The programs of a tape while they are read: one more begins, or the last one grows.
 ghost use Rattle.std.specs.Prelude.{◌≡◌, ◌++◌, Some, OnOk, OnErr};
 ghost use Rattle.std.specs.Option.{option_to_list};
 ghost use Rattle.nc_text.specs.Tape.{program_at, block_at, with_block};
@@ -27,7 +28,7 @@ pub(crate) fn begin_program(
     *current = Some(Program {
         number,
         line,
-        blocks: BlockList::empty(alloc),
+        blocks: BlockList::of(Vec::new(alloc)),
     });
     Ok(())
 }
@@ -46,12 +47,24 @@ pub(crate) fn add_block(
         in_range: _,
         body,
     } = block;
-    if let Some(program) = current {
-        program.blocks.push(Block {
+    if let Some(program) = current.take() {
+        let Program {
+            number,
+            line: begun,
+            blocks,
+        } = program;
+        let mut blocks = blocks.into_vec();
+        let added = blocks.push(Block {
             line,
             sequence,
             body,
-        })?;
+        });
+        *current = Some(Program {
+            number,
+            line: begun,
+            blocks: BlockList::of(blocks),
+        });
+        added?;
     }
     Ok(())
 }

@@ -1,8 +1,10 @@
+//! What was read of a tape so far.
 ghost use Rattle.std.specs.Prelude.{◌≡◌, ◌<◌, ◌≤◌, ◌++◌, false, Ok, Err, OnOk, OnErr};
 ghost use Rattle.std.specs.Option.{option_to_list};
 ghost use Rattle.nc_text.specs.Lines.{size_of};
 ghost use Rattle.nc_text.specs.Tape.{nothing_read, is_past_end, next, percent_refusal, outer_refusal, said_refusal, is_block, is_said_in_range, with_said, with_program, begun, after_outer, after_percent, after_said, unfinished, finished};
 ghost use Rattle.nc_number.specs.Answers.{Gives};
+ghost use Rattle.nc_number.specs.declared.limits.TheConstants.{LONGEST_LINE, LONGEST_TAPE, MOST_BLOCKS};
 ghost use Rattle.nc_text.specs.Mark.{Grows};
 ghost use Rattle.line_text.specs.LineShape.{IsSaid, IsSaidShape};
 ghost use Rattle.nc_text.specs.ReadShape.{IsReadShape, IsReadShape-prop};
@@ -12,15 +14,8 @@ use crate::fault::TextFault;
 use crate::programs::{add_block, begin_program};
 use crate::tape::{Program, Tape};
 use line_text::{Refusal, Said, SaidBlock};
-use nc_number::Failing;
+use nc_number::{Failing, LONGEST_LINE, LONGEST_TAPE, MOST_BLOCKS};
 use std::alloc::{AllocError, Global};
-
-/// The longest line, in bytes without its line feed.
-const LINE_BYTES: u32 = 512;
-
-const TAPE_BYTES: u64 = 4_194_304;
-
-const BLOCKS: u32 = 20_000;
 
 /// What was read before the present line.
 #[derive(Debug, Drop)]
@@ -34,14 +29,15 @@ pub(crate) struct Progress {
     pub done: Vec<Program>,
     pub current: Option<Program>,
     ghost few_lines: { lines ≤ bytes },
-    ghost few_bytes: { bytes ≤ 4194304 },
-    ghost few_blocks: { blocks ≤ 20000 },
+    ghost few_bytes: { bytes ≤ LONGEST_TAPE },
+    ghost few_blocks: { blocks ≤ MOST_BLOCKS },
     ghost shaped: { IsReadShape lines blocks (done.items ++ option_to_list current) } by { IsReadShape-prop lines blocks (done.items ++ option_to_list current) },
 }
 
 impl Progress {
     ghost use Rattle.nc_text.specs.View.{before_of, Passes};
 
+    /// What is known before the first line.
     pub(crate) fn new(alloc: Global) -> Self
         ensures { before_of result ≡ nothing_read }
     {
@@ -59,14 +55,14 @@ impl Progress {
     fn is_past_end(&self, len: u32, ended: bool) -> bool
         ensures { result ≡ is_past_end (before_of self.now) len ended }
     {
-        u64::from(self.bytes) + size_of(len, ended) > TAPE_BYTES
+        u64::from(self.bytes) + size_of(len, ended) > LONGEST_TAPE as u64
     }
 
     /// The least refusal of a line that begins with `%`.
     fn percent_refusal(&self, len: u32, ended: bool) -> Option<Refusal>
         ensures { result ≡ percent_refusal (before_of self.now) len ended }
     {
-        if len > LINE_BYTES {
+        if len as usize > LONGEST_LINE {
             Some(Refusal::LineTooLong)
         } else if self.is_past_end(len, ended) {
             Some(Refusal::TapeTooLong)
@@ -93,9 +89,9 @@ impl Progress {
         let is_block = is_block(said);
         if is_block && self.current.is_none() {
             Some(Refusal::NoProgramNumber)
-        } else if len > LINE_BYTES {
+        } else if len as usize > LONGEST_LINE {
             Some(Refusal::LineTooLong)
-        } else if is_block && self.blocks >= BLOCKS {
+        } else if is_block && self.blocks as usize >= MOST_BLOCKS {
             Some(Refusal::TooManyBlocks)
         } else if self.is_past_end(len, ended) {
             Some(Refusal::TapeTooLong)
@@ -148,8 +144,8 @@ impl Progress {
     fn pass_block(&mut self, block: SaidBlock, len: u32, ended: bool) -> Result<(), AllocError>
         requires some { 0 < size_of len ended }
         requires fits { is_past_end (before_of self.old) len ended ≡ false }
-        requires few { self.old.blocks < 20000 }
-        requires shape { IsSaidShape 512 block.sequence block.body }
+        requires few { self.old.blocks < MOST_BLOCKS }
+        requires shape { IsSaidShape LONGEST_LINE block.sequence block.body }
         ensures ok { OnOk result (before_of self.new
             ≡ next (with_said (before_of self.old) (said.Block block)) len ended) }
         ensures as_before { OnErr result (before_of self.new ≡ before_of self.old) }
@@ -197,7 +193,7 @@ impl Progress {
         said: Said,
     ) -> Result<(), Failing<Refusal>>
         requires some { 0 < size_of len ended }
-        requires shape { len ≤ 512 → IsSaid 512 said }
+        requires shape { len ≤ LONGEST_LINE → IsSaid LONGEST_LINE said }
         ensures step { Gives (λ _. before_of self.new) result (after_said (before_of self.old) len ended (Ok said)) }
         ensures grows { Grows (before_of self.old) (before_of self.new) }
     {
@@ -271,6 +267,7 @@ fn size_of(len: u32, ended: bool) -> u64
     }
 }
 
+/// Only a block needs a program before it, and counts among those that a tape may have.
 fn is_block(said: &Said) -> bool
     ensures { result ≡ is_block said.now }
 {
@@ -281,6 +278,7 @@ fn is_block(said: &Said) -> bool
     }
 }
 
+/// A number out of its range is the last of the refusals, so it is kept till then.
 fn is_in_range(said: &Said) -> bool
     ensures { result ≡ is_said_in_range said.now }
 {

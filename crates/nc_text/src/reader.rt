@@ -1,3 +1,4 @@
+//! A reader of tapes that come in pieces.
 ghost use Rattle.std.specs.Prelude.{◌≡◌, [], ◌++◌, ℕ, List, IfOk, IsOk, OnOk};
 ghost use Rattle.nc_number.specs.Answers.{Gives};
 ghost use Rattle.nc_text.specs.declared.fault.TextFault.{TextFault};
@@ -14,8 +15,8 @@ use std::marker::Model;
 
 /// Reads a tape that comes in pieces.
 ///
-/// What it answers depends on the joined bytes alone. Of them it keeps the tape so far and the present line;
-/// of the lines before the first and behind the second `%` line it keeps nothing.
+/// What it answers depends on the joined bytes alone. Of them it keeps the tape so far and the
+/// present line; of the lines before the first and behind the second `%` line it keeps nothing.
 #[derive(Debug, Drop)]
 pub struct Reader {
     feed: Feed,
@@ -32,8 +33,8 @@ impl Model for Reader {
 }
 
 impl Reader {
-    /// A reader that was given nothing. Bit n of `skips` is switch n: a block with the skip sign of a switch
-    /// that is set counts as absent, but must be readable.
+    /// A reader that was given nothing. Bit n of `skips` is switch n: a block with the skip sign of
+    /// a switch that is set counts as absent, but must be readable.
     pub fn new(alloc: Global, skips: u16) -> Result<Reader, NoMemory>
         // It takes no memory yet.
         ensures made { IsOk result }
@@ -44,9 +45,9 @@ impl Reader {
         })
     }
 
-    /// Takes the next piece of the tape. It refuses where a line that has ended decides the answer, whatever
-    /// follows; from then on every call gives the same refusal. Where memory ran out the piece was not taken,
-    /// and can be given again.
+    /// Takes the next piece of the tape. It refuses where a line that has ended decides the answer,
+    /// whatever follows; from then on every call gives the same refusal. Where memory ran out the
+    /// piece was not taken, and can be given again.
     pub fn feed(&mut self, piece: &[u8]) -> Result<(), Failing<TextFault>>
         ensures reads { (skips : ℕ) (bytes : List ℕ) → HasRead self.old skips bytes
             → OnOk result (HasRead self.new skips (bytes ++ piece.now)) }
@@ -72,8 +73,8 @@ impl Reader {
         Ok(())
     }
 
-    /// Ends the tape, and answers its programs or its refusal: the least line at which one holds, and there the
-    /// least number.
+    /// Ends the tape, and answers its programs or its refusal: the least line at which one holds,
+    /// and there the least number.
     pub fn finish(self) -> Result<Tape, Failing<TextFault>>
         ensures exact { (skips : ℕ) (bytes : List ℕ) → HasRead self skips bytes
             → Gives (λ tape. tape) result (tape_of skips bytes) }

@@ -1,3 +1,4 @@
+//! Where in a tape a reader stands.
 ghost use Rattle.std.specs.Prelude.{◌≡◌};
 ghost use Rattle.nc_text.specs.Reading.{is_body, refusal_of};
 
@@ -16,6 +17,7 @@ pub(crate) enum Stage {
     Refused(TextFault),
 }
 
+/// Only there lines are kept whole.
 pub(crate) fn is_body(stage: Stage) -> bool
     ensures { result ≡ is_body stage }
 {
@@ -27,6 +29,7 @@ pub(crate) fn is_body(stage: Stage) -> bool
     }
 }
 
+/// The refusal that stays, whatever follows.
 pub(crate) fn refusal_of(stage: Stage) -> Option<TextFault>
     ensures { result ≡ refusal_of stage }
 {

@@ -1,3 +1,4 @@
+//! One line more, at each stage of a tape.
 ghost use Rattle.std.specs.Prelude.{◌≡◌, ◌∷◌, ◌<◌, ◌-◌, ◌^◌, List, ℕ, true, length, ◌≤◌, IfOk, Ok};
 ghost use Rattle.nc_number.specs.Answers.{Gives};
 ghost use Rattle.nc_text.specs.Lines.{Line, IsOneLine, is_percent, size_of};
@@ -27,6 +28,7 @@ pub(crate) fn is_percent(bytes: &[u8]) -> bool
     }
 }
 
+/// A refusal under the number that it is printed with.
 fn fault_at(line: u32, refusal: Refusal) -> TextFault
     ensures { result ≡ record { number = refusal_number refusal; line = line } }
 {
@@ -195,7 +197,8 @@ fn left_to_read(stage: Stage, text: &[u8]) -> &[u8]
     }
 }
 
-/// Where the reader stands behind the lines that end in a text, and what stands behind the last of them.
+/// Where the reader stands behind the lines that end in a text, and what stands behind the last of
+/// them.
 pub(crate) fn behind_lines<'a>(
     stage: Stage,
     progress: &mut Progress,

@@ -1,7 +1,8 @@
-ghost use Rattle.std.specs.Prelude.{◌≡◌, [], ◌∷◌, ◌++◌, take, OnOk, OnErr};
+//! A tape: its programs and their blocks.
+ghost use Rattle.std.specs.Prelude.{◌≡◌};
 
 use line_text::Body;
-use std::alloc::{AllocFailed, Global};
+use nc_number::ListOf;
 use std::marker::Model;
 
 /// A block of a program.
@@ -15,48 +16,7 @@ pub struct Block {
 }
 
 /// The blocks of a program, in the order of the text.
-#[derive(Debug, Drop)]
-pub struct BlockList {
-    blocks: Vec<Block>,
-}
-
-impl Model for BlockList {
-    ghost use Rattle.std.specs.Prelude.{List};
-    ghost use Rattle.nc_text.specs.declared.tape.Block.{Block};
-
-    ghost Value = { List Block };
-
-    ghost view = { λ l. l.blocks.items };
-}
-
-impl BlockList {
-    pub(crate) fn empty(alloc: Global) -> Self
-        ensures { result ≡ [] }
-    {
-        BlockList {
-            blocks: Vec::new(alloc),
-        }
-    }
-
-    pub fn as_slice(&self) -> &[Block]
-        ensures { result.now ≡ self.now }
-    {
-        self.blocks.as_slice()
-    }
-
-    pub(crate) fn push(&mut self, block: Block) -> Result<(), AllocFailed<Block>>
-        ensures ok { OnOk result (self.new ≡ self.old ++ block ∷ []) }
-        ensures err { OnErr result (self.new ≡ self.old) }
-    {
-        self.blocks.push(block)
-    }
-
-    pub(crate) fn truncate(&mut self, count: usize)
-        ensures { self.new ≡ take count self.old }
-    {
-        self.blocks.truncate(count);
-    }
-}
+pub type BlockList = ListOf<Block>;
 
 /// A program: what stands behind an O number, up to the next one.
 #[derive(Debug, Drop)]
@@ -70,9 +30,9 @@ pub struct Program {
 
 /// A tape as its programs. The first one is the main program.
 ///
-/// Every tape has the shape `IsTapeShape`: at least one program, numbers from 1 to 9,999, lines that rise from
-/// the first O number to the last block, at most 20,000 blocks, and in each block words with a letter and a
-/// whole value, or a statement.
+/// Every tape has the shape `IsTapeShape`: at least one program, numbers from 1 to 9,999, lines
+/// that rise from the first O number to the last block, at most 20,000 blocks, and in each block
+/// words with a letter and a whole value, or a statement.
 #[derive(Debug, Drop)]
 pub struct Tape {
     programs: Vec<Program>,
@@ -94,6 +54,7 @@ impl Model for Tape {
 impl Tape {
     ghost use Rattle.nc_text.specs.Shape.{IsTapeShape};
 
+    /// Only a reader makes a tape, so nobody asks for its shape again.
     pub(crate) fn of(programs: Vec<Program>) -> Self
         requires { IsTapeShape programs.items }
         ensures { result ≡ programs.items }

@@ -31,15 +31,8 @@ use Rattle.open_forms.specs.Refusals.{fixed_letters, is_long, is_not_fixed, is_p
 use Rattle.open_forms.specs.Widening.{names_interrupt}
 use Rattle.open_forms.proofs.ReadWords.{AreSaid, none, one_more, same_words_of, same_has, same_count, same_computed, none_long, same_numbers, same_last, same_row}
 use Rattle.open_forms.proofs.TableRows.{in_each, same_kind, macro_is, setting_is, same_takes, no_such_g, each_has_row}
-use Rattle.open_forms.proofs.AmongLetters.{neither, not_false, HaveRange, AreAmong, one_among, front_among, fewer_computed, none_of, none_computed, range_of_one, range_of_two, all_fit, all_within, within_more, no_parameters}
-
-and_false : (b : Bool) → (b && false) ≡ false
-and_false true = refl
-and_false false = refl
-
-or_true : (b : Bool) → (b || true) ≡ true
-or_true true = refl
-or_true false = refl
+use Rattle.nc_number.proofs.Bools.{and_false, neither, not_false, or_true}
+use Rattle.open_forms.proofs.AmongLetters.{HaveRange, AreAmong, one_among, front_among, fewer_computed, none_of, none_computed, range_of_one, range_of_two, all_fit, all_within, within_more, no_parameters}
 
 -- no refusal of the full reading holds
 pub record IsAccepted (dialect : Dialect) (words : List FlowWord) : Type 0 where
@@ -346,7 +339,7 @@ module _ (dialect : Dialect) (texts : List Word) (words : List FlowWord) (are : 
       let letters : has_computed (fixed_letters (role_of dialect texts)) texts ≡ false =
       subst (λ q. has_computed (fixed_letters q) texts ≡ false) (sym r.role_is) (letters_plain r.role r.purpose r.same (fixed_by r.purpose r.purpose_is)) in
       let l_alone : has_computed (codes "L") texts ≡ false = same_computed (codes "L") texts words are ∙ l_plain r.purpose r.purpose_is in
-      rw (letters, l_alone) (and_false (has_g 10000000 texts))
+      rw (letters, l_alone) (and_false (has_g 10000000 texts) false refl)
 
   -- 56
   begins_same : (texts : List Word) (words : List FlowWord) → AreSaid texts words → begins_macro_call dialect.system texts ≡ closed.begins_macro_call dialect.system words
@@ -391,9 +384,9 @@ module _ (dialect : Dialect) (texts : List Word) (words : List FlowWord) (are : 
   no_writing _ _ (macro held) is apart = absurd (cc)
   no_writing _ _ (subprogram apart held) is _ = rw (setting_same, (sets_nothing purpose.Subprogram is apart (rw held refl)).1) refl
   no_writing _ _ (returns apart held) is _ = rw (setting_same, (sets_nothing purpose.Return is apart (rw held (or_true (has_code 98 words)))).1) refl
-  no_writing _ _ (wait apart) is _ = rw (l_numbers purpose.Wait is refl apart) (and_false (has_g 10000000 texts))
-  no_writing _ _ (ends p apart held kind) is _ = rw (by_left p is kind apart) (and_false (has_g 10000000 texts))
-  no_writing _ _ (onward p apart held kind) is _ = rw (by_left p is kind apart) (and_false (has_g 10000000 texts))
+  no_writing _ _ (wait apart) is _ = rw (l_numbers purpose.Wait is refl apart) (and_false (has_g 10000000 texts) false refl)
+  no_writing _ _ (ends p apart held kind) is _ = rw (by_left p is kind apart) (and_false (has_g 10000000 texts) false refl)
+  no_writing _ _ (onward p apart held kind) is _ = rw (by_left p is kind apart) (and_false (has_g 10000000 texts) false refl)
 
   elsewhere : gives dialect.system is_macro_call words ≡ false → names_interrupt dialect texts ≡ false → writes_parameters texts ≡ false
       → ((list_any is_refused_g (g_values texts) || list_any (is_refused_m dialect) (m_codes texts)) || writes_parameters texts) ≡ false
@@ -548,11 +541,11 @@ module _ (dialect : Dialect) (texts : List Word) (words : List FlowWord) (are : 
 
   m_by : (r : Role) (p : Purpose) → IsSame dialect.system words r p → purpose_of dialect words ≡ p → (not (is_macro texts) && not (are_in 0 99999999 (codes "M") texts)) ≡ false
   m_by _ _ (macro held) is = rw (macro_same, held) refl
-  m_by _ p (subprogram apart held) is = rw (m_within p is refl) (and_false (not (is_macro texts)))
-  m_by _ p (returns apart held) is = rw (m_within p is refl) (and_false (not (is_macro texts)))
-  m_by _ p (wait apart) is = rw (m_within p is refl) (and_false (not (is_macro texts)))
-  m_by _ p (ends q apart held kind) is = rw (m_within p is (left_plain q kind)) (and_false (not (is_macro texts)))
-  m_by _ p (onward q apart held kind) is = rw (m_within p is (left_plain q kind)) (and_false (not (is_macro texts)))
+  m_by _ p (subprogram apart held) is = rw (m_within p is refl) (and_false (not (is_macro texts)) false refl)
+  m_by _ p (returns apart held) is = rw (m_within p is refl) (and_false (not (is_macro texts)) false refl)
+  m_by _ p (wait apart) is = rw (m_within p is refl) (and_false (not (is_macro texts)) false refl)
+  m_by _ p (ends q apart held kind) is = rw (m_within p is (left_plain q kind)) (and_false (not (is_macro texts)) false refl)
+  m_by _ p (onward q apart held kind) is = rw (m_within p is (left_plain q kind)) (and_false (not (is_macro texts)) false refl)
 
   ranges_there : HaveRole dialect texts words → is_out_of_range dialect texts ≡ false
   ranges_there r =
@@ -564,7 +557,7 @@ module _ (dialect : Dialect) (texts : List Word) (words : List FlowWord) (are : 
   no_refusal plain =
       let r = roles in
       let long : is_long dialect texts ≡ false =
-      rw (none_long (fixed_letters (role_of dialect texts)) texts words are, none_long (codes "L") texts words are) (and_false (has_g 10000000 texts)) in
+      rw (none_long (fixed_letters (role_of dialect texts)) texts words are, none_long (codes "L") texts words are) (and_false (has_g 10000000 texts) false refl) in
       all_false (is_long dialect texts) (is_not_fixed dialect texts) (is_unknown dialect texts) (is_wait_not_alone dialect texts) (is_wait_of_others dialect texts) (has_two_m texts) (is_bad_call dialect texts) (is_out_of_range dialect texts)
       long (fixed_there r) (known_codes r plain) alone_there both_there one_m_there (good_there r) (ranges_there r)
     where

@@ -5,6 +5,7 @@ use Rattle.std.specs.List.{list_any, list_all, filter_map, cons_option}
 use Rattle.std.proofs.lemmas.Bool.{and_parts}
 use Rattle.std.proofs.lemmas.Bool.Decides.{nat_tests}
 use Rattle.nc_number.specs.Arithmetic.{whole_of}
+use Rattle.nc_number.proofs.Bools.{neither, not_false}
 use Rattle.line_text.specs.declared.body.Word.{Word}
 use Rattle.block_words.specs.declared.purpose.Purpose.{Purpose}
 use Rattle.block_words.specs.declared.range.Range.TheVariants.{Between}
@@ -17,14 +18,6 @@ use Rattle.block_words.specs.Ranges.{range_of, is_between, fits_value, is_in_ran
 use Rattle.open_forms.specs.Words.{number}
 use Rattle.open_forms.specs.Refusals.{is_parameter, is_within, is_in}
 use Rattle.open_forms.proofs.ReadWords.{AreSaid, none, one_more, same_number}
-
-pub neither : (a b : Bool) → (a || b) ≡ false → (a ≡ false) × (b ≡ false)
-neither true b e = absurd (cc)
-neither false b e = (refl, e)
-
-pub not_false : (b : Bool) → not b ≡ false → b ≡ true
-not_false true e = refl
-not_false false e = absurd (cc)
 
 -- these letters are among those
 abbrev pub AreAmong : List ℕ → List ℕ → Type 0

@@ -14,7 +14,8 @@ use Rattle.open_forms.specs.declared.role.Role.TheVariants.{MacroCall, Subprogra
 use Rattle.open_forms.specs.Words.{words_of, number, number_of_last, last_number}
 use Rattle.open_forms.specs.Codes.{role_of}
 use Rattle.open_forms.specs.Refusals.{is_long, is_not_fixed, is_unknown, is_wait_not_alone, is_wait_of_others, has_two_m, is_bad_call, is_within, is_in, are_in, is_in_range_by, is_out_of_range, refusal_of}
-use Rattle.open_forms.proofs.AmongLetters.{AreAmong, one_among, same_among, neither, not_false}
+use Rattle.nc_number.proofs.Bools.{neither, not_false}
+use Rattle.open_forms.proofs.AmongLetters.{AreAmong, one_among, same_among}
 
 -- at most so much, if it is there
 abbrev IsAtMost : ℕ → Option ℕ → Type 0

@@ -1,16 +1,12 @@
 -- The last word of a letter, word by word.
-use Rattle.std.proofs.Common.{◌≡◌, ℕ, ◌+◌, ◌<◌, Bool, true, false, cond, List, [], ◌∷◌, ◌++◌, length, get_or, take, Some, append-nil, refl, ap}
+use Rattle.std.proofs.Common.{◌≡◌, ℕ, ◌+◌, ◌<◌, Bool, true, false, cond, List, [], ◌∷◌, ◌++◌, length, get_or, take, append-nil, refl, ap}
 use Rattle.std.proofs.lemmas.List.Elements.{filter-append}
 use Rattle.std.proofs.lemmas.List.{take_more}
 use Rattle.code_tables.specs.Codes.{last_of}
 use Rattle.line_text.specs.declared.body.Word.{Word}
 use Rattle.block_words.specs.Words.{is_one_of}
+use Rattle.block_words.proofs.LastWord.{last_of_push}
 use Rattle.open_forms.specs.Words.{words_of, number, number_of_last, last_number}
-
--- the last of a list with one more is that one
-last_of_push : {X : Type 0} (xs : List X) (x : X) → last_of (xs ++ x ∷ []) ≡ Some x
-last_of_push [] x = refl
-last_of_push (y ∷ ys) x = rw (last_of_push ys x) refl
 
 last_number_push : (letters : List ℕ) (words : List Word) (word : Word) → last_number letters (words ++ word ∷ []) ≡ cond (is_one_of letters word.letter) (number word) (last_number letters words)
 last_number_push letters words word =

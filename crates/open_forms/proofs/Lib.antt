@@ -1,4 +1,3 @@
-pub mod Prefixes
 pub mod LastWord
 pub mod Calm
 pub mod Sentences

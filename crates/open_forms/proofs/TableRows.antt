@@ -4,6 +4,7 @@ use Rattle.std.specs.List.{list_any, list_all, filter_map, cons_option, find}
 use Rattle.std.proofs.lemmas.Bool.{and_parts}
 use Rattle.std.proofs.lemmas.Bool.Decides.{nat_tests}
 use Rattle.nc_number.specs.Arithmetic.{whole_of}
+use Rattle.nc_number.proofs.Bools.{neither, not_true}
 use Rattle.line_text.specs.declared.body.Word.{Word}
 use Rattle.code_tables.specs.declared.row.Row.{Row}
 use Rattle.code_tables.specs.declared.kind.CodeKind.{CodeKind}
@@ -211,14 +212,6 @@ has_row system text word is plain known = go (row_of_read system word) refl
           passes = row_passes_all system (number text) row here;
         }
 
-neither : (a b : Bool) → (a || b) ≡ false → (a ≡ false) × (b ≡ false)
-neither true b e = absurd (cc)
-neither false b e = (refl, e)
-
-not_false : (b : Bool) → not b ≡ true → b ≡ false
-not_false true e = absurd (cc)
-not_false false e = refl
-
 -- what no code of the table is, none of the block is
 pub no_such_g : (system : System) (p : ℤ → Bool) → list_all (λ (row : Row). not (p (pos (row.code * 1000000)))) (rows_of_system system) ≡ true
     → (texts : List Word) (words : List FlowWord) → AreSaid texts words → list_any (is_unknown_code system) words ≡ false
@@ -228,7 +221,7 @@ no_such_g system p all _ _ (one_more text word texts words is others) known plai
     let knows = neither _ _ known in
     let plains = neither _ _ plain in
     let own = has_row system text word is plains.0 knows.0 in
-    let not_this : p (pos (own.row.code * 1000000)) ≡ false = not_false _ (own.passes (λ (row : Row). not (p (pos (row.code * 1000000)))) all) in
+    let not_this : p (pos (own.row.code * 1000000)) ≡ false = not_true _ (own.passes (λ (row : Row). not (p (pos (row.code * 1000000)))) all) in
     rw (own.written, not_this) (no_such_g system p all texts words others knows.1 plains.1)
 
 pub each_has_row : (system : System) (texts : List Word) (words : List FlowWord) → AreSaid texts words → list_any (is_unknown_code system) words ≡ false

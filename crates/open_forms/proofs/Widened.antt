@@ -43,7 +43,7 @@ sentence_widened text sentence clean reads =
     statement_leads text sentence (subst (λ t. IsStatement t sentence) clean (whole-statement-sound (cleaned false text) sentence whole_reads))
 
 -- words that are not refused
-judged_words : (dialect : Dialect) (texts : List Word) (words : List FlowWord) → words_or_refusal dialect texts ≡ Ok words
+pub judged_words : (dialect : Dialect) (texts : List Word) (words : List FlowWord) → words_or_refusal dialect texts ≡ Ok words
     → (all_words texts ≡ Ok words) × (closed.refusal_of dialect words ≡ None)
 judged_words dialect texts words reads = go (all_words texts) (closed_many texts) reads
   where

@@ -19,7 +19,8 @@ is_g micro (negsuc n) = false
 abbrev pub has_g : ℕ → List Word → Bool
 has_g micro words = list_any (is_g micro) (g_values words)
 
--- G65.1 and on, G66, G66.1: modal calls; G68, G69: both paths wait at each; G72.1, G72.2: copies call a program
+-- G65.1 and on, G66, G66.1: modal calls; G68, G69: both paths wait at each; G72.1, G72.2: copies
+-- call a program
 abbrev pub leads_elsewhere : ℕ → Bool
 leads_elsewhere n =
     (nat_lt 65000000 n && nat_lt n 67000000)

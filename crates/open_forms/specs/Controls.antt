@@ -21,8 +21,8 @@ use Rattle.open_forms.specs.Statements.{control_of_statement}
 abbrev pub repeats_of : List Word → ℕ
 repeats_of words = or_number 1 (last_number (codes "L") words)
 
--- A block that is none of these goes on to the next one. Behind a roughing cycle the path goes on behind its contour, which it
--- passes: to the next block, or to the contour's last one.
+-- A block that is none of these goes on to the next one. Behind a roughing cycle the path goes on
+-- behind its contour, which it passes: to the next block, or to the contour's last one.
 abbrev pub control_by : Role → Dialect → List Word → Control
 control_by MacroCall dialect words = control.Call (or_number 0 (last_number (codes "P") words)) (repeats_of words)
 control_by Subprogram dialect words = call_of_p (or_number 0 (last_number (codes "P") words)) (repeats_of words)

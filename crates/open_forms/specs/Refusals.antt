@@ -1,4 +1,5 @@
--- When a block of words is refused by the open reading: where its control can't be told, or is not of this profile.
+-- When a block of words is refused by the open reading: where its control can't be told, or is not
+-- of this profile.
 use Rattle.std.specs.Prelude.{ℕ, Bool, true, false, not, ◌==◌, ◌&&◌, ◌||◌, nat_lt, nat_le, List, [], ◌∷◌, length, Option, Some, None, codes, if◌then◌else◌}
 use Rattle.std.specs.List.{list_any, list_all}
 use Rattle.nc_number.specs.declared.cause.Cause.{Cause}
@@ -15,7 +16,8 @@ use Rattle.open_forms.specs.declared.role.Role.TheVariants.{MacroCall, Subprogra
 use Rattle.open_forms.specs.Words.{words_of, has, has_computed, has_long, number, last_number, numbers_of}
 use Rattle.open_forms.specs.Codes.{g_values, has_g, is_refused_g, is_refused_m, is_lone_m, m_codes, has_wait, is_macro, cycle_of, role_of}
 
--- the letters whose words must be written out; a computed G or M may be any code, and a computed N or O any number
+-- the letters whose words must be written out; a computed G or M may be any code, and a computed N
+-- or O any number
 abbrev pub fixed_letters : Role → List ℕ
 fixed_letters MacroCall = codes "GNOPL"
 fixed_letters Subprogram = codes "GNOMPL"
@@ -105,8 +107,8 @@ abbrev pub has_two_m : List Word → Bool
 has_two_m words =
     not (is_macro words) && nat_lt 1 (length (words_of (codes "M") words)) && list_any is_lone_m (m_codes words)
 
--- 61: a call without its program, repeats twice over, L of a return, P of a dwell or an offset beside a call, half a contour
--- a dwell and the setting of an offset have a P of their own
+-- 61: a call without its program, repeats twice over, L of a return, P of a dwell or an offset
+-- beside a call, half a contour a dwell and the setting of an offset have a P of their own
 abbrev pub takes_p : Option Row → Bool
 takes_p None = false
 takes_p (Some row) = is_dwell row.kind || is_setting row.kind

@@ -1,4 +1,5 @@
--- What a statement does to the order of blocks, where neither its condition nor what it assigns is looked into.
+-- What a statement does to the order of blocks, where neither its condition nor what it assigns is
+-- looked into.
 use Rattle.std.specs.Prelude.{ℕ, zero, suc, ◌-◌, Bool, false, not, ◌==◌, ◌&&◌, ◌||◌, nat_le, List, [], ◌∷◌, Option, Some, None, is_some, Result, Ok, Err, codes, if◌then◌else◌}
 use Rattle.nc_number.specs.declared.cause.Cause.{Cause}
 use Rattle.nc_number.specs.declared.cause.Cause.TheVariants.{TooManyDigits, BadExpression, BadCondition, BadLoopNumber, WordRange}
@@ -6,15 +7,10 @@ use Rattle.nc_number.specs.declared.fault.NumberFault.{NumberFault}
 use Rattle.nc_number.specs.declared.literal.Literal.{Literal}
 use Rattle.nc_number.specs.Arithmetic.{whole_of}
 use Rattle.nc_number.specs.Literals.{is_literal, all_digits, word_literal}
+use Rattle.macro_expr.specs.Words.{behind}
 use Rattle.block_words.specs.Codes.{natural}
 use Rattle.block_order.specs.declared.control.Control.{Control}
 use Rattle.block_order.specs.declared.control.Control.TheVariants as control
-
--- what stands behind the word, where the text begins with it
-abbrev pub behind : List ℕ → List ℕ → Option (List ℕ)
-behind [] text = Some text
-behind (w ∷ word) [] = None
-behind (w ∷ word) (b ∷ text) = if b == w then behind word text else None
 
 -- a bracket closes the last open one, behind which the rest stands, or an inner one
 abbrev pub closed : ℕ → List ℕ → Option (List ℕ) → Option (List ℕ)

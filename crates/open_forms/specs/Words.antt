@@ -1,4 +1,5 @@
--- The words of a block as they stand on the tape, of which only those are read that its control hangs on.
+-- The words of a block as they stand on the tape, of which only those are read that its control
+-- hangs on.
 use Rattle.std.specs.Prelude.{ℕ, Bool, not, ◌&&◌, List, Option, Some, None, ℤ, Result, Ok, Err, filter, if◌then◌else◌}
 use Rattle.std.specs.List.{list_any, filter_map}
 use Rattle.nc_number.specs.declared.fault.NumberFault.{NumberFault}
@@ -22,7 +23,8 @@ abbrev pub value_of_literal : Result Literal NumberFault → Option ℤ
 value_of_literal (Ok literal) = Some literal.value
 value_of_literal (Err fault) = None
 
--- the millionths of a number that is written out, with not too many digits; an expression is not looked into
+-- the millionths of a number that is written out, with not too many digits; an expression is not
+-- looked into
 abbrev pub written : Word → Option ℤ
 written word = if is_literal word.text then value_of_literal (word_literal word.text) else None
 

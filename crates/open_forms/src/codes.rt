@@ -1,3 +1,4 @@
+//! The G and M codes of a block, as numbers alone.
 ghost use Rattle.std.specs.Prelude.{◌≡◌};
 ghost use Rattle.block_words.specs.Codes.{first_waiting};
 ghost use Rattle.open_forms.specs.Codes.{is_g, has_g, leads_elsewhere, is_refused_g, m_codes, has_m, has_wait, is_refused_m, is_lone_m, is_roughing, has_contour, cycle_of, role_of};
@@ -25,8 +26,8 @@ pub(crate) fn has_g(words: &[Word], micro: u32) -> bool
         .any(|own| is_g(micro, own))
 }
 
-/// Whether a G code of so many millionths may call a program or wait: G65.1 and on, G66, G66.1, modal
-/// calls; G68, G69, at which both paths wait; G72.1, G72.2, copies that call a program.
+/// Whether a G code of so many millionths may call a program or wait: G65.1 and on, G66, G66.1,
+/// modal calls; G68, G69, at which both paths wait; G72.1, G72.2, copies that call a program.
 fn leads_elsewhere(micro: u64) -> bool
     ensures { result ≡ leads_elsewhere micro }
 {
@@ -86,8 +87,8 @@ pub(crate) fn first_waiting(words: &[Word], dialect: Dialect) -> Option<u16>
     }
 }
 
-/// Whether the M code is an interrupt, M96 or M97, or calls a program of another memory, M198, and no
-/// wait of the settings.
+/// Whether the M code is an interrupt, M96 or M97, or calls a program of another memory, M198, and
+/// no wait of the settings.
 pub(crate) fn is_refused_m(dialect: Dialect, code: u32) -> bool
     ensures { result ≡ is_refused_m dialect code }
 {

@@ -1,3 +1,4 @@
+//! What a block does to the order of blocks.
 ghost use Rattle.std.specs.Prelude.{◌≡◌, ◌≤◌, IfSome, None};
 ghost use Rattle.block_forms.specs.Controls.{or_number, call_of_p, back_to, wait_at};
 ghost use Rattle.open_forms.specs.Words.{last_number};
@@ -53,6 +54,7 @@ fn back_to(sequence: Option<u32>) -> Control
     }
 }
 
+/// Words that wait have a waiting code, so the other case is never asked.
 fn wait_at(code: Option<u16>) -> Control
     ensures { result ≡ wait_at code }
 {

@@ -1,3 +1,4 @@
+//! The words of a block by their letters.
 ghost use Rattle.std.specs.Prelude.{◌≡◌, ◌≤◌, ◌&&◌, not, IfSome, length, if◌then◌else◌};
 ghost use Rattle.nc_number.specs.Literals.{is_literal, has_too_many_digits};
 ghost use Rattle.block_words.specs.Words.{is_one_of};

@@ -1,8 +1,8 @@
 //! What one block of a tape does to the order of blocks, read for that alone.
 //!
 //! A block goes on to the next one unless its words or its statement say that it calls, returns,
-//! jumps, loops, waits or ends; what else it says is not looked into. So a block whose codes the control
-//! does not know still has its `Control`. It is refused where that can't be told.
+//! jumps, loops, waits or ends; what else it says is not looked into. So a block whose codes the
+//! control does not know still has its `Control`. It is refused where that can't be told.
 #![tactic(auto)]
 
 mod codes;

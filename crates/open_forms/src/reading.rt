@@ -1,3 +1,4 @@
+//! A block, read for its control alone.
 ghost use Rattle.std.specs.Prelude.{◌≡◌};
 ghost use Rattle.open_forms.specs.Controls.{open_control, numbered};
 
@@ -22,9 +23,9 @@ fn numbered(read: Result<Control, Cause>) -> Result<Control, FormFault>
 
 /// What a block does to the order of blocks.
 ///
-/// Nothing else that it says is looked into. It is refused where its control can't be told, and where
-/// a code of it may call or wait in a way that is not known here: of several refusals with the one of
-/// the least number, 5, 20, 22, 24, 54, 56 to 59, 61 or 64.
+/// Nothing else that it says is looked into. It is refused where its control can't be told, and
+/// where a code of it may call or wait in a way that is not known here: of several refusals with
+/// the one of the least number, 5, 20, 22, 24, 54, 56 to 59, 61 or 64.
 pub fn open_control(block: &Block, dialect: &Dialect) -> Result<Control, FormFault>
     ensures { result ≡ numbered (open_control dialect.now block.now.body) }
 {

@@ -1,3 +1,4 @@
+//! The conditions that refuse a block which leads somewhere.
 ghost use Rattle.std.specs.Prelude.{◌≡◌, codes};
 ghost use Rattle.std.specs.List.{list_any, list_all};
 ghost use Rattle.block_words.specs.Words.{is_one_of};
@@ -15,12 +16,14 @@ use code_tables::{CodeKind, Row, System};
 use nc_number::Cause;
 use nc_text::Word;
 
+/// G10, in millionths.
 const SETTING: u32 = 10_000_000;
 
+/// G65, in millionths.
 const MACRO_CALL: u32 = 65_000_000;
 
-/// The letters whose words must be written out: a computed G or M may be any code, and a computed N or
-/// O any number.
+/// The letters whose words must be written out: a computed G or M may be any code, and a computed N
+/// or O any number.
 fn fixed_letters(role: Role) -> &'static [u8]
     ensures { result.now ≡ fixed_letters role }
 {
@@ -40,6 +43,7 @@ fn is_not_fixed(role: Role, dialect: Dialect, words: &[Word]) -> bool
     has_computed(words, fixed_letters(role)) || (has_computed(words, b"L") && has_g(words, SETTING))
 }
 
+/// The kinds of G10 that write parameters.
 fn is_parameter(kind: u32) -> bool
     ensures { result ≡ is_parameter kind }
 {
@@ -53,6 +57,7 @@ fn writes_parameters(words: &[Word]) -> bool
     names_parameters(words) && has_g(words, SETTING)
 }
 
+/// Whatever the block is: without G10 an L of 50 is no parameter.
 fn names_parameters(words: &[Word]) -> bool
     ensures { result ≡ list_any is_parameter (numbers_of (codes "L") words.now) }
 {
@@ -73,12 +78,14 @@ fn row_of_word(system: System, word: &Word) -> Option<Row>
     }
 }
 
+/// A computed code has no row either.
 fn has_no_row(system: System, word: &Word) -> bool
     ensures { result ≡ is_no_row (row_of_word system word.now) }
 {
     row_of_word(system, word).is_none()
 }
 
+/// A code that no row has may hide a call.
 fn has_code_without_row(system: System, words: &[Word]) -> bool
     ensures { result ≡ list_any (λ word. is_no_row (row_of_word system word)) (words_of (codes "G") words.now) }
 {
@@ -126,6 +133,7 @@ fn begins_macro_call(system: System, words: &[Word]) -> bool
     }
 }
 
+/// A G word counts by its millionths: G10.1 is another code than G10.
 fn has_refused_g(words: &[Word]) -> bool
     ensures { result ≡ list_any is_refused_g (g_values words.now) }
 {
@@ -136,6 +144,7 @@ fn has_refused_g(words: &[Word]) -> bool
         .any(|micro| is_refused_g(micro))
 }
 
+/// A computed M code is refused before, so it is no matter of this.
 fn has_refused_m(dialect: Dialect, words: &[Word]) -> bool
     ensures { result ≡ list_any (is_refused_m dialect) (m_codes words.now) }
 {
@@ -156,6 +165,7 @@ fn is_unknown_by(role: Role, dialect: Dialect, words: &[Word]) -> bool
     }
 }
 
+/// The blocks whose P and Q name the lines of a contour.
 fn is_contour(role: Role) -> bool
     ensures { result ≡ is_contour role }
 {
@@ -225,6 +235,7 @@ fn is_wait_of_others(dialect: Dialect, words: &[Word]) -> bool
         && (has_computed(words, b"P") || !is_both(dialect.bits, words))
 }
 
+/// M codes that must stand alone among those of their block.
 fn has_lone_m(words: &[Word]) -> bool
     ensures { result ≡ list_any is_lone_m (m_codes words.now) }
 {
@@ -252,6 +263,7 @@ fn takes_p(system: System, word: &Word) -> bool
     }
 }
 
+/// Then the P is not that of a call or a return.
 fn uses_p(system: System, words: &[Word]) -> bool
     ensures { result ≡ uses_p system words.now }
 {
@@ -278,8 +290,8 @@ fn has_repeats(words: &[Word]) -> bool
     }
 }
 
-/// 61: a call without its program, repeats twice over, L of a return, P of a dwell or an offset beside a
-/// call, half a contour.
+/// 61: a call without its program, repeats twice over, L of a return, P of a dwell or an offset
+/// beside a call, half a contour.
 fn is_bad_call(role: Role, system: System, words: &[Word]) -> bool
     ensures { result ≡ is_bad_call_by role system words.now }
 {
@@ -304,6 +316,7 @@ fn is_in(word: &Word, least: u32, greatest: u32) -> bool
     }
 }
 
+/// A word that writes no whole number is in no range.
 fn are_in(words: &[Word], letters: &[u8], least: u32, greatest: u32) -> bool
     ensures { result ≡ are_in least greatest letters.now words.now }
 {
@@ -313,6 +326,7 @@ fn are_in(words: &[Word], letters: &[u8], least: u32, greatest: u32) -> bool
         .all(|word| is_in(word, least, greatest))
 }
 
+/// The words of calls, returns and contours alone; no other word decides where a block leads.
 fn is_in_range(role: Role, words: &[Word]) -> bool
     ensures { result ≡ is_in_range_by role words.now }
 {
@@ -333,7 +347,8 @@ fn is_out_of_range(role: Role, dialect: Dialect, words: &[Word]) -> bool
     !is_in_range(role, words) || (!are_in(words, b"M", 0, 99_999_999) && !has_g(words, MACRO_CALL))
 }
 
-/// 5: a word that must be written out has too many digits, or the L of G10, which may write parameters.
+/// 5: a word that must be written out has too many digits, or the L of G10, which may write
+/// parameters.
 fn is_long(role: Role, dialect: Dialect, words: &[Word]) -> bool
     requires { role ≡ role_of dialect words.now }
     ensures { result ≡ is_long dialect words.now }

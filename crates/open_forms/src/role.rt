@@ -1,3 +1,5 @@
+//! What a block of words is there for.
+
 /// What decides where a block of words leads.
 #[derive(Clone, Copy, Debug, PartialEq, Eq)]
 pub enum Role {

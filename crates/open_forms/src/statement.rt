@@ -2,7 +2,8 @@
 ghost use Rattle.std.specs.Prelude.{◌≡◌};
 ghost use Rattle.std.specs.Option.{option_map};
 ghost use Rattle.nc_number.specs.Literals.{all_digits};
-ghost use Rattle.open_forms.specs.Statements.{assignment, begins, is_own_m, hides_word, behind, behind_close, behind_condition, behind_if, behind_while, is_computed, number_of_loop, target, control_of_statement};
+ghost use Rattle.macro_expr.specs.Words.{behind};
+ghost use Rattle.open_forms.specs.Statements.{assignment, begins, is_own_m, hides_word, behind_close, behind_condition, behind_if, behind_while, is_computed, number_of_loop, target, control_of_statement};
 
 use block_order::Control;
 use nc_number::{Cause, is_literal, parse_word};
@@ -43,6 +44,7 @@ fn behind_condition(text: &[u8]) -> Option<&[u8]>
     }
 }
 
+/// As `behind`, where what follows does not matter.
 fn begins(text: &[u8], word: &[u8]) -> bool
     ensures { result ≡ begins word.now text.now }
 {
@@ -86,12 +88,14 @@ fn assigned(text: &[u8]) -> Result<Control, Cause>
     }
 }
 
+/// A jump goes to digits alone: no sign and no point.
 fn are_digits(text: &[u8]) -> bool
     ensures { result ≡ all_digits text.now }
 {
     text.iter().all(|b| b.is_ascii_digit())
 }
 
+/// A target that is a variable or an expression may be any number.
 fn is_computed(text: &[u8]) -> bool
     ensures { result ≡ is_computed text.now }
 {

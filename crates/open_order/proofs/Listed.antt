@@ -1,10 +1,12 @@
--- The programs of a tape that was read stand in the text as the tape does: as many, on the same lines, of as many blocks.
+-- The programs of a tape that was read stand in the text as the tape does: as many, on the same
+-- lines, of as many blocks.
 use Rattle.std.proofs.Common.{◌≡◌, ℕ, ◌+◌, Bool, List, [], ◌∷◌, ◌++◌, length, map, refl, ap, sym, ◌∙◌, arith, Result, Ok, Err, IfOk, append_assoc, length-append, subst}
 use Rattle.std.proofs.lemmas.List.{map-append, length-map, append-nil}
 use Rattle.std.proofs.lemmas.Grind.{flat_map-append}
 use Rattle.nc_number.specs.Results.{◌>>=◌}
 use Rattle.nc_text.specs.declared.tape.Block.{Block}
 use Rattle.nc_text.specs.declared.tape.Program.{Program}
+use Rattle.nc_number.specs.Rising.{RiseFrom}
 use Rattle.nc_text.specs.Shape as tape
 use Rattle.nc_text.specs.Shape.{IsTapeShape}
 use Rattle.block_order.specs.declared.control.Control.{Control}
@@ -14,14 +16,9 @@ use Rattle.block_order.specs.Shape as order
 use Rattle.block_order.specs.Shape.{IsListed}
 use Rattle.block_forms.specs.declared.fault.FormFault.{FormFault}
 use Rattle.open_forms.specs.Controls.{open_control, numbered}
+use Rattle.tape_flow.proofs.Listed.{bound}
 use Rattle.open_order.specs.declared.premises.Premises.{Premises}
 use Rattle.open_order.specs.Reading.{Basis, gone_from, at_line, block_read, blocks_from, program_read, programs_from, programs_read}
-
--- what holds of a first step's answer is handed to the second
-bound : {A B E : Type 0} (read : Result A E) (go : A → Result B E) (P : A → Type 0) (Q : B → Type 0)
-    → IfOk read P → ((x : A) → P x → IfOk (go x) Q) → IfOk (read >>= go) Q
-bound (Ok x) go P Q holds step = step x holds
-bound (Err e) go P Q holds step = tt
 
 line_kept_at : (gone : ℕ → Bool) (block : Block) (read : Result Control FormFault)
     → IfOk (at_line gone block read) (λ c. c.line ≡ block.line)
@@ -78,7 +75,8 @@ count_like : (program : Program) (read : ControlProgram) → IsLike program read
 count_like program read like =
     sym (length-map read.blocks (λ b. b.line)) ∙ ap length like.lines ∙ length-map program.blocks (λ block. block.line)
 
--- the programs that are read, and those that follow, have these lines and so many blocks, and are so many
+-- the programs that are read, and those that follow, have these lines and so many blocks, and are
+-- so many
 record IsSplit (done : List ControlProgram) (rest : List Program) (lines : List ℕ) (blocks programs : ℕ) : Type 0 where
   lines_are : order.lines_in done ++ tape.lines_in rest ≡ lines
   blocks_are : length (order.blocks_in done) + length (tape.blocks_in rest) ≡ blocks
@@ -120,10 +118,6 @@ programs_kept basis (program ∷ rest) done lines blocks programs split =
     (λ read like. programs_kept basis rest (done ++ read ∷ []) lines blocks programs
     (split_more done read program rest lines blocks programs like split))
 
-same_rise : (ns : List ℕ) (low : ℕ) → tape.RiseFrom low ns → order.RiseFrom low ns
-same_rise [] low rise = tt
-same_rise (n ∷ ns) low rise = (rise.0, same_rise ns n rise.1)
-
 -- the controls of a tape that was read are as the check of their order wants them
 pub read_listed : (premises : Premises) (programs : List Program) (read : List ControlProgram) → IsTapeShape programs
     → programs_read premises programs ≡ Ok read → IsListed read
@@ -135,6 +129,6 @@ read_listed premises programs read shape is =
     let lines : tape.lines_in programs ≡ order.lines_in read = sym split.lines_are ∙ append-nil (order.lines_in read) in
     record {
       some = omega (arith, split.programs_are, shape.some);
-      lines = subst (λ ns. order.RiseFrom 0 ns) lines (same_rise (tape.lines_in programs) 0 shape.lines);
+      lines = subst (λ ns. RiseFrom 0 ns) lines shape.lines;
       few = omega (arith, split.blocks_are, shape.few);
     }

@@ -47,7 +47,8 @@ contour_in (Words words) =
     else None
 contour_in (Statement text) = None
 
--- a block of this control may not stand in a contour: a wait, an end, an M99, or a call of a program that waits or ends
+-- a block of this control may not stand in a contour: a wait, an end, an M99, or a call of a
+-- program that waits or ends
 abbrev pub disturbs : (ℕ → Bool) → Control → Bool
 disturbs loud (Wait code) = true
 disturbs loud End = true
@@ -77,8 +78,8 @@ abbrev pub fault_from : (ℕ → Bool) → List ControlBlock → Contour → Opt
 fault_from loud bs contour None = Some NoSequence
 fault_from loud bs contour (Some first) = fault_between loud bs first (last_block bs contour first)
 
--- What is wrong with the contour of a cycle at a place of a program: 50 if the program lacks one of its numbers; else 65 if it
--- ends before it begins, or a block of it disturbs it.
+-- What is wrong with the contour of a cycle at a place of a program: 50 if the program lacks one of
+-- its numbers; else 65 if it ends before it begins, or a block of it disturbs it.
 abbrev pub contour_cause : (ℕ → Bool) → List ControlBlock → ℕ → Option Contour → Option Cause
 contour_cause loud bs place None = None
 contour_cause loud bs place (Some contour) = fault_from loud bs contour (seek bs place contour.from)

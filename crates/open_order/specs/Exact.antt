@@ -18,8 +18,8 @@ pub record IsOrdered (premises : Premises) (tape : List Program) (order : List C
   pub sound : IsSound order
   pub contours : contour_fault order tape ≡ None
 
--- The refusal of a tape: of its first block that is refused; if all blocks read, the first fault of their order; if that is
--- sound, the first fault of a contour.
+-- The refusal of a tape: of its first block that is refused; if all blocks read, the first fault of
+-- their order; if that is sound, the first fault of a contour.
 pub data IsRefused (premises : Premises) (tape : List Program) (line number : ℕ) : Type 0 where
   block : programs_read premises tape ≡ Err (refusal line number) → IsRefused premises tape line number
   order : (order : List ControlProgram) → programs_read premises tape ≡ Ok order → IsOrderFault order line number

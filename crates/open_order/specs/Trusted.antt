@@ -1,5 +1,5 @@
--- What is taken on trust: codes that this control does not know in the system of the tape and that are taken to go on, and calls of
--- programs that the tape lacks.
+-- What is taken on trust: codes that this control does not know in the system of the tape and that
+-- are taken to go on, and calls of programs that the tape lacks.
 use Rattle.std.specs.Prelude.{ℕ, Bool, true, false, not, ◌==◌, ◌&&◌, ◌||◌, nat_le, List, [], ◌∷◌, Option, Some, None, ℤ, pos, negsuc, Result, Ok, Err, if◌then◌else◌}
 use Rattle.std.specs.Ordering.{nat_cmp}
 use Rattle.std.specs.BTreeSet.{insert_key}
@@ -69,7 +69,8 @@ auxiliary_code dialect None = None
 auxiliary_code dialect (Some code) =
     if is_waiting dialect code || is_standard_m code then None else Some (Auxiliary code)
 
--- what a word takes on trust: a G (71) that this control does not know in that system, or an M (77) of those
+-- what a word takes on trust: a G (71) that this control does not know in that system, or an M (77)
+-- of those
 abbrev pub word_code : Dialect → Word → Option Code
 word_code dialect word =
     if word.letter == 71 then (if is_own_row (row_of_number dialect.system (number word)) then None else geometry_code (written word))

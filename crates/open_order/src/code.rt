@@ -26,6 +26,7 @@ pub(crate) enum Code {
     Subprogram(u16),
 }
 
+/// A code that this control refuses is known by the machine alone, so it is taken on trust.
 fn is_own_row(row: Option<Row>) -> bool
     ensures { result ≡ is_own_row row }
 {
@@ -62,6 +63,7 @@ fn is_standard_m(code: u32) -> bool
     (code <= 5 || (code == 8 || code == 9)) || (code == 30 || (code == 98 || code == 99))
 }
 
+/// Waits and standard codes mean the same on every machine.
 fn auxiliary_code(dialect: &Dialect, code: Option<u32>) -> Option<Code>
     ensures { result ≡ auxiliary_code dialect.now code }
 {
@@ -77,8 +79,8 @@ fn auxiliary_code(dialect: &Dialect, code: Option<u32>) -> Option<Code>
     }
 }
 
-/// What a word takes on trust: a G code that the control does not know in the system of the tape, or an
-/// M code that is no wait and none of the standard ones.
+/// What a word takes on trust: a G code that the control does not know in the system of the tape,
+/// or an M code that is no wait and none of the standard ones.
 pub(crate) fn word_code(dialect: &Dialect, word: &Word) -> Option<Code>
     ensures { result ≡ word_code dialect.now word.now }
 {

@@ -50,6 +50,7 @@ pub(crate) fn is_macro_call(words: &[Word]) -> bool
     words.iter().any(|word| is_one_of(b"G", word.letter) && is_macro_code(written(word)))
 }
 
+/// A contour needs both its numbers.
 fn contour_by(from: Option<u32>, to: Option<u32>) -> Option<Contour>
     ensures { result ≡ contour_by from to }
 {

@@ -3,6 +3,7 @@ ghost use Rattle.std.specs.Prelude.{◌≡◌, ◌≤◌, ◌<◌, length, IfSom
 ghost use Rattle.std.specs.List.{list_any};
 ghost use Rattle.block_order.specs.Loud.{loud};
 ghost use Rattle.block_order.specs.Order.{blocks};
+ghost use Rattle.nc_number.specs.declared.limits.TheConstants.{MOST_BLOCKS};
 ghost use Rattle.nc_text.specs.Shape.{IsTapeShape};
 ghost use Rattle.open_order.specs.Contours.{disturbs, between, is_calm, last_block, fault_between, fault_from, contour_cause, fault_at, block_fault, blocks_fault, contour_fault};
 
@@ -12,8 +13,8 @@ use nc_number::Cause;
 use nc_text::{Block, Program};
 use tape_flow::FlowFault;
 
-/// Whether a block of this control may not stand in a contour: a wait, an end, an M99, or a call of a
-/// program that waits or ends.
+/// Whether a block of this control may not stand in a contour: a wait, an end, an M99, or a call of
+/// a program that waits or ends.
 fn disturbs(order: &BlockOrder, control: Control) -> bool
     ensures { result ≡ disturbs (loud order.now) control }
 {
@@ -45,6 +46,7 @@ fn between(blocks: &[ControlBlock], first: u32, last: u32) -> &[ControlBlock]
     inside
 }
 
+/// A contour that ends before it begins is none.
 fn is_calm(order: &BlockOrder, blocks: &[ControlBlock], first: u32, last: u32) -> bool
     requires { last < length blocks.now }
     ensures { result ≡ is_calm (loud order.now) blocks.now first last }
@@ -63,6 +65,7 @@ fn last_block(order: &BlockOrder, program: u16, contour: Contour, first: u32) ->
     }
 }
 
+/// 50 where the last number is not found, 65 where something in the contour disturbs it.
 fn fault_between(order: &BlockOrder, program: u16, first: u32, last: Option<u32>) -> Option<Cause>
     requires { IfSome last (λ n. n < length (blocks order.now program)) }
     ensures { result ≡ fault_between (loud order.now) (blocks order.now program) first last }
@@ -79,6 +82,7 @@ fn fault_between(order: &BlockOrder, program: u16, first: u32, last: Option<u32>
     }
 }
 
+/// 50 where the first number is not found.
 fn fault_from(
     order: &BlockOrder,
     program: u16,
@@ -115,6 +119,7 @@ fn contour_cause(
     }
 }
 
+/// Told at the line of the cycle, not at that of the contour.
 fn fault_at(line: u32, cause: Option<Cause>) -> Option<FlowFault>
     ensures { result ≡ fault_at line cause }
 {
@@ -139,7 +144,7 @@ fn block_fault(order: &BlockOrder, program: u16, place: u32, block: &Block) -> O
 
 /// The first fault of the blocks of a program.
 fn blocks_fault(order: &BlockOrder, program: u16, listed: &[Block]) -> Option<FlowFault>
-    requires { length listed.now ≤ 20000 }
+    requires { length listed.now ≤ MOST_BLOCKS }
     ensures { result ≡ blocks_fault (loud order.now) (blocks order.now program) 0 listed.now }
 {
     let mut place: u32 = 0;
@@ -152,16 +157,18 @@ fn blocks_fault(order: &BlockOrder, program: u16, listed: &[Block]) -> Option<Fl
     None
 }
 
+/// The blocks are those of the first program with this O number, which is the only one.
 fn program_fault(order: &BlockOrder, program: &Program) -> Option<FlowFault>
     requires number { program.now.number ≤ 9999 }
-    requires few { length program.now.blocks ≤ 20000 }
+    requires few { length program.now.blocks ≤ MOST_BLOCKS }
     ensures { result ≡ blocks_fault (loud order.now) (blocks order.now program.now.number) 0 program.now.blocks }
 {
     blocks_fault(order, program.number as u16, program.blocks.as_slice())
 }
 
-/// The first fault of a contour of a tape: 50 if a program lacks a number of it; 65 if it ends before it
-/// begins, or a block of it is a wait, an end, an M99, or calls a program that waits or ends.
+/// The first fault of a contour of a tape: 50 if a program lacks a number of it; 65 if it ends
+/// before it begins, or a block of it is a wait, an end, an M99, or calls a program that waits or
+/// ends.
 pub(crate) fn contour_fault(order: &BlockOrder, tape: &[Program]) -> Option<FlowFault>
     requires { IsTapeShape tape.now }
     ensures { result ≡ contour_fault order.now tape.now }

@@ -1,8 +1,9 @@
 //! The order of the blocks of a tape, read for its waits alone.
 //!
-//! Each block is read for what it does to the order of blocks, and goes on to the next one if it says
-//! nothing of that. A call of a program that the tape may lack goes on too. [`open_order`] is the order of
-//! a tape in which nothing is wrong, or its one refusal; [`add_tape`] tells what was taken on trust.
+//! Each block is read for what it does to the order of blocks, and goes on to the next one if it
+//! says nothing of that. A call of a program that the tape may lack goes on too. [`open_order`] is
+//! the order of a tape in which nothing is wrong, or its one refusal; [`add_tape`] tells what was
+//! taken on trust.
 #![tactic(auto)]
 
 mod code;

@@ -35,8 +35,9 @@ fn order_of(alloc: Global, programs: Vec<ControlProgram>) -> Result<BlockOrder, 
     }
 }
 
-/// The order of the blocks of a tape, or its refusal: of its first block that is refused; else by 60 and
-/// 52, by 50, 51 and 53, or by 65 and 66 of the order of its blocks; else by 50 and 65 of a contour.
+/// The order of the blocks of a tape, or its refusal: of its first block that is refused; else by
+/// 60 and 52, by 50, 51 and 53, or by 65 and 66 of the order of its blocks; else by 50 and 65 of a
+/// contour.
 pub fn open_order(
     alloc: Global,
     premises: Premises,

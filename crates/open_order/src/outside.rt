@@ -6,8 +6,8 @@ use nc_text::Program;
 
 /// The programs that a tape may lack: those whose O numbers lie in a range, both ends included.
 ///
-/// The control has them, none of them waits or ends, and each comes back to its caller. A program that
-/// the tape has is read, whatever the range.
+/// The control has them, none of them waits or ends, and each comes back to its caller. A program
+/// that the tape has is read, whatever the range.
 #[derive(Clone, Copy, Debug, PartialEq, Eq)]
 pub struct Outside {
     pub least: u16,

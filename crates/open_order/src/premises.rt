@@ -1,3 +1,4 @@
+//! What a reading takes on trust.
 use crate::outside::Outside;
 use block_forms::Dialect;
 

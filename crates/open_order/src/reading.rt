@@ -22,7 +22,8 @@ pub(crate) struct Reading<'a> {
     pub(crate) tape: &'a [Program],
 }
 
-/// The control of a block on its tape: a call of a program that the tape lacks goes on to the next block.
+/// The control of a block on its tape: a call of a program that the tape lacks goes on to the next
+/// block.
 fn settled(reading: &Reading<'_>, control: Control) -> Control
     ensures { result ≡ settled (is_gone reading.now.premises.outside reading.now.tape.now) control }
 {
@@ -55,6 +56,7 @@ fn read_block(reading: &Reading<'_>, block: &Block) -> Result<ControlBlock, Flow
     }
 }
 
+/// Reading ends at the first refusal.
 fn read_blocks(
     alloc: Global,
     reading: &Reading<'_>,
@@ -72,6 +74,7 @@ fn read_blocks(
     Ok(read)
 }
 
+/// The O number of a tape has at most four digits.
 fn read_program(
     alloc: Global,
     reading: &Reading<'_>,
@@ -90,6 +93,7 @@ fn read_program(
     }
 }
 
+/// The programs as they stand in the text, the main program first.
 fn read_programs(
     alloc: Global,
     reading: &Reading<'_>,

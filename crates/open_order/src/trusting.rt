@@ -49,6 +49,7 @@ pub fn no_trust(alloc: Global) -> Trust
     }
 }
 
+/// Each code is kept once, however often it stands there.
 fn add_geometry(trust: &mut Trust, micro: u64) -> Result<(), NoMemory>
     ensures { OnOk result (seen trust.new ≡ with_code (seen trust.old) (Some (Code.Geometry micro))) }
 {
@@ -56,6 +57,7 @@ fn add_geometry(trust: &mut Trust, micro: u64) -> Result<(), NoMemory>
     Ok(())
 }
 
+/// Each code is kept once, however often it stands there.
 fn add_auxiliary(trust: &mut Trust, code: u32) -> Result<(), NoMemory>
     ensures { OnOk result (seen trust.new ≡ with_code (seen trust.old) (Some (Code.Auxiliary code))) }
 {
@@ -63,6 +65,7 @@ fn add_auxiliary(trust: &mut Trust, code: u32) -> Result<(), NoMemory>
     Ok(())
 }
 
+/// Each number is kept once, however often it is called.
 fn add_program(trust: &mut Trust, number: u16) -> Result<(), NoMemory>
     ensures { OnOk result (seen trust.new ≡ with_code (seen trust.old) (Some (Code.Subprogram number))) }
 {
@@ -70,6 +73,7 @@ fn add_program(trust: &mut Trust, number: u16) -> Result<(), NoMemory>
     Ok(())
 }
 
+/// One code more, where there is one.
 fn add_code(trust: &mut Trust, code: Option<Code>) -> Result<(), NoMemory>
     ensures { OnOk result (seen trust.new ≡ with_code (seen trust.old) code) }
 {
@@ -81,6 +85,7 @@ fn add_code(trust: &mut Trust, code: Option<Code>) -> Result<(), NoMemory>
     }
 }
 
+/// The codes that the words of a block name.
 fn add_words(trust: &mut Trust, dialect: &Dialect, words: &[Word]) -> Result<(), NoMemory>
     ensures { OnOk result (seen trust.new ≡ with_words dialect.now (seen trust.old) words.now) }
 {
@@ -90,6 +95,7 @@ fn add_words(trust: &mut Trust, dialect: &Dialect, words: &[Word]) -> Result<(),
     Ok(())
 }
 
+/// The words of a macro call are arguments, and a statement has no codes.
 fn add_body(trust: &mut Trust, dialect: &Dialect, body: &Body) -> Result<(), NoMemory>
     ensures { OnOk result (seen trust.new ≡ with_body dialect.now (seen trust.old) body.now) }
 {
@@ -106,6 +112,7 @@ fn add_body(trust: &mut Trust, dialect: &Dialect, body: &Body) -> Result<(), NoM
     }
 }
 
+/// What a block names, and the program that it calls where the tape lacks it.
 fn add_block(trust: &mut Trust, reading: &Reading<'_>, block: &Block) -> Result<(), NoMemory>
     ensures { OnOk result (seen trust.new ≡ with_block (basis reading.now) (seen trust.old) block.now) }
 {
@@ -113,6 +120,7 @@ fn add_block(trust: &mut Trust, reading: &Reading<'_>, block: &Block) -> Result<
     add_code(trust, called_outside(reading, block))
 }
 
+/// The blocks of a program, in turn.
 fn add_blocks(trust: &mut Trust, reading: &Reading<'_>, blocks: &[Block]) -> Result<(), NoMemory>
     ensures { OnOk result (seen trust.new ≡ with_blocks (basis reading.now) (seen trust.old) blocks.now) }
 {
@@ -122,6 +130,7 @@ fn add_blocks(trust: &mut Trust, reading: &Reading<'_>, blocks: &[Block]) -> Res
     Ok(())
 }
 
+/// The programs of a tape, in turn.
 fn add_programs(trust: &mut Trust, reading: &Reading<'_>) -> Result<(), NoMemory>
     ensures { OnOk result (seen trust.new
         ≡ with_programs (basis reading.now) (seen trust.old) reading.now.tape.now) }

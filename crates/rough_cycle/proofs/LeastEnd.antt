@@ -1,6 +1,6 @@
 -- No whole Z below the end of a pass would do: there the contour has X above the pass.
-use Rattle.std.proofs.Common.{◌≡◌, ℕ, zero, suc, ◌+◌, ◌*◌, ◌/◌, ◌%◌, ◌<◌, ◌≤◌, Bool, true, false, not, ◌&&◌, ◌||◌, List, [], ◌∷◌, ℤ, pos, negsuc, neg_ℤ, ◌+ℤ◌, ◌-ℤ◌, ◌*ℤ◌, ◌≤ℤ◌, ◌<ℤ◌, refl, ap, sym, subst, ◌∙◌, arith, ◌⊎◌, inl, inr, cond}
-use Rattle.std.specs.Prelude.{unsigned_abs, int_lt, int_le}
+use Rattle.std.proofs.Common.{◌≡◌, ℕ, suc, ◌*◌, ◌/◌, ◌<◌, ◌≤◌, Bool, true, false, not, ◌&&◌, ◌||◌, List, [], ◌∷◌, ℤ, pos, negsuc, neg_ℤ, ◌-ℤ◌, ◌*ℤ◌, ◌≤ℤ◌, ◌<ℤ◌, refl, sym, subst, ◌∙◌, arith, ◌⊎◌, inl, inr, cond}
+use Rattle.std.specs.Prelude.{int_lt, int_le}
 use Rattle.std.specs.Ordering.{int_eq}
 use Rattle.std.proofs.Math.IntN.{negsuc-*ℤ-pos}
 use Rattle.std.proofs.Math.Nat.{mul-le-mul_right}
@@ -12,11 +12,9 @@ use Rattle.nc_number.specs.declared.point.Point.{Point}
 use Rattle.rough_cycle.specs.Contour.{Descends}
 use Rattle.rough_cycle.specs.Inside.{apart, holds, is_below, is_below_line, some_holds, is_below_each, is_inside_from}
 use Rattle.rough_cycle.specs.Roughing.{end_at}
+use Rattle.rough_cycle.proofs.Orders.{le_is, not_le_is, is_lt}
 use Rattle.rough_cycle.proofs.Products.{part_below}
-use Rattle.rough_cycle.proofs.NothingInside.{holds_between, behind_end, not_inside, both, lt_is, le_is, not_le_is, held, end_is_low}
-
-is_lt : (a b : ℤ) → a <ℤ b → int_lt a b ≡ true
-is_lt a b less = grind (arith, ints)
+use Rattle.rough_cycle.proofs.NothingInside.{holds_between, behind_end, not_inside, held, end_is_low}
 
 -- a part of the products of a point that is left of both ends
 negative_below : (a w : ℤ) (d n : ℕ) → a <ℤ pos 0 → pos 0 ≤ℤ w → 0 < d → int_lt (a *ℤ pos d) (w *ℤ pos n) ≡ true

@@ -1,27 +1,21 @@
 -- Which passes are made.
-use Rattle.std.proofs.Common.{◌≡◌, ℕ, zero, suc, ◌+◌, ◌-◌, ◌<◌, ◌≤◌, Bool, true, false, ◌&&◌, List, [], ◌∷◌, ◌++◌, ℤ, pos, ◌+ℤ◌, ◌-ℤ◌, ◌≤ℤ◌, ◌<ℤ◌, refl, ap, sym, subst, ◌∙◌, arith, append_assoc, append-nil, cond, Option, Some, None}
+use Rattle.std.proofs.Common.{◌≡◌, ℕ, zero, suc, ◌+◌, ◌-◌, ◌<◌, ◌≤◌, Bool, true, false, ◌&&◌, List, [], ◌∷◌, ◌++◌, ◌≤ℤ◌, ◌<ℤ◌, refl, ap, sym, ◌∙◌, arith, append_assoc, append-nil, cond, Some, None}
 use Rattle.std.specs.Prelude.{int_lt}
-use Rattle.std.proofs.lemmas.Int.{ints}
 use Rattle.nc_number.specs.declared.point.Point.{Point}
-use Rattle.rough_cycle.specs.Roughing.{end_at, Rough, first_moved, points_moved, x_of_pass, pass_of, is_made, made_at, passes_from}
-
-lt_true : (a b : ℤ) → a <ℤ b → int_lt a b ≡ true
-lt_true a b less = grind (arith, ints)
-
-lt_false : (a b : ℤ) → b ≤ℤ a → int_lt a b ≡ false
-lt_false a b less = grind (arith, ints)
+use Rattle.rough_cycle.specs.Roughing.{Rough, first_moved, x_of_pass, pass_of, is_made, made_at, passes_from}
+use Rattle.rough_cycle.proofs.Orders.{is_lt, is_not_lt}
 
 pub made : (r : Rough) (k : ℕ) → (first_moved r).x <ℤ x_of_pass r k → (pass_of r k).z <ℤ r.start.z → made_at r k ≡ Some (pass_of r k)
-made r k above below = rw (lt_true (first_moved r).x (x_of_pass r k) above, lt_true (pass_of r k).z r.start.z below) refl
+made r k above below = rw (is_lt (first_moved r).x (x_of_pass r k) above, is_lt (pass_of r k).z r.start.z below) refl
 
 pub none_above : (r : Rough) (k : ℕ) → x_of_pass r k ≤ℤ (first_moved r).x → made_at r k ≡ None
-none_above r k past = rw (lt_false (first_moved r).x (x_of_pass r k) past) refl
+none_above r k past = rw (is_not_lt (first_moved r).x (x_of_pass r k) past) refl
 
 pub none_below : (r : Rough) (k : ℕ) → r.start.z ≤ℤ (pass_of r k).z → made_at r k ≡ None
 none_below r k past = go (int_lt (first_moved r).x (x_of_pass r k))
   where
     no : int_lt (pass_of r k).z r.start.z ≡ false
-    no = lt_false (pass_of r k).z r.start.z past
+    no = is_not_lt (pass_of r k).z r.start.z past
 
     go : (b : Bool) → cond (b && int_lt (pass_of r k).z r.start.z) (Some (pass_of r k)) None ≡ None
     go true = rw no refl

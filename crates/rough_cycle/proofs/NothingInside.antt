@@ -1,42 +1,20 @@
 -- No move of G71 or G70 enters the contour.
-use Rattle.std.proofs.Common.{◌≡◌, ℕ, zero, suc, ◌+◌, ◌*◌, ◌/◌, ◌<◌, ◌≤◌, Bool, true, false, not, ◌&&◌, ◌||◌, List, [], ◌∷◌, ◌++◌, map, ℤ, pos, ◌+ℤ◌, ◌-ℤ◌, ◌*ℤ◌, ◌≤ℤ◌, ◌<ℤ◌, refl, ap, sym, subst, ◌∙◌, arith, ◌⊎◌, inl, inr, cond}
-use Rattle.std.specs.Prelude.{unsigned_abs, int_lt, int_le}
+use Rattle.std.proofs.Common.{◌≡◌, ℕ, zero, suc, ◌+◌, ◌*◌, ◌/◌, ◌<◌, ◌≤◌, Bool, true, false, not, ◌&&◌, ◌||◌, List, [], ◌∷◌, ◌++◌, map, ℤ, pos, ◌+ℤ◌, ◌-ℤ◌, ◌*ℤ◌, ◌≤ℤ◌, ◌<ℤ◌, refl, sym, subst, ◌∙◌, arith, cond}
+use Rattle.std.specs.Prelude.{int_lt, int_le}
 use Rattle.std.specs.Ordering.{int_eq}
 use Rattle.std.specs.List.{flat_map}
 use Rattle.std.specs.Int.{int_min}
 use Rattle.std.proofs.lemmas.Int.{ints}
-use Rattle.std.proofs.lemmas.Nat.{div-add-mod'}
-use Rattle.std.proofs.lemmas.Bool.{cases_lt}
 use Rattle.std.proofs.Math.Nat.{mul-le-mul, mul-le-mul_left, mul-le-mul_right}
 use Rattle.nc_number.specs.declared.point.Point.{Point}
 use Rattle.rough_cycle.specs.declared.block.PlainBlock.{PlainBlock}
 use Rattle.rough_cycle.specs.Contour.{Descends, last_of, moved_point, moved}
 use Rattle.rough_cycle.specs.Inside.{apart, holds, is_below, some_holds, is_below_each, is_inside_from}
 use Rattle.rough_cycle.specs.Roughing.{end_at, Rough, IsForm, IsFinishStart, first_moved, points_moved, x_of_pass, pass_of, is_made, passes_from, across_to, along_to, straight_to, pass_blocks, contour_blocks, rough_blocks, finish_blocks}
+use Rattle.nc_number.proofs.Bools.{both, only_false}
+use Rattle.rough_cycle.proofs.Orders.{lt_is, le_is, not_le_is, is_le}
 use Rattle.rough_cycle.proofs.Products.{quotient_below, part_below}
-use Rattle.rough_cycle.specs.Moves.{IsBetween, IsOn, after, after_all, IsClear, AreClear}
-
--- tests
-
-pub lt_is : (a b : ℤ) → int_lt a b ≡ true → a <ℤ b
-lt_is a b e = grind (arith, ints)
-
-pub le_is : (a b : ℤ) → int_le a b ≡ true → a ≤ℤ b
-le_is a b e = grind (arith, ints)
-
-pub not_le_is : (a b : ℤ) → int_le a b ≡ false → b <ℤ a
-not_le_is a b e = grind (arith, ints)
-
-is_le : (a b : ℤ) → a ≤ℤ b → int_le a b ≡ true
-is_le a b e = grind (arith, ints)
-
-pub both : (a b : Bool) → (a && b) ≡ true → (a ≡ true) × (b ≡ true)
-both true b e = (refl, e)
-both false b e = absurd (let wrong : false ≡ true = e in cc)
-
-only_false : (b : Bool) → (b ≡ true → ⊥) → b ≡ false
-only_false true contrary = absurd (contrary refl)
-only_false false contrary = refl
+use Rattle.rough_cycle.specs.Moves.{IsOn, after, after_all, IsClear, AreClear}
 
 not_before_least : (z a b : ℤ) → z ≤ℤ a → z ≤ℤ b → z ≤ℤ int_min a b
 not_before_least z a b to_a to_b = go (int_lt b a)
@@ -78,7 +56,8 @@ not_below_on p q at rises on =
     let line = on.line in
     not_below p q at rises (omega (arith, ints, on.across)) (omega (arith, line))
 
--- behind the end of a pass: a is how far along, k and m how far across the pass and the point are, of w across and l along
+-- behind the end of a pass: a is how far along, k and m how far across the pass and the point are,
+-- of w across and l along
 products_behind : (a l k m w : ℕ) → a ≤ l * k / w → k ≤ m → w * a ≤ m * l
 products_behind a l k m w near right =
     let scaled : a * w ≤ l * k / w * w = mul-le-mul_right w near in
@@ -115,7 +94,8 @@ held_low p (q ∷ points) z (rises, falls, later) e = go (holds p q z) refl e (h
 
 -- a whole contour
 
--- a point is not inside if it is not below the first segment, should that hold it, and not inside the rest, should that not
+-- a point is not inside if it is not below the first segment, should that hold it, and not inside
+-- the rest, should that not
 step : (p q at : Point) (points : List Point)
     → (holds p q at.z ≡ true → is_below p q at ≡ true → ⊥)
     → (holds p q at.z ≡ false → some_holds q points at.z ≡ true → is_below_each q points at ≡ true → ⊥)
@@ -252,7 +232,8 @@ finish_clear r start form at_start =
     let rises = last_is_high r.first r.points falls in
     contour_clear start r.first r.points start falls high (omega (arith, ints)) (move_right r.first r.points start _ falls high high)
 
--- where a pass begins: at the start's Z, not left of the pass, and with a clear way to the contour's first Z
+-- where a pass begins: at the start's Z, not left of the pass, and with a clear way to the
+-- contour's first Z
 record MayBegin (r : Rough) (k : ℕ) (from : Point) : Type 0 where
   level : from.z ≡ r.start.z
   right : x_of_pass r k ≤ℤ from.x

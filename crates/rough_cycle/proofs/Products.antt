@@ -1,7 +1,7 @@
 -- Products and parts of lengths.
-use Rattle.std.proofs.Common.{◌≡◌, ℕ, suc, ◌+◌, ◌*◌, ◌/◌, ◌<◌, ◌≤◌, ◌^◌, ℤ, pos, ◌*ℤ◌, refl, ap, ◌∙◌, arith, ◌⊎◌, inl, inr, to_z, of_z, FitsSigned}
+use Rattle.std.proofs.Common.{◌≡◌, ℕ, suc, ◌*◌, ◌/◌, ◌<◌, ◌≤◌, ℤ, pos, ◌*ℤ◌, refl, ◌∙◌, arith, ◌⊎◌, inl, inr, to_z, of_z, FitsSigned}
 use Rattle.std.specs.Int.{w64, w128}
-use Rattle.std.specs.Prelude.{unsigned_abs, int_lt, ◌-ℤ◌, Bool, true, false}
+use Rattle.std.specs.Prelude.{unsigned_abs, int_lt, ◌-ℤ◌}
 use Rattle.nc_number.specs.declared.point.Point.{Point}
 use Rattle.rough_cycle.specs.Inside.{apart, is_below_line}
 use Rattle.std.proofs.lemmas.Int.{ints, unsigned_abs-mul, fits_signed_from_abs, to_z-of_z}

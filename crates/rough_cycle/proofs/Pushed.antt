@@ -1,9 +1,8 @@
 -- What was pushed in turn.
-use Rattle.std.proofs.Common.{◌≡◌, ◌<ℤ◌, ◌≤ℤ◌, Bool, true, false, cond, arith, List, [], ◌∷◌, ◌++◌, ℤ, refl, ap, ◌∙◌, append_assoc}
-use Rattle.std.specs.Prelude.{int_lt}
+use Rattle.std.proofs.Common.{◌≡◌, ◌<ℤ◌, ◌≤ℤ◌, List, [], ◌∷◌, ◌++◌, ℤ, refl, ap, ◌∙◌, append_assoc}
 use Rattle.std.specs.Int.{int_min}
-use Rattle.std.proofs.lemmas.Int.{ints}
 use Rattle.nc_number.specs.declared.point.Point.{Point}
+use Rattle.rough_cycle.proofs.Orders.{is_lt, is_not_lt}
 
 pub four_pushed : {A : Type 0} (old b c d e : List A) (w x y z : A) → b ≡ old ++ w ∷ [] → c ≡ b ++ x ∷ [] → d ≡ c ++ y ∷ [] → e ≡ d ++ z ∷ [] → e ≡ old ++ w ∷ x ∷ y ∷ z ∷ []
 four_pushed old b c d e w x y z is_b is_c is_d is_e =
@@ -23,14 +22,8 @@ same_point p q x z =
     let at : ℤ → ℤ → Point = λ a b. record { x = a; z = b } in
     ap (λ a. at a p.z) x ∙ ap (λ b. at q.x b) z
 
-lt_true : (a b : ℤ) → a <ℤ b → int_lt a b ≡ true
-lt_true a b less = grind (arith, ints)
-
-lt_false : (a b : ℤ) → b ≤ℤ a → int_lt a b ≡ false
-lt_false a b less = grind (arith, ints)
-
 pub min_second : (a b : ℤ) → b <ℤ a → int_min a b ≡ b
-min_second a b less = rw (lt_true b a less) refl
+min_second a b less = rw (is_lt b a less) refl
 
 pub min_first : (a b : ℤ) → a ≤ℤ b → int_min a b ≡ a
-min_first a b less = rw (lt_false b a less) refl
+min_first a b less = rw (is_not_lt b a less) refl

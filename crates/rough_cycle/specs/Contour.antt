@@ -1,5 +1,5 @@
 -- A contour of lines: its first point, and the points behind it.
-use Rattle.std.specs.Prelude.{ℕ, List, [], ◌∷◌, map, ℤ, pos, ◌+ℤ◌, ◌≤ℤ◌}
+use Rattle.std.specs.Prelude.{ℕ, List, [], ◌∷◌, map, pos, ◌+ℤ◌, ◌≤ℤ◌}
 use Rattle.nc_number.specs.declared.point.Point.{Point}
 
 -- the contour with the finishing allowance: u in X, w in Z

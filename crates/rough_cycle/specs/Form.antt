@@ -1,5 +1,5 @@
 -- A form as the code keeps it.
-use Rattle.std.specs.Prelude.{ℕ, ◌≤◌, All, unsigned_abs}
+use Rattle.std.specs.Prelude.{◌≤◌, All, unsigned_abs}
 use Rattle.nc_number.specs.declared.point.Point.{Point}
 use Rattle.rough_cycle.specs.declared.form.RoughForm.{RoughForm}
 use Rattle.rough_cycle.specs.Roughing.{Rough}

@@ -15,7 +15,8 @@ holds p q z = (int_le q.z z && int_le z p.z) || (int_le p.z z && int_le z q.z)
 abbrev pub is_below_line : Point → Point → Point → Bool
 is_below_line p q at = int_lt ((at.x -ℤ p.x) *ℤ pos (apart q.z p.z)) ((q.x -ℤ p.x) *ℤ pos (apart at.z p.z))
 
--- X is strictly below the segment from p to q: below the line where the ends differ in Z, else below both ends
+-- X is strictly below the segment from p to q: below the line where the ends differ in Z, else
+-- below both ends
 unfoldable pub is_below : Point → Point → Point → Bool
 is_below p q at =
     if int_eq p.z q.z

@@ -1,5 +1,5 @@
 -- The moves of blocks, and the whole points on them.
-use Rattle.std.specs.Prelude.{◌≡◌, ℕ, ◌*◌, Bool, false, List, [], ◌∷◌, ◌⊎◌, ℤ, ◌≤ℤ◌, Option, Some, None, unwrap_or}
+use Rattle.std.specs.Prelude.{◌≡◌, ◌*◌, false, List, [], ◌∷◌, ◌⊎◌, ℤ, ◌≤ℤ◌, unwrap_or}
 use Rattle.nc_number.specs.declared.point.Point.{Point}
 use Rattle.rough_cycle.specs.declared.block.PlainBlock.{PlainBlock}
 use Rattle.rough_cycle.specs.Inside.{apart, is_inside_from}

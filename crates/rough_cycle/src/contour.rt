@@ -1,3 +1,4 @@
+//! What lies inside a contour of lines.
 ghost use Rattle.std.specs.Prelude.{◌≡◌, ◌≤ℤ◌, ◌<ℤ◌, ◌<◌, ◌≤◌, ◌*◌, ◌/◌, ◌-ℤ◌, ◌*ℤ◌, pos, unsigned_abs, All};
 ghost use Rattle.rough_cycle.specs.Inside.{apart, holds, is_below, is_below_line, some_holds, is_below_each, is_inside, IsNear};
 ghost use Rattle.rough_cycle.specs.Roughing.{end_at};
@@ -16,6 +17,7 @@ pub fn inside(contour: &[Point], at: Point) -> bool
     some_holds(first, points, at.z) && is_below_each(first, points, &at)
 }
 
+/// Whether the Z lies between those of two points that follow each other.
 fn some_holds(first: &Point, points: &[Point], z: i64) -> bool
     ensures { result ≡ some_holds first.now points.now z }
 {
@@ -29,6 +31,7 @@ fn some_holds(first: &Point, points: &[Point], z: i64) -> bool
     false
 }
 
+/// Whether the point is below every segment that its Z lies in.
 fn is_below_each(first: &Point, points: &[Point], at: &Point) -> bool
     requires first { IsNear first.now }
     requires points { All IsNear points.now }
@@ -45,6 +48,7 @@ fn is_below_each(first: &Point, points: &[Point], at: &Point) -> bool
     true
 }
 
+/// The ends of a segment belong to it.
 #[tactic(auto, unfolding(crate::specs::Inside::holds))]
 fn holds(p: &Point, q: &Point, z: i64) -> bool
     ensures { result ≡ holds p.now q.now z }
@@ -52,6 +56,7 @@ fn holds(p: &Point, q: &Point, z: i64) -> bool
     (q.z <= z && z <= p.z) || (p.z <= z && z <= q.z)
 }
 
+/// Below a segment across is below both its ends.
 #[tactic(auto, unfolding(crate::specs::Inside::is_below))]
 fn is_below(p: &Point, q: &Point, at: &Point) -> bool
     requires p { IsNear p.now }
@@ -66,7 +71,7 @@ fn is_below(p: &Point, q: &Point, at: &Point) -> bool
     }
 }
 
-// Whether the point is below the line through two points, of which it lies between the Z.
+/// Whether the point is below the line through two points, of which it lies between the Z.
 fn is_below_line(p: &Point, q: &Point, at: &Point) -> bool
     requires p { IsNear p.now }
     requires q { IsNear q.now }
@@ -76,6 +81,7 @@ fn is_below_line(p: &Point, q: &Point, at: &Point) -> bool
     product(at.x - p.x, q.z.abs_diff(p.z)) < product(q.x - p.x, at.z.abs_diff(p.z))
 }
 
+/// Twice as wide as a length, so nothing is lost.
 #[tactic(auto, using(crate::proofs::Products::product_fits))]
 fn product(across: i64, along: u64) -> i128
     requires across { unsigned_abs across ≤ 2000000000000 }
@@ -103,6 +109,7 @@ pub(crate) fn end_at(x: i64, first: &Point, points: &[Point]) -> i64
     from.z
 }
 
+/// Where the segment comes to `x`: rounded down from its upper end, so the Z is rounded up.
 fn part_way(x: i64, p: &Point, q: &Point) -> i64
     requires low { p.now.x ≤ℤ x }
     requires high { x <ℤ q.now.x }
@@ -114,7 +121,7 @@ fn part_way(x: i64, p: &Point, q: &Point) -> i64
     p.z - share(p.z.abs_diff(q.z), x.abs_diff(p.x), q.x.abs_diff(p.x)) as i64
 }
 
-// `across` parts in `width` of `along`, rounded down.
+/// `across` parts in `width` of `along`, rounded down.
 #[tactic(auto, using(crate::proofs::Products::product_bound, crate::proofs::Products::part_below))]
 fn share(along: u64, across: u64, width: u64) -> u64
     requires along { along ≤ 2000000000000 }

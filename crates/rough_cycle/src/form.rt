@@ -1,3 +1,4 @@
+//! A roughing cycle as plain blocks.
 ghost use Rattle.std.specs.Prelude.{◌≡◌, ◌≤◌, ◌++◌, IfOk, IfSome, OnOk, unsigned_abs, All, true, map, [], ◌∷◌};
 ghost use Rattle.std.specs.List.{flat_map};
 ghost use Rattle.rough_cycle.specs.Contour.{moved_point, moved};
@@ -49,7 +50,7 @@ impl RoughForm {
         Ok(blocks)
     }
 
-    // The passes, or the first 1,001 of them.
+    /// The passes, or the first 1,001 of them.
     fn passes(
         &self,
         alloc: Global,
@@ -74,6 +75,7 @@ impl RoughForm {
         Ok(passes)
     }
 
+    /// A pass at or below the contour's first point, or one that cuts nothing, ends the passes.
     fn pass_at(&self, first: &Point, points: &[Point], k: u32) -> Option<Point>
         requires near { IsNearForm (rough_of self.now) }
         requires first { first.now ≡ first_moved (rough_of self.now) }
@@ -96,6 +98,7 @@ impl RoughForm {
         }
     }
 
+    /// X counts diameters, and a depth is a radius: each pass is two depths lower.
     fn x_of_pass(&self, k: u32) -> i64
         requires near { IsNearForm (rough_of self.now) }
         requires k { k ≤ 1001 }
@@ -105,7 +108,7 @@ impl RoughForm {
         self.start.x - (2 * self.depth * u64::from(k)) as i64
     }
 
-    // Off the cut of a pass.
+    /// Off the cut of a pass.
     fn off(&self, pass: &Point) -> Point
         requires near { IsNearForm (rough_of self.now) }
         requires pass { IsNearPass pass.now }
@@ -122,6 +125,7 @@ impl RoughForm {
         }
     }
 
+    /// The blocks of the passes, in turn.
     fn push_passes(&self, passes: &[Point], blocks: &mut Vec<PlainBlock>) -> Result<(), AllocError>
         requires near { IsNearForm (rough_of self.now) }
         requires passes { All IsNearPass passes.now }
@@ -133,6 +137,7 @@ impl RoughForm {
         Ok(())
     }
 
+    /// To the pass, along it, off it, and back to the start's Z.
     fn push_pass(&self, pass: &Point, blocks: &mut Vec<PlainBlock>) -> Result<(), AllocError>
         requires near { IsNearForm (rough_of self.now) }
         requires pass { IsNearPass pass.now }
@@ -147,6 +152,7 @@ impl RoughForm {
     }
 }
 
+/// A point with its allowances.
 fn moved_point(across: u64, along: u64, point: &Point) -> Point
     requires across { across ≤ 100000000000 }
     requires along { along ≤ 100000000000 }
@@ -160,6 +166,7 @@ fn moved_point(across: u64, along: u64, point: &Point) -> Point
     }
 }
 
+/// Points with their allowances.
 fn moved(alloc: Global, across: u64, along: u64, points: &[Point]) -> Result<Vec<Point>, AllocError>
     requires across { across ≤ 100000000000 }
     requires along { along ≤ 100000000000 }
@@ -174,6 +181,7 @@ fn moved(alloc: Global, across: u64, along: u64, points: &[Point]) -> Result<Vec
     Ok(out)
 }
 
+/// To the contour, along it, and back to the start.
 fn push_contour(
     start: &Point,
     first: &Point,
@@ -190,6 +198,7 @@ fn push_contour(
     Ok(())
 }
 
+/// The lines of a contour behind its first point.
 fn push_lines(points: &[Point], blocks: &mut Vec<PlainBlock>) -> Result<(), AllocError>
     ensures ok { OnOk result (blocks.new.items ≡ blocks.old.items ++ map (straight_to true) points.now) }
 {
@@ -199,6 +208,7 @@ fn push_lines(points: &[Point], blocks: &mut Vec<PlainBlock>) -> Result<(), Allo
     Ok(())
 }
 
+/// A block that moves across alone.
 fn across_to(cuts: bool, point: &Point) -> PlainBlock
     ensures { result ≡ across_to cuts point.now }
 {
@@ -209,6 +219,7 @@ fn across_to(cuts: bool, point: &Point) -> PlainBlock
     }
 }
 
+/// A block that moves along alone.
 fn along_to(cuts: bool, point: &Point) -> PlainBlock
     ensures { result ≡ along_to cuts point.now }
 {
@@ -219,6 +230,7 @@ fn along_to(cuts: bool, point: &Point) -> PlainBlock
     }
 }
 
+/// A block that moves both ways.
 fn straight_to(cuts: bool, point: &Point) -> PlainBlock
     ensures { result ≡ straight_to cuts point.now }
 {
@@ -229,6 +241,7 @@ fn straight_to(cuts: bool, point: &Point) -> PlainBlock
     }
 }
 
+/// One block more.
 fn push(blocks: &mut Vec<PlainBlock>, block: PlainBlock) -> Result<(), AllocError>
     ensures ok { OnOk result (blocks.new.items ≡ blocks.old.items ++ block ∷ []) }
 {

@@ -1,3 +1,4 @@
+//! Laws of the passes.
 ghost use Rattle.std.specs.Prelude.{◌≡◌, ℕ, List, ◌∷◌, true, false, ℤ, ◌≤ℤ◌, ◌<ℤ◌};
 ghost use Rattle.rough_cycle.specs.Contour.{Descends};
 ghost use Rattle.rough_cycle.specs.Inside.{some_holds, is_below_each, is_inside_from};
@@ -5,8 +6,8 @@ ghost use Rattle.nc_number.specs.declared.point.Point.{Point};
 ghost use Rattle.rough_cycle.specs.Roughing.{end_at, Rough, IsForm, IsFinishStart, first_moved, points_moved, rough_blocks, finish_blocks};
 ghost use Rattle.rough_cycle.specs.Moves.{AreClear};
 
-/// No whole point on a move of the G71 part lies inside the contour with its allowances, and none on
-/// a move of the G70 part inside the contour.
+/// No whole point on a move of the G71 part lies inside the contour with its allowances, and none
+/// on a move of the G70 part inside the contour.
 pub fn no_move_enters_the_contour()
     ensures rough { (r : Rough) (most : ℕ) → IsForm r
         → AreClear (first_moved r) (points_moved r) r.start (rough_blocks r most) }
@@ -14,7 +15,8 @@ pub fn no_move_enters_the_contour()
         → AreClear r.first r.points start (finish_blocks r start) }
 {}
 
-/// The end of a pass is the least whole Z of the contour at which the contour has X at most the pass's.
+/// The end of a pass is the least whole Z of the contour at which the contour has X at most the
+/// pass's.
 #[tactic(auto, using(crate::proofs::LeastEnd::least, crate::proofs::LeastEnd::reached, crate::proofs::LeastEnd::at_the_end))]
 pub fn an_end_is_the_least()
     ensures held { (x : ℤ) (first second : Point) (points : List Point) → Descends first (second ∷ points) → first.x ≤ℤ x

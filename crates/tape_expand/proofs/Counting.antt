@@ -1,6 +1,7 @@
 -- The blocks of one program more.
-use Rattle.std.proofs.Common.{◌≡◌, ℕ, ◌+◌, ◌<◌, ◌≤◌, List, [], ◌∷◌, ◌++◌, length, drop, get_or, ap, sym, ◌∙◌, arith, length-append}
+use Rattle.std.proofs.Common.{◌≡◌, ℕ, ◌+◌, ◌<◌, ◌≤◌, List, ◌∷◌, length, drop, get_or, ap, sym, ◌∙◌, arith, length-append}
 use Rattle.std.proofs.lemmas.List.{drop_more}
+use Rattle.nc_number.specs.declared.limits.TheConstants.{MOST_BLOCKS}
 use Rattle.nc_text.specs.declared.tape.Program.{Program}
 use Rattle.nc_text.specs.Shape.{blocks_in}
 
@@ -14,5 +15,5 @@ pub one_more : (tape : List Program) (i count all : ℕ) (p : Program) → p ≡
 one_more tape i count all p is before so_far = let left = left_is tape i p is before in omega (arith, so_far, left)
 
 pub fits : (tape : List Program) (i count all : ℕ) (p : Program) → p ≡ get_or tape i p → i < length tape
-    → count + length (blocks_in (drop i tape)) ≡ all → all ≤ 20000 → count + length p.blocks ≤ 20000
+    → count + length (blocks_in (drop i tape)) ≡ all → all ≤ MOST_BLOCKS → count + length p.blocks ≤ MOST_BLOCKS
 fits tape i count all p is before so_far few = let left = left_is tape i p is before in omega (arith, so_far, left, few)

@@ -36,8 +36,8 @@ abbrev pub of_tape : List ℕ → Result (List Program) TextFault → Result (Li
 of_tape text (Ok tape) = of_cycles (sized_parts (marks_of text) tape)
 of_tape text (Err fault) = Err (Unreadable fault)
 
--- The parts of a text that are written out, or why it is refused: as no tape, else for a cycle that is part of no form, else
--- for its size.
+-- The parts of a text that are written out, or why it is refused: as no tape, else for a cycle that
+-- is part of no form, else for its size.
 unfoldable pub parts_in : List ℕ → Result (List PartView) ExpandFault
 parts_in text = of_tape text (tape_of 0 text)
 

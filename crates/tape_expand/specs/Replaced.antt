@@ -1,6 +1,5 @@
 -- Which lines of a text give way to the parts of a tape.
-use Rattle.std.specs.Prelude.{ℕ, List, [], ◌∷◌, ◌++◌, map}
-use Rattle.std.specs.List.{flat_map}
+use Rattle.std.specs.Prelude.{ℕ, List, [], ◌∷◌, map}
 use Rattle.cycle_form.specs.Parts.{PartView}
 use Rattle.tape_expand.specs.declared.edits.Edit.{Edit}
 use Rattle.tape_expand.specs.BlockText.{part_text}

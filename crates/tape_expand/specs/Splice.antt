@@ -1,5 +1,5 @@
 -- A text in which some lines are replaced.
-use Rattle.std.specs.Prelude.{ℕ, ◌+◌, Bool, true, false, ◌==◌, List, [], ◌∷◌, ◌++◌, drop, if◌then◌else◌}
+use Rattle.std.specs.Prelude.{ℕ, ◌+◌, Bool, false, ◌==◌, List, [], ◌∷◌, ◌++◌, drop, if◌then◌else◌}
 use Rattle.nc_text.specs.Lines.{Line}
 use Rattle.tape_expand.specs.declared.edits.Edit.{Edit}
 
@@ -20,8 +20,8 @@ bytes_of line = line.bytes ++ (if line.ended then 10 ∷ [] else [])
 abbrev pub new_for : List Edit → Line → List ℕ
 new_for edits line = if line.ended then first_new edits else []
 
--- The lines of a text from line n on: a line that an edit names gives way to the edit's bytes, and every other line stands
--- byte for byte. The edits are in the order of their lines.
+-- The lines of a text from line n on: a line that an edit names gives way to the edit's bytes, and
+-- every other line stands byte for byte. The edits are in the order of their lines.
 abbrev pub edited : ℕ → List Edit → List Line → List ℕ
 edited n edits [] = []
 edited n edits (line ∷ lines) =

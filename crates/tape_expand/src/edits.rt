@@ -1,3 +1,4 @@
+//! Lines of a text, replaced.
 ghost use Rattle.std.specs.Prelude.{◌≡◌, ◌<◌, ◌^◌, ◌++◌, ◌∷◌, [], IfOk, OnOk, length, drop};
 ghost use Rattle.nc_text.specs.Lines.{lines_of};
 ghost use Rattle.tape_expand.specs.Splice.{edited, spliced, is_due, first_new, line_behind};
@@ -21,7 +22,7 @@ pub(crate) fn edited(alloc: Global, text: &[u8], edits: &[Edit]) -> Result<Vec<u
     Ok(bytes)
 }
 
-// The same, byte by byte.
+/// The same, byte by byte.
 fn splice(alloc: Global, text: &[u8], edits: &[Edit]) -> Result<Vec<u8>, AllocError>
     ensures { IfOk result (λ v. v.items ≡ spliced 1 edits.now text.now) }
 {
@@ -44,7 +45,7 @@ fn splice(alloc: Global, text: &[u8], edits: &[Edit]) -> Result<Vec<u8>, AllocEr
     Ok(out)
 }
 
-// A byte that stands.
+/// A byte that stands.
 fn push_byte(out: &mut Vec<u8>, b: u8) -> Result<(), AllocError>
     ensures ok { OnOk result (out.new.items ≡ out.old.items ++ b ∷ []) }
 {
@@ -52,6 +53,7 @@ fn push_byte(out: &mut Vec<u8>, b: u8) -> Result<(), AllocError>
     Ok(())
 }
 
+/// Edits are in the order of their lines, so only the first can be due.
 fn is_due(line: u128, edits: &[Edit]) -> bool
     ensures { result ≡ is_due line edits.now }
 {
@@ -61,6 +63,7 @@ fn is_due(line: u128, edits: &[Edit]) -> bool
     }
 }
 
+/// A line feed ends its line.
 fn line_behind(line: u128, b: u8) -> u128
     requires { line < 2 ^ 127 }
     ensures { result ≡ line_behind line b }
@@ -68,12 +71,14 @@ fn line_behind(line: u128, b: u8) -> u128
     if b == b'\n' { line + 1 } else { line }
 }
 
+/// The edits that are not done yet.
 fn behind_first(edits: &[Edit]) -> &[Edit]
     ensures { result.now ≡ drop 1 edits.now }
 {
     edits.get(1..).unwrap_or(edits)
 }
 
+/// What stands in place of the line.
 fn push_first(out: &mut Vec<u8>, edits: &[Edit]) -> Result<(), AllocError>
     ensures ok { OnOk result (out.new.items ≡ out.old.items ++ first_new edits.now) }
 {
@@ -83,6 +88,7 @@ fn push_first(out: &mut Vec<u8>, edits: &[Edit]) -> Result<(), AllocError>
     }
 }
 
+/// Bytes behind those of the text so far.
 pub(crate) fn push_all(out: &mut Vec<u8>, bytes: &[u8]) -> Result<(), AllocError>
     ensures ok { OnOk result (out.new.items ≡ out.old.items ++ bytes.now) }
 {

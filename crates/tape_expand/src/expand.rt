@@ -1,6 +1,8 @@
+//! A tape with its cycles written out.
 ghost use Rattle.std.specs.Prelude.{◌≡◌, ◌≤◌, ℕ, List, Result, IfOk, All, length};
 ghost use Rattle.std.specs.List.{flat_map};
 ghost use Rattle.nc_number.specs.Answers.{Fails, Gives};
+ghost use Rattle.nc_number.specs.declared.limits.TheConstants.{MOST_BLOCKS};
 ghost use Rattle.nc_text.specs.declared.fault.TextFault.{TextFault};
 ghost use Rattle.nc_text.specs.declared.tape.Program.{Program};
 ghost use Rattle.nc_text.specs.Lines.{lines_of};
@@ -22,6 +24,7 @@ use nc_number::Failing;
 use nc_text::{Program, Reader, Tape, TextFault};
 use std::alloc::{AllocError, Global};
 
+/// No block is skipped: a form may not hang on a switch.
 fn read_tape(alloc: Global, text: &[u8]) -> Result<Tape, Failing<TextFault>>
     ensures { Gives (λ tape. tape) result (tape_of 0 text.now) }
 {
@@ -32,9 +35,10 @@ fn read_tape(alloc: Global, text: &[u8]) -> Result<Tape, Failing<TextFault>>
     }
 }
 
+/// The blocks of all programs together.
 #[tactic(auto, using(crate::proofs::Counting::one_more, crate::proofs::Counting::fits))]
 fn count_blocks(tape: &[Program]) -> usize
-    requires { length (blocks_in tape.now) ≤ 20000 }
+    requires { length (blocks_in tape.now) ≤ MOST_BLOCKS }
     ensures { result ≡ length (blocks_in tape.now) }
 {
     let mut count = 0;
@@ -44,6 +48,7 @@ fn count_blocks(tape: &[Program]) -> usize
     count
 }
 
+/// A text that is no tape has no cycles.
 fn unread(fault: Failing<TextFault>) -> Failing<ExpandFault>
     ensures { (text : List ℕ) (tape : Result (List Program) TextFault) → Fails fault tape → Fails result (of_tape text tape) }
 {
@@ -53,6 +58,7 @@ fn unread(fault: Failing<TextFault>) -> Failing<ExpandFault>
     }
 }
 
+/// The refusal of a cycle, as that of the text.
 fn bad_cycle(fault: Failing<CycleFault>) -> Failing<ExpandFault>
     ensures { (parts : Result (List PartView) CycleFault) → Fails fault parts → Fails result (of_cycles parts) }
 {
@@ -62,9 +68,9 @@ fn bad_cycle(fault: Failing<CycleFault>) -> Failing<ExpandFault>
     }
 }
 
-// These parts, if a tape of so many blocks has no more than it may with them written out.
+/// These parts, if a tape of so many blocks has no more than it may with them written out.
 fn sized(alloc: Global, blocks: usize, parts: Vec<Part>) -> Result<Vec<Part>, Failing<CycleFault>>
-    requires few { blocks ≤ 20000 }
+    requires few { blocks ≤ MOST_BLOCKS }
     requires sound { All IsSoundPart parts.items }
     ensures exact { Gives (λ parts. parts.items) result (fitting parts.items (sized blocks parts.items)) }
     ensures sound { IfOk result (λ kept. All IsSoundPart kept.items) }
@@ -75,13 +81,13 @@ fn sized(alloc: Global, blocks: usize, parts: Vec<Part>) -> Result<Vec<Part>, Fa
     }
 }
 
-// The parts of a tape, if it has no more blocks than it may with them written out.
+/// The parts of a tape, if it has no more blocks than it may with them written out.
 fn sized_parts(
     alloc: Global,
     marks: &[bool],
     tape: &[Program],
 ) -> Result<Vec<Part>, Failing<CycleFault>>
-    requires { length (blocks_in tape.now) ≤ 20000 }
+    requires { length (blocks_in tape.now) ≤ MOST_BLOCKS }
     ensures exact { Gives (λ parts. parts.items) result (sized_parts marks.now tape.now) }
     ensures sound { IfOk result (λ parts. All IsSoundPart parts.items) }
 {
@@ -91,12 +97,13 @@ fn sized_parts(
     }
 }
 
+/// The parts of a tape that was read from this text.
 fn cycles_in(
     alloc: Global,
     text: &[u8],
     tape: &[Program],
 ) -> Result<Vec<Part>, Failing<ExpandFault>>
-    requires { length (blocks_in tape.now) ≤ 20000 }
+    requires { length (blocks_in tape.now) ≤ MOST_BLOCKS }
     ensures exact { Gives (λ parts. parts.items) result (of_cycles (sized_parts (marks_of text.now) tape.now)) }
     ensures sound { IfOk result (λ parts. All IsSoundPart parts.items) }
 {
@@ -107,6 +114,7 @@ fn cycles_in(
     }
 }
 
+/// The parts that are written out, or why the text is refused.
 fn parts_in(alloc: Global, text: &[u8]) -> Result<Vec<Part>, Failing<ExpandFault>>
     ensures exact { Gives (λ parts. parts.items) result (parts_in text.now) }
     ensures sound { IfOk result (λ parts. All IsSoundPart parts.items) }
@@ -117,7 +125,7 @@ fn parts_in(alloc: Global, text: &[u8]) -> Result<Vec<Part>, Failing<ExpandFault
     }
 }
 
-// The text with these parts written out.
+/// The text with these parts written out.
 fn written(alloc: Global, text: &[u8], parts: &[Part]) -> Result<Vec<u8>, AllocError>
     ensures { IfOk result (λ bytes. bytes.items ≡ edited 1 (flat_map edits_of parts.now) (lines_of text.now)) }
 {
@@ -126,12 +134,13 @@ fn written(alloc: Global, text: &[u8], parts: &[Part]) -> Result<Vec<u8>, AllocE
     Ok(bytes)
 }
 
-/// The text of a tape with G71 and G70 over contours of lines as plain blocks. The blocks of a part stand in place of its
-/// first line, and every line outside of the parts stays byte for byte.
+/// The text of a tape with G71 and G70 over contours of lines as plain blocks. The blocks of a part
+/// stand in place of its first line, and every line outside of the parts stays byte for byte.
 ///
-/// Errors: the refusal of a text that reads as no tape, with no block skipped; else 93 at the least line with a block that
-/// has G70 or G71 and is part of no form, or with the first G71 of a form with more than 1,000 passes; else 94 at the first
-/// line of the part with which the whole tape first has more than 20,000 blocks.
+/// Errors: the refusal of a text that reads as no tape, with no block skipped; else 93 at the least
+/// line with a block that has G70 or G71 and is part of no form, or with the first G71 of a form
+/// with more than 1,000 passes; else 94 at the first line of the part with which the whole tape
+/// first has more than 20,000 blocks.
 pub fn expand_tape(alloc: Global, text: &[u8]) -> Result<Vec<u8>, Failing<ExpandFault>>
     ensures exact { Gives (λ bytes. bytes.items) result (expansion_of text.now) }
     // No whole point on a move of the blocks that it prints lies inside the contour of their part.

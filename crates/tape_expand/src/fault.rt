@@ -1,3 +1,4 @@
+//! Why a tape is not written out.
 use cycle_form::CycleFault;
 use nc_text::TextFault;
 use thiserror::Error;

@@ -1,3 +1,4 @@
+//! The text of plain blocks.
 ghost use Rattle.std.specs.Prelude.{◌≡◌, ◌++◌, ◌∷◌, [], Some, IfOk, OnOk, map};
 ghost use Rattle.std.specs.List.{flat_map};
 ghost use Rattle.tape_expand.specs.BlockText.{code_text, axis_text, feed_text, block_text, blocks_text, part_text};
@@ -9,12 +10,14 @@ use nc_number::{ByteList, Value, length_text, text};
 use rough_cycle::PlainBlock;
 use std::alloc::{AllocError, Global};
 
+/// Each block names its own code, so no block hangs on the one before it.
 fn code_text(cuts: bool) -> &'static [u8]
     ensures { result.now ≡ code_text cuts }
 {
     if cuts { b"G01" } else { b"G00" }
 }
 
+/// An axis that a block leaves where it is does not stand in it.
 fn push_axis(out: &mut Vec<u8>, letter: u8, at: Option<i64>) -> Result<(), AllocError>
     ensures ok { OnOk result (out.new.items ≡ out.old.items ++ axis_text letter at) }
 {
@@ -24,6 +27,7 @@ fn push_axis(out: &mut Vec<u8>, letter: u8, at: Option<i64>) -> Result<(), Alloc
     }
 }
 
+/// Lengths are printed with a point and three digits at most, so they read back the same.
 fn push_length(out: &mut Vec<u8>, letter: u8, at: i64) -> Result<(), AllocError>
     ensures ok { OnOk result (out.new.items ≡ out.old.items ++ axis_text letter (Some at)) }
 {
@@ -34,6 +38,7 @@ fn push_length(out: &mut Vec<u8>, letter: u8, at: i64) -> Result<(), AllocError>
     Ok(())
 }
 
+/// A feed stands in each block that cuts.
 fn push_feed(out: &mut Vec<u8>, cuts: bool, feed: Value) -> Result<(), AllocError>
     ensures ok { OnOk result (out.new.items ≡ out.old.items ++ feed_text cuts feed) }
 {
@@ -47,6 +52,7 @@ fn push_feed(out: &mut Vec<u8>, cuts: bool, feed: Value) -> Result<(), AllocErro
     Ok(())
 }
 
+/// A block and its line feed.
 #[tactic(auto, unfolding(crate::specs::BlockText::block_text))]
 fn push_block(out: &mut Vec<u8>, feed: Value, block: &PlainBlock) -> Result<(), AllocError>
     ensures ok { OnOk result (out.new.items ≡ out.old.items ++ block_text feed block.now) }
@@ -59,6 +65,7 @@ fn push_block(out: &mut Vec<u8>, feed: Value, block: &PlainBlock) -> Result<(), 
     Ok(())
 }
 
+/// All blocks of a part, a line each.
 fn blocks_text(alloc: Global, feed: Value, blocks: &[PlainBlock]) -> Result<Vec<u8>, AllocError>
     ensures { IfOk result (λ text. text.items ≡ blocks_text feed blocks.now) }
 {
@@ -69,6 +76,7 @@ fn blocks_text(alloc: Global, feed: Value, blocks: &[PlainBlock]) -> Result<Vec<
     Ok(out)
 }
 
+/// A part as plain blocks.
 fn part_text(alloc: Global, part: &Part) -> Result<Vec<u8>, AllocError>
     ensures { IfOk result (λ text. text.items ≡ part_text part.now) }
 {
@@ -77,6 +85,7 @@ fn part_text(alloc: Global, part: &Part) -> Result<Vec<u8>, AllocError>
     Ok(text)
 }
 
+/// One edit more; edits come in the order of their lines.
 fn push(edits: &mut Vec<Edit>, line: u32, new: Vec<u8>) -> Result<(), AllocError>
     ensures ok { OnOk result (edits.new.items ≡ edits.old.items ++ record { line = line; new = new.items } ∷ []) }
 {
@@ -85,6 +94,7 @@ fn push(edits: &mut Vec<Edit>, line: u32, new: Vec<u8>) -> Result<(), AllocError
     Ok(())
 }
 
+/// Lines that go.
 fn push_removed(alloc: Global, edits: &mut Vec<Edit>, lines: &[u32]) -> Result<(), AllocError>
     ensures ok { OnOk result (edits.new.items ≡ edits.old.items ++ map removed lines.now) }
 {

@@ -31,11 +31,11 @@ all_read dialect [] clear = All-nil (IsRead dialect)
 all_read dialect (block ∷ blocks) clear =
     read_at dialect block blocks (block_or_refusal dialect block) refl clear (λ rest. all_read dialect blocks rest)
 
-nothing_found : {A : Type 0} (read : Result A FlowFault) (forms : A) (first : Option FlowFault)
+pub nothing_found : {A : Type 0} (read : Result A FlowFault) (forms : A) (first : Option FlowFault)
     → Tells read first None → read ≡ Ok forms → first ≡ None
 nothing_found read forms first told is = rw is at told
 
-no_fault : (order : List ControlProgram) (stage : Stage) (line : ℕ) (cause : Cause) → IsSound order
+pub no_fault : (order : List ControlProgram) (stage : Stage) (line : ℕ) (cause : Cause) → IsSound order
     → HasFault order stage line cause → ⊥
 no_fault order Fitting line cause sound fault = sound.fits line cause fault
 no_fault order Finding line cause sound fault = sound.finds line cause fault

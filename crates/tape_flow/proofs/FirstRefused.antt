@@ -1,5 +1,5 @@
--- Where reading a tape ends at a block, that block is the first one that is refused, and every other one stands behind
--- it.
+-- Where reading a tape ends at a block, that block is the first one that is refused, and every
+-- other one stands behind it.
 use Rattle.std.proofs.Common.{◌≡◌, ℕ, ◌≤◌, List, [], ◌∷◌, ◌++◌, map, refl, ap, arith, Option, Some, None, Result, Ok, Err, All, Contains}
 use Rattle.std.proofs.lemmas.List.Elements.{All-nil, All-cons, All-weaker, All-contains, Contains-append_left, Contains-append_right, Contains-push}
 use Rattle.nc_number.specs.Results.{◌>>=◌}
@@ -8,7 +8,8 @@ use Rattle.nc_number.specs.declared.fault.Failing.{Failing}
 use Rattle.nc_number.specs.declared.fault.Failing.TheVariants.{Fault, NoMemory}
 use Rattle.nc_text.specs.declared.tape.Block.{Block}
 use Rattle.nc_text.specs.declared.tape.Program.{Program}
-use Rattle.nc_text.specs.Shape.{RiseFrom, lines_in, blocks_in, IsTapeShape}
+use Rattle.nc_number.specs.Rising.{RiseFrom}
+use Rattle.nc_text.specs.Shape.{lines_in, blocks_in, IsTapeShape}
 use Rattle.block_words.specs.declared.dialect.Dialect.{Dialect}
 use Rattle.block_forms.specs.Forms.{BlockForm, block_or_refusal}
 use Rattle.block_order.specs.Answers.{IfFault}
@@ -18,8 +19,8 @@ use Rattle.tape_flow.specs.Controls.{controls}
 use Rattle.tape_flow.specs.Exact.{IsOrderFault, IsRefused, block as by_block, order as by_order}
 
 -- the refusal of a block where it has one, else that of the blocks behind it
-abbrev pub refusal_or : Result BlockForm FlowFault → Option FlowFault → Option FlowFault
-refusal_or (Ok form) rest = rest
+abbrev pub refusal_or : {A : Type 0} → Result A FlowFault → Option FlowFault → Option FlowFault
+refusal_or (Ok read) rest = rest
 refusal_or (Err fault) rest = Some fault
 
 -- the refusal of the first block that has one
@@ -32,9 +33,8 @@ abbrev pub Tells : {A : Type 0} → Result A FlowFault → Option FlowFault → 
 Tells (Ok read) first rest = first ≡ rest
 Tells (Err fault) first rest = first ≡ Some fault
 
-block_tells : {A : Type 0} (read : Result BlockForm FlowFault) (go : BlockForm → Result A FlowFault)
-    (rest more : Option FlowFault)
-    → ((form : BlockForm) → Tells (go form) rest more) → Tells (read >>= go) (refusal_or read rest) more
+pub block_tells : {A B : Type 0} (read : Result A FlowFault) (go : A → Result B FlowFault) (rest more : Option FlowFault)
+    → ((form : A) → Tells (go form) rest more) → Tells (read >>= go) (refusal_or read rest) more
 block_tells (Ok form) go rest more behind = behind form
 block_tells (Err fault) go rest more behind = refl
 
@@ -46,9 +46,8 @@ blocks_tell dialect (block ∷ blocks) more done =
     (first_refusal dialect (blocks ++ more)) (first_refusal dialect more)
     (λ form. blocks_tell dialect blocks more (done ++ form ∷ []))
 
-program_tells : {A : Type 0} (read : Result (List BlockForm) FlowFault) (make : List BlockForm → ProgramForm)
-    (go : ProgramForm → Result A FlowFault) (first rest more : Option FlowFault)
-    → Tells read first rest → ((form : ProgramForm) → Tells (go form) rest more)
+pub program_tells : {A B C : Type 0} (read : Result A FlowFault) (make : A → B) (go : B → Result C FlowFault)
+    (first rest more : Option FlowFault) → Tells read first rest → ((form : B) → Tells (go form) rest more)
     → Tells ((read >>= (λ blocks. Ok (make blocks))) >>= go) first more
 program_tells (Ok blocks) make go first rest more told behind = rw told (behind (make blocks))
 program_tells (Err fault) make go first rest more told behind = told
@@ -76,14 +75,14 @@ thinned [] programs low behind rise = behind low rise
 thinned (block ∷ blocks) programs low behind rise = (rise.0, thinned blocks programs block.line behind rise.1)
 
 -- the lines of blocks rise where those of blocks and O numbers do
-block_lines_rise : (tape : List Program) (low : ℕ) → RiseFrom low (lines_in tape)
+pub block_lines_rise : (tape : List Program) (low : ℕ) → RiseFrom low (lines_in tape)
     → RiseFrom low (map (λ block. block.line) (blocks_in tape))
 block_lines_rise [] low rise = tt
 block_lines_rise (program ∷ programs) low rise =
     lower (map (λ block. block.line) (program.blocks ++ blocks_in programs)) low program.line (omega (arith, rise.0))
     (thinned program.blocks programs program.line (λ from. block_lines_rise programs from) rise.1)
 
-all_behind : (blocks : List Block) (low : ℕ) → RiseFrom low (map (λ block. block.line) blocks)
+pub all_behind : (blocks : List Block) (low : ℕ) → RiseFrom low (map (λ block. block.line) blocks)
     → All (λ block. low ≤ block.line) blocks
 all_behind [] low rise = All-nil (λ block. low ≤ block.line)
 all_behind (block ∷ blocks) low rise =

@@ -1,4 +1,5 @@
--- The programs of a tape that was read stand in the text as the tape does: as many, on the same lines, of as many blocks.
+-- The programs of a tape that was read stand in the text as the tape does: as many, on the same
+-- lines, of as many blocks.
 use Rattle.std.proofs.Common.{◌≡◌, ℕ, ◌+◌, List, [], ◌∷◌, ◌++◌, length, map, refl, ap, sym, ◌∙◌, arith, Result, Ok, Err, IfOk, append_assoc, length-append, subst}
 use Rattle.std.proofs.lemmas.List.{map-append, length-map, append-nil}
 use Rattle.std.proofs.lemmas.Simd.{map-map}
@@ -6,6 +7,7 @@ use Rattle.std.proofs.lemmas.Grind.{flat_map-append}
 use Rattle.nc_number.specs.Results.{◌>>=◌}
 use Rattle.nc_text.specs.declared.tape.Block.{Block}
 use Rattle.nc_text.specs.declared.tape.Program.{Program}
+use Rattle.nc_number.specs.Rising.{RiseFrom}
 use Rattle.nc_text.specs.Shape as tape
 use Rattle.nc_text.specs.Shape.{IsTapeShape}
 use Rattle.block_words.specs.declared.dialect.Dialect.{Dialect}
@@ -16,7 +18,7 @@ use Rattle.tape_flow.specs.Forms.{ProgramForm, at_line, block_read, blocks_from,
 use Rattle.tape_flow.specs.Controls.{control_block, control_program, controls}
 
 -- what holds of a first step's answer is handed to the second
-bound : {A B E : Type 0} (read : Result A E) (go : A → Result B E) (P : A → Type 0) (Q : B → Type 0)
+pub bound : {A B E : Type 0} (read : Result A E) (go : A → Result B E) (P : A → Type 0) (Q : B → Type 0)
     → IfOk read P → ((x : A) → P x → IfOk (go x) Q) → IfOk (read >>= go) Q
 bound (Ok x) go P Q holds step = step x holds
 bound (Err e) go P Q holds step = tt
@@ -79,7 +81,8 @@ count_like program form like =
     length-map form.blocks control_block ∙ sym (length-map form.blocks (λ f. f.line)) ∙ ap length like.lines
     ∙ length-map program.blocks (λ block. block.line)
 
--- the programs that are read, and those that follow, have these lines and so many blocks, and are so many
+-- the programs that are read, and those that follow, have these lines and so many blocks, and are
+-- so many
 record IsSplit (done : List ProgramForm) (rest : List Program) (lines : List ℕ) (blocks programs : ℕ) : Type 0 where
   lines_are : order.lines_in (controls done) ++ tape.lines_in rest ≡ lines
   blocks_are : length (order.blocks_in (controls done)) + length (tape.blocks_in rest) ≡ blocks
@@ -127,10 +130,6 @@ programs_kept dialect (program ∷ rest) done lines blocks programs split =
     (λ form like. programs_kept dialect rest (done ++ form ∷ []) lines blocks programs
     (split_more done form program rest lines blocks programs like split))
 
-same_rise : (ns : List ℕ) (low : ℕ) → tape.RiseFrom low ns → order.RiseFrom low ns
-same_rise [] low rise = tt
-same_rise (n ∷ ns) low rise = (rise.0, same_rise ns n rise.1)
-
 -- the controls of a tape that was read are as the check of their order wants them
 pub read_listed : (dialect : Dialect) (programs : List Program) (forms : List ProgramForm) → IsTapeShape programs
     → programs_read dialect programs ≡ Ok forms → IsListed (controls forms)
@@ -143,6 +142,6 @@ read_listed dialect programs forms shape read =
     sym split.lines_are ∙ append-nil (order.lines_in (controls forms)) in
     record {
       some = rw (length-map forms control_program) (omega (arith, split.programs_are, shape.some));
-      lines = subst (λ ns. order.RiseFrom 0 ns) lines (same_rise (tape.lines_in programs) 0 shape.lines);
+      lines = subst (λ ns. RiseFrom 0 ns) lines shape.lines;
       few = omega (arith, split.blocks_are, shape.few);
     }

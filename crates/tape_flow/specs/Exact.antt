@@ -32,7 +32,8 @@ pub record IsAccepted (dialect : Dialect) (tape : List Program) (programs : List
   pub reads : programs_read dialect tape ≡ Ok programs
   pub sound : IsSound (controls programs)
 
--- The refusal of a tape: the first block that is refused, or, where all blocks read, the first fault of their order.
+-- The refusal of a tape: the first block that is refused, or, where all blocks read, the first
+-- fault of their order.
 pub data IsRefused (dialect : Dialect) (tape : List Program) (line number : ℕ) : Type 0 where
   block : HasBlockFault dialect tape line number
       → ((other_line other : ℕ) → HasBlockFault dialect tape other_line other → line ≤ other_line)

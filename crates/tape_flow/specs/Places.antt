@@ -1,4 +1,5 @@
--- What a flow tells of a place: its block, its line, the label that a path comes to there, and the mark of a block.
+-- What a flow tells of a place: its block, its line, the label that a path comes to there, and the
+-- mark of a block.
 use Rattle.std.specs.Prelude.{ℕ, ◌-◌, ◌==◌, ◌||◌, List, [], ◌∷◌, length, find, Option, Some, None, slice_get, if◌then◌else◌}
 use Rattle.block_order.specs.declared.control.Control.{Control}
 use Rattle.block_order.specs.declared.control.Control.TheVariants.{Wait, End, Back}
@@ -46,8 +47,8 @@ abbrev pub line_at : List ControlProgram → List Frame → ℕ
 line_at tape [] = 0
 line_at tape (f ∷ stack) = line_in (program_of tape f.program) f.block
 
--- The label of a block of this control, in a program with this caller. Past the last block there is no control, and M99
--- begins the main program again, which has no caller.
+-- The label of a block of this control, in a program with this caller. Past the last block there is
+-- no control, and M99 begins the main program again, which has no caller.
 abbrev pub label_of : Option Frame → Option Control → Option Label
 label_of caller None = Some label.Off
 label_of caller (Some (Wait code)) = Some (label.Wait code)

@@ -1,3 +1,4 @@
+//! A refusal of a tape.
 use thiserror::Error;
 
 /// A refusal of a tape: its number, and the line that it is about, counted from 1.

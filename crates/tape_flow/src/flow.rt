@@ -1,3 +1,4 @@
+//! A tape, checked.
 ghost use Rattle.std.specs.Prelude.{◌≡◌, map, IfOk, IfErr};
 ghost use Rattle.block_order.specs.Answers.{IfFault};
 ghost use Rattle.tape_flow.specs.Forms.{program_form};
@@ -26,10 +27,10 @@ pub struct Flow {
 /// The flow of a tape.
 ///
 /// The tape is refused where one of its blocks is: by 5, 20 to 25, 54, 56 to 59, 61, 62 or 64; else
-/// by 60 of an O number given twice and 52 of loops that don't fit together; else by 50, 51 and 53 of
-/// jumps and calls that don't find what they name; else by 65 of a jump that may pass a wait, and 66
-/// of a wait that a ninth call leads to. Each time the least line is named, and on it the least
-/// number.
+/// by 60 of an O number given twice and 52 of loops that don't fit together; else by 50, 51 and 53
+/// of jumps and calls that don't find what they name; else by 65 of a jump that may pass a wait,
+/// and 66 of a wait that a ninth call leads to. Each time the least line is named, and on it the
+/// least number.
 pub fn compile(alloc: Global, tape: &Tape, settings: &Settings) -> Result<Flow, Failing<FlowFault>>
     ensures accepted { IfOk result
         (λ flow. IsAccepted (dialect_of settings.now) tape.now (map program_form flow.programs)) }

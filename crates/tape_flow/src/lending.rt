@@ -14,18 +14,21 @@ use crate::program::FlowProgram;
 use block_forms::FlowBlock;
 use block_order::{BlockOrder, Control, ControlProgram, Frame, Label, Mark, Place};
 
+/// A place comes from the order, whose programs stand as the flow's do.
 fn get_program(programs: &[FlowProgram], place: usize) -> Option<&FlowProgram>
     ensures { option_copied result ≡ slice_get programs.now place }
 {
     programs.get(place)
 }
 
+/// Past the last block there is none.
 fn get_block(blocks: &[FlowBlock], place: usize) -> Option<&FlowBlock>
     ensures { option_copied result ≡ slice_get blocks.now place }
 {
     blocks.get(place)
 }
 
+/// No program has no block.
 fn block_of(program: Option<&FlowProgram>, block: u32) -> Option<&FlowBlock>
     ensures { option_copied result ≡ slice_get (flow_blocks (option_copied program.entry)) block }
 {
@@ -46,6 +49,7 @@ pub fn last_line(program: &ControlProgram) -> u32
     }
 }
 
+/// A path that ran past the last block of a program stands at its last line.
 fn line_in(program: &ControlProgram, block: u32) -> u32
     ensures { result ≡ line_in (Some program.now) block }
 {
@@ -55,12 +59,14 @@ fn line_in(program: &ControlProgram, block: u32) -> u32
     }
 }
 
+/// The one place behind the last block, where a path runs off.
 fn is_past(program: &ControlProgram, block: u32) -> bool
     ensures { result ≡ (block == length program.now.blocks) }
 {
     block as usize == program.blocks.as_slice().len()
 }
 
+/// What a path comes to by the block alone: without a caller it runs the main program.
 fn label_of(caller: Option<Frame>, control: Option<Control>) -> Option<Label>
     ensures { result ≡ label_of caller control }
 {
@@ -73,6 +79,7 @@ fn label_of(caller: Option<Frame>, control: Option<Control>) -> Option<Label>
     }
 }
 
+/// A call is marked only where its program is loud: where it reaches a wait or an end.
 fn mark_of(order: &BlockOrder, control: Control) -> Option<Mark>
     ensures { result ≡ only (mark_of (loud order.now) control) }
 {
@@ -113,8 +120,8 @@ impl Flow {
         }
     }
 
-    /// A block of a program, counted from 0; none where the tape has no such program, or the program
-    /// no such block.
+    /// A block of a program, counted from 0; none where the tape has no such program, or the
+    /// program no such block.
     pub fn block(&self, program: u16, block: u32) -> Option<&FlowBlock>
         ensures value { option_copied result ≡ flow_block self.now.programs program block }
         ensures ordered { option_map (λ block. control_block (block_form block.now)) result
@@ -123,6 +130,7 @@ impl Flow {
         block_of(self.program(program), block)
     }
 
+    /// What the block does to the order, as the order keeps it.
     fn control(&self, program: u16, block: u32) -> Option<Control>
         ensures { result ≡ control_at (blocks self.now.order program) block }
     {
@@ -132,16 +140,16 @@ impl Flow {
         }
     }
 
-    /// Where a search for a sequence number leads: to the next block of that number behind the block,
-    /// else to the first one of its program.
+    /// Where a search for a sequence number leads: to the next block of that number behind the
+    /// block, else to the first one of its program.
     pub fn seek(&self, program: u16, block: u32, number: u32) -> Option<u32>
         ensures { result ≡ seek (blocks self.now.order program) block number }
     {
         self.order.seek(program, block, number)
     }
 
-    /// The line at which a path stands; past the last block of its program the last block's, or that
-    /// of the O number where there is no block.
+    /// The line at which a path stands; past the last block of its program the last block's, or
+    /// that of the O number where there is no block.
     pub fn line(&self, at: &Place) -> u32
         ensures { result ≡ line_at self.now.order at.now }
     {
@@ -161,6 +169,7 @@ impl Flow {
         label_of(at.caller(), self.control(running.program, running.block))
     }
 
+    /// A program that no wait and no end can be reached from has no marks.
     fn mark_of_block(&self, program: u16, control: Option<Control>) -> Option<Mark>
         ensures { result ≡ mark_of_block self.now.order program control }
     {
@@ -174,8 +183,8 @@ impl Flow {
     }
 
     /// The mark at a block of a program: `Past` behind its last block; in the main program, and in
-    /// programs that reach a wait or an end, a wait, an end, an M99 without P and a call of a program
-    /// that reaches a wait or an end. None where the tape has no such program.
+    /// programs that reach a wait or an end, a wait, an end, an M99 without P and a call of a
+    /// program that reaches a wait or an end. None where the tape has no such program.
     pub fn mark(&self, program: u16, block: u32) -> Option<Mark>
         ensures { result ≡ mark_at self.now.order program block }
     {

@@ -1,9 +1,9 @@
 //! A tape, checked: its blocks with what they say, and the order in which they run.
 //!
-//! [`compile`] reads each block of a tape, resolves what it does to the order of blocks, and refuses
-//! the tape where the control would not take it: of several refusals the first of a fixed order. The
-//! [`Flow`] that it makes finds what stands at a place by one look-up of the program's O number, however
-//! many programs the tape has.
+//! [`compile`] reads each block of a tape, resolves what it does to the order of blocks, and
+//! refuses the tape where the control would not take it: of several refusals the first of a fixed
+//! order. The [`Flow`] that it makes finds what stands at a place by one look-up of the program's O
+//! number, however many programs the tape has.
 #![tactic(auto)]
 
 mod fault;

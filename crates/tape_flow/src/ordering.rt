@@ -16,6 +16,7 @@ use nc_number::{Failing, NoMemory};
 use std::alloc::Global;
 use wait_order::check_order;
 
+/// A block without what it says.
 pub(crate) fn control_of(block: &FlowBlock) -> ControlBlock
     ensures { result ≡ control_block (block_form block.now) }
 {
@@ -26,6 +27,7 @@ pub(crate) fn control_of(block: &FlowBlock) -> ControlBlock
     }
 }
 
+/// As many blocks, on the same lines.
 fn controls_of(alloc: Global, blocks: &[FlowBlock]) -> Result<Vec<ControlBlock>, NoMemory>
     ensures { IfOk result (λ controls. controls.items ≡ map (λ block. control_block (block_form block)) blocks.now) }
 {
@@ -36,6 +38,7 @@ fn controls_of(alloc: Global, blocks: &[FlowBlock]) -> Result<Vec<ControlBlock>,
     Ok(controls)
 }
 
+/// A program as the check of the order takes it.
 fn ordered(alloc: Global, program: &FlowProgram) -> Result<ControlProgram, NoMemory>
     ensures { IfOk result (λ ordered. ordered ≡ control_program (program_form program.now)) }
 {
@@ -47,6 +50,7 @@ fn ordered(alloc: Global, program: &FlowProgram) -> Result<ControlProgram, NoMem
     })
 }
 
+/// The list is handed over to the order, which keeps it.
 fn control_programs(
     alloc: Global,
     programs: &[FlowProgram],

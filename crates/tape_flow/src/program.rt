@@ -1,40 +1,9 @@
-ghost use Rattle.std.specs.Prelude.{◌≡◌};
-
+//! The programs of a flow.
 use block_forms::FlowBlock;
-use std::marker::Model;
+use nc_number::ListOf;
 
 /// The blocks of a program, in the order of the text.
-#[derive(Drop)]
-pub struct FlowBlockList {
-    blocks: Vec<FlowBlock>,
-}
-
-impl Model for FlowBlockList {
-    ghost use Rattle.std.specs.Prelude.{List};
-    ghost use Rattle.std.specs.Coded.{coded_list};
-    ghost use Rattle.block_forms.specs.declared.block.FlowBlock.{FlowBlock};
-    ghost use Rattle.block_forms.specs.contracts.block.FlowBlock.{the_row};
-
-    ghost Value = { List FlowBlock };
-
-    ghost coded = { coded_list the_row.coded };
-
-    ghost view = { λ list. list.blocks.items };
-}
-
-impl FlowBlockList {
-    pub(crate) fn of(blocks: Vec<FlowBlock>) -> Self
-        ensures { result ≡ blocks.items }
-    {
-        FlowBlockList { blocks }
-    }
-
-    pub fn as_slice(&self) -> &[FlowBlock]
-        ensures { result.now ≡ self.now }
-    {
-        self.blocks.as_slice()
-    }
-}
+pub type FlowBlockList = ListOf<FlowBlock>;
 
 /// A program of a tape.
 #[derive(Drop)]
@@ -47,34 +16,4 @@ pub struct FlowProgram {
 }
 
 /// The programs of a tape, in the order of the text. The first one is the main program.
-#[derive(Drop)]
-pub struct FlowProgramList {
-    programs: Vec<FlowProgram>,
-}
-
-impl Model for FlowProgramList {
-    ghost use Rattle.std.specs.Prelude.{List};
-    ghost use Rattle.std.specs.Coded.{coded_list};
-    ghost use Rattle.tape_flow.specs.declared.program.FlowProgram.{FlowProgram};
-    ghost use Rattle.tape_flow.specs.contracts.program.FlowProgram.{the_row};
-
-    ghost Value = { List FlowProgram };
-
-    ghost coded = { coded_list the_row.coded };
-
-    ghost view = { λ list. list.programs.items };
-}
-
-impl FlowProgramList {
-    pub(crate) fn of(programs: Vec<FlowProgram>) -> Self
-        ensures { result ≡ programs.items }
-    {
-        FlowProgramList { programs }
-    }
-
-    pub fn as_slice(&self) -> &[FlowProgram]
-        ensures { result.now ≡ self.now }
-    {
-        self.programs.as_slice()
-    }
-}
+pub type FlowProgramList = ListOf<FlowProgram>;

@@ -14,6 +14,7 @@ use nc_number::Failing;
 use nc_text::{Block, Program};
 use std::alloc::Global;
 
+/// The refusal of a block is told at its line.
 fn read_at_line(
     alloc: Global,
     block: &Block,
@@ -31,6 +32,7 @@ fn read_at_line(
     }
 }
 
+/// Reading ends at the first refusal, so no later one is told.
 fn read_blocks(
     alloc: Global,
     blocks: &[Block],
@@ -48,6 +50,7 @@ fn read_blocks(
     Ok(read)
 }
 
+/// The O number of a tape has at most four digits.
 fn read_program(
     alloc: Global,
     program: &Program,
@@ -66,6 +69,7 @@ fn read_program(
     }
 }
 
+/// The programs as they stand in the text, the main program first.
 fn read_programs(
     alloc: Global,
     programs: &[Program],

@@ -3,6 +3,7 @@ use Rattle.std.proofs.Common.{◌≡◌, ℕ, ◌+◌, Bool, true, false, cond, 
 use Rattle.std.specs.List.{list_all, list_any}
 use Rattle.std.proofs.lemmas.List.Folds.{list_all-append}
 use Rattle.std.proofs.lemmas.List.{length-append}
+use Rattle.nc_number.proofs.Bools.{both}
 use Rattle.nc_text.specs.declared.fault.TextFault.{TextFault}
 use Rattle.line_text.specs.declared.refusal.Refusal.TheVariants.{NoProgramNumber, NoEnd}
 use Rattle.nc_text.specs.declared.tape.Program.{Program}
@@ -18,7 +19,6 @@ use Rattle.tape_relation.proofs.LinesOf.{own_lines, lines_are}
 use Rattle.tape_relation.proofs.Fronts.{has_last, behind_none, behind_last}
 use Rattle.tape_relation.proofs.Places.{none_behind}
 use Rattle.tape_relation.proofs.FirstFault.{body_end, leader_end, text_comes, Comes}
-use Rattle.tape_relation.proofs.LiteralParts.{both}
 use Rattle.tape_relation.proofs.Ends.{ranges, IsBehind, ended_by, Begins, SaysNone, starts}
 use Rattle.tape_relation.proofs.OneAnswer.{one_tape, one_fault, not_both, body_said}
 

@@ -7,6 +7,7 @@ use Rattle.std.proofs.lemmas.Bool.Decides.{nat_tests}
 use Rattle.std.proofs.lemmas.List.{nil_from_length, append-nil}
 use Rattle.std.proofs.Math.Seq.{take-append_seam}
 use Rattle.nc_number.specs.Literals.{is_literal, is_sign, behind_sign, is_point}
+use Rattle.nc_number.proofs.Bools.{both, not_true}
 use Rattle.line_text.specs.declared.sign.Sign.{Sign}
 use Rattle.line_text.specs.declared.piece.Piece.{Piece}
 use Rattle.line_text.specs.Pieces.{Group, Cut, is_comment, depth_behind, begins_word, add_to_cut, cut_at, bytes_of, value_part, piece_of, pieces_of, value_len, end_of}
@@ -14,7 +15,6 @@ use Rattle.line_text.specs.Values.{closes, is_variable, is_reference, is_value}
 use Rattle.line_text.specs.Said.{is_sound}
 use Rattle.tape_relation.specs.Words.{IsWord, AreWords}
 use Rattle.tape_relation.specs.Cut.{IsCut}
-use Rattle.tape_relation.proofs.LiteralParts.{both}
 use Rattle.tape_relation.proofs.Values.{value_is, is_a_value}
 use Rattle.tape_relation.proofs.LiteralBytes.{digits_pass, literal_pass}
 
@@ -26,10 +26,6 @@ is_plain b = not (is_ascii_uppercase b) && (not (b == 91) && not (b == 93))
 -- a cut that goes on behind these signs
 abbrev pub onto : List Sign → Cut → Cut
 onto value cut = record { lead = value ++ cut.lead; groups = cut.groups }
-
-not_true : (a : Bool) → not a ≡ true → a ≡ false
-not_true true e = absurd cc
-not_true false e = refl
 
 -- the signs are passed without a word
 abbrev Passes : List Sign → List Sign → Type 0

@@ -1,4 +1,5 @@
--- Lines at which no condition holds are the programs of the relation, or lack a program or their end.
+-- Lines at which no condition holds are the programs of the relation, or lack a program or their
+-- end.
 use Rattle.std.proofs.Common.{◌≡◌, ℕ, ◌+◌, ◌<◌, Bool, true, false, ◌&&◌, ◌||◌, List, [], ◌∷◌, ◌++◌, length, Option, Some, None, Ok, Err, ◌⊎◌, inl, inr, refl, ap, sym, subst, ◌∙◌, arith, append_assoc}
 use Rattle.std.specs.Option.{option_to_list}
 use Rattle.std.specs.List.{list_any, list_all}

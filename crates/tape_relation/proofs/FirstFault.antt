@@ -1,4 +1,5 @@
--- The reader's definition comes to the first fault of the lines, or to what it makes of lines at which no condition holds.
+-- The reader's definition comes to the first fault of the lines, or to what it makes of lines at
+-- which no condition holds.
 use Rattle.std.proofs.Common.{◌≡◌, ℕ, ◌+◌, ◌≤◌, Bool, true, false, cond, not, ◌||◌, ltb, List, [], ◌∷◌, ◌++◌, length, filter, Option, Some, None, Err, ◌⊎◌, inl, inr, refl, ap, sym, ◌∙◌, arith}
 use Rattle.std.specs.Option.{is_none}
 use Rattle.std.specs.List.{list_any}
@@ -6,6 +7,7 @@ use Rattle.std.proofs.lemmas.Bool.{ltb-true}
 use Rattle.std.proofs.lemmas.List.{length-append}
 use Rattle.std.proofs.lemmas.List.Elements.{filter-append}
 use Rattle.std.proofs.lemmas.List.Folds.{list_any-append}
+use Rattle.nc_number.proofs.Bools.{or_false, or_true}
 use Rattle.nc_text.specs.declared.fault.TextFault.{TextFault}
 use Rattle.line_text.specs.declared.refusal.Refusal.{Refusal}
 use Rattle.line_text.specs.declared.refusal.Refusal.TheVariants.{NoProgramNumber, TapeTooLong, WordRange}
@@ -23,14 +25,6 @@ use Rattle.tape_relation.proofs.Fronts.{has_more, has_last, behind_more, behind_
 use Rattle.tape_relation.proofs.LeastNumber.{order, first_of, Tells, tells_least, tells_none}
 use Rattle.tape_relation.proofs.Places.{none_left, none_more, fault_here, fault_later}
 use Rattle.tape_relation.proofs.Steps.{Stands, Inside, outer_test, outer_tells, percent_test, percent_tells, body_test, body_tells, body_step, counts_here}
-
-or_false : (a : Bool) → (a || false) ≡ a
-or_false true = refl
-or_false false = refl
-
-or_true : (a : Bool) → (a || true) ≡ true
-or_true true = refl
-or_true false = refl
 
 said_lines : (before : Before) (s : Said) → (with_said before s).lines ≡ before.lines
 said_lines before said.Nothing = refl

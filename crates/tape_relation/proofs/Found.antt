@@ -5,6 +5,7 @@ use Rattle.std.specs.List.{list_all, prefix_len}
 use Rattle.std.proofs.lemmas.Bool.{eqb-true, or_parts}
 use Rattle.std.proofs.lemmas.Bool.Decides.{nat_tests}
 use Rattle.nc_number.specs.Literals.{is_literal}
+use Rattle.nc_number.proofs.Bools.{both, not_false}
 use Rattle.line_text.specs.declared.sign.Sign.{Sign}
 use Rattle.line_text.specs.declared.piece.Piece.{Piece}
 use Rattle.line_text.specs.Pieces.{is_comment, bytes_of, pieces_of, value_len}
@@ -13,7 +14,7 @@ use Rattle.line_text.specs.Said.{is_sound, stands_alone, read_pieces, unreadable
 use Rattle.tape_relation.specs.Words.{AreWords}
 use Rattle.tape_relation.specs.Cut.{IsCut}
 use Rattle.tape_relation.specs.LineGrammar.{Sentence, NoBlock, ProgramNumber, WordBlock, StatementBlock, IsSkip, none, alone, named, text_of, has_program_word, IsBlock, program, computed, worded, stated, numbered, IsSentence, blank, block}
-use Rattle.tape_relation.proofs.LiteralParts.{both, literal_found, no_literal_found}
+use Rattle.tape_relation.proofs.LiteralParts.{literal_found, no_literal_found}
 use Rattle.tape_relation.proofs.Cuts.{cut_words, split_at}
 use Rattle.tape_relation.proofs.Statements.{statement_found}
 use Rattle.tape_relation.proofs.Heads.{behind_first, comments_before, comments_split, comments_all}
@@ -65,10 +66,6 @@ words_found skip signs words are is-alone = go (has_program_word words) refl
         literal : (word : Piece) → AreWords signs (word ∷ []) → (word.letter == 79) ≡ true → (t : Bool) → is_literal word.text ≡ t → Found (IsBlock None) signs
         literal word are o true lit = (ProgramNumber word.text, program signs word are o (literal_found word.text lit))
         literal word are o false lit = (WordBlock (word ∷ []), computed signs word are o (no_literal_found word.text lit))
-
-not_false : (a : Bool) → not a ≡ false → a ≡ true
-not_false true e = refl
-not_false false e = absurd cc
 
 cut_found : (skip : Option ℕ) (signs : List Sign) → (cond (value_len signs 0 == 0) (read_pieces (is_some skip) (pieces_of signs)) unreadable).broken ≡ false → Found (IsBlock skip) signs
 cut_found skip signs e = go (value_len signs 0 == 0) refl e

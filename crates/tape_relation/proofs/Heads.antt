@@ -6,6 +6,7 @@ use Rattle.std.proofs.lemmas.Bool.{eqb-true}
 use Rattle.std.proofs.lemmas.Bool.Decides.{nat_tests}
 use Rattle.std.proofs.Math.Seq.{take-append_seam}
 use Rattle.nc_number.specs.Literals.{is_literal, is_sign, is_point, behind_sign}
+use Rattle.nc_number.proofs.Bools.{and_false, both}
 use Rattle.line_text.specs.declared.sign.Sign.{Sign}
 use Rattle.line_text.specs.declared.piece.Piece.{Piece}
 use Rattle.line_text.specs.Pieces.{is_comment, bytes_of}
@@ -13,7 +14,6 @@ use Rattle.line_text.specs.Front.{behind_comments, is_statement, sentence_of, is
 use Rattle.line_text.specs.Values.{is_variable, is_reference, closes}
 use Rattle.tape_relation.specs.Words.{AreWords}
 use Rattle.tape_relation.specs.LineGrammar.{text_of, IsStatement}
-use Rattle.tape_relation.proofs.LiteralParts.{both}
 use Rattle.tape_relation.proofs.Values.{is_a_value}
 use Rattle.tape_relation.proofs.LiteralBytes.{literal_pass}
 use Rattle.tape_relation.proofs.Cuts.{drop_seam, split_at}
@@ -127,10 +127,6 @@ words_stop [] signs tail (word ∷ words) all (letter, value, more, others, is, 
 words_stop (sign ∷ comments) signs tail words all are stops = comment_stops sign (both (is_comment sign) (list_all is_comment comments) all).0
 
 -- Words are no numbered statement.
-
-and_false : (a b : Bool) → b ≡ false → (a && b) ≡ false
-and_false true b e = e
-and_false false b e = refl
 
 reference_byte : (b : ℕ) (text : List ℕ) → is_reference (b ∷ text) ≡ true → number_byte b ≡ false
 reference_byte b text e = go (b == 35) refl e

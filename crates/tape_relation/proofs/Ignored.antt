@@ -3,9 +3,9 @@ use Rattle.std.proofs.Common.{◌≡◌, ◌==◌, ℕ, ◌+◌, ◌-◌, Bool, 
 use Rattle.std.specs.List.{list_all, prefix_len, suffix_len}
 use Rattle.std.proofs.lemmas.Bool.{eqb-true}
 use Rattle.std.proofs.lemmas.List.{length_push, get_or_push, take_all, take_at, reverse-append, take-append-le, nil_from_length}
+use Rattle.nc_number.proofs.Bools.{both, either}
 use Rattle.line_text.specs.Signs.{Scan, is_blank, inside_behind, add_sign, scan_of, without_last, without_blanks, signs_of}
 use Rattle.tape_relation.specs.Characters.{is_space, is_return, are_spaces, is_ignored}
-use Rattle.tape_relation.proofs.LiteralParts.{both}
 
 -- the signs of bytes of which the first stands in a comment or not, and has this place
 abbrev pub signs_on : Bool → List ℕ → Bool → ℕ → Scan
@@ -174,10 +174,6 @@ neither : (a b : Bool) → (a ≡ true → ⊥) → (b ≡ true → ⊥) → (a 
 neither true b f g = absurd (f refl)
 neither false true f g = absurd (g refl)
 neither false false f g = refl
-
-either : (a b : Bool) → (a || b) ≡ true → (a ≡ true) ⊎ (b ≡ true)
-either true b e = inl refl
-either false b e = inr e
 
 -- a text is empty or has a last byte
 abbrev HasLast : List ℕ → Type 0

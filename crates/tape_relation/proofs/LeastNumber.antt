@@ -1,12 +1,12 @@
 -- A search through the refusals in the order of their numbers finds the least one.
 use Rattle.std.proofs.Common.{◌≡◌, ℕ, ◌≤◌, Bool, true, false, cond, ◌&&◌, leb, List, [], ◌∷◌, Option, Some, None, ◌⊎◌, inl, inr, refl, ap, sym, subst, ◌∙◌, arith}
 use Rattle.std.proofs.lemmas.Bool.{leb-true}
+use Rattle.nc_number.proofs.Bools.{both}
 use Rattle.line_text.specs.declared.refusal.Refusal.{Refusal}
 use Rattle.line_text.specs.declared.refusal.Refusal.TheVariants.{TooManyDigits, BadCharacter, NoNumber, OpenComment, NoProgramNumber, NoEnd, LineTooLong, TooManyBlocks, TapeTooLong, WordRange}
 use Rattle.line_text.specs.Refusals.{refusal_number}
 use Rattle.nc_text.specs.Lines.{Line}
 use Rattle.tape_relation.specs.Conditions.{Holds, IsLeast}
-use Rattle.tape_relation.proofs.LiteralParts.{both}
 
 abbrev pub order : List Refusal
 order = TooManyDigits ∷ BadCharacter ∷ NoNumber ∷ OpenComment ∷ NoProgramNumber ∷ NoEnd ∷ LineTooLong ∷ TooManyBlocks ∷ TapeTooLong ∷ WordRange ∷ []

@@ -1,4 +1,5 @@
--- Two texts of which the lines say the same, but for lines of the second that say nothing, have the same answer as far as it is looked at.
+-- Two texts of which the lines say the same, but for lines of the second that say nothing, have the
+-- same answer as far as it is looked at.
 use Rattle.std.proofs.Common.{◌≡◌, ℕ, ◌+◌, ◌≤◌, Bool, true, false, cond, ltb, List, [], ◌∷◌, ◌++◌, length, map, Option, Some, None, Result, Ok, Err, refl, sym, ap, ◌∙◌, arith}
 use Rattle.std.specs.Option.{option_map, option_to_list, is_none}
 use Rattle.std.proofs.lemmas.Bool.{le-ltb}

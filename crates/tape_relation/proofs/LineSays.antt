@@ -5,6 +5,7 @@ use Rattle.std.specs.List.{list_all, list_any}
 use Rattle.std.proofs.lemmas.Bool.{eqb-true, eq-eqb, or_parts}
 use Rattle.std.proofs.lemmas.List.Elements.{All-nil, All-cons, All-head, All-tail}
 use Rattle.nc_number.specs.Literals.{is_literal}
+use Rattle.nc_number.proofs.Bools.{both}
 use Rattle.line_text.specs.declared.sign.Sign.{Sign}
 use Rattle.line_text.specs.declared.piece.Piece.{Piece}
 use Rattle.line_text.specs.declared.said.Said.{Said}
@@ -18,7 +19,7 @@ use Rattle.tape_relation.specs.LineGrammar.{Sentence, NoBlock, ProgramNumber, Wo
 use Rattle.tape_relation.specs.LineAlone as own
 use Rattle.tape_relation.specs.LineAlone.{Says, is_block, SaysBlock, SaysProgram, SaysSomething, IsBroken, IsNumbering, LacksSequenceNumber, LeavesRange, IsOutOfRange}
 use Rattle.tape_relation.specs.Conditions.{SayNothing, SayBlocks}
-use Rattle.tape_relation.proofs.LiteralParts.{both, literal_read, literal_found}
+use Rattle.tape_relation.proofs.LiteralParts.{literal_read, literal_found}
 use Rattle.tape_relation.proofs.Remarks.{the_signs, signs_same}
 use Rattle.tape_relation.proofs.Sentences.{said_of, HasLiterals, sentence_literals, IsRead, sentence_read}
 use Rattle.tape_relation.proofs.Found.{sentence_found}

@@ -3,7 +3,7 @@ use Rattle.std.proofs.Common.{◌≡◌, ℕ, suc, ◌+◌, Bool, true, false, c
 use Rattle.std.specs.Char.{is_ascii_digit}
 use Rattle.std.specs.List.{list_all, position_or_len, before_first, after_first}
 use Rattle.nc_number.specs.Literals.{is_literal, is_sign, behind_sign, is_point, whole_part, fraction_part}
-use Rattle.tape_relation.proofs.LiteralParts.{both}
+use Rattle.nc_number.proofs.Bools.{both}
 
 -- a test that digits, the point and the signs pass
 module _ (test : ℕ → Bool) (digit : (b : ℕ) → is_ascii_digit b ≡ true → test b ≡ true) (point : (b : ℕ) → is_point b ≡ true → test b ≡ true) (sign : (b : ℕ) → is_sign b ≡ true → test b ≡ true) where

@@ -7,17 +7,12 @@ use Rattle.std.proofs.lemmas.Bool.{eqb-true, or_parts}
 use Rattle.std.proofs.lemmas.Bool.Decides.{nat_tests}
 use Rattle.std.proofs.lemmas.List.{length-append}
 use Rattle.nc_number.specs.Literals.{is_literal, is_sign, behind_sign, has_minus, is_point, whole_part, fraction_part, significant, has_too_many_digits}
+use Rattle.nc_number.proofs.Spellings.{digit_no_point, digit_no_sign}
+use Rattle.nc_number.proofs.Counts.{lt_true, true_lt}
+use Rattle.nc_number.proofs.Bools.{both}
 use Rattle.tape_relation.specs.Numbers.{IsSign, IsWritten, IsLiteral, HasTooMany}
 
-pub both : (a b : Bool) → (a && b) ≡ true → (a ≡ true) × (b ≡ true)
-both true true e = (refl, refl)
-both true false e = absurd cc
-both false b e = absurd cc
-
 -- Digits, a point and digits, as a literal has them.
-
-pub digit_no_point : (b : ℕ) → is_ascii_digit b ≡ true → is_point b ≡ false
-digit_no_point b is = grind (arith, nat_tests)
 
 pub point_no_digit : (b : ℕ) → is_point b ≡ true → is_ascii_digit b ≡ false
 point_no_digit b is = grind (arith, nat_tests)
@@ -86,9 +81,6 @@ behind_written sign text (inl is) off = let P : List ℕ → Type 0 = λ s. (beh
     alone (b ∷ t) off = (rw off refl, (or_parts (b == 43) (b == 45) off).1)
 behind_written sign text (inr (inl is)) off = let P : List ℕ → Type 0 = λ s. (behind_sign (s ++ text) ≡ text) × (has_minus (s ++ text) ≡ is_minus s) in subst P (sym is) (refl, refl)
 behind_written sign text (inr (inr is)) off = let P : List ℕ → Type 0 = λ s. (behind_sign (s ++ text) ≡ text) × (has_minus (s ++ text) ≡ is_minus s) in subst P (sym is) (refl, refl)
-
-digit_no_sign : (b : ℕ) → is_ascii_digit b ≡ true → is_sign b ≡ false
-digit_no_sign b is = grind (arith, nat_tests)
 
 whole_no_sign : (whole : List ℕ) → list_all is_ascii_digit whole ≡ true → NoSign whole
 whole_no_sign [] all = tt
@@ -191,12 +183,6 @@ rest_significant (d ∷ whole) n long = go (d == 48) refl long (rest_significant
         digit_before d whole n (later (rw (e, one) at h))
     go false e h later = let all : n < length (d ∷ whole) = rw e at h in ([], d, whole, refl, e, omega arith)
 
-above : (k n : ℕ) → k < n → nat_lt k n ≡ true
-above k n less = grind (arith, nat_tests)
-
-is_above : (k n : ℕ) → nat_lt k n ≡ true → k < n
-is_above k n e = grind (arith, nat_tests)
-
 pub many_read : (text sign whole fraction : List ℕ) → IsWritten text sign whole fraction → HasTooMany whole fraction → has_too_many_digits text ≡ true
 many_read text sign whole fraction w many = let p = written_parts text sign whole fraction w in rw (p.whole_is, p.fraction_is) (go many)
   where
@@ -208,13 +194,13 @@ many_read text sign whole fraction w many = let p = written_parts text sign whol
     go (inl (front, digit, rest, is, other, more)) =
         let behind = significant_rest front digit rest other in
         let same : length (significant whole) ≡ length (significant (front ++ digit ∷ rest)) = ap (λ (ds : List ℕ). length (significant ds)) is in
-        rw (above 8 (length (significant whole)) (omega arith)) refl
-    go (inr more) = right (nat_lt 8 (length (significant whole))) (nat_lt 6 (length fraction)) (above 6 (length fraction) more)
+        rw (lt_true 8 (length (significant whole)) (omega arith)) refl
+    go (inr more) = right (nat_lt 8 (length (significant whole))) (nat_lt 6 (length fraction)) (lt_true 6 (length fraction) more)
 
 pub many_found : (text : List ℕ) → has_too_many_digits text ≡ true → HasTooMany (whole_part text) (fraction_part text)
 many_found text e = go (nat_lt 8 (length (significant (whole_part text)))) refl (nat_lt 6 (length (fraction_part text))) refl e
   where
     go : (a : Bool) → nat_lt 8 (length (significant (whole_part text))) ≡ a → (b : Bool) → nat_lt 6 (length (fraction_part text)) ≡ b → (a || b) ≡ true → HasTooMany (whole_part text) (fraction_part text)
-    go true x b y h = inl (rest_significant (whole_part text) 8 (is_above 8 (length (significant (whole_part text))) x))
-    go false x true y h = inr (is_above 6 (length (fraction_part text)) y)
+    go true x b y h = inl (rest_significant (whole_part text) 8 (true_lt 8 (length (significant (whole_part text))) x))
+    go false x true y h = inr (true_lt 6 (length (fraction_part text)) y)
     go false x false y h = absurd cc

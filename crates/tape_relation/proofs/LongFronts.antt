@@ -1,4 +1,5 @@
--- A text begins with a literal of too many digits exactly where the longest literal that it begins with has too many.
+-- A text begins with a literal of too many digits exactly where the longest literal that it begins
+-- with has too many.
 use Rattle.std.proofs.Common.{◌≡◌, ◌==◌, ℕ, zero, suc, ◌+◌, ◌≤◌, Bool, true, false, cond, ◌&&◌, ◌||◌, List, [], ◌∷◌, ◌++◌, length, take, drop, inl, inr, refl, sym, ap, subst, ◌∙◌, append-nil, append_assoc, arith}
 use Rattle.std.specs.Prelude.{nat_lt}
 use Rattle.std.specs.Char.{is_ascii_digit}
@@ -6,9 +7,10 @@ use Rattle.std.specs.List.{list_all, before_first, after_first}
 use Rattle.std.proofs.lemmas.Bool.Decides.{nat_tests}
 use Rattle.std.proofs.lemmas.List.{length-append}
 use Rattle.nc_number.specs.Literals.{is_literal, is_sign, behind_sign, is_point, whole_part, fraction_part, significant, has_too_many_digits}
+use Rattle.nc_number.proofs.Bools.{both}
 use Rattle.line_text.specs.Values.{digits_len, fraction_len, sign_len, unsigned_len, number_front, has_long_front}
 use Rattle.tape_relation.specs.Numbers.{BeginsLong}
-use Rattle.tape_relation.proofs.LiteralParts.{both, point_no_digit, Parts, parts_digits, parts_point, Split, split, significant_more, written, literal_read, many_read, many_found}
+use Rattle.tape_relation.proofs.LiteralParts.{point_no_digit, Parts, parts_digits, parts_point, Split, split, significant_more, written, literal_read, many_read, many_found}
 
 -- the digits that a text begins with, and what stands behind them
 abbrev digits_of : List ℕ → List ℕ

@@ -6,6 +6,7 @@ use Rattle.std.specs.List.{list_all, list_any, prefix_len, position_or_len}
 use Rattle.std.proofs.lemmas.Bool.{eqb-true}
 use Rattle.std.proofs.lemmas.List.{nil_from_length}
 use Rattle.nc_number.specs.Literals.{is_literal, whole_part, fraction_part}
+use Rattle.nc_number.proofs.Bools.{both}
 use Rattle.line_text.specs.declared.sign.Sign.{Sign}
 use Rattle.line_text.specs.declared.piece.Piece.{Piece}
 use Rattle.line_text.specs.declared.said.Reading.{Reading}
@@ -19,7 +20,7 @@ use Rattle.tape_relation.specs.Words.{AreWords}
 use Rattle.tape_relation.specs.LineGrammar.{IsSkip, none, alone, named}
 use Rattle.tape_relation.specs.LineAlone as own
 use Rattle.tape_relation.specs.LineAlone.{IsLong, HasLongNumber}
-use Rattle.tape_relation.proofs.LiteralParts.{both, written, literal_read, many_found}
+use Rattle.tape_relation.proofs.LiteralParts.{written, literal_read, many_found}
 use Rattle.tape_relation.proofs.Cuts.{at_letter, flat, Letters, cut_letters, cut_flat, spells, lead_len, split_at, spelled}
 use Rattle.tape_relation.proofs.Remarks.{the_signs, signs_same}
 use Rattle.tape_relation.proofs.Statements.{not_statement, first_is, letter_no_comment, words_before}

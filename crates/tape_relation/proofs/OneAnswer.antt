@@ -1,6 +1,7 @@
 -- The relation gives one answer: one tape, or one fault, and never both.
 use Rattle.std.proofs.Common.{◌≡◌, ℕ, ◌+◌, ◌<◌, Bool, true, false, ◌||◌, List, [], ◌∷◌, ◌++◌, length, Some, ◌⊎◌, inl, inr, refl, ap, sym, subst, ◌∙◌, arith}
 use Rattle.std.specs.List.{list_any}
+use Rattle.nc_number.proofs.Bools.{neither}
 use Rattle.nc_text.specs.declared.fault.TextFault.{TextFault}
 use Rattle.nc_text.specs.declared.tape.Program.{Program}
 use Rattle.line_text.specs.declared.said.Said.TheVariants as said
@@ -21,10 +22,6 @@ starts_with test (line ∷ lines) = test line
 first_passes : (test : Line → Bool) (x : Line) (xs ys : List Line) → test x ≡ true → list_any test (x ∷ xs) ≡ false → ⊥
 first_passes test x xs ys on off = let bad : true ≡ false = rw on at off in absurd cc
 
-or_split : (a b : Bool) → (a || b) ≡ false → b ≡ false
-or_split true b e = absurd cc
-or_split false b e = e
-
 -- the lines before the first that passes are the same, however they are told
 one_cut : (test : Line → Bool) (a b c d : List Line) → a ++ b ≡ c ++ d → list_any test a ≡ false → list_any test c ≡ false → starts_with test b ≡ true → starts_with test d ≡ true → (a ≡ c) × (b ≡ d)
 one_cut test [] b [] d e p q r s = (refl, e)
@@ -35,7 +32,7 @@ one_cut test (x ∷ a) b [] (y ∷ d) e p q r s = let same : x ≡ y = cc in abs
 one_cut test (x ∷ a) b (y ∷ c) d e p q r s =
     let same : x ≡ y = cc in
     let rest : a ++ b ≡ c ++ d = cc in
-    let later = one_cut test a b c d rest (or_split (test x) (list_any test a) p) (or_split (test y) (list_any test c) q) r s in
+    let later = one_cut test a b c d rest (neither (test x) (list_any test a) p).1 (neither (test y) (list_any test c) q).1 r s in
     let first = later.0 in (cc, later.1)
 
 programs_start : (skips n : ℕ) (lines : List Line) (programs : List Program) → SayPrograms skips n lines programs → starts_with (says_program skips) lines ≡ true

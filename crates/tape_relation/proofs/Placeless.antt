@@ -1,4 +1,5 @@
--- What a line says depends on the bytes of its signs; only the places of its words depend on theirs.
+-- What a line says depends on the bytes of its signs; only the places of its words depend on
+-- theirs.
 use Rattle.std.proofs.Common.{◌≡◌, ◌==◌, ℕ, ◌+◌, Bool, true, false, cond, not, ◌&&◌, List, [], ◌∷◌, length, map, take, drop, Option, None, refl, sym, ap, ◌∙◌}
 use Rattle.std.specs.Prelude.{filter}
 use Rattle.std.specs.Option.{is_some}

@@ -5,6 +5,7 @@ use Rattle.std.specs.List.{list_all, list_any}
 use Rattle.std.proofs.lemmas.Bool.{or_parts}
 use Rattle.std.proofs.lemmas.List.Folds.{list_all-append}
 use Rattle.std.proofs.lemmas.List.Elements.{All-nil, All-cons, All-head, All-tail}
+use Rattle.nc_number.proofs.Bools.{both}
 use Rattle.line_text.specs.declared.piece.Piece.{Piece}
 use Rattle.line_text.specs.declared.said.Said.{Said}
 use Rattle.line_text.specs.declared.said.Said.TheVariants as said
@@ -23,7 +24,6 @@ use Rattle.tape_relation.specs.Numbers.{IsSequenceNumber}
 use Rattle.tape_relation.specs.LineGrammar.{Sentence, NoBlock, ProgramNumber, WordBlock, StatementBlock}
 use Rattle.tape_relation.specs.LineAlone.{Says, SaysBlock, IsNumbering}
 use Rattle.tape_relation.specs.Programs.{HasNoNumber, IsLastNumber, IsSequence, word_of, AreOthers, HasBody, IsBlockOn, AreBlocks, SaysNumber, ArePrograms}
-use Rattle.tape_relation.proofs.LiteralParts.{both}
 use Rattle.tape_relation.proofs.Sentences.{said_of, HasLiterals}
 use Rattle.tape_relation.proofs.Ranges.{number_read, number_found, has_found, sequence_number}
 use Rattle.tape_relation.proofs.LineRead.{says, says_in_range, block_on, blocks_on, SayPrograms}

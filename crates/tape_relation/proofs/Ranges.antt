@@ -15,10 +15,11 @@ use Rattle.nc_number.specs.declared.fault.NumberFault.TheVariants.{TooManyDigits
 use Rattle.nc_number.specs.Literals.{is_literal, word_literal, has_minus, has_point, whole_part, fraction_part, significant, has_too_many_digits, size_of_parts, literal_micro, with_sign}
 use Rattle.nc_number.proofs.DecimalDigits.{digit_value_is, fraction_below}
 use Rattle.nc_number.proofs.LastDigits.{value_of_zeros}
+use Rattle.nc_number.proofs.Bools.{both}
 use Rattle.line_text.specs.Values.{in_range, range_of, number_in}
 use Rattle.tape_relation.specs.Numbers.{IsSign, IsWritten, HasTooMany, Writes, IsSequenceNumber}
 use Rattle.tape_relation.specs.LineAlone.{LacksSequenceNumber}
-use Rattle.tape_relation.proofs.LiteralParts.{both, is_minus, written, written_parts, many_read, many_found}
+use Rattle.tape_relation.proofs.LiteralParts.{is_minus, written, written_parts, many_read, many_found}
 
 none_over : (z : ℤ) → z ≡ pos 0 → is_zero z ≡ true
 none_over z e = ap is_zero e

@@ -6,6 +6,7 @@ use Rattle.std.specs.List.{list_all, prefix_len}
 use Rattle.std.proofs.lemmas.Bool.{eqb-true, eq-eqb, or_parts}
 use Rattle.std.proofs.lemmas.Bool.Decides.{nat_tests}
 use Rattle.nc_number.specs.Literals.{is_literal}
+use Rattle.nc_number.proofs.Bools.{both}
 use Rattle.line_text.specs.declared.sign.Sign.{Sign}
 use Rattle.line_text.specs.declared.piece.Piece.{Piece}
 use Rattle.line_text.specs.declared.body.Body.TheVariants.{Words, Statement}
@@ -19,7 +20,7 @@ use Rattle.line_text.specs.Said.{is_sound, stands_alone, sequence_from, is_in_ra
 use Rattle.tape_relation.specs.Words.{AreWords}
 use Rattle.tape_relation.specs.Cut.{IsCut}
 use Rattle.tape_relation.specs.LineGrammar.{Sentence, NoBlock, ProgramNumber, WordBlock, StatementBlock, IsSkip, none, alone, named, text_of, IsStatement, has_program_word, IsBlock, program, computed, worded, stated, numbered, IsSentence, blank, block}
-use Rattle.tape_relation.proofs.LiteralParts.{both, literal_read, no_literal_read}
+use Rattle.tape_relation.proofs.LiteralParts.{literal_read, no_literal_read}
 use Rattle.tape_relation.proofs.Cuts.{words_cut}
 use Rattle.tape_relation.proofs.Statements.{first_is, no_statement, letter_no_comment, words_unlike, statement_read}
 use Rattle.tape_relation.proofs.Heads.{behind_other, behind_more, behind_first, sentence_behind, part_is, behind_is, literal_signs, statement_stops, numbered_unlike, numbered_read, stated_read}

@@ -7,6 +7,7 @@ use Rattle.std.specs.Cmp.Lexicographic.{pointwise}
 use Rattle.std.proofs.lemmas.Bool.{eqb-true, eq-eqb}
 use Rattle.std.proofs.lemmas.Bool.Decides.{nat_tests}
 use Rattle.std.proofs.Math.Seq.{take-append_seam}
+use Rattle.nc_number.proofs.Bools.{both, or_left, or_right}
 use Rattle.line_text.specs.declared.sign.Sign.{Sign}
 use Rattle.line_text.specs.declared.piece.Piece.{Piece}
 use Rattle.line_text.specs.Pieces.{Cut, is_comment, bytes_of, add_to_cut, cut_at, depth_behind}
@@ -14,7 +15,6 @@ use Rattle.line_text.specs.Front.{is_statement, sentence_of}
 use Rattle.line_text.specs.Values.{is_value}
 use Rattle.tape_relation.specs.Words.{AreWords}
 use Rattle.tape_relation.specs.LineGrammar.{Begins, IsStatement}
-use Rattle.tape_relation.proofs.LiteralParts.{both}
 use Rattle.tape_relation.proofs.Values.{is_a_value}
 use Rattle.tape_relation.proofs.Cuts.{pass_value}
 
@@ -33,13 +33,6 @@ begins_found (b ∷ word) [] e = absurd cc
 begins_found (b ∷ word) (c ∷ text) e =
     let p = both (nat_eq b c) (pointwise nat_eq word (take (length word) text)) e in
     let later = begins_found word text p.1 in (later.0, ap (λ (k : ℕ). k ∷ text) (sym (eqb-true b c p.0)) ∙ ap (λ (t : List ℕ). b ∷ t) later.1)
-
-or_left : (a b : Bool) → a ≡ true → (a || b) ≡ true
-or_left a b e = rw e refl
-
-or_right : (a b : Bool) → b ≡ true → (a || b) ≡ true
-or_right true b e = refl
-or_right false b e = e
 
 pub statement_read : (text : List ℕ) → IsStatement text → is_statement text ≡ true
 statement_read text is = go is

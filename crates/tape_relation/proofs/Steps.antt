@@ -3,6 +3,7 @@ use Rattle.std.proofs.Common.{◌≡◌, ℕ, ◌+◌, ◌<◌, ◌≤◌, Bool,
 use Rattle.std.specs.Option.{is_none}
 use Rattle.std.specs.List.{list_any}
 use Rattle.std.proofs.lemmas.Bool.{ltb-true, lt-ltb, leb-true, le-leb}
+use Rattle.nc_number.proofs.Bools.{both, both_true, not_true}
 use Rattle.line_text.specs.declared.refusal.Refusal.{Refusal}
 use Rattle.line_text.specs.declared.refusal.Refusal.TheVariants.{TooManyDigits, BadCharacter, NoNumber, OpenComment, NoProgramNumber, NoEnd, LineTooLong, TooManyBlocks, TapeTooLong, WordRange}
 use Rattle.line_text.specs.declared.said.Said.{Said}
@@ -13,7 +14,6 @@ use Rattle.line_text.specs.Signs.{are_allowed}
 use Rattle.line_text.specs.Said.{judged, line_says}
 use Rattle.nc_text.specs.Tape.{Before, is_past_end, is_block, is_said_in_range, next, with_said, unless_refused, after_said, after_line}
 use Rattle.tape_relation.specs.Parts.{size, begins_percent, has_percent, behind_percent, is_closed}
-use Rattle.tape_relation.proofs.LiteralParts.{both}
 use Rattle.tape_relation.proofs.LineRead.{scan, reading, is_off, says, says_block, says_something}
 use Rattle.tape_relation.proofs.Remarks.{bad_read, bad_found, open_read, open_found}
 use Rattle.tape_relation.proofs.LongNumbers.{long_read, long_found}
@@ -148,15 +148,8 @@ body_test skips before line TooManyBlocks = says_block skips line && leb 20000 b
 body_test skips before line TapeTooLong = past before line
 body_test skips before line WordRange = not (is_said_in_range (says skips line))
 
-both_true : (a b : Bool) → a ≡ true → b ≡ true → (a && b) ≡ true
-both_true a b p q = rw (p, q) refl
-
 not_is : (a : Bool) → a ≡ false → not a ≡ true
 not_is a e = rw e refl
-
-is_not : (a : Bool) → not a ≡ true → a ≡ false
-is_not true e = absurd cc
-is_not false e = refl
 
 pub counts_here : (skips : ℕ) (front : List Line) (line : Line) (before : Before) → Inside skips front before → Counts front line
 counts_here skips front line before inside = (has_more front (line ∷ []) inside.opened, inside.not_closed)
@@ -184,11 +177,11 @@ body_tells skips front line before stands inside is = record { told = told; hold
     told WordRange h = not_is (is_said_in_range (says skips line)) (range_read skips line h.1)
 
     holds : (r : Refusal) → body_test skips before line r ≡ true → Holds skips front line r
-    holds TooManyDigits e = let p = both (reading line).long (not (is_off skips line)) e in (here, long_found skips line p.0 (is_not (is_off skips line) p.1))
-    holds BadCharacter e = (here, bad_found line (is_not (are_allowed (scan line).list) e))
+    holds TooManyDigits e = let p = both (reading line).long (not (is_off skips line)) e in (here, long_found skips line p.0 (not_true (is_off skips line) p.1))
+    holds BadCharacter e = (here, bad_found line (not_true (are_allowed (scan line).list) e))
     holds NoNumber e = (here, broken_found line e)
     holds OpenComment e = (here, open_found line e)
-    holds NoProgramNumber e = let p = both (says_block skips line) (is_none before.current) e in (here, block_found skips line p.0, silent_found skips (behind_percent front) (is_not (list_any (says_something skips) (behind_percent front)) (sym inside.none_is ∙ p.1)))
+    holds NoProgramNumber e = let p = both (says_block skips line) (is_none before.current) e in (here, block_found skips line p.0, silent_found skips (behind_percent front) (not_true (list_any (says_something skips) (behind_percent front)) (sym inside.none_is ∙ p.1)))
     holds NoEnd e = absurd cc
     holds LineTooLong e = (here.0, ltb-true 512 (length line.bytes) e)
     holds TooManyBlocks e =
@@ -196,7 +189,7 @@ body_tells skips front line before stands inside is = record { told = told; hold
         let same = inside.blocks_are in
         let full : 20000 ≤ before.blocks = leb-true 20000 before.blocks p.1 in (here, block_found skips line p.0, (length (filter (says_block skips) (behind_percent front)), blocks_found skips (behind_percent front), omega arith))
     holds TapeTooLong e = past_holds skips front line before stands e
-    holds WordRange e = (here, range_found skips line (is_not (is_said_in_range (says skips line)) e))
+    holds WordRange e = (here, range_found skips line (not_true (is_said_in_range (says skips line)) e))
 
 -- the tests of a line with this reading, one after another
 judged_step : (skipped allowed unclosed : Bool) (read : Reading) (before : Before) (len : ℕ) (ended : Bool) (test : Refusal → Bool) (what : Said) → what ≡ cond (skipped || read.broken) said.Nothing read.said

@@ -5,10 +5,11 @@ use Rattle.std.specs.List.{list_all}
 use Rattle.std.proofs.lemmas.Bool.{eqb-true, eq-eqb}
 use Rattle.std.proofs.lemmas.List.{nil_from_length}
 use Rattle.nc_number.specs.Literals.{is_literal, behind_sign}
+use Rattle.nc_number.proofs.Bools.{both, or_right}
 use Rattle.line_text.specs.Values.{closes, is_variable, is_reference, is_value}
 use Rattle.tape_relation.specs.Numbers.{IsSign}
 use Rattle.tape_relation.specs.Value.{times, IsBracketed, IsVariable, IsValue}
-use Rattle.tape_relation.proofs.LiteralParts.{both, signed, literal_found, literal_read}
+use Rattle.tape_relation.proofs.LiteralParts.{signed, literal_found, literal_read}
 
 times_cons : (k b : ℕ) (text : List ℕ) (t : Bool) → (b == k) ≡ t → times k (b ∷ text) ≡ cond t 1 0 + times k text
 times_cons k b text true e = rw e refl
@@ -167,10 +168,6 @@ is_a_reference (b ∷ text) (inr bracket) =
     let p = is_bracketed b text bracket in
     let P : ℕ → Type 0 = λ k. (is_reference (k ∷ text) ≡ true) × (behind_sign (k ∷ text) ≡ k ∷ text) in
     let here : (is_reference (91 ∷ text) ≡ true) × (behind_sign (91 ∷ text) ≡ 91 ∷ text) = (p.1, refl) in subst P (sym p.0) here
-
-or_right : (a b : Bool) → b ≡ true → (a || b) ≡ true
-or_right true b e = refl
-or_right false b e = e
 
 pub is_a_value : (text : List ℕ) → IsValue text → is_value text ≡ true
 is_a_value text (inl is) = rw (literal_read text is) refl

@@ -1,4 +1,5 @@
--- The bytes of a line: which are ignored, which are characters, which stand in comments, and the line's signs.
+-- The bytes of a line: which are ignored, which are characters, which stand in comments, and the
+-- line's signs.
 use Rattle.std.specs.Prelude.{◌≡◌, ℕ, ◌+◌, Bool, true, false, ◌&&◌, ◌||◌, ◌==◌, List, [], ◌∷◌, ◌++◌, length, map, codes}
 use Rattle.std.specs.Char.{is_ascii_digit, is_ascii_uppercase, to_ascii_uppercase}
 use Rattle.std.specs.List.{list_any}
@@ -18,7 +19,8 @@ abbrev pub are_spaces : Bool → List ℕ → Bool
 are_spaces ended [] = true
 are_spaces ended (b ∷ behind) = (is_space b || is_return ended b behind) && are_spaces ended behind
 
--- a byte that does not count, with these behind it: one of those, or a `;` behind which only they stand
+-- a byte that does not count, with these behind it: one of those, or a `;` behind which only they
+-- stand
 abbrev pub is_ignored : Bool → ℕ → List ℕ → Bool
 is_ignored ended b behind = is_space b || (is_return ended b behind || (b == 59 && are_spaces ended behind))
 
@@ -36,7 +38,8 @@ pub data IsOutside : List ℕ → Type 0 where
   byte : (b : ℕ) (bytes : List ℕ) → (b == 40) ≡ false → IsOutside bytes → IsOutside (b ∷ bytes)
   comment : (text bytes : List ℕ) → IsRemark text → IsOutside bytes → IsOutside (40 ∷ (text ++ 41 ∷ bytes))
 
--- outside comments stands a byte that counts and is no character; a lower case letter stands for its capital
+-- outside comments stands a byte that counts and is no character; a lower case letter stands for
+-- its capital
 abbrev pub HasBadCharacter : Line → Type 0
 HasBadCharacter line = (front : List ℕ) × (b : ℕ) × (back : List ℕ) × (line.bytes ≡ front ++ b ∷ back) × IsOutside front
     × (is_character (to_ascii_uppercase b) ≡ false) × (is_ignored line.ended b back ≡ false)
@@ -56,7 +59,8 @@ bytes_of signs = map (λ sign. sign.byte) signs
 abbrev pub sign_at : ℕ → ℕ → Sign
 sign_at place b = record { place = place; byte = b }
 
--- the signs of bytes, the first at this place: each byte that counts, in upper case, and each comment as its `(`
+-- the signs of bytes, the first at this place: each byte that counts, in upper case, and each
+-- comment as its `(`
 pub data AreSigns (ended : Bool) : ℕ → List ℕ → List Sign → Type 0 where
   nothing : (place : ℕ) → AreSigns ended place [] []
   ignored : (place b : ℕ) (bytes : List ℕ) (signs : List Sign) → is_ignored ended b bytes ≡ true

@@ -1,4 +1,5 @@
--- The conditions under which a line is refused. Each looks for itself at all lines before it; none asks for another.
+-- The conditions under which a line is refused. Each looks for itself at all lines before it; none
+-- asks for another.
 use Rattle.std.specs.Prelude.{◌≡◌, ℕ, ◌+◌, ◌<◌, ◌≤◌, ◌⊎◌, true, false, List, [], ◌∷◌, ◌++◌, length, All}
 use Rattle.line_text.specs.declared.refusal.Refusal.{Refusal}
 use Rattle.line_text.specs.declared.refusal.Refusal.TheVariants.{TooManyDigits, BadCharacter, NoNumber, OpenComment, NoProgramNumber, NoEnd, LineTooLong, TooManyBlocks, TapeTooLong, WordRange}

@@ -1,6 +1,7 @@
 -- One line of a text, and what may be put into a text.
 use Rattle.std.specs.Prelude.{◌≡◌, ℕ, ◌<◌, ◌≤◌, Bool, true, false, ◌==◌, List, [], ◌∷◌, ◌++◌, length, All, Option, Ok, if◌then◌else◌}
 use Rattle.std.specs.List.{list_all}
+use Rattle.nc_number.specs.declared.limits.TheConstants.{LONGEST_LINE}
 use Rattle.line_text.specs.declared.said.Said.{Said}
 use Rattle.line_text.specs.Signs.{signs_of, without_last}
 use Rattle.line_text.specs.Pieces.{is_comment}
@@ -21,7 +22,7 @@ with_line front line back = front ++ (line ++ 10 ∷ back)
 pub record IsLine (front line back : List ℕ) : Type 0 where
   pub whole : are_whole front ≡ true
   pub one_line : IsOneLine line
-  pub short : length line ≤ 512
+  pub short : length line ≤ LONGEST_LINE
   pub fits : Fits (with_line front line back)
 
 -- the line is the last one of the text, without a line feed
@@ -29,7 +30,7 @@ pub record IsLastLine (front line : List ℕ) : Type 0 where
   pub some : 0 < length line
   pub whole : are_whole front ≡ true
   pub one_line : IsOneLine line
-  pub short : length line ≤ 512
+  pub short : length line ≤ LONGEST_LINE
   pub fits : Fits (front ++ line)
 
 -- the switch of the block on a line, if it has the skip sign
@@ -57,14 +58,15 @@ HasNoReturn text = All (λ b. (b == 13) ≡ false) text
 
 -- each line has room for one byte more
 abbrev pub HaveRoom : List ℕ → Type 0
-HaveRoom text = All (λ line. length line.bytes < 512) (lines_of text)
+HaveRoom text = All (λ line. length line.bytes < LONGEST_LINE) (lines_of text)
 
 -- the text with a carriage return before each line feed
 abbrev pub with_returns : List ℕ → List ℕ
 with_returns [] = []
 with_returns (b ∷ bs) = if b == 10 then 13 ∷ 10 ∷ with_returns bs else b ∷ with_returns bs
 
--- a blank may stand here in a line: not in front of the `%` that begins it, nor behind the carriage return that ends it
+-- a blank may stand here in a line: not in front of the `%` that begins it, nor behind the carriage
+-- return that ends it
 pub record MayHaveBlank (left right : List ℕ) : Type 0 where
   pub percent : left ≡ [] → is_percent right ≡ false
   pub return : right ≡ [] → EndsWithoutReturn left

@@ -1,4 +1,5 @@
--- What a line is, as a grammar over its signs: comments, the skip sign, comments, and a statement or words.
+-- What a line is, as a grammar over its signs: comments, the skip sign, comments, and a statement
+-- or words.
 use Rattle.std.specs.Prelude.{◌≡◌, ℕ, ◌+◌, ◌<◌, ◌≤◌, ◌==◌, ◌⊎◌, Bool, true, false, not, List, [], ◌∷◌, ◌++◌, length, filter, codes, Option, Some, None}
 use Rattle.std.specs.List.{list_all, list_any}
 use Rattle.line_text.specs.declared.sign.Sign.{Sign}
@@ -8,7 +9,8 @@ use Rattle.tape_relation.specs.Characters.{is_comment, bytes_of, AreSigns}
 use Rattle.tape_relation.specs.Numbers.{IsLiteral}
 use Rattle.tape_relation.specs.Words.{AreWords}
 
--- a line holds no block, an O number by its literal, words, or a statement behind the literal of its N
+-- a line holds no block, an O number by its literal, words, or a statement behind the literal of
+-- its N
 pub data Sentence : Type 0 where
   NoBlock : Sentence
   ProgramNumber : List ℕ → Sentence
@@ -38,7 +40,8 @@ IsStatement text =
 abbrev pub has_program_word : List Piece → Bool
 has_program_word words = list_any (λ word. word.letter == 79) words
 
--- A block behind its skip sign. An O word has no other beside it, and no skip sign: with a literal it is an O number.
+-- A block behind its skip sign. An O word has no other beside it, and no skip sign: with a literal
+-- it is an O number.
 pub data IsBlock : Option ℕ → List Sign → Sentence → Type 0 where
   program : (signs : List Sign) (word : Piece) → AreWords signs (word ∷ []) → (word.letter == 79) ≡ true
       → IsLiteral word.text → IsBlock None signs (ProgramNumber word.text)

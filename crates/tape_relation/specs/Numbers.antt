@@ -1,4 +1,5 @@
--- The numbers of a line: literals, those of too many digits, and the ranges of sequence numbers and O numbers.
+-- The numbers of a line: literals, those of too many digits, and the ranges of sequence numbers and
+-- O numbers.
 use Rattle.std.specs.Prelude.{◌≡◌, ℕ, ◌+◌, ◌<◌, ◌≤◌, ◌==◌, ◌⊎◌, true, false, List, [], ◌∷◌, ◌++◌, length}
 use Rattle.std.specs.Char.{is_ascii_digit}
 use Rattle.std.specs.List.{list_all}
@@ -8,7 +9,8 @@ use Rattle.std.specs.Str.Parse.{digits_value}
 abbrev pub IsSign : List ℕ → Type 0
 IsSign text = (text ≡ []) ⊎ ((text ≡ 43 ∷ []) ⊎ (text ≡ 45 ∷ []))
 
--- A literal by its parts: a sign or none, whole digits, and a point and fraction digits or none, with a digit in all.
+-- A literal by its parts: a sign or none, whole digits, and a point and fraction digits or none,
+-- with a digit in all.
 pub record IsWritten (text sign whole fraction : List ℕ) : Type 0 where
   pub sign_is : IsSign sign
   pub whole_are : list_all is_ascii_digit whole ≡ true

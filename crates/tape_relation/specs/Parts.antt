@@ -1,5 +1,5 @@
--- The parts of a tape's text: lines before the first that begins with `%`, the lines of the programs, and the lines
--- from the next on that begins with `%`.
+-- The parts of a tape's text: lines before the first that begins with `%`, the lines of the
+-- programs, and the lines from the next on that begins with `%`.
 use Rattle.std.specs.Prelude.{◌≡◌, ℕ, ◌+◌, ◌<◌, ◌==◌, Bool, true, false, List, [], ◌∷◌, ◌++◌, length, All, if◌then◌else◌}
 use Rattle.std.specs.List.{list_any, flat_map}
 use Rattle.nc_text.specs.Lines.{Line}

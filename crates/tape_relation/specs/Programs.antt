@@ -57,7 +57,8 @@ AreBlocks skips before (line ∷ lines) blocks =
 abbrev pub SaysNumber : ℕ → Line → ℕ → Type 0
 SaysNumber skips line n = (text : List ℕ) × Says skips line (ProgramNumber text) × IsProgramNumber text n
 
--- these lines, behind so many, are the programs: each has its O number, and the blocks of the lines up to the next
+-- these lines, behind so many, are the programs: each has its O number, and the blocks of the lines
+-- up to the next
 abbrev pub ArePrograms : ℕ → ℕ → List Line → List Program → Type 0
 ArePrograms skips before lines [] = lines ≡ []
 ArePrograms skips before lines (program ∷ programs) = (head : Line) × (own : List Line) × (others : List Line)

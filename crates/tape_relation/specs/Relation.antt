@@ -13,7 +13,8 @@ use Rattle.tape_relation.specs.Programs.{ArePrograms}
 abbrev pub fault_at : Refusal → ℕ → TextFault
 fault_at refusal line = record { number = refusal_number refusal; line = line }
 
--- The least line at which a condition holds, and there the least number. The lines stand behind the front.
+-- The least line at which a condition holds, and there the least number. The lines stand behind the
+-- front.
 pub record IsFirstFault (skips : ℕ) (front lines : List Line) (fault : TextFault) : Type 0 where
   pub before : List Line
   pub line : Line
@@ -39,7 +40,8 @@ abbrev pub IsFaultOf : ℕ → List Line → TextFault → Type 0
 IsFaultOf skips lines fault = IsFirstFault skips [] lines fault
     ⊎ (NoneHolds skips [] lines × (LacksProgram skips lines fault ⊎ LacksEnd skips lines fault))
 
--- no condition holds, the closing line is there, and the body is lines that say nothing and then the programs
+-- no condition holds, the closing line is there, and the body is lines that say nothing and then
+-- the programs
 pub record IsTapeOf (skips : ℕ) (lines : List Line) (tape : List Program) : Type 0 where
   pub none_holds : NoneHolds skips [] lines
   pub closed : is_closed lines ≡ true

@@ -1,4 +1,5 @@
--- What may stand behind an address letter, as a grammar: no depth is counted and no bracket is matched with another.
+-- What may stand behind an address letter, as a grammar: no depth is counted and no bracket is
+-- matched with another.
 use Rattle.std.specs.Prelude.{◌≡◌, ℕ, ◌+◌, ◌≤◌, ◌<◌, ◌==◌, ◌⊎◌, true, List, [], ◌∷◌, ◌++◌, length, if◌then◌else◌}
 use Rattle.std.specs.Char.{is_ascii_digit}
 use Rattle.std.specs.List.{list_all}

@@ -24,7 +24,8 @@ pub record IsWord (letter : Sign) (value : List Sign) (word : Piece) : Type 0 wh
   pub value_is : value ≡ front ++ last ∷ []
   pub word_is : word ≡ word_at letter (last.place + 1) value
 
--- Signs spell words, one behind the other: each is a letter, its whole value without a comment in it, and comments.
+-- Signs spell words, one behind the other: each is a letter, its whole value without a comment in
+-- it, and comments.
 abbrev pub AreWords : List Sign → List Piece → Type 0
 AreWords signs [] = signs ≡ []
 AreWords signs (word ∷ words) = (letter : Sign) × (value : List Sign) × (comments : List Sign)

@@ -72,7 +72,8 @@ pub fn a_skipped_block_reads_as_no_line()
         → tape_of skips front ≡ lowered (length (lines_of front)) (tape_of skips (front ++ line)) }
 {}
 
-/// A carriage return before a line feed changes nothing: lines may end with both, or with the line feed alone.
+/// A carriage return before a line feed changes nothing: lines may end with both, or with the line
+/// feed alone.
 pub fn a_carriage_return_changes_nothing()
     ensures one_line { (skips : ℕ) (front line back : List ℕ) → EndsWithoutReturn line
         → IsLine front (line ++ 13 ∷ []) back

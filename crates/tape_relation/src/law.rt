@@ -23,7 +23,8 @@ pub fn the_reader_reads_the_relation()
         → (tape_of skips text ≡ Err fault) ↔ IsFault skips text fault }
 {}
 
-/// A law: what the reader takes for a value is a literal, or a variable or an expression whose brackets are balanced.
+/// A law: what the reader takes for a value is a literal, or a variable or an expression whose
+/// brackets are balanced.
 pub fn a_value_has_the_grammar()
     ensures { (text : List ℕ) → (is_value text ≡ true) ↔ IsValue text }
 {}

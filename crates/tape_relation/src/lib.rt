@@ -1,11 +1,13 @@
-//! The relation between a text and its tape, apart from any reader, the law that the reader's definition is it, and
-//! the laws of edits: what may be put into a text, or taken out of it, without a change of its tape.
+//! The relation between a text and its tape, apart from any reader, the law that the reader's
+//! definition is it, and the laws of edits: what may be put into a text, or taken out of it,
+//! without a change of its tape.
 //!
-//! Nothing stands on this crate. The relation says of the whole text what `nc_text` computes line by line: which condition of
-//! which refusal holds at which line, that the answer is the least line and on it the least number, and which programs a text
-//! is. What one line says, and what makes it unreadable, it says by a grammar of its own: bytes have signs, and signs are a
-//! sentence, or none. Of `nc_text` it takes the types of its answer and the numbers of the refusals, and nothing that reads.
-//! The laws of edits speak of the reader's definition itself.
+//! Nothing stands on this crate. The relation says of the whole text what `nc_text` computes line
+//! by line: which condition of which refusal holds at which line, that the answer is the least line
+//! and on it the least number, and which programs a text is. What one line says, and what makes it
+//! unreadable, it says by a grammar of its own: bytes have signs, and signs are a sentence, or
+//! none. Of `nc_text` it takes the types of its answer and the numbers of the refusals, and nothing
+//! that reads. The laws of edits speak of the reader's definition itself.
 #![tactic(auto)]
 
 mod edits;

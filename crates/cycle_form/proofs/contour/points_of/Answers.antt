@@ -1,4 +1,4 @@
-use Rattle.std.proofs.Common.{◌≡◌, sym, ◌∙◌, arith, rules, subst, All, IfSome}
+use Rattle.std.proofs.Common.{sym, ◌∙◌, subst, All, IfSome}
 use Rattle.std.proofs.lemmas.List.Elements.{All-push}
 use Rattle.rough_cycle.specs.Form.{IsWritten}
 use Rattle.std.proofs.lemmas.List.{drop_all}

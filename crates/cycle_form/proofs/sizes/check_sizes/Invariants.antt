@@ -1,9 +1,10 @@
 use Rattle.std.proofs.Common.{◌≡◌, ◌≤◌, drop}
+use Rattle.nc_number.specs.declared.limits.TheConstants.{MOST_BLOCKS}
 use Rattle.cycle_form.specs.Sizes.{sized}
 use Rattle.cycle_form.proofs.sizes.check_sizes.Given as goal
 
 abbrev pub invariant-loop-part : goal.invariant-loop-part
 invariant-loop-part l = record {
   rest : sized l.count (drop l.part-index l.parts) ≡ sized l.blocks l.parts;
-  few : l.count ≤ 20000;
+  few : l.count ≤ MOST_BLOCKS;
 }

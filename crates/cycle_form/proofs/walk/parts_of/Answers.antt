@@ -1,4 +1,3 @@
-use Rattle.std.proofs.Common.{◌≡◌, ◌≤◌, ◌<◌, length, arith}
 use Rattle.std.proofs.lemmas.List.{drop_all}
 use Rattle.cycle_form.proofs.Walking.{tape_read, program_read, program_fails}
 use Rattle.cycle_form.proofs.walk.parts_of.Goals as goal

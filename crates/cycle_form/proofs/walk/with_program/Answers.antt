@@ -1,10 +1,10 @@
-use Rattle.std.proofs.Common.{◌≡◌, ◌+◌, ◌<◌, ◌≤◌, All, length, refl, subst, sym, arith}
+use Rattle.std.proofs.Common.{◌≡◌, ◌<◌, ◌≤◌, All, length, refl, subst, sym, arith}
 use Rattle.std.proofs.lemmas.List.{drop_all}
 use Rattle.std.proofs.lemmas.List.Elements.{All-push}
 use Rattle.cycle_form.specs.declared.walk.Found.TheVariants as found
 use Rattle.cycle_form.specs.Parts.{IsSoundPart}
 use Rattle.cycle_form.specs.Walk.{IsSoundFound}
-use Rattle.cycle_form.proofs.Walking.{IsAt, found_by, at_end, at_skip, at_nothing, at_bad, at_one}
+use Rattle.cycle_form.proofs.Walking.{found_by, at_end, at_skip, at_nothing, at_bad, at_one}
 use Rattle.cycle_form.proofs.walk.with_program.Goals as goal
 
 pub loop-i-preserved-then-skip-gt0 : goal.loop-i-preserved-then-skip-gt0

@@ -1,13 +1,10 @@
-use Rattle.std.proofs.Common.{◌≡◌, ℕ, ◌-◌, Bool, true, false, ◌&&◌, List, [], ◌∷◌, length, take, drop, refl, sym, ap, ◌∙◌, arith}
+use Rattle.std.proofs.Common.{◌≡◌, ℕ, ◌-◌, false, List, [], ◌∷◌, length, take, drop, refl, sym, ap, ◌∙◌, arith}
 use Rattle.std.proofs.Math.Seq.{take-length}
 use Rattle.std.specs.List.{prefix_len}
+use Rattle.nc_number.proofs.Bools.{and_false}
 use Rattle.line_text.specs.declared.sign.Sign.{Sign}
 use Rattle.line_text.specs.Front.{is_number_sign, is_numbered, is_statement, sentence_of}
 use Rattle.line_text.proofs.line.numbered.Goals as goal
-
-never : (a b : Bool) → b ≡ false → (a && b) ≡ false
-never true b e = e
-never false b e = refl
 
 -- what stands behind the first sign
 behind_first : (sign : Sign) (signs others : List Sign) → others ≡ take (length (sign ∷ signs) - 1) signs → others ≡ signs
@@ -20,7 +17,7 @@ no_statement [] others behind n others-are n-is behind-is e = refl
 no_statement (sign ∷ signs) others behind n others-are n-is behind-is e =
     let same = behind_first sign signs others others-are in
     let rest : behind ≡ drop (prefix_len is_number_sign signs) signs = behind-is ∙ (λ i. drop (n-is i) (same i)) ∙ ap (λ (all : List Sign). drop (prefix_len is_number_sign all) signs) same in
-    never _ _ (ap (λ (text : List Sign). is_statement (sentence_of text)) (sym rest) ∙ e)
+    and_false _ _ (ap (λ (text : List Sign). is_statement (sentence_of text)) (sym rest) ∙ e)
 
 pub returns-then-not-begins_statement : goal.returns-then-not-begins_statement
 returns-then-not-begins_statement c =

@@ -1,4 +1,4 @@
-use Rattle.open_forms.proofs.Prefixes.{behind_prefix}
+use Rattle.macro_expr.proofs.Prefixes.{behind_prefix}
 use Rattle.open_forms.proofs.statement.behind.Goals as goal
 
 pub returns : goal.returns

@@ -1,4 +1,4 @@
-use Rattle.std.proofs.Common.{◌≡◌, ◌∙◌, refl}
+use Rattle.std.proofs.Common.{◌∙◌, refl}
 use Rattle.rough_cycle.proofs.Pushed.{lines_pushed}
 use Rattle.rough_cycle.proofs.form.push_contour.Goals as goal
 

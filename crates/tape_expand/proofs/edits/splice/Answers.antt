@@ -1,7 +1,7 @@
-use Rattle.std.proofs.Common.{◌≡◌, ◌≤◌, ◌+◌, ◌==◌, ◌∷◌, [], ◌++◌, drop, true, false, get_or, refl, sym, ap, ◌∙◌, subst, arith}
+use Rattle.std.proofs.Common.{◌≡◌, ◌+◌, ◌==◌, ◌++◌, drop, true, false, get_or, refl, sym, ap, ◌∙◌, arith}
 use Rattle.std.proofs.lemmas.List.{drop_all}
 use Rattle.std.proofs.lemmas.Bool.Decides.{nat_tests}
-use Rattle.tape_expand.specs.Splice.{spliced, is_due, line_behind}
+use Rattle.tape_expand.specs.Splice.{spliced}
 use Rattle.tape_expand.proofs.Splicing.{at_end, at_line_end, at_dropped, at_kept, behind_is_near}
 use Rattle.tape_expand.proofs.edits.splice.Goals as goal
 

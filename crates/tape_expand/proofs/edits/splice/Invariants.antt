@@ -1,4 +1,4 @@
-use Rattle.std.proofs.Common.{◌≡◌, ◌++◌, ◌≤◌, ◌+◌, drop, length}
+use Rattle.std.proofs.Common.{◌≡◌, ◌++◌, ◌≤◌, ◌+◌, drop}
 use Rattle.tape_expand.specs.Splice.{spliced}
 use Rattle.tape_expand.proofs.edits.splice.Given as goal
 

@@ -1,5 +1,5 @@
-use Rattle.std.proofs.Common.{◌≡◌, ◌≤◌, List, All, Ok, ap, sym, ◌∙◌, subst, arith, rules}
-use Rattle.tape_expand.specs.Expansion.{of_cycles, sized_parts}
+use Rattle.std.proofs.Common.{ap, sym, ◌∙◌}
+use Rattle.tape_expand.specs.Expansion.{of_cycles}
 use Rattle.tape_expand.proofs.Answered.{marked, same_fails}
 use Rattle.tape_expand.proofs.expand.cycles_in.Goals as goal
 

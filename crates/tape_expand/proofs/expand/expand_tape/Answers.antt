@@ -1,4 +1,4 @@
-use Rattle.std.proofs.Common.{◌≡◌, ◌≤◌, List, All, Ok, ap, sym, ◌∙◌, subst, arith, rules}
+use Rattle.std.proofs.Common.{Ok, ap, sym, ◌∙◌}
 use Rattle.std.specs.List.{flat_map}
 use Rattle.nc_text.specs.Lines.{lines_of}
 use Rattle.tape_expand.specs.Expansion.{parts_in, written_out}

@@ -1,12 +1,13 @@
-use Rattle.std.proofs.Common.{◌≡◌, ◌≤◌, List, All, Ok, ap, sym, ◌∙◌, subst, length}
+use Rattle.std.proofs.Common.{◌≤◌, sym, subst, length}
 use Rattle.nc_number.specs.Answers.{Gives}
+use Rattle.nc_number.specs.declared.limits.TheConstants.{MOST_BLOCKS}
 use Rattle.nc_text.specs.Shape.{blocks_in}
 use Rattle.nc_text.specs.Tape.{tape_of}
 use Rattle.tape_expand.proofs.Answered.{of_text, of_no_tape}
 use Rattle.tape_expand.proofs.expand.parts_in.Goals as goal
 
 pub cycles_in-requires : goal.cycles_in-requires
-cycles_in-requires c = subst (λ t. length (blocks_in t) ≤ 20000) (sym c.as_slice.ensures.value) c.as_slice.ensures.shape.few
+cycles_in-requires c = subst (λ t. length (blocks_in t) ≤ MOST_BLOCKS) (sym c.as_slice.ensures.value) c.as_slice.ensures.shape.few
 
 pub returns-in-Ok-clause-exact : goal.returns-in-Ok-clause-exact
 returns-in-Ok-clause-exact c =

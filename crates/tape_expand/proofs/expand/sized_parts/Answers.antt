@@ -1,4 +1,4 @@
-use Rattle.std.proofs.Common.{◌≡◌, ◌≤◌, List, All, Ok, ap, sym, ◌∙◌, subst, length}
+use Rattle.std.proofs.Common.{sym, subst, length}
 use Rattle.nc_number.specs.Answers.{Gives}
 use Rattle.nc_text.specs.Shape.{blocks_in}
 use Rattle.cycle_form.specs.Sizes.{sized}

@@ -1,4 +1,4 @@
-use Rattle.std.proofs.Common.{◌≡◌, ◌∙◌, refl}
+use Rattle.std.proofs.Common.{◌∙◌, refl}
 use Rattle.rough_cycle.proofs.Pushed.{four_pushed}
 use Rattle.rough_cycle.proofs.form.RoughForm.push_pass.Goals as goal
 
