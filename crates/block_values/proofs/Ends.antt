@@ -1,4 +1,5 @@
--- Where the moves of a block lead and how far they reach: to positions, and no farther than its motion.
+-- Where the moves of a block lead and how far they reach: to positions, and no farther than its
+-- motion.
 use Rattle.std.proofs.Common.{ℕ, Bool, true, false, List, [], ◌∷◌, ◌++◌, Option, Some, None, unwrap_or, IfSome, if◌then◌else◌}
 use Rattle.std.proofs.lemmas.List.Elements.{All-nil, All-cons, All-head, All-tail, All-append}
 use Rattle.nc_number.specs.declared.point.Point.{Point}

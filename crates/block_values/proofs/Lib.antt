@@ -1,2 +1,3 @@
 mod Ends
 mod Hanging
+pub mod Locals

@@ -54,7 +54,8 @@ offset_number (Err fault) = Err fault.number
 abbrev pub motion_kind : ModalView → Option CodeKind → CodeKind
 motion_kind modal one_shot = unwrap_or one_shot modal.motion
 
--- what the words of an axis say: X and Z are incremental where G91 is in force, as U and W always are
+-- what the words of an axis say: X and Z are incremental where G91 is in force, as U and W always
+-- are
 abbrev pub axis_under : Bool → Option ℤ → Option ℤ → Axis
 axis_under false word way = axis_of word way
 axis_under true None way = axis_of None way
@@ -81,8 +82,8 @@ block_motion home position offsets modal values = record {
   per_rev = modal.per_rev;
 }
 
--- G10: with L a work offset, without it a tool's; an absolute word sets, an incremental one adds. Alarm 40 of its number, then 41
--- of the offset
+-- G10: with L a work offset, without it a tool's; an absolute word sets, an incremental one adds.
+-- Alarm 40 of its number, then 41 of the offset
 abbrev pub form_of : Bool → OffsetForm
 form_of true = WorkOffset
 form_of false = ToolOffset
@@ -115,7 +116,8 @@ abbrev pub turret_motion : Point → Point → OffsetTable → ModalView → Cod
 turret_motion home position offsets modal kind values =
     motion_number (cut_motion (cycle_kind_of kind) kind modal.cycle (block_motion home position offsets modal values))
 
--- the machine's own coordinates have no increments: alarm 56 of G53 where G91 is in force, whatever words stand beside it
+-- the machine's own coordinates have no increments: alarm 56 of G53 where G91 is in force, whatever
+-- words stand beside it
 abbrev pub unless_incremental : Bool → Result Motion ℕ → Result Motion ℕ
 unless_incremental true motion = Err (cause_number UnknownCode)
 unless_incremental false motion = motion

@@ -24,7 +24,8 @@ abbrev pub tool_moves : Option ℕ → List Move
 tool_moves None = []
 tool_moves (Some t) = move.Tool t ∷ []
 
--- M codes end at 999. M02, M30, M98 and M99 are the control's own, and so are waits, which stand in blocks of their own.
+-- M codes end at 999. M02, M30, M98 and M99 are the control's own, and so are waits, which stand in
+-- blocks of their own.
 abbrev pub is_auxiliary : ℕ → Bool
 is_auxiliary m = nat_le m 999 && not (((m == 2) || (m == 30)) || ((m == 98) || (m == 99)))
 

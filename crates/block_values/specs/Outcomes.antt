@@ -1,4 +1,5 @@
--- What a step of a block comes to: a value and the reads that are left, the need of a shared variable, or an alarm.
+-- What a step of a block comes to: a value and the reads that are left, the need of a shared
+-- variable, or an alarm.
 use Rattle.std.specs.Prelude.{ℕ, List, Result, Ok, Err, ℤ, pos}
 use Rattle.nc_number.specs.declared.cause.Cause.{Cause}
 use Rattle.nc_number.specs.declared.value.Var.{Var}

@@ -12,7 +12,8 @@ use Rattle.common_vars.specs.Variables.{variable_of}
 use Rattle.modal_state.specs.View.{ModalView}
 use Rattle.modal_state.specs.Modal.{code_of}
 
--- the code of a modal group is a variable only where the system has the group: that of absolute and incremental in B alone
+-- the code of a modal group is a variable only where the system has the group: that of absolute and
+-- incremental in B alone
 abbrev pub is_there : ModalView → Variable → Bool
 is_there modal (variable.Code group) = is_some (code_of modal group)
 is_there modal _ = true

@@ -129,7 +129,8 @@ abbrev pub taken_var : Sense → ℕ → Bool → Var → Values → Result Valu
 taken_var sense letter minus Vacant values = Ok values
 taken_var sense letter minus (Is value) values = taken sense letter (computed minus value) values
 
--- one word, by what a table says of each variable: it is evaluated, and then converted, before the next
+-- one word, by what a table says of each variable: it is evaluated, and then converted, before the
+-- next
 abbrev pub word_with : (ℕ → Result Look VarFault) → Sense → ℕ → WordValue → Values → List Var → Outcome Values
 word_with table sense letter (Written literal) values reads = reading_none (taken sense letter literal values) reads
 word_with table sense letter (Computed minus tree) values reads =

@@ -10,9 +10,9 @@ use code_tables::{CodeKind, Row};
 use modal_state::{Modal, ModalWords, SpeedWord};
 use nc_number::Var;
 
-/// The modal state behind a block: its G codes, by their rows in the block's order, set their groups,
-/// and then F, S and T are taken. Beside G50 S is the highest speed. Alarm 40, as its number, exactly
-/// where the tool offset of T is none of 0 to 64.
+/// The modal state behind a block: its G codes, by their rows in the block's order, set their
+/// groups, and then F, S and T are taken. Beside G50 S is the highest speed. Alarm 40, as its
+/// number, exactly where the tool offset of T is none of 0 to 64.
 pub fn modal_after(
     modal: &Modal,
     rows: &[Row],
@@ -48,7 +48,7 @@ pub fn modal_behind(modal: &Modal, words: &FlowWords, values: &Values) -> Result
     )
 }
 
-// Whether G50 is among these rows.
+/// Whether G50 is among these rows.
 fn has_limit(rows: &[Row]) -> bool
     ensures { result ≡ has_limit rows.now }
 {

@@ -9,7 +9,7 @@ ghost use Rattle.turn_cycles.specs.Pass.{cycle_kind_of};
 ghost use Rattle.block_words.specs.Codes.{one_shot};
 ghost use Rattle.block_words.specs.Words.{has};
 ghost use Rattle.block_values.specs.Seen.{values_seen};
-ghost use Rattle.block_values.specs.Within.{AreLengthsSaid};
+ghost use Rattle.block_values.specs.Within.{longest_said, AreLengthsSaid};
 ghost use Rattle.block_values.specs.Motion.{motion_kind, axis_under, form_of, setting_of, block_motion, cut_motion, motion_of};
 ghost use Rattle.block_values.specs.Drawn.{seen, motion_said, motion_part, AreLengthsWithin};
 ghost use Rattle.block_values.specs.Values.{Values};
@@ -46,7 +46,7 @@ impl MotionWords {
     pub fn of(values: &Values) -> MotionWords
         requires { AreLengthsSaid values.now }
         ensures words { result ≡ motion_part (values_seen values.now) }
-        ensures lengths { AreLengthsWithin 100000000000 result }
+        ensures lengths { AreLengthsWithin longest_said result }
     {
         MotionWords {
             x: values.x,
@@ -108,12 +108,12 @@ pub fn motion_behind(
     )
 }
 
-/// The motion of a block by the kind of its code, from where the turret stands: a dwell, the setting of
-/// an offset, a cycle, a line, an arc, a thread, a way home, or none.
+/// The motion of a block by the kind of its code, from where the turret stands: a dwell, the
+/// setting of an offset, a cycle, a line, an arc, a thread, a way home, or none.
 ///
-/// Alarms, as their numbers: 40 of an offset that does not exist, 41 past the range, 43 of an arc without
-/// a centre, 42 of one that ends off its circle, 44 of a cut without a feed; 56 of a rapid in machine
-/// coordinates while words are incremental, whatever words stand beside it.
+/// Alarms, as their numbers: 40 of an offset that does not exist, 41 past the range, 43 of an arc
+/// without a centre, 42 of one that ends off its circle, 44 of a cut without a feed; 56 of a rapid
+/// in machine coordinates while words are incremental, whatever words stand beside it.
 #[tactic(auto, using(crate::proofs::Ends::none_within))]
 pub fn motion_of(
     position: Point,
@@ -125,7 +125,7 @@ pub fn motion_of(
     words: &MotionWords,
 ) -> Result<Motion, u8>
     requires position { IsPosition position }
-    requires lengths { AreLengthsWithin 100000000000 words.now }
+    requires lengths { AreLengthsWithin longest_said words.now }
     ensures motion { seen result ≡ motion_of home position offsets.now modal.now kind has_l (motion_said words.now) }
     ensures few { IfOk result (λ motion. length motion.moves ≤ 4) }
     ensures within { IsPosition home → IfOk result (λ motion. AreMovesWithin LONGEST motion.moves) }
@@ -153,7 +153,7 @@ pub fn motion_of(
     }
 }
 
-// A rest alone.
+/// A rest alone.
 #[tactic(auto, using(crate::proofs::Ends::dwell_within))]
 fn dwell(cycle: Option<Point>, ms: u64) -> Motion
     ensures within { AreMovesWithin LONGEST result.moves }
@@ -168,7 +168,8 @@ fn dwell(cycle: Option<Point>, ms: u64) -> Motion
     }
 }
 
-// What the words of an axis say: X and Z are incremental where G91 is in force, as U and W always are.
+/// What the words of an axis say: X and Z are incremental where G91 is in force, as U and W always
+/// are.
 fn axis_under(incremental: bool, word: Option<i64>, way: Option<i64>) -> Axis
     ensures told { result ≡ axis_under incremental word way }
     ensures range { (far : ℕ) → IfSome word (λ n. unsigned_abs n ≤ far)
@@ -183,9 +184,9 @@ fn axis_under(incremental: bool, word: Option<i64>, way: Option<i64>) -> Axis
     }
 }
 
-/// The offset that G10 sets, and to what: with L a work offset, else a tool's. An absolute word sets, and
-/// an incremental one adds. Alarm 40 exactly where P names none, then 41 exactly where a part of it would
-/// be past 99,999.999 mm.
+/// The offset that G10 sets, and to what: with L a work offset, else a tool's. An absolute word
+/// sets, and an incremental one adds. Alarm 40 exactly where P names none, then 41 exactly where a
+/// part of it would be past 99,999.999 mm.
 pub fn setting(
     offsets: &Offsets,
     modal: &Modal,
@@ -214,7 +215,7 @@ fn form_of(has_l: bool) -> OffsetForm
     }
 }
 
-// What the moves of the block hang on.
+/// What the moves of the block hang on.
 fn block_motion(
     position: Point,
     home: Point,
@@ -223,7 +224,7 @@ fn block_motion(
     words: &MotionWords,
 ) -> BlockMotion
     requires position { IsPosition position }
-    requires lengths { AreLengthsWithin 100000000000 words.now }
+    requires lengths { AreLengthsWithin longest_said words.now }
     ensures block { result ≡ block_motion home position offsets.now modal.now (motion_said words.now) }
     ensures within { IsBlockWithin LONGEST result }
 {
@@ -241,7 +242,7 @@ fn block_motion(
     }
 }
 
-// A cycle, or a line, an arc, a thread or a way home, or no motion at all.
+/// A cycle, or a line, an arc, a thread or a way home, or no motion at all.
 fn cut_motion(
     kind: CodeKind,
     kept: Option<Point>,

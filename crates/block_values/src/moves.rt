@@ -18,28 +18,30 @@ use motion_track::LONGEST;
 use nc_moves::{Move, MoveList};
 use nc_number::{Point, Value, Var};
 
-/// All moves of a block of these words: what [`all_moves`] makes of them.
+/// Puts all moves of a block of these words into the list: what [`all_moves`] makes of them.
 #[tactic(auto, using(crate::proofs::Hanging::moves_hang))]
 pub fn moves_behind(
     words: &FlowWords,
     values: &Values,
     modal: &Modal,
     motion: &MoveList,
-) -> MoveList
+    moves: &mut MoveList,
+)
     requires { length motion.now ≤ 4 }
-    ensures moves { result ≡ all_moves (gives words.now.dialect.system is_limit words.now.words) modal.now
+    ensures moves { moves.new ≡ all_moves (gives words.now.dialect.system is_limit words.now.words) modal.now
         (values_seen values.now) motion.now (m_code words.now.words) }
-    ensures few { length result ≤ 7 }
-    ensures within { AreMovesWithin LONGEST motion.now → AreMovesWithin LONGEST result }
+    ensures few { length moves.new ≤ 7 }
+    ensures within { AreMovesWithin LONGEST motion.now → AreMovesWithin LONGEST moves.new }
 {
-    all_moves(
+    put_moves(
+        moves,
         words.gives_limit(),
         modal,
         values.speed,
         values.tool,
         motion,
         words.code(),
-    )
+    );
 }
 
 /// All moves of a block: its highest speed (beside G50) or its speed, its tool, its motion, and its
@@ -58,15 +60,34 @@ pub fn all_moves(
     ensures within { AreMovesWithin LONGEST motion.now → AreMovesWithin LONGEST result }
 {
     let mut moves = MoveList::empty();
-    put_speed(&mut moves, limits, modal, speed);
-    put_tool(&mut moves, tool);
-    moves.append(motion.as_slice());
-    put_auxiliary(&mut moves, code);
+    put_moves(&mut moves, limits, modal, speed, tool, motion, code);
     moves
 }
 
-/// Where the turret stands behind these moves, which begin at `at`: the end of the last one that goes
-/// somewhere.
+/// Lets the list hold all moves of a block, and nothing that it held before.
+fn put_moves(
+    moves: &mut MoveList,
+    limits: bool,
+    modal: &Modal,
+    speed: Var,
+    tool: Option<u16>,
+    motion: &MoveList,
+    code: Option<u32>,
+)
+    requires { length motion.now ≤ 4 }
+    ensures moves { moves.new ≡ all_moves limits modal.now (settings_said Vacant speed tool) motion.now code }
+    ensures few { length moves.new ≤ 7 }
+    ensures within { AreMovesWithin LONGEST motion.now → AreMovesWithin LONGEST moves.new }
+{
+    moves.clear();
+    put_speed(moves, limits, modal, speed);
+    put_tool(moves, tool);
+    moves.append(motion.as_slice());
+    put_auxiliary(moves, code);
+}
+
+/// Where the turret stands behind these moves, which begin at `at`: the end of the last one that
+/// goes somewhere.
 pub fn last_end(at: Point, moves: &[Move]) -> Point
     ensures last { result ≡ last_end at moves.now }
     ensures position { IsPosition at → AreMovesWithin LONGEST moves.now → IsPosition result }
@@ -78,7 +99,7 @@ pub fn last_end(at: Point, moves: &[Move]) -> Point
     end
 }
 
-// S, where it is said: the highest speed beside G50, else the speed.
+/// S, where it is said: the highest speed beside G50, else the speed.
 fn put_speed(moves: &mut MoveList, limits: bool, modal: &Modal, speed: Var)
     requires { length moves.old < 8 }
     ensures moves { moves.new ≡ moves.old ++ speed_moves limits modal.now speed }
@@ -97,7 +118,7 @@ fn put_speed(moves: &mut MoveList, limits: bool, modal: &Modal, speed: Var)
     }
 }
 
-// The whole number of a speed; one with a fraction counts 0, and no tape has one.
+/// The whole number of a speed; one with a fraction counts 0, and no tape has one.
 fn whole_or_zero(speed: &Value) -> u32
     ensures { result ≡ whole_or_zero (whole_of speed.now) }
 {
@@ -129,7 +150,7 @@ fn put_auxiliary(moves: &mut MoveList, code: Option<u32>)
     }
 }
 
-// Whether it is an M code, and none of the control's own.
+/// Whether it is an M code, and none of the control's own.
 fn is_auxiliary(m: u32) -> bool
     ensures { result ≡ is_auxiliary m }
 {

@@ -1,5 +1,5 @@
-//! What the operands of a statement come to: the variable on its left side, a value, a condition, and the
-//! sequence number of a jump.
+//! What the operands of a statement come to: the variable on its left side, a value, a condition,
+//! and the sequence number of a jump.
 ghost use Rattle.std.specs.Prelude.{◌≡◌, List, IfOk};
 ghost use Rattle.nc_number.specs.declared.value.Var.{Var};
 ghost use Rattle.common_vars.specs.Variables.{IsVariable};
@@ -78,8 +78,8 @@ pub fn length_of(value: &Var) -> i64
     to_increment(value.or_zero())
 }
 
-/// The value of an expression, and the reads that are left: or the shared variable that must be read next,
-/// or the alarm.
+/// The value of an expression, and the reads that are left: or the shared variable that must be
+/// read next, or the alarm.
 ///
 /// Alarms: those of [`evaluate`].
 pub fn value_taken<'a, S: Scope>(
@@ -99,8 +99,8 @@ pub fn value_taken<'a, S: Scope>(
 
 /// The variable on the left side, whose number is computed where it is not written out.
 ///
-/// Alarms: those of [`evaluate`], 4 of a number that is not whole, and 30 of a variable that does not
-/// exist.
+/// Alarms: those of [`evaluate`], 4 of a number that is not whole, and 30 of a variable that does
+/// not exist.
 pub fn variable_taken<'a, S: Scope>(
     modal: &Modal,
     name: &VarRef,

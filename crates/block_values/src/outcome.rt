@@ -1,3 +1,4 @@
+//! Why a step of a block gives no value.
 ghost use Rattle.std.specs.Prelude.{◌≡◌, pos};
 ghost use Rattle.nc_number.specs.Causes.{cause_number};
 

@@ -6,6 +6,7 @@ ghost use Rattle.common_vars.specs.Variables.{IsVariable, variable_of};
 ghost use Rattle.block_values.specs.Readings.{is_there, variable_in, part, or_vacant, in_units, in_millimetres, code_in_force};
 
 use common_vars::{AxisLetter, Variable, a_variable_has_one_number, variable_of};
+use local_levels::LOCALS;
 use modal_state::Modal;
 use nc_number::{Point, Value, Var};
 
@@ -18,8 +19,8 @@ fn known_variable(number: u32) -> Option<Variable>
     variable_of(number)
 }
 
-/// Whether the variable is one of the system whose codes are in force: the code of a modal group is where
-/// the system has the group, and every other variable.
+/// Whether the variable is one of the system whose codes are in force: the code of a modal group is
+/// where the system has the group, and every other variable.
 fn is_there(modal: &Modal, variable: Variable) -> bool
     ensures { result ≡ is_there modal.now variable }
 {
@@ -30,7 +31,22 @@ fn is_there(modal: &Modal, variable: Variable) -> bool
 }
 
 /// The variable of a number in the system whose codes are in force, if there is one.
+///
+/// A local variable is told without a look at the others, since loops count by one.
+#[tactic(auto, using(crate::proofs::Locals::local_in))]
 pub fn variable_in(modal: &Modal, number: u32) -> Option<Variable>
+    ensures named { result ≡ variable_in modal.now number }
+    ensures exists { IfSome result IsVariable }
+{
+    if number >= 1 && number <= LOCALS as u32 {
+        return Some(Variable::Local(number as u8));
+    }
+    any_variable_in(modal, number)
+}
+
+/// The variable of any number.
+#[inline(never)]
+fn any_variable_in(modal: &Modal, number: u32) -> Option<Variable>
     ensures named { result ≡ variable_in modal.now number }
     ensures exists { IfSome result IsVariable }
 {

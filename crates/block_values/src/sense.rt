@@ -1,3 +1,4 @@
+//! What decides the meaning of a word.
 ghost use Rattle.std.specs.Prelude.{◌≡◌, false};
 ghost use Rattle.block_values.specs.Purposes.{is_macro_call};
 

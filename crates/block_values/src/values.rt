@@ -1,10 +1,11 @@
+//! What the words of a block say.
 ghost use Rattle.std.specs.Prelude.{◌≡◌, ◌≤◌, true, unsigned_abs, Ok, Err, IfOk, IfErr, OnOk};
 ghost use Rattle.block_words.specs.Ranges.{fits, range_of};
 ghost use Rattle.block_words.specs.declared.range.Range.TheVariants.{Between};
 ghost use Rattle.nc_number.specs.Arithmetic.{whole_of};
 ghost use Rattle.block_words.specs.Codes.{natural};
 ghost use Rattle.block_values.specs.Values.{is_meant, is_dwell, with_rest, with_length, with_setting, with_word, taken, nothing_said};
-ghost use Rattle.block_values.specs.Within.{AreLengthsSaid};
+ghost use Rattle.block_values.specs.Within.{longest_said, AreLengthsSaid};
 ghost use Rattle.block_values.specs.Seen.{values_seen, values_of, sense_seen};
 
 use crate::sense::Sense;
@@ -103,7 +104,7 @@ fn set_rest(letter: u8, literal: &Literal, values: &mut Values)
 
 /// A length along an axis, or to a centre.
 fn set_length(letter: u8, length: i64, values: &mut Values)
-    requires { unsigned_abs length ≤ 100000000000 }
+    requires { unsigned_abs length ≤ longest_said }
     ensures said { values_seen values.new ≡ with_length letter length (values_seen values.old) }
     ensures within { AreLengthsSaid values.old → AreLengthsSaid values.new }
 {

@@ -34,7 +34,8 @@ IsPast nodes k v (Some i) =
     (i < length nodes) × (variable_at nodes i ≡ v)
     × ((j : ℕ) → i < j → j < length nodes → variable_at nodes j ≡ v → k < stamp_at nodes j)
 
--- each node is linked to the write before it of its variable, and to a further one; stamps never fall
+-- each node is linked to the write before it of its variable, and to a further one; stamps never
+-- fall
 pub record AreLinked (nodes : List Node) : Type 0 where
   pub previous : (i : ℕ) → i < length nodes → IsLatestBefore nodes i (variable_at nodes i) (node_at nodes i).previous
   pub jumps : (i : ℕ) → i < length nodes → IsSomeBefore nodes i (variable_at nodes i) (node_at nodes i).jump

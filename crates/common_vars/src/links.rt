@@ -1,3 +1,4 @@
+//! The writes of shared variables, linked so that a value is found without a walk.
 ghost use Rattle.std.specs.Prelude.{◌≡◌, ℕ, ◌<◌, ◌≤◌, IfSome, length, map};
 ghost use Rattle.common_vars.specs.Writes.{value_after};
 ghost use Rattle.common_vars.specs.Links.{AreLinked, IsLatestBefore, IsSomeBefore, IsPast};
@@ -70,7 +71,7 @@ pub struct Node {
     pub(crate) span: usize,
 }
 
-// A run has a node for each write of a shared variable.
+/// A run has a node for each write of a shared variable.
 const _: () = prove!(size_of::<Node>() <= 48);
 
 /// Where the jump of the node at `place` leads; with no place, nowhere.
@@ -94,7 +95,8 @@ fn span_at(nodes: &[Node], place: Option<usize>) -> usize
     }
 }
 
-/// The node of a write that comes behind `nodes`, and whose variable was last written at `previous`.
+/// The node of a write that comes behind `nodes`, and whose variable was last written at
+/// `previous`.
 pub(crate) fn linked(nodes: &[Node], previous: Option<usize>, write: Write) -> Node
     requires linked { AreLinked nodes.now }
     requires previous { IsSomeBefore nodes.now (length nodes.now) write.variable previous }

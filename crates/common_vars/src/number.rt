@@ -1,3 +1,4 @@
+//! The number of a common variable.
 ghost use Rattle.std.specs.Prelude.{◌≡◌, ◌↔◌, IsSome};
 ghost use Rattle.common_vars.specs.Common.{IsCommon};
 

@@ -1,3 +1,4 @@
+//! What the number of a variable names.
 ghost use Rattle.std.specs.Prelude.{◌≡◌, ◌≢◌, ◌↔◌, ◌+◌, ◌≤◌, ℕ, Some, IsNone, IfSome};
 ghost use Rattle.common_vars.specs.declared.variable.Variable.{Variable};
 ghost use Rattle.common_vars.specs.Variables.{IsVariable, IsWorkOffset, number_of, variable_of, is_protected, is_readable};
@@ -18,8 +19,8 @@ pub enum Variable {
     Local(u8),
     /// `#100` to `#199` and `#500` to `#999`: a common variable, by its number.
     Common(u32),
-    /// `#4001`, `#4002`, `#4003`, `#4005`, `#4006`, `#4007` and `#4014`: the code in force of that modal
-    /// group, where the control's system has the group.
+    /// `#4001`, `#4002`, `#4003`, `#4005`, `#4006`, `#4007` and `#4014`: the code in force of that
+    /// modal group, where the control's system has the group.
     Code(u8),
     /// `#4109`: F.
     Feed,
@@ -31,8 +32,8 @@ pub enum Variable {
     Programmed(AxisLetter),
     /// `#5021` and `#5022`: the machine's position.
     Machine(AxisLetter),
-    /// `#5201` and `#5202`: the external work offset, number 0; from there on in steps of 20 those of
-    /// G54 to G59, numbers 1 to 6.
+    /// `#5201` and `#5202`: the external work offset, number 0; from there on in steps of 20 those
+    /// of G54 to G59, numbers 1 to 6.
     Work(u8, AxisLetter),
     /// `#3000`: writing it raises an alarm of the program.
     Raise,

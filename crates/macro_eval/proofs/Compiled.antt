@@ -1,4 +1,5 @@
--- The code of a tree makes of it what the tree means. It needs one operand more at once than right operands are deep.
+-- The code of a tree makes of it what the tree means. It needs one operand more at once than right
+-- operands are deep.
 use Rattle.std.proofs.Common.{◌≡◌, ℕ, suc, ◌+◌, ◌-◌, ◌<◌, List, [], ◌∷◌, Result, refl, sym, ◌∙◌, ap, arith}
 use Rattle.std.proofs.lemmas.Bool.Decides.{nat_tests}
 use Rattle.nc_number.specs.declared.value.Var.{Var}
@@ -18,7 +19,7 @@ then_then (Got v, left) f g h steps = steps v left
 then_then (Need n, left) f g h steps = refl
 then_then (Fault n, left) f g h steps = refl
 
-then_ends : (a : Answer) → then_with a (λ v left. (Got v, left)) ≡ a
+pub then_ends : (a : Answer) → then_with a (λ v left. (Got v, left)) ≡ a
 then_ends (Got v, left) = refl
 then_ends (Need n, left) = refl
 then_ends (Fault n, left) = refl

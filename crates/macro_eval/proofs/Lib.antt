@@ -1,2 +1,3 @@
 pub mod Compiled
+mod Short
 pub mod TakenReads

@@ -1,4 +1,5 @@
--- What an expression means: its value, the shared variable that must be read next, or an alarm; and the reads left.
+-- What an expression means: its value, the shared variable that must be read next, or an alarm; and
+-- the reads left.
 use Rattle.std.specs.Prelude.{ℕ, Bool, List, [], ◌∷◌, Option, Some, None, Result, Ok, Err, ℤ, pos, neg_ℤ, unsigned_abs, if◌then◌else◌}
 use Rattle.std.specs.Int.{is_negative}
 use Rattle.nc_number.specs.declared.cause.Cause.{Cause}

@@ -9,6 +9,7 @@ use Rattle.macro_eval.specs.declared.scope.VarFault.{VarFault}
 use Rattle.macro_eval.specs.declared.scope.Eval.TheVariants.{Got, Fault}
 use Rattle.macro_eval.specs.declared.code.Instr.{Instr}
 use Rattle.macro_eval.specs.declared.code.Instr.TheVariants as instr
+use Rattle.macro_eval.specs.declared.code.TheConstants.{OPERANDS}
 use Rattle.macro_eval.specs.Meaning.{Answer, looked_at, looked_up, signed, applied, joined, then_with}
 
 -- the code of a tree, its operands first, before the code that goes on with it
@@ -69,7 +70,8 @@ takes (instr.Sign minus) = 1
 takes (instr.Call f) = 1
 takes (instr.Join op) = 2
 
--- whether the code finds its operands, with so many on the stack, never has more than so many there, and leaves one
+-- whether the code finds its operands, with so many on the stack, never has more than so many
+-- there, and leaves one
 abbrev pub fits : ℕ → List Instr → ℕ → Bool
 fits most [] height = height == 1
 fits most (i ∷ code) height =
@@ -78,7 +80,7 @@ fits most (i ∷ code) height =
 -- code that is a tree's, and finds room for its operands
 pub record IsCode (code : List Instr) : Type 0 where
   pub written : code ≡ postfix (tree_of_code code)
-  pub runs : fits 16 code 0 ≡ true
+  pub runs : fits OPERANDS code 0 ≡ true
 
 -- one instruction on the stack, its last operand first: its answer, and the stack below
 abbrev pub step : (ℕ → Result Look VarFault) → Instr → List Var → List Var → Answer × List Var

@@ -1,3 +1,4 @@
+//! An expression as code for a stack, and its making.
 ghost use Rattle.std.specs.Prelude.{◌≡◌, ◌-◌, ◌<◌, nat_le, ◌∷◌, reverse, true, IfOk, OnOk};
 ghost use Rattle.macro_expr.specs.Tree.{tree_of, right_depth};
 ghost use Rattle.macro_eval.specs.Postfix.{postfix, code_before, fits};

@@ -1,3 +1,4 @@
+//! The codes of a statement.
 ghost use Rattle.std.specs.Prelude.{◌≡◌, ◌≤◌, [], ◌∷◌, ◌++◌, length, IfOk, OnOk};
 ghost use Rattle.macro_expr.specs.Tree.{tree_of, variable_of, test_of, aim_of, sentence_of, evaluated, evaluated_name, evaluated_test, evaluated_aim};
 

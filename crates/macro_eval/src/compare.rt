@@ -1,3 +1,4 @@
+//! Comparisons.
 ghost use Rattle.std.specs.Prelude.{◌≡◌};
 ghost use Rattle.macro_eval.specs.Relations.{are_same, holds_of};
 

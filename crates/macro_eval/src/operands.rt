@@ -1,3 +1,4 @@
+//! The stack of an evaluation.
 ghost use Rattle.std.specs.Prelude.{◌≡◌, ◌<◌, [], ◌∷◌, length};
 
 use crate::code::OPERANDS;
@@ -14,12 +15,13 @@ pub struct Operands {
 impl Model for Operands {
     ghost use Rattle.std.specs.Prelude.{◌≤◌, List, take, reverse};
     ghost use Rattle.nc_number.specs.declared.value.Var.{Var};
+    ghost use Rattle.macro_eval.specs.declared.code.TheConstants.{OPERANDS};
 
     ghost Value = { List Var };
 
     ghost view = { λ stack. reverse (take stack.height stack.values) };
 
-    ghost invariant = { λ stack. stack.height ≤ 16 };
+    ghost invariant = { λ stack. stack.height ≤ OPERANDS };
 }
 
 impl Operands {

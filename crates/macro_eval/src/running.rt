@@ -1,3 +1,4 @@
+//! The evaluation of a code.
 ghost use Rattle.std.specs.Prelude.{◌≡◌, ◌+◌, ◌-◌, ◌<◌, ◌≤◌, ℕ, List, [], true, length, Result};
 ghost use Rattle.nc_number.specs.declared.value.Var.{Var};
 ghost use Rattle.macro_expr.specs.Tree.{Tree, variables};
@@ -9,10 +10,11 @@ ghost use Rattle.macro_eval.specs.Postfix.{fits, run};
 use crate::code::{Code, Instr, OPERANDS};
 use crate::operands::Operands;
 use crate::scope::{Eval, Scope};
-use crate::stepping::step;
+use crate::stepping::{is_join, is_operand, operand_value, pair_value, step};
 use nc_number::Var;
 
-/// The answer of the code, and the reads that are left.
+/// The answer of the code, and the reads that are left, by a stack of operands.
+#[inline(never)]
 fn run<'a, S: Scope>(instrs: &[Instr], scope: &S, reads: &'a [Var]) -> (Eval, &'a [Var])
     requires { fits OPERANDS instrs.now 0 ≡ true }
     ensures { (result.0, result.1.now) ≡ run (S.table scope.now) instrs.now [] reads.now }
@@ -33,7 +35,7 @@ fn run<'a, S: Scope>(instrs: &[Instr], scope: &S, reads: &'a [Var]) -> (Eval, &'
 
 /// The value of the expression, the shared variable that must be read next, or an alarm; and the
 /// reads that are left. Each shared variable takes the next of `reads`, from left to right in the
-/// text.
+/// text. An operand alone, or two and their operator, need no stack.
 ///
 /// Alarms: 1 a result past the range, 2 a division by 0, 3 the root of a negative value, 4 what
 /// must be a whole number is none, 30 a variable that does not exist or can't be read.
@@ -41,7 +43,13 @@ fn run<'a, S: Scope>(instrs: &[Instr], scope: &S, reads: &'a [Var]) -> (Eval, &'
 pub fn evaluate<'a, S: Scope>(code: &Code, scope: &S, reads: &'a [Var]) -> (Eval, &'a [Var])
     ensures { (result.0, result.1.now) ≡ meaning (S.table scope.now) code.now reads.now }
 {
-    run(code.instrs(), scope, reads)
+    match code.instrs() {
+        [left, right, join] if is_operand(left) && is_operand(right) && is_join(join) => pair_value(
+            scope, left, right, join, reads,
+        ),
+        [only] if is_operand(only) => operand_value(scope, only, reads),
+        instrs => run(instrs, scope, reads),
+    }
 }
 
 /// The answer of [`evaluate`] alone.

@@ -1,3 +1,4 @@
+//! What an evaluation asks of its variables, and what it answers.
 ghost use Rattle.std.specs.Prelude.{◌≡◌, ℕ, Result};
 ghost use Rattle.macro_eval.specs.declared.scope.Look.{Look};
 ghost use Rattle.macro_eval.specs.declared.scope.VarFault.{VarFault};

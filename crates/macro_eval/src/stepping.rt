@@ -1,6 +1,8 @@
-ghost use Rattle.std.specs.Prelude.{◌≡◌, ◌≤◌, length};
+//! One instruction of an evaluation.
+ghost use Rattle.std.specs.Prelude.{◌≡◌, ◌≤◌, ◌==◌, [], ◌∷◌, List, length};
+ghost use Rattle.nc_number.specs.declared.value.Var.{Var};
 ghost use Rattle.macro_eval.specs.Meaning.{made, signed, function_value, applied, operator_value, joined, looked_at, looked_up};
-ghost use Rattle.macro_eval.specs.Postfix.{takes, step};
+ghost use Rattle.macro_eval.specs.Postfix.{takes, step, run};
 
 use crate::code::Instr;
 use crate::operands::Operands;
@@ -77,6 +79,65 @@ fn looked_up<'a, S: Scope>(scope: &S, number: &Var, reads: &'a [Var]) -> (Eval, 
     match variable_number(number) {
         Ok(variable) => looked_at(scope, variable, reads),
         Err(cause) => (Eval::Fault(cause.number()), reads),
+    }
+}
+
+/// Whether the instruction takes no operand: a number, or a variable whose number is written out.
+pub(crate) fn is_operand(instr: &Instr) -> bool
+    ensures { result ≡ (takes instr.now == 0) }
+{
+    matches!(instr, Instr::Number(_) | Instr::Variable(_))
+}
+
+/// What an instruction that takes no operand gives, and the reads that are left.
+pub(crate) fn operand_value<'a, S: Scope>(
+    scope: &S,
+    instr: &Instr,
+    reads: &'a [Var],
+) -> (Eval, &'a [Var])
+    requires { takes instr.now ≡ 0 }
+    ensures { (stack : List Var)
+        → step (S.table scope.now) instr.now stack reads.now ≡ ((result.0, result.1.now), stack) }
+{
+    match instr {
+        Instr::Variable(variable) => looked_at(scope, *variable, reads),
+        Instr::Number(value) => (Eval::Got(Var::Is(*value)), reads),
+        _ => unreachable!(),
+    }
+}
+
+/// Whether the instruction is an operator between two operands.
+pub(crate) fn is_join(instr: &Instr) -> bool
+    ensures { result ≡ (takes instr.now == 2) }
+{
+    matches!(instr, Instr::Join(_))
+}
+
+/// What an operator makes of two instructions that take no operand, and the reads that are left.
+pub(crate) fn pair_value<'a, S: Scope>(
+    scope: &S,
+    left: &Instr,
+    right: &Instr,
+    join: &Instr,
+    reads: &'a [Var],
+) -> (Eval, &'a [Var])
+    requires left { takes left.now ≡ 0 }
+    requires right { takes right.now ≡ 0 }
+    requires join { takes join.now ≡ 2 }
+    ensures { (result.0, result.1.now)
+        ≡ run (S.table scope.now) (left.now ∷ right.now ∷ join.now ∷ []) [] reads.now }
+{
+    let (first, behind) = operand_value(scope, left, reads);
+    let Eval::Got(a) = first else {
+        return (first, behind);
+    };
+    let (second, rest) = operand_value(scope, right, behind);
+    let Eval::Got(b) = second else {
+        return (second, rest);
+    };
+    match join {
+        Instr::Join(op) => (made(operator_value(*op, a.or_zero(), b.or_zero())), rest),
+        _ => unreachable!(),
     }
 }
 

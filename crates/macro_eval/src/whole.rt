@@ -1,3 +1,4 @@
+//! Values as whole numbers and as numbers of variables.
 ghost use Rattle.std.specs.Prelude.{◌≡◌, ◌≤◌, unsigned_abs, IfOk};
 ghost use Rattle.macro_eval.specs.Meaning.{whole_number, variable_number};
 

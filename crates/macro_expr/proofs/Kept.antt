@@ -1,4 +1,5 @@
--- What holds of each tree by the grammar: how deep its right operands stand, and how many variables it names.
+-- What holds of each tree by the grammar: how deep its right operands stand, and how many variables
+-- it names.
 use Rattle.std.proofs.Common.{◌≡◌, ℕ, zero, suc, ◌+◌, ◌*◌, ◌≤◌, List, [], ◌∷◌, ◌++◌, arith}
 use Rattle.std.specs.Prelude.{codes}
 use Rattle.std.specs.List.{All}

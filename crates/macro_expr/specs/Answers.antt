@@ -1,17 +1,18 @@
 -- What is answered for a text, as it stands on the tape.
 use Rattle.std.specs.Prelude.{◌≤◌, ℕ, false, List, Result}
+use Rattle.nc_number.specs.declared.limits.TheConstants.{MOST_READS}
 use Rattle.macro_expr.specs.declared.tree.ExprFault.{ExprFault}
 use Rattle.macro_expr.specs.Tree.{Tree, Sentence}
 use Rattle.macro_expr.specs.Grammar.{IsExpression, IsStatement}
 use Rattle.macro_expr.specs.Statements.{expression_at, statement_at, whole}
 use Rattle.macro_expr.specs.Limits.{cleaned, variable_signs, answer}
 
--- The tree of a text, which names at most 32 variables.
+-- The tree of a text, which names no more variables than a block may read.
 abbrev pub HasTree : List ℕ → Tree → Type 0
-HasTree text tree = IsExpression (cleaned false text) tree × (variable_signs (cleaned false text) ≤ 32)
+HasTree text tree = IsExpression (cleaned false text) tree × (variable_signs (cleaned false text) ≤ MOST_READS)
 
 abbrev pub HasSentence : List ℕ → Sentence → Type 0
-HasSentence text sentence = IsStatement (cleaned false text) sentence × (variable_signs (cleaned false text) ≤ 32)
+HasSentence text sentence = IsStatement (cleaned false text) sentence × (variable_signs (cleaned false text) ≤ MOST_READS)
 
 -- the answer for an expression, all of the text
 abbrev pub expression_of : List ℕ → Result Tree ExprFault

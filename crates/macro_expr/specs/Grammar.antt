@@ -2,6 +2,7 @@
 use Rattle.std.specs.Prelude.{◌≡◌, ℕ, zero, suc, ◌/◌, ◌≤◌, Bool, true, false, List, [], ◌∷◌, ◌++◌, ℤ, unsigned_abs, codes, ◌⊎◌}
 use Rattle.std.specs.Char.{is_ascii_digit}
 use Rattle.std.specs.List.{list_all}
+use Rattle.nc_number.specs.declared.limits.TheConstants.{MOST_BRACKETS}
 use Rattle.nc_number.specs.Literals.{is_literal, has_too_many_digits, literal_micro}
 use Rattle.macro_expr.specs.declared.tree.Fun.{Fun}
 use Rattle.macro_expr.specs.declared.tree.Op.{Op}
@@ -73,25 +74,25 @@ abbrev pub IsWithin : ℕ → List ℕ → Tree → Type 0
 IsWithin zero t e = ⊥
 IsWithin (suc n) t e = IsSum (IsWithin n) t e
 
--- an expression: its brackets nest five deep at most
+-- an expression: its brackets nest no deeper than they may
 abbrev pub IsExpression : List ℕ → Tree → Type 0
-IsExpression t e = IsWithin 6 t e
+IsExpression t e = IsWithin (suc MOST_BRACKETS) t e
 
 -- cond = "[" expr rel expr "]"
 pub data IsTest : List ℕ → Test → Type 0 where
-  compares : (t word u : List ℕ) (rel : Rel) (left right : Tree) → IsWithin 5 t left → IsWord relation_words word rel
-      → IsWithin 5 u right
+  compares : (t word u : List ℕ) (rel : Rel) (left right : Tree) → IsWithin MOST_BRACKETS t left → IsWord relation_words word rel
+      → IsWithin MOST_BRACKETS u right
       → IsTest (codes "[" ++ (t ++ (word ++ (u ++ codes "]")))) (record { left = left; rel = rel; right = right })
 
 -- target = digits | var | "[" expr "]", with digits in the range of a sequence number
 pub data IsTarget : List ℕ → Aim → Type 0 where
   line : (t : List ℕ) (n : ℕ) → IsWhole t n → n ≤ 99999 → IsTarget t (ToNumber n)
-  line_of : (t : List ℕ) (v : Named) → IsVariable (IsWithin 5) t v → IsTarget t (ToNumberOf (look v))
-  line_in : (t : List ℕ) (e : Tree) → IsBracketed (IsWithin 5) t e → IsTarget t (ToNumberOf e)
+  line_of : (t : List ℕ) (v : Named) → IsVariable (IsWithin MOST_BRACKETS) t v → IsTarget t (ToNumberOf (look v))
+  line_in : (t : List ℕ) (e : Tree) → IsBracketed (IsWithin MOST_BRACKETS) t e → IsTarget t (ToNumberOf e)
 
 -- assign = var "=" expr
 pub data IsAssignment : List ℕ → Named → Tree → Type 0 where
-  assigns : (t u : List ℕ) (v : Named) (e : Tree) → IsVariable (IsWithin 5) t v → IsExpression u e
+  assigns : (t u : List ℕ) (v : Named) (e : Tree) → IsVariable (IsWithin MOST_BRACKETS) t v → IsExpression u e
       → IsAssignment (t ++ (codes "=" ++ u)) v e
 
 -- a statement

@@ -4,6 +4,7 @@ use Rattle.std.specs.Char.{is_ascii_digit, to_ascii_uppercase}
 use Rattle.std.specs.List.{starts_with, ends_with}
 use Rattle.std.specs.Str.{bytes_eq}
 use Rattle.nc_number.specs.Literals.{significant}
+use Rattle.nc_number.specs.declared.limits.TheConstants.{MOST_BRACKETS, MOST_READS}
 use Rattle.nc_number.specs.declared.cause.Cause.{Cause}
 use Rattle.nc_number.specs.declared.cause.Cause.TheVariants.{TooManyDigits, BadExpression, TooManyBrackets, BadCondition, UnknownFunction, BadLoopNumber, TooManyVariables, WordRange}
 use Rattle.nc_number.specs.Causes.{cause_number}
@@ -17,8 +18,9 @@ use Rattle.macro_expr.specs.Words.{run, begins}
 abbrev pub refusal : Cause → ExprFault
 refusal cause = record { number = cause_number cause }
 
--- The text without spaces, tabs and comments, and in upper case. The test says whether it begins inside a comment.
--- A comment that is open at the end leaves its bracket, which is no part of any expression.
+-- The text without spaces, tabs and comments, and in upper case. The test says whether it begins
+-- inside a comment. A comment that is open at the end leaves its bracket, which is no part of any
+-- expression.
 abbrev pub cleaned : Bool → List ℕ → List ℕ
 cleaned true [] = codes "("
 cleaned false [] = []
@@ -38,8 +40,8 @@ is_loop_head before =
     bytes_eq before (codes "DO") || bytes_eq before (codes "END")
     || (starts_with nat_eq before (codes "WHILE") && ends_with nat_eq before (codes "]DO"))
 
--- whether these digits, behind that text, are more than a number may have: 6 behind a point, else 8, zeros at the
--- head not counted. The digits of a loop are no number.
+-- whether these digits, behind that text, are more than a number may have: 6 behind a point, else
+-- 8, zeros at the head not counted. The digits of a loop are no number.
 abbrev pub are_too_many : List ℕ → List ℕ → Bool
 are_too_many before digits =
     if ends (λ b. b == 46) before then nat_lt 6 (length digits)
@@ -63,10 +65,10 @@ has_long_number text = long_behind [] text
 abbrev pub open_behind : ℕ → ℕ → ℕ
 open_behind opened b = if b == 91 then suc opened else if b == 93 then opened - 1 else opened
 
--- whether more than five brackets are open at once, where so many are at the head
+-- whether more brackets are open at once than may be, where so many are at the head
 abbrev pub too_deep : ℕ → List ℕ → Bool
-too_deep opened [] = nat_lt 5 opened
-too_deep opened (b ∷ text) = nat_lt 5 opened || too_deep (open_behind opened b) text
+too_deep opened [] = nat_lt MOST_BRACKETS opened
+too_deep opened (b ∷ text) = nat_lt MOST_BRACKETS opened || too_deep (open_behind opened b) text
 
 unfoldable pub has_deep_brackets : List ℕ → Bool
 has_deep_brackets text = too_deep 0 text
@@ -76,7 +78,7 @@ abbrev pub variable_signs : List ℕ → ℕ
 variable_signs text = count_by (λ b. b == 35) text
 
 abbrev pub has_many_variables : List ℕ → Bool
-has_many_variables text = nat_lt 32 (variable_signs text)
+has_many_variables text = nat_lt MOST_READS (variable_signs text)
 
 -- the refusal of a place where reading stops
 abbrev pub cause_of : Stop → Cause
@@ -102,7 +104,8 @@ refusal_of text stop =
     else if has_deep_brackets text then refusal TooManyBrackets
     else refusal (cause_beside (has_many_variables text) stop)
 
--- what is answered for a cleaned text that is read so: a text that is read has no other refusal than too many variables
+-- what is answered for a cleaned text that is read so: a text that is read has no other refusal
+-- than too many variables
 abbrev pub answer : {A : Type 0} → List ℕ → Result A Stop → Result A ExprFault
 answer text (Ok tree) = if has_many_variables text then Err (refusal TooManyVariables) else Ok tree
 answer text (Err stop) = Err (refusal_of text stop)

@@ -1,6 +1,7 @@
 -- Reading a statement from left to right.
-use Rattle.std.specs.Prelude.{ℕ, ◌==◌, nat_lt, List, length, Option, Some, None, Result, Ok, Err, codes, if◌then◌else◌}
+use Rattle.std.specs.Prelude.{ℕ, suc, ◌==◌, nat_lt, List, length, Option, Some, None, Result, Ok, Err, codes, if◌then◌else◌}
 use Rattle.std.specs.Char.{is_ascii_digit}
+use Rattle.nc_number.specs.declared.limits.TheConstants.{MOST_BRACKETS}
 use Rattle.nc_number.specs.Results.{◌>>=◌}
 use Rattle.macro_expr.specs.declared.stop.Stop.{Stop}
 use Rattle.macro_expr.specs.declared.stop.Stop.TheVariants as stop
@@ -13,7 +14,7 @@ use Rattle.macro_expr.specs.Reading.{Read, word_at, digits_at, bracket_at, varia
 
 -- Brackets nest five deep, so that what stands in brackets has four more.
 abbrev pub expression_at : List ℕ → Read Tree
-expression_at = inside 6
+expression_at = inside (suc MOST_BRACKETS)
 
 abbrev pub relation_found : Option (Rel × List ℕ) → Read Rel
 relation_found None = Err stop.Expression
@@ -26,9 +27,9 @@ relation_at text = relation_found (relation text)
 unfoldable pub condition_at : List ℕ → Read Test
 condition_at text = do
   opened ← word_at (codes "[") text
-  left ← inside 5 opened
+  left ← inside MOST_BRACKETS opened
   rel ← relation_at left.1
-  right ← inside 5 rel.1
+  right ← inside MOST_BRACKETS rel.1
   rest ← word_at (codes "]") right.1
   Ok (record { left = left.0; rel = rel.0; right = right.0 }, rest)
 
@@ -47,8 +48,8 @@ numbered n rest = if nat_lt 99999 n then Err stop.Sequence else Ok (ToNumber n, 
 unfoldable pub target_at : List ℕ → Read Aim
 target_at text =
     if begins is_ascii_digit text then (digits_at text >>= λ n. numbered n.0 n.1)
-    else if begins (λ b. b == 35) text then (variable_at (inside 5) text >>= λ v. Ok (ToNumberOf (look v.0), v.1))
-    else (bracket_at (inside 5) text >>= λ e. Ok (ToNumberOf e.0, e.1))
+    else if begins (λ b. b == 35) text then (variable_at (inside MOST_BRACKETS) text >>= λ v. Ok (ToNumberOf (look v.0), v.1))
+    else (bracket_at (inside MOST_BRACKETS) text >>= λ e. Ok (ToNumberOf e.0, e.1))
 
 abbrev pub loop_found : Option ℕ → List ℕ → Read ℕ
 loop_found None rest = Err stop.Loop
@@ -61,7 +62,7 @@ loop_at text = loop_found (loop_of (run is_ascii_digit text)) (behind_run is_asc
 -- a variable and what it is to hold
 unfoldable pub assignment_at : List ℕ → Read (Named × Tree)
 assignment_at text = do
-  v ← variable_at (inside 5) text
+  v ← variable_at (inside MOST_BRACKETS) text
   rest ← word_at (codes "=") v.1
   e ← expression_at rest
   Ok ((v.0, e.0), e.1)

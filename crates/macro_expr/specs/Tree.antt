@@ -100,8 +100,9 @@ sentence_of (statement.WhileDo c m) = WhileDo (test_of c) m
 sentence_of (statement.DoOnly m) = DoOnly m
 sentence_of (statement.EndLoop m) = EndLoop m
 
--- The trees that a statement evaluates, in their order: of a condition left and right, then the number of a variable
--- on the left side where it is computed, then the value; of a target its number where it is computed.
+-- The trees that a statement evaluates, in their order: of a condition left and right, then the
+-- number of a variable on the left side where it is computed, then the value; of a target its
+-- number where it is computed.
 abbrev pub evaluated_test : Test → List Tree
 evaluated_test test = test.left ∷ test.right ∷ []
 

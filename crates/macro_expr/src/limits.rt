@@ -1,16 +1,11 @@
+//! What an expression may have at most.
 ghost use Rattle.std.specs.Prelude.{◌≡◌, ◌==◌, ◌++◌, nat_eq, false, IfOk};
 ghost use Rattle.std.specs.Char.{is_ascii_digit};
 ghost use Rattle.macro_expr.specs.Limits.{cleaned, ends, is_loop_head, are_too_many, begins_long, has_long_number, open_behind, has_deep_brackets, has_many_variables};
 
 use crate::words::{begins_with_digit, digits, significant};
-use nc_number::NoMemory;
+use nc_number::{MOST_BRACKETS, MOST_READS, NoMemory};
 use std::alloc::Global;
-
-/// How many brackets may be open at once.
-const MOST_BRACKETS: usize = 5;
-
-/// How many variables a text may name.
-const MOST_VARIABLES: usize = 32;
 
 /// The text without spaces, tabs and comments, and in upper case. A comment that is open at the end
 /// leaves its bracket, which is no part of any expression.
@@ -93,12 +88,12 @@ pub(crate) fn has_long_number(text: &[u8]) -> bool
     false
 }
 
-/// Whether more than five brackets are open at once.
+/// Whether more brackets are open at once than may be.
 #[tactic(auto, unfolding(crate::specs::Limits::has_deep_brackets))]
 pub(crate) fn has_deep_brackets(text: &[u8]) -> bool
     ensures { result ≡ has_deep_brackets text.now }
 {
-    let mut opened = 0;
+    let mut opened = 0u32;
     for b in text {
         match b {
             b'[' if opened == MOST_BRACKETS => return true,
@@ -110,9 +105,9 @@ pub(crate) fn has_deep_brackets(text: &[u8]) -> bool
     false
 }
 
-/// Whether the text names more than 32 variables.
+/// Whether the text names more variables than a block may read.
 pub(crate) fn has_many_variables(text: &[u8]) -> bool
     ensures { result ≡ has_many_variables text.now }
 {
-    text.iter().filter(|b| **b == b'#').count() > MOST_VARIABLES
+    text.iter().filter(|b| **b == b'#').count() > MOST_READS
 }

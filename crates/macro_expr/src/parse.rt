@@ -1,3 +1,4 @@
+//! From a text to its tree, or the least refusal.
 ghost use Rattle.std.specs.Prelude.{◌≡◌, ◌≤◌, ◌==◌, ℕ, List, false, length, IfOk, Ok, Err, if◌then◌else◌};
 ghost use Rattle.std.specs.List.{All};
 ghost use Rattle.nc_number.specs.declared.fault.Failing.TheVariants.{Fault};
@@ -14,7 +15,7 @@ use crate::reading::inside;
 use crate::statements::statement_at;
 use crate::stop::Stop;
 use crate::tree::{Expr, ExprFault, Statement};
-use nc_number::{Cause, Failing};
+use nc_number::{Cause, Failing, MOST_BRACKETS};
 use std::alloc::Global;
 
 /// The refusal of a text whose reading stops so: the least of those that hold.
@@ -58,7 +59,7 @@ fn alone<T: Drop>(tree: T, rest: &[u8]) -> Result<T, Failing<Stop>>
 fn read_expression(alloc: Global, text: &[u8]) -> Result<Expr, Failing<Stop>>
     ensures { Gives (λ tree. tree_of tree) result (whole (expression_at text.now)) }
 {
-    let (tree, rest) = inside(alloc, 6, text)?;
+    let (tree, rest) = inside(alloc, MOST_BRACKETS + 1, text)?;
     alone(tree, rest)
 }
 
@@ -88,11 +89,11 @@ fn answer_statement(alloc: Global, text: &[u8]) -> Result<Statement, Failing<Exp
 /// The tree of an expression, all of the text.
 ///
 /// Spaces, tabs and comments are left out, and lower case letters are read as upper case. A text
-/// that has a tree and names at most 32 variables gets it. Of several refusals the least number is
+/// that has a tree and names no more than [`MOST_READS`] variables gets it. Of several refusals the least number is
 /// given, 20 only where there is no other: 5, 21 and 25 are conditions of the whole text, and the
 /// others are that of the first place where reading from left to right stops.
 pub fn parse_expr(alloc: Global, text: &[u8]) -> Result<Expr, Failing<ExprFault>>
-    // The tree is the one that the grammar gives the text, which names at most 32 variables.
+    // The tree is the one that the grammar gives the text, which names no more variables than a block may read.
     ensures found { IfOk result (λ tree. HasTree text.now (tree_of tree)) }
 
     // Such a text gets its tree, unless memory runs out.
@@ -115,7 +116,7 @@ pub fn parse_expr(alloc: Global, text: &[u8]) -> Result<Expr, Failing<ExprFault>
 ///
 /// It reads the text, and answers of several refusals, as [`parse_expr`] does.
 pub fn parse_statement(alloc: Global, text: &[u8]) -> Result<Statement, Failing<ExprFault>>
-    // The tree is the one that the grammar gives the text, which names at most 32 variables.
+    // The tree is the one that the grammar gives the text, which names no more variables than a block may read.
     ensures found { IfOk result (λ tree. HasSentence text.now (sentence_of tree)) }
 
     // Such a text gets its tree, unless memory runs out.

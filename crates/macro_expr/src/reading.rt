@@ -1,3 +1,4 @@
+//! Expressions, read from left to right.
 ghost use Rattle.std.specs.Prelude.{◌≡◌, ◌-◌, ◌<◌, ◌≤◌, Ok};
 ghost use Rattle.macro_expr.specs.Tree.{tree_of, variable_of, Joined};
 ghost use Rattle.nc_number.specs.Answers.{Gives};
@@ -67,7 +68,7 @@ fn joined(alloc: Global, op: Op, left: Expr, right: Expr) -> Result<Expr, Failin
 #[tactic(auto, unfolding(crate::specs::Reading::bracket_at))]
 pub(crate) fn bracket_at(
     alloc: Global,
-    levels: u8,
+    levels: u32,
     text: &[u8],
 ) -> Result<(Expr, &[u8]), Failing<Stop>>
     ensures { Gives (λ x. (tree_of x.0, x.1.now)) result (bracket_at (inside levels) text.now) }
@@ -83,7 +84,7 @@ pub(crate) fn bracket_at(
 #[tactic(auto, unfolding(crate::specs::Reading::variable_at, crate::specs::Reading::variable_behind))]
 pub(crate) fn variable_at(
     alloc: Global,
-    levels: u8,
+    levels: u32,
     text: &[u8],
 ) -> Result<(VarRef, &[u8]), Failing<Stop>>
     ensures { Gives (λ x. (variable_of x.0, x.1.now)) result (variable_at (inside levels) text.now) }
@@ -100,7 +101,7 @@ pub(crate) fn variable_at(
 /// A function and its brackets.
 #[cycle(reading)]
 #[tactic(auto, unfolding(crate::specs::Reading::function_at))]
-fn function_at(alloc: Global, levels: u8, text: &[u8]) -> Result<(Expr, &[u8]), Failing<Stop>>
+fn function_at(alloc: Global, levels: u32, text: &[u8]) -> Result<(Expr, &[u8]), Failing<Stop>>
     ensures { Gives (λ x. (tree_of x.0, x.1.now)) result (function_at (inside levels) text.now) }
 {
     let (name, text) = letters(text);
@@ -114,7 +115,7 @@ fn function_at(alloc: Global, levels: u8, text: &[u8]) -> Result<(Expr, &[u8]), 
 /// What an operator can stand before or behind.
 #[cycle(reading)]
 #[tactic(auto, unfolding(crate::specs::Reading::prim_at))]
-fn prim_at(alloc: Global, levels: u8, text: &[u8]) -> Result<(Expr, &[u8]), Failing<Stop>>
+fn prim_at(alloc: Global, levels: u32, text: &[u8]) -> Result<(Expr, &[u8]), Failing<Stop>>
     ensures { Gives (λ x. (tree_of x.0, x.1.now)) result (prim_at (inside levels) text.now) }
 {
     match text {
@@ -131,7 +132,7 @@ fn prim_at(alloc: Global, levels: u8, text: &[u8]) -> Result<(Expr, &[u8]), Fail
 /// A prim behind a sign, if there is one.
 #[cycle(reading)]
 #[tactic(auto, unfolding(crate::specs::Reading::signed_at))]
-fn signed_at(alloc: Global, levels: u8, text: &[u8]) -> Result<(Expr, &[u8]), Failing<Stop>>
+fn signed_at(alloc: Global, levels: u32, text: &[u8]) -> Result<(Expr, &[u8]), Failing<Stop>>
     ensures { Gives (λ x. (tree_of x.0, x.1.now)) result (signed_at (inside levels) text.now) }
 {
     let Some((minus, text)) = sign(text) else {
@@ -144,7 +145,7 @@ fn signed_at(alloc: Global, levels: u8, text: &[u8]) -> Result<(Expr, &[u8]), Fa
 /// A product.
 #[cycle(reading)]
 #[tactic(auto, unfolding(crate::specs::Reading::product_at))]
-fn product_at(alloc: Global, levels: u8, text: &[u8]) -> Result<(Expr, &[u8]), Failing<Stop>>
+fn product_at(alloc: Global, levels: u32, text: &[u8]) -> Result<(Expr, &[u8]), Failing<Stop>>
     ensures { Gives (λ x. (tree_of x.0, x.1.now)) result (product_at (inside levels) text.now) }
 {
     let (first, text) = prim_at(alloc, levels, text)?;
@@ -156,7 +157,7 @@ fn product_at(alloc: Global, levels: u8, text: &[u8]) -> Result<(Expr, &[u8]), F
 fn operand_at(
     alloc: Global,
     rank: Rank,
-    levels: u8,
+    levels: u32,
     text: &[u8],
 ) -> Result<(Expr, &[u8]), Failing<Stop>>
     ensures { Gives (λ x. (tree_of x.0, x.1.now)) result (operand_at rank (inside levels) text.now) }
@@ -172,7 +173,7 @@ fn operand_at(
 fn chain_at<'a>(
     alloc: Global,
     rank: Rank,
-    levels: u8,
+    levels: u32,
     first: Expr,
     text: &'a [u8],
 ) -> Result<(Expr, &'a [u8]), Failing<Stop>>
@@ -194,7 +195,7 @@ fn chain_at<'a>(
 /// A sum: an expression whose brackets may nest `levels - 1` deep.
 #[cycle(reading)]
 #[tactic(auto, unfolding(crate::specs::Reading::sum_at))]
-fn sum_at(alloc: Global, levels: u8, text: &[u8]) -> Result<(Expr, &[u8]), Failing<Stop>>
+fn sum_at(alloc: Global, levels: u32, text: &[u8]) -> Result<(Expr, &[u8]), Failing<Stop>>
     ensures { Gives (λ x. (tree_of x.0, x.1.now)) result (sum_at (inside levels) text.now) }
 {
     let (first, text) = signed_at(alloc, levels, text)?;
@@ -205,7 +206,11 @@ fn sum_at(alloc: Global, levels: u8, text: &[u8]) -> Result<(Expr, &[u8]), Faili
 /// An expression inside brackets that may themselves hold `levels - 1` open brackets.
 #[cycle(reading)]
 #[tactic(auto, unfolding(crate::specs::Reading::inside))]
-pub(crate) fn inside(alloc: Global, levels: u8, text: &[u8]) -> Result<(Expr, &[u8]), Failing<Stop>>
+pub(crate) fn inside(
+    alloc: Global,
+    levels: u32,
+    text: &[u8],
+) -> Result<(Expr, &[u8]), Failing<Stop>>
     ensures { Gives (λ x. (tree_of x.0, x.1.now)) result (inside levels text.now) }
 {
     if levels == 0 {

@@ -1,3 +1,4 @@
+//! Statements, read from left to right.
 ghost use Rattle.std.specs.Prelude.{◌≡◌};
 ghost use Rattle.macro_expr.specs.Tree.{tree_of, variable_of, test_of, aim_of, sentence_of};
 ghost use Rattle.nc_number.specs.Answers.{Gives};
@@ -9,15 +10,11 @@ use crate::tree::{Cond, Expr, Rel, Statement, Target, VarRef};
 use crate::words::{
     Keyword, begins_with_digit, behind, digits, leading_keyword, loop_of, relation,
 };
-use nc_number::Failing;
+use nc_number::{Failing, MOST_BRACKETS};
 use std::alloc::Global;
 
 /// The greatest sequence number.
 const MOST_SEQUENCE: u32 = 99_999;
-
-/// How many brackets may stand open above the expressions of a condition and of a variable, with
-/// those themselves.
-const LEVELS: u8 = 5;
 
 #[tactic(auto, unfolding(crate::specs::Statements::relation_at))]
 fn relation_at(text: &[u8]) -> Result<(Rel, &[u8]), Failing<Stop>>
@@ -34,9 +31,9 @@ fn condition_at(alloc: Global, text: &[u8]) -> Result<(Cond, &[u8]), Failing<Sto
     ensures { Gives (λ x. (test_of x.0, x.1.now)) result (condition_at text.now) }
 {
     let text = word_at(text, b"[")?;
-    let (left, text) = inside(alloc, LEVELS, text)?;
+    let (left, text) = inside(alloc, MOST_BRACKETS, text)?;
     let (rel, text) = relation_at(text)?;
-    let (right, text) = inside(alloc, LEVELS, text)?;
+    let (right, text) = inside(alloc, MOST_BRACKETS, text)?;
     let text = word_at(text, b"]")?;
     Ok((Cond { left, rel, right }, text))
 }
@@ -66,10 +63,10 @@ fn target_at(alloc: Global, text: &[u8]) -> Result<(Target, &[u8]), Failing<Stop
         return Ok((Target::Fixed(number), rest));
     }
     if matches!(text, [b'#', ..]) {
-        let (variable, rest) = variable_at(alloc, LEVELS, text)?;
+        let (variable, rest) = variable_at(alloc, MOST_BRACKETS, text)?;
         return Ok((Target::Computed(Expr::Look(variable)), rest));
     }
-    let (tree, rest) = bracket_at(alloc, LEVELS, text)?;
+    let (tree, rest) = bracket_at(alloc, MOST_BRACKETS, text)?;
     Ok((Target::Computed(tree), rest))
 }
 
@@ -90,9 +87,9 @@ fn loop_at(text: &[u8]) -> Result<(u8, &[u8]), Failing<Stop>>
 fn assignment_at(alloc: Global, text: &[u8]) -> Result<((VarRef, Expr), &[u8]), Failing<Stop>>
     ensures { Gives (λ x. ((variable_of x.0.0, tree_of x.0.1), x.1.now)) result (assignment_at text.now) }
 {
-    let (variable, text) = variable_at(alloc, LEVELS, text)?;
+    let (variable, text) = variable_at(alloc, MOST_BRACKETS, text)?;
     let text = word_at(text, b"=")?;
-    let (tree, text) = inside(alloc, LEVELS + 1, text)?;
+    let (tree, text) = inside(alloc, MOST_BRACKETS + 1, text)?;
     Ok(((variable, tree), text))
 }
 

@@ -1,3 +1,4 @@
+//! Why reading stops.
 ghost use Rattle.std.specs.Prelude.{◌≡◌};
 ghost use Rattle.macro_expr.specs.Limits.{refusal, cause_beside};
 

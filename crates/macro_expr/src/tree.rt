@@ -1,3 +1,4 @@
+//! The trees of expressions and statements.
 ghost use Rattle.std.specs.Prelude.{◌≡◌};
 ghost use Rattle.macro_expr.specs.Limits.{refusal};
 

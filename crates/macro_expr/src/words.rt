@@ -1,3 +1,4 @@
+//! The words of expressions: keywords, operators, functions.
 ghost use Rattle.std.specs.Prelude.{◌≡◌, ◌≤◌, ◌==◌, not, length, take, drop, position, unwrap_or, IfSome};
 ghost use Rattle.std.specs.Option.{option_map};
 ghost use Rattle.std.specs.Char.{is_ascii_digit};
@@ -32,7 +33,8 @@ pub(crate) fn behind<'a>(text: &'a [u8], word: &[u8]) -> Option<&'a [u8]>
     text.strip_prefix(word)
 }
 
-// A table of words: the meaning of the first one with which the text begins, and what stands behind it.
+// A table of words: the meaning of the first one with which the text begins, and what stands behind
+// it.
 macro_rules! first_word {
     ($text:ident: $($word:literal $meaning:expr),+) => {{
         $(if let Some(rest) = behind($text, $word) {

@@ -1,6 +1,7 @@
 -- Which refusal is answered, by the cases of what is read and which limits are passed.
 use Rattle.std.proofs.Common.{◌≡◌, ◌↔◌, ℕ, ◌==◌, ◌&&◌, Bool, true, false, not, cond, List, Result, Ok, Err, refl, sym, ◌∙◌, ap, eqb-true, eq-eqb}
 use Rattle.std.proofs.lemmas.Bool.{and_parts, and_from, true≢false}
+use Rattle.nc_number.proofs.Bools.{not_true}
 use Rattle.nc_number.specs.declared.cause.Cause.{Cause}
 use Rattle.nc_number.specs.declared.cause.Cause.TheVariants.{TooManyDigits, TooManyBrackets, TooManyVariables}
 use Rattle.nc_number.specs.Causes.{cause_number}
@@ -33,7 +34,8 @@ told {A} cause (Err fault) some = (
   λ e. ap (λ n. Err (fault_of n)) (eqb-true fault.number (cause_number cause) e),
 )
 
--- whether the answer is 5, 21 and 25, by the limits that are passed and whether reading stops for a lesser refusal
+-- whether the answer is 5, 21 and 25, by the limits that are passed and whether reading stops for a
+-- lesser refusal
 abbrev Told : ℕ → Bool → Bool → Bool → Bool → Type 0
 Told n long deep many below =
     ◌≡◌ {A = Bool × Bool × Bool} (n == 5, n == 21, n == 25)
@@ -72,10 +74,6 @@ told_answer text (Ok x) within =
 told_answer {A} text (Err stop) within =
     told_stop A stop (has_long_number text) (has_deep_brackets text) (has_many_variables text)
 
-not_so : (b : Bool) → not b ≡ true → b ≡ false
-not_so true e = absurd (true≢false (sym e))
-not_so false e = refl
-
 pub refused : {A : Type 0} (text : List ℕ) (read : Result A Stop) → ((x : A) → read ≡ Ok x → IsWithinLimits text)
     → IsRefusedByLimits text read (answer text read)
 refused text read within =
@@ -93,7 +91,7 @@ refused text read within =
     record {
       digits = (λ e. sym five ∙ digits.0 e, λ e. digits.1 (five ∙ e));
       brackets = (
-        λ e. let parts = and_parts (not long) deep (sym deeper ∙ brackets.0 e) in (not_so long parts.0, parts.1),
+        λ e. let parts = and_parts (not long) deep (sym deeper ∙ brackets.0 e) in (not_true long parts.0, parts.1),
         λ is. brackets.1 (deeper ∙ and_from _ _ (ap not is.0) is.1),
       );
       variables = (
@@ -101,7 +99,7 @@ refused text read within =
             let parts = and_parts (not long && not deep) (many && not below) (sym more ∙ variables.0 e) in
             let limits = and_parts (not long) (not deep) parts.0 in
             let named = and_parts many (not below) parts.1 in
-            ((not_so long limits.0, not_so deep limits.1), named.0, not_so below named.1),
+            ((not_true long limits.0, not_true deep limits.1), named.0, not_true below named.1),
         λ is.
             let limits = and_from _ _ (ap not is.0.0) (ap not is.0.1) in
             variables.1 (more ∙ and_from _ _ limits (and_from _ _ is.1 (ap not is.2))),

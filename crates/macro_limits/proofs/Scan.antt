@@ -1,9 +1,11 @@
--- One walk over a text sees both limits. Of what stands before a byte it keeps the last one and the brackets' number.
+-- One walk over a text sees both limits. Of what stands before a byte it keeps the last one and the
+-- brackets' number.
 use Rattle.std.proofs.Common.{◌≡◌, ℕ, ◌+◌, ◌-◌, ◌==◌, ◌&&◌, ◌||◌, not, Bool, true, false, cond, List, [], ◌∷◌, ◌++◌, length, slice_index, nat_lt, refl, ◌∙◌, ap, arith, if◌then◌else◌}
 use Rattle.std.specs.Char.{is_ascii_digit}
 use Rattle.std.proofs.lemmas.Bool.{or_parts, or_from, lt-ltb}
 use Rattle.std.proofs.lemmas.List.{get_or_push}
 use Rattle.std.proofs.lemmas.Grind.{common_steps}
+use Rattle.nc_number.specs.declared.limits.TheConstants.{MOST_BRACKETS}
 use Rattle.nc_number.specs.Literals.{significant}
 use Rattle.macro_expr.specs.Words.{run, begins}
 use Rattle.macro_expr.specs.Limits.{ends, is_loop_head, begins_long, long_behind, has_long_number, open_behind, too_deep, has_deep_brackets}
@@ -18,9 +20,9 @@ long_at last text =
 
 -- whether a limit is passed in the text, which stands behind this byte with so many brackets open
 abbrev pub passes_limit : ℕ → ℕ → List ℕ → Bool
-passes_limit opened last [] = nat_lt 5 opened
+passes_limit opened last [] = nat_lt MOST_BRACKETS opened
 passes_limit opened last (b ∷ text) =
-    nat_lt 5 opened || (long_at last (b ∷ text) || passes_limit (open_behind opened b) b text)
+    nat_lt MOST_BRACKETS opened || (long_at last (b ∷ text) || passes_limit (open_behind opened b) b text)
 
 -- the last byte of what stands before, or one that is no digit and no point where nothing does
 record IsLast (before : List ℕ) (last : ℕ) : Type 0 where

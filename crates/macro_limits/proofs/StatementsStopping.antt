@@ -1,4 +1,5 @@
--- Where the reading of a statement stops its cause stands; where a cause of statements alone stands, it stops for that.
+-- Where the reading of a statement stops its cause stands; where a cause of statements alone
+-- stands, it stops for that.
 use Rattle.std.proofs.Common.{◌≡◌, ℕ, ◌==◌, nat_lt, Bool, true, false, cond, List, [], ◌∷◌, ◌++◌, length, Some, Ok, Err, pos, refl, sym, ◌∙◌, ap, subst, arith, append_assoc}
 use Rattle.std.specs.Prelude.{codes}
 use Rattle.std.specs.Char.{is_ascii_digit}

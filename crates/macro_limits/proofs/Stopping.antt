@@ -21,7 +21,8 @@ use Rattle.macro_expr.proofs.Complete.{sum_is, first_at, looked}
 use Rattle.macro_expr.proofs.Sound.{literal_step, prim-sound, signed-sound, product-sound, first-sound, within-sound}
 use Rattle.macro_limits.specs.Refusals.{Lacks, IsPlain}
 
--- reading goes on, or its cause stands where it stops; Other says it of the places that only a statement has
+-- reading goes on, or its cause stands where it stops; Other says it of the places that only a
+-- statement has
 pub data Caused {A : Type 0} (Is : List ℕ → A → Type 0) (Other : Stop → Type 0) (text : List ℕ) : Read A → Type 0 where
   went : (x : A × List ℕ) → Caused Is Other text (Ok x)
   stopped : (s : Stop) → Lacks Is Other text s → Caused Is Other text (Err s)

@@ -13,7 +13,8 @@ use Rattle.macro_expr.specs.Grammar.{IsWord, IsWhole, IsPrim, IsTest}
 abbrev pub IsPlain : List ℕ → Tree → Type 0
 IsPlain = IsPrim (λ _ _. ⊥)
 
--- Letters that name no function stand where a prim must: in their place each prim without brackets could stand.
+-- Letters that name no function stand where a prim must: in their place each prim without brackets
+-- could stand.
 pub record HasUnknown (A : Type 0) (Is : List ℕ → A → Type 0) (text : List ℕ) : Type 0 where
   pub before : List ℕ
   pub name : List ℕ

@@ -23,7 +23,7 @@ stops_before_variables (Err stop.Loop) = true
 stops_before_variables (Err stop.Expression) = false
 stops_before_variables (Err stop.Sequence) = false
 
--- more than 32 variables are named, and no lesser refusal holds
+-- more variables are named than a block may read, and no lesser refusal holds
 abbrev pub NamesTooMany : {A : Type 0} → List ℕ → Result A Stop → Type 0
 NamesTooMany text read =
     IsWithinLimits text × (has_many_variables text ≡ true) × (stops_before_variables read ≡ false)

@@ -14,7 +14,8 @@ pub fn a_text_that_reads_is_within_its_limits()
     ensures statements { (text : List ℕ) (tree : Sentence) → IsStatement text tree → IsWithinLimits text }
 {}
 
-/// A law: for every text, 5, 21 and 25 are answered exactly where their limits say, whether it reads or not.
+/// A law: for every text, 5, 21 and 25 are answered exactly where their limits say, whether it
+/// reads or not.
 pub fn each_limit_has_its_refusal()
     ensures expressions { (text : List ℕ) → IsRefusedByLimits (cleaned false text)
         (whole (expression_at (cleaned false text))) (expression_of text) }

@@ -1,3 +1,4 @@
+//! The law of readings that stop.
 ghost use Rattle.std.specs.Prelude.{◌≡◌, ℕ, List, Err};
 ghost use Rattle.macro_expr.specs.declared.stop.Stop.{Stop};
 ghost use Rattle.macro_expr.specs.Grammar.{IsExpression, IsStatement};

@@ -1,4 +1,5 @@
--- Which variables a block names and which it may write, by its text alone. A variable whose number is computed may be any.
+-- Which variables a block names and which it may write, by its text alone. A variable whose number
+-- is computed may be any.
 use Rattle.std.specs.Prelude.{ℕ, ◌==◌, ◌||◌, Bool, true, false, List, [], ◌∷◌, Option, Some, None}
 use Rattle.macro_expr.specs.Tree.{Tree, Number, Variable, VariableOf, Signed, Applied, Joined, Named, Fixed, Computed, Sentence, Assign, IfThen, evaluated, sentence_of}
 use Rattle.block_words.specs.declared.word.FlowWord.{FlowWord}

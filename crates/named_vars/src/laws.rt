@@ -9,8 +9,8 @@ ghost use Rattle.path_state.specs.Statements.{Write};
 ghost use Rattle.path_state.specs.Effect.{Need, Done, effect_of};
 ghost use Rattle.named_vars.specs.Names.{block_names, block_may_write};
 
-/// Whatever a path holds, its block reads no shared variable but those that its text names, and writes none
-/// but those that its text may write.
+/// Whatever a path holds, its block reads no shared variable but those that its text names, and
+/// writes none but those that its text may write.
 pub fn a_block_does_as_its_text_says()
     ensures reads { (flow : Flow) (path : PathView) (reads : List Var) (f : Frame) (stack : List Frame) (v : ℕ)
         → path.place ≡ f ∷ stack → effect_of flow path reads ≡ Need v → block_names flow f.program f.block v ≡ true }

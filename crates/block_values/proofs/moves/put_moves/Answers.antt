@@ -4,7 +4,7 @@ use Rattle.motion_track.specs.declared.targets.TheConstants.{LONGEST}
 use Rattle.motion_track.specs.Within.{AreMovesWithin}
 use Rattle.block_values.specs.InForce.{settings_said}
 use Rattle.block_values.proofs.Ends.{all_within}
-use Rattle.block_values.proofs.moves.all_moves.Goals as goal
+use Rattle.block_values.proofs.moves.put_moves.Goals as goal
 
 pub returns-clause-moves : goal.returns-clause-moves
 returns-clause-moves c = search rules
