@@ -1,4 +1,5 @@
--- Where control goes behind a block, the order of blocks allows: each move of a place is a step of it.
+-- Where control goes behind a block, the order of blocks allows: each move of a place is a step of
+-- it.
 use Rattle.std.proofs.Common.{◌≡◌, ℕ, inl, inr, List, Option, Some, Result, Ok, Err, refl}
 use Rattle.nc_number.specs.declared.cause.Cause.{Cause}
 use Rattle.nc_number.specs.declared.value.Var.{Var}

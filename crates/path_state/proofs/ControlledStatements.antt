@@ -1,4 +1,5 @@
--- A statement that is done leads where the order of blocks allows, and what is fixed for its path stays.
+-- A statement that is done leads where the order of blocks allows, and what is fixed for its path
+-- stays.
 use Rattle.std.proofs.Common.{◌≡◌, ℕ, Bool, true, false, inl, inr, List, Some, Result, Ok, Err, refl, sym, subst, if◌then◌else◌}
 use Rattle.nc_number.specs.declared.cause.Cause.{Cause}
 use Rattle.nc_number.specs.declared.point.Point.{Point}
@@ -14,7 +15,7 @@ use Rattle.block_order.specs.declared.control.Control.TheVariants as control
 use Rattle.block_order.specs.declared.frame.Frame.{Frame}
 use Rattle.block_order.specs.declared.program.ControlProgram.{ControlProgram}
 use Rattle.block_order.specs.Order.{MayBe}
-use Rattle.block_order.specs.Moves.{passed, place_of_jump, place_behind_loop, place_of_head}
+use Rattle.block_order.specs.Moves.{place_behind, place_of_jump, place_behind_loop, place_of_head}
 use Rattle.block_order.specs.Steps.{Step, standing}
 use Rattle.block_forms.specs.Controls.{number_of_aim, control_of_sentence}
 use Rattle.macro_expr.specs.Tree.{Tree, Named, Aim, ToNumber, ToNumberOf, Sentence, Assign, Goto, IfGoto, IfThen, WhileDo, DoOnly, EndLoop}
@@ -100,12 +101,12 @@ assigned-keeps fixed path name tree reads =
 -- an assignment, and on to the next block
 assigned_next-goes : (tape : List ControlProgram) (fixed : Fixed) (path : PathView) (name : Named) (tree : Tree)
     (reads : List Var)
-    → Step tape path.place (passed path.place) → OnGives (Goes tape path) (assigned_next fixed path name tree reads)
+    → Step tape path.place (place_behind path.place) → OnGives (Goes tape path) (assigned_next fixed path name tree reads)
 assigned_next-goes tape fixed path name tree reads step =
     behind_gives (Keeps path) (Goes tape path) (assigned fixed path name tree reads) _
     (assigned-keeps fixed path name tree reads)
     (λ after left keeps. record {
-      step = subst (λ place. Step tape path.place (passed place)) (sym keeps.place) step;
+      step = subst (λ place. Step tape path.place (place_behind place)) (sym keeps.place) step;
       fixed = keeps.fixed;
     })
 

@@ -19,15 +19,17 @@ use Rattle.block_values.specs.Values.{Values, Sense, nothing_said, words_with}
 use Rattle.path_state.specs.Said.{words_taken}
 use Rattle.block_values.specs.Seen.{values_seen, outcome_of}
 use Rattle.block_order.specs.declared.control.Control.TheVariants.{Next, Goto, While, Do, EndLoop, Wait as AtWait, End, Call, Back, BackTo}
-use Rattle.block_order.specs.PlaceSteps.{MayPass}
+use Rattle.block_order.specs.Frames.{MayPass}
 use Rattle.local_levels.specs.Stack.{all_vacant}
+use Rattle.path_state.specs.declared.words_step.WordsTurn.{WordsTurn}
+use Rattle.path_state.specs.declared.words_step.WordsTurn.TheVariants as turn
 use Rattle.path_state.specs.declared.decision.Decision.{Decision}
 use Rattle.path_state.specs.declared.decision.Decision.TheVariants as decision
 use Rattle.block_values.specs.Purposes.{is_macro_call}
 use Rattle.path_state.specs.Standing.{Standing, standing_of, standing_of_call, standing_behind}
 use Rattle.block_values.specs.Arguments.{arguments_with}
 use Rattle.path_state.specs.Effect.{Moved, alarm_of, of_values, of_arguments, controlled, done_by, macro_effect, block_of_words, of_purpose, words_effect}
-use Rattle.path_state.specs.Decisions.{decided, of_said, of_arguments_said, MayTake}
+use Rattle.path_state.specs.Decisions.{macro_decided, of_said, of_arguments_said, MayTake, MayTakeWords}
 
 -- of a step that gives values or stops, the effect
 pub of_values_said : (tape : List ControlProgram) (path : PathView) (system : System) (words : List FlowWord) (control : Control) (said : Result kept.Values Stop) (left : List Var)
@@ -109,7 +111,7 @@ goes tape moved arguments (BackTo n) is = refl
 -- a macro call goes where it leads, and raises the alarm of why it leads nowhere
 pub call_goes : (tape : List ControlProgram) (path : PathView) (arguments : List Var) (program repeats : ℕ) (there : Standing)
     → standing_of_call (Some arguments) program repeats (standing_of path) ≡ Ok there
-    → decided path (decision.Macro program repeats arguments) ≡ controlled tape (record { path = path; moves = [] }) (Some arguments) (Call program repeats)
+    → macro_decided path program repeats (Ok arguments) ≡ controlled tape (record { path = path; moves = [] }) (Some arguments) (Call program repeats)
 call_goes tape path arguments program repeats there e = rw e refl
 
 pub call_stays : (tape : List ControlProgram) (path : PathView) (arguments : List Var) (program repeats : ℕ) (cause : Cause)
@@ -118,11 +120,14 @@ pub call_stays : (tape : List ControlProgram) (path : PathView) (arguments : Lis
 call_stays tape path arguments program repeats cause e = rw e refl
 
 -- where the running block has one behind it, whatever was decided may be done
+pub may_take_words : (path : PathView) (what : WordsTurn) → MayPass path.place → MayTakeWords path what
+may_take_words path (turn.Stops stop) may = tt
+may_take_words path (turn.AtWait code) may = tt
+may_take_words path (turn.AtEnd step) may = tt
+may_take_words path (turn.Goes step route) may = may
+
 pub may_take : (path : PathView) (what : Decision) → MayPass path.place → MayTake path what
-may_take path (decision.Need variable) may = tt
-may_take path (decision.AtWait code) may = tt
-may_take path (decision.AtEnd step) may = tt
-may_take path (decision.Alarm number value) may = tt
-may_take path (decision.Words step route) may = may
+may_take path (decision.Stops stop) may = tt
+may_take path (decision.Words turn) may = may_take_words path turn may
 may_take path (decision.Macro program repeats arguments) may = may
 may_take path (decision.Statement step) may = may

@@ -10,5 +10,6 @@ pub mod NeedsWords
 mod StandingLevels
 pub mod Decided
 mod AssignedNext
+mod Protected
 pub mod NextBlocks
 mod StatementCodes

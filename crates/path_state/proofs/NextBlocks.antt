@@ -8,7 +8,7 @@ use Rattle.block_order.specs.declared.program.ControlProgram.{ControlProgram}
 use Rattle.block_order.specs.Order.{blocks, control_at, control_of}
 use Rattle.block_order.specs.Shape.{IsListed, blocks_in}
 use Rattle.block_order.specs.Steps.{standing}
-use Rattle.block_order.specs.PlaceSteps.{MayPass}
+use Rattle.block_order.specs.Frames.{MayPass}
 
 within : (bs : List ControlBlock) (i : ℕ) (c : Control) → control_at bs i ≡ Some c → i < length bs
 within [] i c e = absurd cc

@@ -1,5 +1,5 @@
--- The codes of an assignment behind IF, parted before the last one: those of the condition and of the number on the left, and
--- that of the value.
+-- The codes of an assignment behind IF, parted before the last one: those of the condition and of
+-- the number on the left, and that of the value.
 use Rattle.std.proofs.Common.{◌≡◌, List, [], ◌∷◌, ◌++◌, refl}
 use Rattle.macro_expr.specs.Tree.{Tree, Test, Named, IfThen, evaluated, evaluated_name, evaluated_test}
 

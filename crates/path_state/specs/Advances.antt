@@ -1,31 +1,68 @@
 -- What a path answers to the turn of a block.
-use Rattle.std.specs.Prelude.{◌≡◌, ◌≤◌, ℕ, length}
+use Rattle.std.specs.Prelude.{◌≡◌, ◌≤◌, ℕ, List, [], length}
+use Rattle.nc_moves.specs.declared.motion.Move.{Move}
 use Rattle.nc_moves.specs.declared.motion.Moves.{Moves}
 use Rattle.motion_track.specs.declared.targets.TheConstants.{LONGEST}
 use Rattle.motion_track.specs.Within.{AreMovesWithin}
 use Rattle.path_state.specs.declared.advance.Advance.{Advance}
 use Rattle.path_state.specs.declared.advance.Advance.TheVariants as advance
+use Rattle.path_state.specs.declared.advance.BlockAnswer.{BlockAnswer}
+use Rattle.path_state.specs.declared.advance.BlockAnswer.TheVariants as answer
 use Rattle.path_state.specs.View.{PathView}
 use Rattle.path_state.specs.StatementSteps.{write_seen}
 use Rattle.path_state.specs.Effect.{Effect, Need, Done, AtWait, AtEnd, Alarm}
 
--- an answer, with the path behind it, as an effect
-abbrev pub effect_seen : Advance → PathView → Effect
-effect_seen (advance.Need variable) after = Need variable
-effect_seen (advance.Effect write moves) after = Done after (write_seen write) moves.list
-effect_seen (advance.AtWait code) after = AtWait code
-effect_seen (advance.AtEnd moves) after = AtEnd after moves.list
-effect_seen (advance.Alarm cause value) after = Alarm cause value
+-- an answer and its moves, with the path behind it, as an effect
+abbrev pub effect_told : BlockAnswer → List Move → PathView → Effect
+effect_told (answer.Need variable) moves after = Need variable
+effect_told (answer.Done write) moves after = Done after (write_seen write) moves
+effect_told (answer.AtWait code) moves after = AtWait code
+effect_told answer.AtEnd moves after = AtEnd after moves
+effect_told (answer.Alarm cause value) moves after = Alarm cause value
 
 -- a path that must read first, that is at a wait, or that raises an alarm is as it was
-abbrev pub StaysUnlessDone : Advance → PathView → PathView → Type 0
-StaysUnlessDone (advance.Need variable) before after = after ≡ before
-StaysUnlessDone (advance.Effect write moves) before after = Unit {0}
-StaysUnlessDone (advance.AtWait code) before after = after ≡ before
-StaysUnlessDone (advance.AtEnd moves) before after = Unit {0}
-StaysUnlessDone (advance.Alarm cause value) before after = after ≡ before
+abbrev pub StaysUnlessTold : BlockAnswer → PathView → PathView → Type 0
+StaysUnlessTold (answer.Need variable) before after = after ≡ before
+StaysUnlessTold (answer.Done write) before after = Unit {0}
+StaysUnlessTold (answer.AtWait code) before after = after ≡ before
+StaysUnlessTold answer.AtEnd before after = Unit {0}
+StaysUnlessTold (answer.Alarm cause value) before after = after ≡ before
 
--- the moves of the block at this line: at most seven, which lead to positions and have no I, K or R past the longest length
+-- an answer, and its moves put apart
+abbrev pub answer_of : Advance → BlockAnswer
+answer_of (advance.Need variable) = answer.Need variable
+answer_of (advance.Effect write moves) = answer.Done write
+answer_of (advance.AtWait code) = answer.AtWait code
+answer_of (advance.AtEnd moves) = answer.AtEnd
+answer_of (advance.Alarm cause value) = answer.Alarm cause value
+
+abbrev pub moves_apart : Advance → List Move
+moves_apart (advance.Effect write moves) = moves.list
+moves_apart (advance.AtEnd moves) = moves.list
+moves_apart _ = []
+
+-- an answer, with the path behind it, as an effect
+abbrev pub effect_seen : Advance → PathView → Effect
+effect_seen advance after = effect_told (answer_of advance) (moves_apart advance) after
+
+abbrev pub StaysUnlessDone : Advance → PathView → PathView → Type 0
+StaysUnlessDone advance before after = StaysUnlessTold (answer_of advance) before after
+
+-- the moves of an effect
+abbrev pub moves_of : Effect → List Move
+moves_of (Need variable) = []
+moves_of (Done after write moves) = moves
+moves_of (AtWait code) = []
+moves_of (AtEnd after moves) = moves
+moves_of (Alarm number value) = []
+
+-- at most seven moves, which lead to positions and have no I, K or R past the longest length
+pub record AreFitMoves (moves : List Move) : Type 0 where
+  pub few : length moves ≤ 7
+  pub within : AreMovesWithin LONGEST moves
+
+-- the moves of the block at this line: at most seven, which lead to positions and have no I, K or R
+-- past the longest length
 pub record AreMovesOf (line : ℕ) (moves : Moves) : Type 0 where
   pub here : moves.line ≡ line
   pub few : length moves.list ≤ 7

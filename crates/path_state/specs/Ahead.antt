@@ -6,11 +6,12 @@ use Rattle.block_order.specs.declared.frame.Frame.{Frame}
 use Rattle.block_order.specs.declared.label.Label.TheVariants as label
 use Rattle.block_order.specs.declared.program.ControlProgram.{ControlProgram}
 use Rattle.block_order.specs.Labels.{ahead, list}
-use Rattle.block_order.specs.Steps.{IsPlace, passed, standing}
+use Rattle.block_order.specs.Steps.{IsPlace, place_behind, standing}
 use Rattle.path_state.specs.View.{PathView}
 use Rattle.path_state.specs.Effect.{Effect, Need, Done, AtWait, AtEnd, Alarm}
 
--- from place to place the labels stay, but at an M99 of the main program with no call open they begin anew
+-- from place to place the labels stay, but at an M99 of the main program with no call open they
+-- begin anew
 abbrev pub AheadOf : List ControlProgram → List Frame → Option Control → List Frame → Type 0
 AheadOf tape (f ∷ []) (Some Back) to = (ahead tape (f ∷ []) ≡ label.Again ∷ []) × (ahead tape to ≡ list tape)
 AheadOf tape place control to = ahead tape to ≡ ahead tape place
@@ -21,6 +22,6 @@ KeepsAhead tape path (Need variable) = Unit {0}
 KeepsAhead tape path (Done after write moves) =
     IsPlace tape after.place × AheadOf tape path.place (standing tape path.place) after.place
 KeepsAhead tape path (AtWait code) =
-    IsPlace tape (passed path.place) × (ahead tape path.place ≡ label.Wait code ∷ ahead tape (passed path.place))
+    IsPlace tape (place_behind path.place) × (ahead tape path.place ≡ label.Wait code ∷ ahead tape (place_behind path.place))
 KeepsAhead tape path (AtEnd after moves) = (after.place ≡ path.place) × (ahead tape path.place ≡ label.End ∷ [])
 KeepsAhead tape path (Alarm number value) = Unit {0}

@@ -1,4 +1,5 @@
--- Where an effect leads: the new place is a step of the order of blocks, whatever the path holds and whatever was read.
+-- Where an effect leads: the new place is a step of the order of blocks, whatever the path holds
+-- and whatever was read.
 use Rattle.std.specs.Prelude.{◌≡◌, ◌<◌, true, List, length, Some}
 use Rattle.nc_number.specs.declared.value.Var.{Var}
 use Rattle.block_order.specs.declared.control.Control.TheVariants.{Wait, End}
@@ -9,7 +10,8 @@ use Rattle.path_state.specs.View.{PathView}
 use Rattle.path_state.specs.Looks.{is_shared}
 use Rattle.path_state.specs.Effect.{Effect, Need, Done, AtWait, AtEnd, Alarm, effect_of}
 
--- a block that is done leads where the order of blocks allows; a path is at a wait or an end where it stands on one
+-- a block that is done leads where the order of blocks allows; a path is at a wait or an end where
+-- it stands on one
 abbrev pub GoesAsOrdered : List ControlProgram → PathView → Effect → Type 0
 GoesAsOrdered tape path (Need variable) = Unit {0}
 GoesAsOrdered tape path (Done after write moves) = Step tape path.place after.place

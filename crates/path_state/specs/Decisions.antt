@@ -1,9 +1,13 @@
--- What a decision of the code comes to, as an effect.
+-- What a decision of the code comes to, as an effect. The moves stand apart, in a list that was
+-- lent.
 use Rattle.std.specs.Prelude.{ℕ, List, [], Some, None, Result, Ok, Err}
 use Rattle.nc_number.specs.declared.value.Var.{Var}
 use Rattle.code_tables.specs.declared.system.System.{System}
-use Rattle.block_order.specs.PlaceSteps.{MayPass}
+use Rattle.block_order.specs.Frames.{MayPass}
+use Rattle.nc_moves.specs.declared.motion.Move.{Move}
 use Rattle.path_state.specs.declared.words_step.WordsStep.{WordsStep}
+use Rattle.path_state.specs.declared.words_step.WordsTurn.{WordsTurn}
+use Rattle.path_state.specs.declared.words_step.WordsTurn.TheVariants as turn
 use Rattle.path_state.specs.declared.decision.Decision.{Decision}
 use Rattle.path_state.specs.declared.decision.Decision.TheVariants as decision
 use Rattle.block_values.specs.declared.outcome.Stop.{Stop}
@@ -17,7 +21,8 @@ use Rattle.path_state.specs.View.{PathView}
 use Rattle.path_state.specs.declared.route.Route.TheVariants.{Call}
 use Rattle.path_state.specs.Routes.{route_end}
 use Rattle.path_state.specs.Standing.{standing_of, with_standing}
-use Rattle.path_state.specs.StatementSteps.{after_step, done_at}
+use Rattle.path_state.specs.Statements.{After}
+use Rattle.path_state.specs.StatementSteps.{after_step}
 use Rattle.path_state.specs.Effect.{Effect, Need, Done, AtWait, AtEnd, Alarm, Moved, acted, controlled, of_moved, with_set_offset}
 
 -- the path behind the words of a block, at the same place
@@ -29,9 +34,9 @@ behind_words path step = record path {
 }
 
 -- what words do, or the number of their alarm
-abbrev pub moved_seen : PathView → Result WordsStep ℕ → Result Moved ℕ
-moved_seen path (Ok step) = Ok (record { path = behind_words path step; moves = step.moves })
-moved_seen path (Err number) = Err number
+abbrev pub moved_seen : PathView → Result WordsStep ℕ → List Move → Result Moved ℕ
+moved_seen path (Ok step) moves = Ok (record { path = behind_words path step; moves = moves })
+moved_seen path (Err number) moves = Err number
 
 -- the need or the alarm at which a step stopped
 abbrev pub stopped : Stop → Effect
@@ -50,21 +55,38 @@ of_arguments_said tape path control (Ok arguments) =
     controlled tape (record { path = path; moves = [] }) (Some arguments) control
 of_arguments_said tape path control (Err stop) = stopped stop
 
--- a decision as an effect
-abbrev pub decided : PathView → Decision → Effect
-decided path (decision.Need variable) = Need variable
-decided path (decision.AtWait code) = AtWait code
-decided path (decision.AtEnd step) = AtEnd (behind_words path step) step.moves
-decided path (decision.Alarm number value) = Alarm number value
-decided path (decision.Words step route) =
-    Done (with_standing (behind_words path step) (route_end (standing_of path) None route)) None step.moves
-decided path (decision.Macro program repeats arguments) =
+-- a macro call that was decided, with these arguments or without them
+abbrev pub macro_decided : PathView → ℕ → ℕ → Result (List Var) Stop → Effect
+macro_decided path program repeats (Ok arguments) =
     Done (with_standing path (route_end (standing_of path) (Some arguments) (Call program repeats))) None []
-decided path (decision.Statement step) = done_at (after_step path step)
+macro_decided path program repeats (Err stop) = stopped stop
+
+-- what was decided of words, with these moves, as an effect
+abbrev pub words_decided : PathView → WordsTurn → List Move → Effect
+words_decided path (turn.Stops stop) moves = stopped stop
+words_decided path (turn.AtWait code) moves = AtWait code
+words_decided path (turn.AtEnd step) moves = AtEnd (behind_words path step) moves
+words_decided path (turn.Goes step route) moves =
+    Done (with_standing (behind_words path step) (route_end (standing_of path) None route)) None moves
+
+abbrev pub done_with : After → List Move → Effect
+done_with after moves = Done after.path after.write moves
+
+-- what was decided of a block, with these moves, as an effect
+abbrev pub decided : PathView → Decision → List Move → Effect
+decided path (decision.Stops stop) moves = stopped stop
+decided path (decision.Words turn) moves = words_decided path turn moves
+decided path (decision.Macro program repeats arguments) moves =
+    Done (with_standing path (route_end (standing_of path) (Some arguments) (Call program repeats))) None moves
+decided path (decision.Statement step) moves = done_with (after_step path step) moves
 
 -- where control goes on from a block, there is a number for the one behind it
+abbrev pub MayTakeWords : PathView → WordsTurn → Type 0
+MayTakeWords path (turn.Goes step route) = MayPass path.place
+MayTakeWords path _ = Unit {0}
+
 abbrev pub MayTake : PathView → Decision → Type 0
-MayTake path (decision.Words step route) = MayPass path.place
+MayTake path (decision.Stops stop) = Unit {0}
+MayTake path (decision.Words turn) = MayTakeWords path turn
 MayTake path (decision.Macro program repeats arguments) = MayPass path.place
 MayTake path (decision.Statement step) = MayPass path.place
-MayTake path _ = Unit {0}

@@ -34,7 +34,8 @@ shared_write fixed (Offset slot to) = None
 shared_write fixed (Common variable to) =
     if is_shared fixed variable then Some (record { variable = variable; value = to }) else None
 
--- control goes on where it was going: place, calls, local variables, what is in force, position and what is fixed stay
+-- control goes on where it was going: place, calls, local variables, what is in force, position and
+-- what is fixed stay
 pub record KeepsControl (before after : PathView) : Type 0 where
   pub place : after.place ≡ before.place
   pub calls : after.calls ≡ before.calls

@@ -78,7 +78,8 @@ motion_with fixed path system words values (Ok modal) =
     (motion_of fixed.home path.position path.offsets modal (motion_kind modal (one_shot system words)) (has (codes "L") words) values)
 motion_with fixed path system words values (Err number) = Err number
 
--- the modal state and then the motion of a block whose words are evaluated, its G codes those of the system
+-- the modal state and then the motion of a block whose words are evaluated, its G codes those of
+-- the system
 abbrev pub acted : Fixed → PathView → System → List FlowWord → Values → Result Moved ℕ
 acted fixed path system words values =
     motion_with fixed path system words values (modal_after path.modal system words values)

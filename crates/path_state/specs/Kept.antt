@@ -25,8 +25,8 @@ path_of standing own modal offsets position fixed = record {
   fixed = fixed_of fixed;
 }
 
--- Its turret and its reference position are positions, the paths share at most 100 and 500 variables, and its levels are those
--- of its calls of macros.
+-- Its turret and its reference position are positions, the paths share at most 100 and 500
+-- variables, and its levels are those of its calls of macros.
 pub record IsKept (path : PathView) : Type 0 where
   pub position : IsPosition path.position
   pub home : IsPosition path.fixed.home

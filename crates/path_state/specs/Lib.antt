@@ -16,3 +16,4 @@ pub mod Controlled
 pub mod Edits
 pub mod Ahead
 pub mod Worked
+pub mod Protected

@@ -2,19 +2,18 @@
 use Rattle.std.specs.Prelude.{ℕ, List, [], ◌∷◌, slice_index_or, if◌then◌else◌}
 use Rattle.nc_number.specs.declared.path.Path.{Path}
 use Rattle.nc_number.specs.declared.point.Point.{Point}
-use Rattle.nc_number.specs.Path.{index_of}
+use Rattle.nc_number.specs.Path.{index_of, is_same}
+use Rattle.nc_number.specs.Position.{origin}
 use Rattle.cell_settings.specs.declared.preset.Preset.{Preset}
 use Rattle.cell_settings.specs.declared.preset.PresetKind.{PresetKind}
 use Rattle.cell_settings.specs.declared.preset.PresetKind.TheVariants as kind
 use Rattle.cell_settings.specs.declared.settings.Settings.{Settings}
-use Rattle.cell_settings.specs.Preset.{is_path}
 use Rattle.common_vars.specs.Common.{none_written}
 use Rattle.local_levels.specs.Stack.{base_level}
 use Rattle.modal_state.specs.Modal.{opening_modal}
 use Rattle.offset_store.specs.declared.slot.Slot.{Slot}
 use Rattle.offset_store.specs.declared.slot.Slot.TheVariants.{Work, Geometry, Wear}
 use Rattle.offset_store.specs.Table.{OffsetTable}
-use Rattle.offset_store.specs.Lists.{origin}
 use Rattle.offset_store.specs.Offsets.{no_offsets}
 use Rattle.offset_store.specs.Changes.{with_point}
 use Rattle.block_order.specs.Labels.{start}
@@ -29,7 +28,7 @@ preset_slot kind.Wear n = Wear n
 
 abbrev pub with_preset : Path → Preset → OffsetTable → OffsetTable
 with_preset path preset offsets =
-    if is_path preset.path path then with_point offsets (preset_slot preset.kind preset.number) preset.to else offsets
+    if is_same preset.path path then with_point offsets (preset_slot preset.kind preset.number) preset.to else offsets
 
 -- the offsets with those that the settings have for the path
 abbrev pub with_presets : Path → List Preset → OffsetTable → OffsetTable
@@ -40,8 +39,8 @@ with_presets path (preset ∷ presets) offsets = with_presets path presets (with
 abbrev pub point_of : Path → List Point → Point
 point_of path points = slice_index_or points (index_of path) origin
 
--- A path at the first block of its main program, with nothing said: its system of G codes, its turret and its offsets are as the
--- settings have them.
+-- A path at the first block of its main program, with nothing said: its system of G codes, its
+-- turret and its offsets are as the settings have them.
 abbrev pub opening_path : Flow → Settings → Path → PathView
 opening_path flow settings path = record {
   place = start flow.order;

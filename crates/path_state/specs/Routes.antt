@@ -2,7 +2,7 @@
 use Rattle.std.specs.Prelude.{List, Option, Result, Ok, Err}
 use Rattle.nc_number.specs.declared.cause.Cause.{Cause}
 use Rattle.nc_number.specs.declared.value.Var.{Var}
-use Rattle.block_order.specs.Moves.{passed, place_at, place_of_caller}
+use Rattle.block_order.specs.Moves.{place_behind, place_at, place_of_caller}
 use Rattle.path_state.specs.declared.route.Route.{Route}
 use Rattle.path_state.specs.declared.route.Route.TheVariants.{Next, Call, Back, BackTo}
 use Rattle.path_state.specs.Standing.{Standing, elsewhere, without_call, standing_of_call, standing_of_return}
@@ -13,7 +13,7 @@ or_stays standing (Err cause) = standing
 
 -- where a route leads; a call of a macro has its arguments
 abbrev pub route_end : Standing → Option (List Var) → Route → Standing
-route_end standing arguments Next = elsewhere standing (passed standing.place)
+route_end standing arguments Next = elsewhere standing (place_behind standing.place)
 route_end standing arguments (Call program repeats) =
     or_stays standing (standing_of_call arguments program repeats standing)
 route_end standing arguments Back = standing_of_return standing

@@ -1,4 +1,5 @@
--- Where a path stands: its place, with its calls and their levels of local variables; and where it stands behind a block of words.
+-- Where a path stands: its place, with its calls and their levels of local variables; and where it
+-- stands behind a block of words.
 use Rattle.std.specs.Prelude.{◌≡◌, ℕ, zero, suc, ◌+◌, List, [], ◌∷◌, length, Option, Some, None, Result, Ok, Err}
 use Rattle.nc_number.specs.declared.cause.Cause.{Cause}
 use Rattle.nc_number.specs.declared.value.Var.{Var}
@@ -8,7 +9,7 @@ use Rattle.block_order.specs.declared.control.Control.{Control}
 use Rattle.block_order.specs.declared.control.Control.TheVariants.{Call, Back, BackTo}
 use Rattle.block_order.specs.declared.frame.Frame.{Frame}
 use Rattle.block_order.specs.declared.program.ControlProgram.{ControlProgram}
-use Rattle.block_order.specs.Moves.{passed, place_of_call, place_of_return, place_of_jump_back}
+use Rattle.block_order.specs.Moves.{place_behind, place_of_call, place_of_return, place_of_jump_back}
 use Rattle.local_levels.specs.declared.stack.Level.{Level}
 use Rattle.local_levels.specs.Stack.{opened, reopened, closed}
 use Rattle.path_state.specs.View.{PathView}
@@ -93,7 +94,7 @@ standing_behind tape standing arguments (Call program repeats) = standing_of_cal
 standing_behind tape standing arguments Back = Ok (standing_of_return standing)
 standing_behind tape standing arguments (BackTo n) =
     standing_at (without_call standing) (place_of_jump_back tape n standing.place)
-standing_behind tape standing arguments other = Ok (elsewhere standing (passed standing.place))
+standing_behind tape standing arguments other = Ok (elsewhere standing (place_behind standing.place))
 
 -- how many of these calls are calls of macros
 abbrev pub macros : List CallKind → ℕ
@@ -101,7 +102,8 @@ macros [] = 0
 macros (Macro ∷ calls) = suc (macros calls)
 macros (Subprogram ∷ calls) = macros calls
 
--- each frame but the main program's has its kind of call, and each call of a macro its level above the base level
+-- each frame but the main program's has its kind of call, and each call of a macro its level above
+-- the base level
 pub record IsMatched (standing : Standing) : Type 0 where
   pub calls : length standing.calls + 1 ≡ length standing.place
   pub levels : macros standing.calls + 1 ≡ length standing.levels

@@ -11,7 +11,7 @@ use Rattle.block_values.specs.Outcomes.{Outcome, Gives, ◌>>=◌}
 use Rattle.path_state.specs.Said.{evaluated}
 use Rattle.common_vars.specs.declared.variable.Variable.{Variable}
 use Rattle.macro_expr.specs.Tree.{Tree}
-use Rattle.block_order.specs.Moves.{passed, place_at}
+use Rattle.block_order.specs.Moves.{place_behind, place_at}
 use Rattle.path_state.specs.Statements as statements
 use Rattle.path_state.specs.Statements.{After, after_move, written, then_next}
 use Rattle.path_state.specs.Effect.{Effect, Need, Done, Alarm}
@@ -21,10 +21,11 @@ use Rattle.path_state.specs.Writings.{after_change}
 abbrev pub after_writing : PathView → Writing → After
 after_writing path writing = after_change path writing.change
 
--- a path behind a statement: a variable took a value and the next block follows, or control goes somewhere
+-- a path behind a statement: a variable took a value and the next block follows, or control goes
+-- somewhere
 abbrev pub after_step : PathView → StatementStep → After
 after_step path (Write writing) = then_next (after_writing path writing)
-after_step path Next = after_move path (passed path.place)
+after_step path Next = after_move path (place_behind path.place)
 after_step path (To block) = after_move path (place_at block path.place)
 
 abbrev pub done_at : After → Effect

@@ -20,7 +20,7 @@ use Rattle.offset_store.specs.declared.fault.OffsetFault.{OffsetFault}
 use Rattle.offset_store.specs.Changes.{changed_point, in_range, point_at, with_point}
 use Rattle.block_order.specs.declared.frame.Frame.{Frame}
 use Rattle.block_order.specs.declared.program.ControlProgram.{ControlProgram}
-use Rattle.block_order.specs.Moves.{passed, place_of_jump, place_behind_loop, place_of_head}
+use Rattle.block_order.specs.Moves.{place_behind, place_of_jump, place_behind_loop, place_of_head}
 use Rattle.path_state.specs.View.{Fixed, PathView}
 use Rattle.block_values.specs.Operands.{variable_with, length_of, condition_with, sequence_with}
 use Rattle.path_state.specs.Looks.{is_shared, look_of}
@@ -71,7 +71,8 @@ written fixed path (variable.Work n axis) value left =
 written fixed path variable.Raise value left = Alarms (cause_number MacroAlarm) (or_zero value)
 written fixed path other value left = alarm Protected
 
--- an assignment: the left side, its number in existence (30), the value, and then the writing (31, 33, 41)
+-- an assignment: the left side, its number in existence (30), the value, and then the writing (31,
+-- 33, 41)
 abbrev pub assigned : Fixed → PathView → Named → Tree → List Var → Outcome After
 assigned fixed path name tree reads =
     named fixed path name reads >>= λ variable behind_name.
@@ -96,11 +97,11 @@ jump_effect tape fixed path aim reads =
     aimed fixed path aim reads >>= λ n left. move_effect path (place_of_jump tape n path.place) left
 
 abbrev pub next_effect : PathView → List Var → Outcome After
-next_effect path left = Gives (after_move path (passed path.place)) left
+next_effect path left = Gives (after_move path (place_behind path.place)) left
 
 -- an assignment, and then the next block
 abbrev pub then_next : After → After
-then_next after = record after { path = record after.path { place = passed after.path.place } }
+then_next after = record after { path = record after.path { place = place_behind after.path.place } }
 
 abbrev pub assigned_next : Fixed → PathView → Named → Tree → List Var → Outcome After
 assigned_next fixed path name tree reads = assigned fixed path name tree reads >>= λ after left. Gives (then_next after) left

@@ -8,7 +8,8 @@ use Rattle.local_levels.specs.declared.stack.Level.{Level}
 use Rattle.modal_state.specs.View.{ModalView}
 use Rattle.offset_store.specs.Table.{OffsetTable}
 
--- what is fixed for a path: its reference position, and how many variables from #100 and from #500 on both paths share
+-- what is fixed for a path: its reference position, and how many variables from #100 and from #500
+-- on both paths share
 pub record Fixed : Type 0 where
   pub home : Point
   pub shared100 : ℕ
@@ -18,7 +19,8 @@ pub record Fixed : Type 0 where
 pub record PathView : Type 0 where
   -- the frames of its place, the running one first
   pub place : List Frame
-  -- for each open call, the inner one first, whether G65 opened it: then it has a level of local variables
+  -- for each open call, the inner one first, whether G65 opened it: then it has a level of local
+  -- variables
   pub calls : List CallKind
   -- the levels of local variables, the running one first
   pub levels : List Level

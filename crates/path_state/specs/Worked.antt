@@ -114,7 +114,8 @@ pub record WorkedBlocks : Type 0 where
   pub argument : local_in 1 (block_of_words [] cell (path_at (point (pos 0) (pos 0))) MacroCall A
       (written 71 (pos 65000000) ∷ written 80 (pos 1000000000) ∷ written 65 (pos 1000000) ∷ []) (Call 1000 1) [])
       ≡ Is (pos 1000000)
-  -- T0101 with the geometry of tool 1 at X-1.: the programmed X is 10. where the machine stands at 9.
+  -- T0101 with the geometry of tool 1 at X-1.: the programmed X is 10. where the machine stands at
+  -- 9.
   pub programmed : local_in 1 (statement_done
       (record (path_at (point (pos 9000) (pos 0))) {
         modal = record (opening_modal A) { tool = 101; offset = 1 };
@@ -144,7 +145,8 @@ pub record WorkedBlocks : Type 0 where
   pub speed : moves_in (words_done (path_at (point (pos 0) (pos 0)))
       (written 71 (pos 96000000) ∷ written 83 (pos 200000000) ∷ written 77 (pos 3000000) ∷ []))
       ≡ move.Speed true 200 ∷ move.Aux 3 ∷ []
-  -- M99 in a macro with a repeat left begins it anew, with its arguments; without one it returns behind the call
+  -- M99 in a macro with a repeat left begins it anew, with its arguments; without one it returns
+  -- behind the call
   pub repeats : place_in (block_of_words [] cell
       (record (path_at (point (pos 0) (pos 0))) {
         place = record { program = 2; block = 7; left = 1 } ∷ record { program = 1; block = 4; left = 0 } ∷ [];
@@ -162,8 +164,8 @@ pub record WorkedBlocks : Type 0 where
   -- M30 with a word beside it acts, and stays
   pub ends : moves_in (block_of_words [] cell (path_at (point (pos 0) (pos 0))) Other A
       (written 88 (pos 1000000) ∷ written 77 (pos 30000000) ∷ []) End []) ≡ move.Rapid (point (pos 1000) (pos 0)) ∷ []
-  -- Of system B: G91 G01 X-5. Z-1. F0.2 goes so far, G77 X40. Z-20. F0.2 is the cycle that G90 is in A, G91 G53 X0 is alarm 56,
-  -- and so is G91 G53 alone.
+  -- Of system B: G91 G01 X-5. Z-1. F0.2 goes so far, G77 X40. Z-20. F0.2 is the cycle that G90 is
+  -- in A, G91 G53 X0 is alarm 56, and so is G91 G53 alone.
   pub incremental : moves_in (done_in_b (written 71 (pos 91000000) ∷ written 71 (pos 1000000) ∷ written 88 (minus 5000000)
       ∷ written 90 (minus 1000000) ∷ written 70 (pos 200000) ∷ []))
       ≡ move.Feed (point (pos 45000) (pos 1000)) (pos 200000) true ∷ []
@@ -173,7 +175,8 @@ pub record WorkedBlocks : Type 0 where
       ∷ move.Feed (point (pos 50000) (negsuc 19999)) (pos 200000) true ∷ move.Rapid (point (pos 50000) (pos 2000)) ∷ []
   pub in_machine : done_in_b (written 71 (pos 91000000) ∷ written 71 (pos 53000000) ∷ written 88 (pos 0) ∷ []) ≡ Alarm 56 (pos 0)
   pub in_machine_alone : done_in_b (written 71 (pos 91000000) ∷ written 71 (pos 53000000) ∷ []) ≡ Alarm 56 (pos 0)
-  -- #1=#4003 is 90 at first in system B, and alarm 30 in A; #4003=0 is alarm 31 in B, and alarm 30 in A
+  -- #1=#4003 is 90 at first in system B, and alarm 30 in A; #4003=0 is alarm 31 in B, and alarm 30
+  -- in A
   pub absolute_in_b : local_in 1 (statement_done (path_of B (point (pos 0) (pos 0))) (Assign (Numbered 1) (Variable 4003)) [])
       ≡ Is (pos 90000000)
   pub absolute_in_a : statement_done (path_at (point (pos 0) (pos 0))) (Assign (Numbered 1) (Variable 4003)) [] ≡ Alarm 30 (pos 0)

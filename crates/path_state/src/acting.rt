@@ -1,5 +1,5 @@
 //! What the words of a block do: its codes, its settings, its motion and all its moves.
-ghost use Rattle.std.specs.Prelude.{◌≡◌, ◌≤◌, Ok, IfOk, IfSome, length, codes};
+ghost use Rattle.std.specs.Prelude.{◌≡◌, ◌≤◌, Ok, IfOk, OnErr, IfSome, length, codes};
 ghost use Rattle.nc_number.specs.Position.{IsPosition};
 ghost use Rattle.motion_track.specs.Within.{AreMovesWithin};
 ghost use Rattle.path_state.specs.Effect.{acted, moved_by};
@@ -8,6 +8,7 @@ ghost use Rattle.block_words.specs.Words.{has};
 ghost use Rattle.block_values.specs.Motion.{motion_kind, motion_of};
 ghost use Rattle.block_values.specs.Drawn.{motion_view, seen};
 ghost use Rattle.path_state.specs.Decisions.{moved_seen};
+ghost use Rattle.path_state.specs.Advances.{AreFitMoves};
 ghost use Rattle.path_state.specs.Fits.{IsFit};
 ghost use Rattle.block_values.specs.Seen.{values_seen};
 ghost use Rattle.block_values.specs.Within.{AreLengthsSaid};
@@ -18,6 +19,7 @@ use block_forms::FlowWords;
 use block_values::{Motion, Values, last_end, modal_behind, motion_behind, moves_behind};
 use modal_state::Modal;
 use motion_track::LONGEST;
+use nc_moves::MoveList;
 
 impl PathState {
     /// The motion of a block of these words, where this is in force behind its codes and words.
@@ -41,44 +43,53 @@ impl PathState {
         )
     }
 
-    /// What the words of a block do: its codes are taken, then F, S and T, then its motion. It looks
-    /// only.
+    /// What the words of a block do: its codes are taken, then F, S and T, then its motion. It
+    /// looks only, and puts the moves into the list.
     ///
-    /// Alarms, as their numbers: 40 of T; 40 and 41 of the setting of an offset; 41, 43, 42, 44 and 56 of
-    /// the motion.
-    pub(crate) fn words_step(&self, words: &FlowWords, values: &Values) -> Result<WordsStep, u8>
-        requires { AreLengthsSaid values.now }
+    /// Alarms, as their numbers: 40 of T; 40 and 41 of the setting of an offset; 41, 43, 42, 44 and
+    /// 56 of the motion.
+    pub(crate) fn words_step(
+        &self,
+        words: &FlowWords,
+        values: &Values,
+        moves: &mut MoveList,
+    ) -> Result<WordsStep, u8>
+        requires lengths { AreLengthsSaid values.now }
         ensures fit { IfOk result IsFit }
-        ensures acted { moved_seen self.now result ≡ acted self.now.fixed self.now words.now.dialect.system
+        ensures acted { moved_seen self.now result moves.new ≡ acted self.now.fixed self.now words.now.dialect.system
             words.now.words (values_seen values.now) }
+        ensures moves { AreFitMoves moves.old → AreFitMoves moves.new }
+        ensures still { OnErr result (moves.new ≡ moves.old) }
     {
         let modal = match modal_behind(&self.modal, words, values) {
             Ok(modal) => modal,
             Err(number) => return Err(number),
         };
         match &self.motion(&modal, words, values) {
-            Ok(motion) => Ok(self.step_of(modal, motion, words, values)),
+            Ok(motion) => Ok(self.step_of(modal, motion, words, values, moves)),
             Err(number) => Err(*number),
         }
     }
 
-    /// The step of a block whose motion is known.
+    /// The step of a block whose motion is known, and its moves.
     fn step_of(
         &self,
         modal: Modal,
         motion: &Motion,
         words: &FlowWords,
         values: &Values,
+        moves: &mut MoveList,
     ) -> WordsStep
         requires few { length motion.now.moves ≤ 4 }
         requires within { AreMovesWithin LONGEST motion.now.moves }
         requires cycle { IfSome motion.now.cycle IsPosition }
         requires offset { IfSome motion.now.offset (λ set. IsPosition set.1) }
         ensures fit { IsFit result }
-        ensures moved { moved_seen self.now (Ok result) ≡ Ok (moved_by self.now modal words.now.dialect.system
-            words.now.words (values_seen values.now) (motion_view motion.now)) }
+        ensures moved { moved_seen self.now (Ok result) moves.new ≡ Ok (moved_by self.now modal
+            words.now.dialect.system words.now.words (values_seen values.now) (motion_view motion.now)) }
+        ensures moves { AreFitMoves moves.new }
     {
-        let moves = moves_behind(words, values, &modal, &motion.moves);
+        moves_behind(words, values, &modal, &motion.moves, moves);
         let position = last_end(self.position, moves.as_slice());
         let mut after = modal;
         after.set_cycle(motion.cycle);
@@ -86,7 +97,6 @@ impl PathState {
             modal: after,
             offset: motion.offset,
             position,
-            moves,
         }
     }
 }

@@ -23,8 +23,8 @@ ghost use Rattle.path_state.specs.Controlled.{IsControlled, KeepsFixed, AsksForS
 ghost use Rattle.path_state.specs.Ahead.{KeepsAhead};
 
 /// Whatever a path holds and whatever was read, a block that is done leads where the order of the
-/// flow's blocks allows, and a path is at a wait or an end where it stands on one; what is fixed for
-/// the path stays.
+/// flow's blocks allows, and a path is at a wait or an end where it stands on one; what is fixed
+/// for the path stays.
 pub fn control_goes_as_the_flow_orders()
     ensures control { (flow : Flow) → IsControlled flow }
     ensures fixed { (flow : Flow) (path : PathView) (reads : List Var)
@@ -44,9 +44,9 @@ pub fn waits_and_ends_stop_a_path()
         → standing flow.order path.place ≡ None → effect_of flow path reads ≡ past_the_last }
 {}
 
-/// Where all runs of a flow come to one list of labels, a block that is done keeps the labels ahead of
-/// its path, but for an M99 of the main program with no call open; a path is at a wait only where they
-/// begin with it, and at an end where they are that end alone.
+/// Where all runs of a flow come to one list of labels, a block that is done keeps the labels ahead
+/// of its path, but for an M99 of the main program with no call open; a path is at a wait only
+/// where they begin with it, and at an end where they are that end alone.
 pub fn each_block_keeps_the_labels()
     ensures { (flow : Flow) → IsUnforked flow.order → (path : PathView) (reads : List Var)
         → IsPlace flow.order path.place → KeepsAhead flow.order path (effect_of flow path reads) }

@@ -1,7 +1,8 @@
 //! What a block comes to, decided before anything changes.
-ghost use Rattle.std.specs.Prelude.{◌≡◌, false, List, [], None, Some, IsNone, IsSome, IfSome, IfOk, pos};
+ghost use Rattle.std.specs.Prelude.{◌≡◌, false, List, [], None, Some, IsNone, IsSome, IfSome, IfOk};
+ghost use Rattle.nc_moves.specs.declared.motion.Move.{Move};
 ghost use Rattle.std.specs.Option.{option_copied};
-ghost use Rattle.block_order.specs.PlaceSteps.{MayPass};
+ghost use Rattle.block_order.specs.Frames.{MayPass};
 ghost use Rattle.block_words.specs.declared.purpose.Purpose.TheVariants.{MacroCall};
 ghost use Rattle.block_forms.specs.Controls.{control_of_words};
 ghost use Rattle.block_order.specs.declared.control.Control.{Control};
@@ -10,11 +11,11 @@ ghost use Rattle.block_words.specs.Codes.{rows};
 ghost use Rattle.code_tables.specs.Kinds.{is_arc};
 ghost use Rattle.modal_state.specs.Modal.{motion_after};
 ghost use Rattle.path_state.specs.View.{PathView};
-ghost use Rattle.path_state.specs.Effect.{Alarm, acted, alarm_of, block_at, block_of_words, controlled, effect_of, effect_of_body, macro_effect, of_after, of_moved, words_effect};
-ghost use Rattle.path_state.specs.Decisions.{behind_words, decided, of_arguments_said, of_said, stopped, MayTake};
-ghost use Rattle.path_state.specs.Statements.{statement_effect};
-ghost use Rattle.path_state.specs.Fits.{HasFitWords, IsFit};
-ghost use Rattle.macro_expr.specs.Tree.{sentence_of};
+ghost use Rattle.path_state.specs.Advances.{moves_of, effect_told, path_after, AreFitMoves};
+ghost use Rattle.path_state.specs.Effect.{Alarm, acted, block_at, block_of_words, controlled, effect_of, effect_of_body, macro_effect, of_moved, words_effect};
+ghost use Rattle.path_state.specs.Decisions.{behind_words, decided, macro_decided, words_decided, of_arguments_said, of_said, stopped, MayTake};
+ghost use Rattle.path_state.specs.StatementSteps.{after_step, write_seen};
+ghost use Rattle.path_state.specs.Fits.{HasFitWords, IsFit, IsFitTurn};
 ghost use Rattle.nc_number.specs.declared.value.Var.{Var};
 ghost use Rattle.block_order.specs.declared.control.Control.TheVariants as Control;
 ghost use Rattle.path_state.specs.Said.{sense_of};
@@ -22,34 +23,26 @@ ghost use Rattle.block_values.specs.Purposes.{is_macro_call};
 ghost use Rattle.block_values.specs.Seen.{sense_seen, values_seen};
 ghost use Rattle.block_values.specs.Within.{AreLengthsSaid};
 
+use crate::advance::BlockAnswer;
 use crate::path::{PathState, blocks_have_next};
-use crate::route::Route;
-use crate::words_step::WordsStep;
-use crate::writing::StatementStep;
-use block_forms::{FlowBlock, FlowBody, FlowStatement, FlowWords, Purpose};
+use crate::words_step::{WordsStep, WordsTurn};
+use crate::writing::{Change, StatementStep};
+use block_forms::{FlowBlock, FlowBody, FlowWords, Purpose};
 use block_order::{BlockOrder, Control};
 use block_values::{Sense, Stop, Values, arguments_taken, words_taken};
 use local_levels::LOCALS;
-use nc_number::{Cause, Value, Var};
+use nc_moves::MoveList;
+use nc_number::{Cause, Var};
 use tape_flow::Flow;
 
-/// What the block at which a path stands comes to. [`decide`](PathState::decide) looks, and
-/// [`take`](PathState::take) does it.
+/// What the block at which a path stands comes to, its moves apart. [`decide`](PathState::decide)
+/// looks, and [`take`](PathState::take) does it.
 #[derive(Drop)]
 pub enum Decision {
-    /// This shared variable must be read next.
-    Need(u32),
-    /// The path is at a wait of this code.
-    AtWait(u16),
-    /// The path is at its end, behind these words.
-    AtEnd(WordsStep),
-    /// An alarm, and its value, which is 0 but for 33.
-    Alarm {
-        number: u8,
-        value: Value,
-    },
-    /// Words are done, and control goes on.
-    Words(WordsStep, Route),
+    /// It must read first, or raises an alarm.
+    Stops(Stop),
+    /// It is words that call no macro.
+    Words(WordsTurn),
     /// A macro is called so many times with these arguments.
     Macro {
         program: u16,
@@ -60,43 +53,65 @@ pub enum Decision {
     Statement(StatementStep),
 }
 
+/// The answer of a step that stopped.
+pub(crate) fn answer_of_stop(stop: Stop) -> BlockAnswer
+    ensures { (moves : List Move) (after : PathView) → effect_told result moves after ≡ stopped stop }
+{
+    match stop {
+        Stop::Needs(variable) => BlockAnswer::Need(variable),
+        Stop::Alarms { number, value } => BlockAnswer::Alarm {
+            cause: number,
+            value,
+        },
+    }
+}
+
+/// The answer of words of which this was decided.
+pub(crate) fn answer_of_words(turn: &WordsTurn) -> BlockAnswer
+    ensures { (path : PathView) (moves : List Move)
+        → effect_told result moves (path_after path (words_decided path turn.now moves))
+        ≡ words_decided path turn.now moves }
+{
+    match turn {
+        WordsTurn::Stops(stop) => answer_of_stop(*stop),
+        WordsTurn::AtWait(code) => BlockAnswer::AtWait(*code),
+        WordsTurn::AtEnd(_) => BlockAnswer::AtEnd,
+        WordsTurn::Goes(_, _) => BlockAnswer::Done(None),
+    }
+}
+
+/// What a statement writes to a shared variable.
+fn shared_write(step: &StatementStep) -> Option<(u32, Var)>
+    ensures { (path : PathView) → write_seen result ≡ (after_step path step.now).write }
+{
+    match step {
+        StatementStep::Write(writing) => match writing.change {
+            Change::Shared(v, value) => Some((v, value)),
+            _ => None,
+        },
+        StatementStep::Next => None,
+        StatementStep::To(_) => None,
+    }
+}
+
 impl Decision {
-    /// The alarm of this number, whose value is 0.
-    fn fault(number: u8) -> Decision
-        ensures fit { HasFitWords result }
-        ensures may { (path : PathView) → MayTake path result }
-        ensures decided { (path : PathView) → decided path result ≡ Alarm number (pos 0) }
+    /// What the path will answer that does it.
+    pub fn answer(&self) -> BlockAnswer
+        ensures { (path : PathView) (moves : List Move)
+            → effect_told result moves (path_after path (decided path self.now moves)) ≡ decided path self.now moves }
     {
-        Decision::Alarm {
-            number,
-            value: Value::zero(),
-        }
-    }
-
-    /// The alarm of the cause.
-    fn alarm(cause: Cause) -> Decision
-        ensures fit { HasFitWords result }
-        ensures may { (path : PathView) → MayTake path result }
-        ensures decided { (path : PathView) → decided path result ≡ alarm_of cause }
-    {
-        Decision::fault(cause.number())
-    }
-
-    /// The need or the alarm at which a step stopped.
-    fn of_stop(stop: Stop) -> Decision
-        ensures fit { HasFitWords result }
-        ensures decided { (path : PathView) → decided path result ≡ stopped stop }
-    {
-        match stop {
-            Stop::Needs(variable) => Decision::Need(variable),
-            Stop::Alarms { number, value } => Decision::Alarm { number, value },
+        match self {
+            Decision::Stops(stop) => answer_of_stop(*stop),
+            Decision::Words(turn) => answer_of_words(turn),
+            Decision::Macro { .. } => BlockAnswer::Done(None),
+            Decision::Statement(step) => BlockAnswer::Done(shared_write(step)),
         }
     }
 }
 
 /// The program that a block of words calls as a macro, and how many times.
 #[tactic(auto, using(crate::proofs::Decided::called))]
-fn macro_call(words: &FlowWords, control: Control) -> Option<(u16, u16)>
+pub(crate) fn macro_call(words: &FlowWords, control: Control) -> Option<(u16, u16)>
     requires { control ≡ control_of_words words.now.dialect words.now.words }
     ensures some { IfSome result
         (λ call. (words.now.purpose ≡ MacroCall) × (control ≡ Control.Call call.0 call.1)) }
@@ -157,21 +172,20 @@ impl PathState {
 
     /// A block that calls a macro: its words are arguments, and nothing moves.
     #[inline(never)]
-    fn decide_macro(
+    pub(crate) fn decide_macro(
         &self,
         order: &BlockOrder,
         words: &FlowWords,
         program: u16,
         repeats: u16,
         reads: &[Var],
-    ) -> Decision
-        ensures fit { HasFitWords result }
-        ensures decided { decided self.now result ≡ macro_effect order.now self.now.fixed self.now words.now.words
-            (Control.Call program repeats) reads.now }
+    ) -> Result<[Var; LOCALS], Stop>
+        ensures { macro_decided self.now program repeats result ≡ macro_effect order.now self.now.fixed self.now
+            words.now.words (Control.Call program repeats) reads.now }
     {
         match self.arguments_said(words, reads) {
             Ok(arguments) => self.decide_call(order, program, repeats, arguments),
-            Err(stop) => Decision::of_stop(stop),
+            Err(stop) => Err(stop),
         }
     }
 
@@ -182,43 +196,41 @@ impl PathState {
         program: u16,
         repeats: u16,
         arguments: [Var; LOCALS],
-    ) -> Decision
-        ensures fit { HasFitWords result }
-        ensures decided { decided self.now result ≡ controlled order.now (record { path = self.now; moves = [] })
-            (Some arguments) (Control.Call program repeats) }
+    ) -> Result<[Var; LOCALS], Stop>
+        ensures { macro_decided self.now program repeats result ≡ controlled order.now
+            (record { path = self.now; moves = [] }) (Some arguments) (Control.Call program repeats) }
     {
         let call = Control::Call { program, repeats };
         match self.standing().route(order, call) {
-            Ok(_) => Decision::Macro {
-                program,
-                repeats,
-                arguments,
-            },
-            Err(cause) => Decision::alarm(cause),
+            Ok(_) => Ok(arguments),
+            Err(cause) => Err(Stop::of(cause)),
         }
     }
 
-    /// A block of words that calls no macro; at a wait nothing is done.
+    /// A block of words that calls no macro, and its moves; at a wait nothing is done.
     #[tactic(auto, using(crate::proofs::Decided::unwaiting))]
-    #[inline(never)]
-    fn decide_words(
+    pub(crate) fn decide_words(
         &self,
         order: &BlockOrder,
         words: &FlowWords,
         control: Control,
         reads: &[Var],
-    ) -> Decision
-        requires { is_macro_call words.now.purpose ≡ false }
-        ensures fit { HasFitWords result }
-        ensures decided { decided self.now result ≡ block_of_words order.now self.now.fixed self.now words.now.purpose
-            words.now.dialect.system words.now.words control reads.now }
+        moves: &mut MoveList,
+    ) -> WordsTurn
+        requires calls { is_macro_call words.now.purpose ≡ false }
+        requires empty { moves.old ≡ [] }
+        ensures fit { IsFitTurn result }
+        ensures decided { words_decided self.now result moves.new ≡ block_of_words order.now self.now.fixed self.now
+            words.now.purpose words.now.dialect.system words.now.words control reads.now }
+        ensures moves { AreFitMoves moves.new }
+        ensures told { (path : PathView) → moves_of (words_decided path result moves.new) ≡ moves.new }
     {
         if let Control::Wait(code) = control {
-            return Decision::AtWait(code);
+            return WordsTurn::AtWait(code);
         }
         match self.values_said(words, reads) {
-            Ok(values) => self.decide_acted(order, words, &values, control),
-            Err(stop) => Decision::of_stop(stop),
+            Ok(values) => self.decide_acted(order, words, &values, control, moves),
+            Err(stop) => WordsTurn::Stops(stop),
         }
     }
 
@@ -229,58 +241,97 @@ impl PathState {
         words: &FlowWords,
         values: &Values,
         control: Control,
-    ) -> Decision
-        requires { AreLengthsSaid values.now }
-        ensures fit { HasFitWords result }
-        ensures decided { decided self.now result
+        moves: &mut MoveList,
+    ) -> WordsTurn
+        requires lengths { AreLengthsSaid values.now }
+        requires empty { moves.old ≡ [] }
+        ensures fit { IsFitTurn result }
+        ensures decided { words_decided self.now result moves.new
             ≡ of_moved order.now control (acted self.now.fixed self.now words.now.dialect.system words.now.words
             (values_seen values.now)) }
+        ensures moves { AreFitMoves moves.new }
+        ensures told { (path : PathView) → moves_of (words_decided path result moves.new) ≡ moves.new }
     {
-        match self.words_step(words, values) {
-            Ok(step) => self.decide_control(order, step, control),
-            Err(number) => Decision::fault(number),
+        match self.words_step(words, values, moves) {
+            Ok(step) => self.decide_control(order, step, control, moves),
+            Err(number) => WordsTurn::Stops(Stop::fault(number)),
         }
     }
 
-    /// Where control goes behind the words of a block; at an end it stays.
+    /// Where control goes behind the words of a block; at an end it stays. Where it goes nowhere,
+    /// there are no moves.
     #[tactic(auto, using(crate::proofs::Decided::goes))]
-    fn decide_control(&self, order: &BlockOrder, step: WordsStep, control: Control) -> Decision
-        requires { IsFit step }
-        ensures fit { HasFitWords result }
-        ensures decided { decided self.now result
-            ≡ controlled order.now (record { path = behind_words self.now step; moves = step.moves }) None control }
+    fn decide_control(
+        &self,
+        order: &BlockOrder,
+        step: WordsStep,
+        control: Control,
+        moves: &mut MoveList,
+    ) -> WordsTurn
+        requires fit { IsFit step }
+        requires moves { AreFitMoves moves.old }
+        ensures fit { IsFitTurn result }
+        ensures decided { words_decided self.now result moves.new
+            ≡ controlled order.now (record { path = behind_words self.now step; moves = moves.old }) None control }
+        ensures moves { AreFitMoves moves.new }
+        ensures told { (path : PathView) → moves_of (words_decided path result moves.new) ≡ moves.new }
     {
         match control {
-            Control::End => Decision::AtEnd(step),
+            Control::End => WordsTurn::AtEnd(step),
             _ => match self.standing().route(order, control) {
-                Ok(route) => Decision::Words(step, route),
-                Err(cause) => Decision::alarm(cause),
+                Ok(route) => WordsTurn::Goes(step, route),
+                Err(cause) => {
+                    moves.clear();
+                    WordsTurn::Stops(Stop::of(cause))
+                }
             },
         }
     }
 
-    /// What a block comes to.
-    fn decide_block(&self, order: &BlockOrder, block: &FlowBlock, reads: &[Var]) -> Decision
+    /// What a block comes to, and its moves.
+    fn decide_block(
+        &self,
+        order: &BlockOrder,
+        block: &FlowBlock,
+        reads: &[Var],
+        moves: &mut MoveList,
+    ) -> Decision
+        requires empty { moves.old ≡ [] }
         ensures fit { HasFitWords result }
-        ensures decided { decided self.now result
+        ensures decided { decided self.now result moves.new
             ≡ effect_of_body order.now self.now.fixed self.now block.now.body block.now.control reads.now }
+        ensures moves { AreFitMoves moves.new }
+        ensures told { (path : PathView) → moves_of (decided path result moves.new) ≡ moves.new }
     {
         match &block.body {
             FlowBody::Words(words) => match macro_call(words, block.control) {
-                Some((program, repeats)) => self.decide_macro(
-                    order, words, program, repeats, reads,
-                ),
-                None => self.decide_words(order, words, block.control, reads),
+                Some((program, repeats)) => {
+                    match self.decide_macro(order, words, program, repeats, reads) {
+                        Ok(arguments) => Decision::Macro {
+                            program,
+                            repeats,
+                            arguments,
+                        },
+                        Err(stop) => Decision::Stops(stop),
+                    }
+                }
+                None => Decision::Words(self.decide_words(
+                    order,
+                    words,
+                    block.control,
+                    reads,
+                    moves,
+                )),
             },
             FlowBody::Statement(statement) => match self.statement_step(order, statement, reads) {
                 Ok(step) => Decision::Statement(step),
-                Err(stop) => Decision::of_stop(stop),
+                Err(stop) => Decision::Stops(stop),
             },
         }
     }
 
     /// The block at which the path stands; none past the last block of its program.
-    fn block<'a>(&self, flow: &'a Flow) -> Option<&'a FlowBlock>
+    pub(crate) fn block<'a>(&self, flow: &'a Flow) -> Option<&'a FlowBlock>
         ensures value { option_copied result ≡ block_at flow.now.programs self.now.place }
         ensures next { IsSome result → MayPass self.now.place }
     {
@@ -289,32 +340,21 @@ impl PathState {
         flow.block(running.program, running.block)
     }
 
-    /// The statement at which the path stands; none where its block is words, or where there is none.
-    pub(crate) fn statement<'a>(&self, flow: &'a Flow) -> Option<&'a FlowStatement>
-        ensures effect { IfSome result (λ statement. (reads : List Var) → effect_of flow.now self.now reads ≡ of_after
-            (statement_effect flow.now.order self.now.fixed self.now (sentence_of statement.now.statement) reads)) }
-        ensures next { IsSome result → MayPass self.now.place }
-    {
-        match self.block(flow) {
-            Some(block) => match &block.body {
-                FlowBody::Statement(statement) => Some(statement),
-                FlowBody::Words(_) => None,
-            },
-            None => None,
-        }
-    }
-
-    /// What the block at which the path stands comes to, with these values of shared variables that were
-    /// read for it so far. It looks only.
+    /// What the block at which the path stands comes to, with these values of shared variables that
+    /// were read for it so far. It looks only, and puts the moves of the block into the list, which
+    /// it clears first.
     #[tactic(auto, using(crate::proofs::Decided::may_take))]
-    pub fn decide(&self, flow: &Flow, reads: &[Var]) -> Decision
-        ensures decided { decided self.now result ≡ effect_of flow.now self.now reads.now }
+    pub fn decide(&self, flow: &Flow, reads: &[Var], moves: &mut MoveList) -> Decision
+        ensures decided { decided self.now result moves.new ≡ effect_of flow.now self.now reads.now }
         ensures fit { HasFitWords result }
         ensures may { MayTake self.now result }
+        ensures moves { AreFitMoves moves.new }
+        ensures told { (path : PathView) → moves_of (decided path result moves.new) ≡ moves.new }
     {
+        moves.clear();
         match self.block(flow) {
-            Some(block) => self.decide_block(&flow.order, block, reads),
-            None => Decision::alarm(Cause::RanOff),
+            Some(block) => self.decide_block(&flow.order, block, reads, moves),
+            None => Decision::Stops(Stop::of(Cause::RanOff)),
         }
     }
 }

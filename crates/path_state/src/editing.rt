@@ -33,8 +33,8 @@ impl PathState {
     }
 }
 
-/// An edit moves nothing: place, calls, local variables, what is in force, position and what is fixed for
-/// the path stay.
+/// An edit moves nothing: place, calls, local variables, what is in force, position and what is
+/// fixed for the path stay.
 pub fn edits_keep_control()
     ensures { (path : PathView) (edit : Edit) → KeepsControl path (edited edit path) }
 {}

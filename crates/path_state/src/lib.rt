@@ -1,11 +1,12 @@
 //! What a block does to its path: the definitions, worked blocks, and the path itself.
 //!
 //! The specs say step by step what a block comes to, from the state of its path and the values that
-//! were read: its words evaluated in order, the codes and words taken, the motion, the moves, control.
-//! What its words and operands say, and what they make of what is in force, of motion and of moves, is
-//! `block_values`. A [`PathState`] is the scope of its own variables. It decides what a block comes to
-//! before anything of it changes; the layer above leans on [`PathState::advance`], and on
-//! [`PathState::decide`] and [`PathState::take`], its two halves.
+//! were read: its words evaluated in order, the codes and words taken, the motion, the moves,
+//! control. What its words and operands say, and what they make of what is in force, of motion and
+//! of moves, is `block_values`. A [`PathState`] is the scope of its own variables. It decides what
+//! a block comes to before anything of it changes; the layer above leans on
+//! [`PathState::advance_into`], and on [`PathState::decide`] and [`PathState::take`], its two halves:
+//! the moves of a block are put into a list that the caller lends.
 #![tactic(auto)]
 
 mod acting;
@@ -14,6 +15,7 @@ mod control_law;
 mod decision;
 mod editing;
 mod path;
+mod refusing;
 mod route;
 mod scope;
 mod standing;
@@ -23,13 +25,18 @@ mod words_step;
 mod worked;
 mod writing;
 
-pub use advance::Advance;
+pub use advance::{Advance, BlockAnswer};
 pub use control_law::{
     a_block_asks_for_each_variable_once_at_most, control_goes_as_the_flow_orders,
-    each_block_keeps_the_labels, the_flow_of_an_accepted_tape_is_unforked,
-    waits_and_ends_stop_a_path, what_is_needed_is_shared, what_is_written_is_shared,
+    waits_and_ends_stop_a_path, what_is_written_is_shared,
 };
 pub use decision::Decision;
-pub use editing::edits_keep_control;
 pub use path::PathState;
+
+// For users of the library: what else holds of every path.
+pub use control_law::{
+    each_block_keeps_the_labels, the_flow_of_an_accepted_tape_is_unforked, what_is_needed_is_shared,
+};
+pub use editing::edits_keep_control;
+pub use refusing::a_protected_variable_is_not_written;
 pub use worked::worked_blocks_come_to_these;

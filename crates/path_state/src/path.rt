@@ -1,14 +1,15 @@
 //! One path of the machine.
 ghost use Rattle.std.specs.Prelude.{◌≡◌, ◌≤◌, ◌+◌, ℕ, List, All, None, Some, IfOk, length};
+ghost use Rattle.nc_number.specs.Path.{is_same};
 ghost use Rattle.nc_number.specs.Position.{IsPosition};
 ghost use Rattle.block_order.specs.declared.control.Control.TheVariants.{Wait};
 ghost use Rattle.block_order.specs.declared.control.Control.{Control};
 ghost use Rattle.block_order.specs.declared.frame.Frame.{Frame};
-ghost use Rattle.block_order.specs.PlaceSteps.{MayPass};
-ghost use Rattle.block_order.specs.Steps.{passed, standing};
+ghost use Rattle.block_order.specs.Frames.{MayPass};
+ghost use Rattle.block_order.specs.Steps.{place_behind, standing};
 ghost use Rattle.common_vars.specs.Common.{IsCommon, value_of};
 ghost use Rattle.local_levels.specs.Stack.{local};
-ghost use Rattle.cell_settings.specs.Preset.{is_path, IsPreset};
+ghost use Rattle.cell_settings.specs.Preset.{IsPreset};
 ghost use Rattle.offset_store.specs.Offsets.{no_offsets};
 ghost use Rattle.tape_flow.specs.Places.{line_at};
 ghost use Rattle.path_state.specs.Standing.{standing_of};
@@ -39,8 +40,8 @@ pub(crate) struct Fixed {
 
 /// The state of one path.
 ///
-/// Its turret stands at a position in range, its offsets exist, and there is a level of local variables
-/// for each open call by G65.
+/// Its turret stands at a position in range, its offsets exist, and there is a level of local
+/// variables for each open call by G65.
 #[derive(Debug, Drop)]
 pub struct PathState {
     pub(crate) standing: Standing,
@@ -84,7 +85,7 @@ fn preset_slot(preset: &Preset) -> Slot
 
 /// Whether the setting is the path's.
 fn is_for(path: Path, preset: &Preset) -> bool
-    ensures { result ≡ is_path preset.now.path path }
+    ensures { result ≡ is_same preset.now.path path }
 {
     matches!(
         (preset.path, path),
@@ -115,8 +116,8 @@ fn preset_offsets(path: Path, presets: &[Preset]) -> Offsets
 }
 
 impl PathState {
-    /// A path at the first block of its main program, with nothing said: its system of G codes, its turret
-    /// and its offsets are as the settings have them.
+    /// A path at the first block of its main program, with nothing said: its system of G codes, its
+    /// turret and its offsets are as the settings have them.
     pub fn new(
         alloc: Global,
         flow: &Flow,
@@ -150,7 +151,7 @@ impl PathState {
     /// Goes on behind a wait at which the path stands.
     pub fn pass_wait(&mut self, flow: &Flow)
         requires { (code : ℕ) × (standing flow.now.order self.old.place ≡ Some (Wait code)) }
-        ensures { self.new ≡ record self.old { place = passed self.old.place } }
+        ensures { self.new ≡ record self.old { place = place_behind self.old.place } }
     {
         blocks_have_next(&flow.order);
         self.standing.pass();

@@ -9,6 +9,7 @@ ghost use Rattle.path_state.specs.Looks.{look_of, held, shift_now, is_shared};
 use crate::path::PathState;
 use block_values::{code_in_force, in_millimetres, in_units, part, programmed, variable_in};
 use common_vars::{AxisLetter, Variable};
+use local_levels::LOCALS;
 use macro_eval::{Look, Scope, VarFault};
 use nc_number::{Point, Var};
 
@@ -69,6 +70,17 @@ impl PathState {
         };
         Ok(Look::Is(value))
     }
+
+    /// What the path holds of the variable of any number.
+    #[inline(never)]
+    fn look_at(&self, variable: u32) -> Result<Look, VarFault>
+        ensures { result ≡ look_of self.now.fixed self.now variable }
+    {
+        match variable_in(&self.modal, variable) {
+            Some(named) => self.held(named),
+            None => Err(VarFault::Range),
+        }
+    }
 }
 
 impl Scope for PathState {
@@ -76,13 +88,15 @@ impl Scope for PathState {
 
     ghost table = { λ path. look_of path.fixed path };
 
-    /// What the path holds of the variable, as the block before left it.
+    /// What the path holds of the variable, as the block before left it. A local variable is told
+    /// without a look at the others, since loops count by one.
+    #[tactic(auto, using(block_values::proofs::Locals::local_in))]
     fn look(&self, variable: u32) -> Result<Look, VarFault>
         ensures { result ≡ look_of self.now.fixed self.now variable }
     {
-        match variable_in(&self.modal, variable) {
-            Some(named) => self.held(named),
-            None => Err(VarFault::Range),
+        if variable >= 1 && variable <= LOCALS as u32 {
+            return Ok(Look::Is(self.standing.levels().get(variable as u8)));
         }
+        self.look_at(variable)
     }
 }

@@ -1,8 +1,8 @@
 //! Where a path stands, with what belongs to its open calls.
 ghost use Rattle.std.specs.Prelude.{◌≡◌, ◌+◌, ◌≤◌, ◌∷◌, [], List, Option, Some, None, length, reverse};
 ghost use Rattle.nc_number.specs.declared.value.Var.{Var};
-ghost use Rattle.block_order.specs.Moves.{passed, place_at};
-ghost use Rattle.block_order.specs.PlaceSteps.{start_of, MayPass};
+ghost use Rattle.block_order.specs.Moves.{place_behind, place_at};
+ghost use Rattle.block_order.specs.Frames.{start_of, MayPass};
 ghost use Rattle.local_levels.specs.Stack.{base_level, local, with_local};
 ghost use Rattle.path_state.specs.Standing.{calls_below, levels_below, levels_anew, macros};
 ghost use Rattle.path_state.specs.Standing.{elsewhere, without_call, standing_of_return, standing_behind};
@@ -117,9 +117,9 @@ impl Standing {
     /// Where a block of words of this control leads when it is done.
     ///
     /// Errors: [`Cause::TooDeep`], 32, where it calls and eight calls are open, or would run the
-    /// program no time, as no call of a tape does; [`Cause::NoSequence`], 50, and [`Cause::IntoLoop`],
-    /// 53, where it returns to a sequence number, as for a jump from the call, in the main program from
-    /// the running block.
+    /// program no time, as no call of a tape does; [`Cause::NoSequence`], 50, and
+    /// [`Cause::IntoLoop`], 53, where it returns to a sequence number, as for a jump from the call,
+    /// in the main program from the running block.
     pub(crate) fn route(&self, order: &BlockOrder, control: Control) -> Result<Route, Cause>
         ensures { (arguments : Option (List Var))
             → standing_behind order.now self.now arguments control ≡ route_end_or_cause self.now arguments result }
@@ -141,7 +141,7 @@ impl Standing {
     /// Goes to the next block, behind a wait too.
     pub(crate) fn pass(&mut self)
         requires { MayPass self.old.place }
-        ensures { self.new ≡ elsewhere self.old (passed self.old.place) }
+        ensures { self.new ≡ elsewhere self.old (place_behind self.old.place) }
     {
         self.place.next();
     }

@@ -4,7 +4,7 @@ ghost use Rattle.nc_number.specs.declared.value.Var.{Var};
 ghost use Rattle.common_vars.specs.Variables.{IsVariable};
 ghost use Rattle.macro_expr.specs.Tree.{IfGoto, IfThen, WhileDo, variable_of, test_of, aim_of, sentence_of, evaluated_name, evaluated_test, evaluated_aim};
 ghost use Rattle.block_order.specs.declared.program.ControlProgram.{ControlProgram};
-ghost use Rattle.block_order.specs.PlaceSteps.{MayPass};
+ghost use Rattle.block_order.specs.Frames.{MayPass};
 ghost use Rattle.path_state.specs.View.{PathView};
 ghost use Rattle.path_state.specs.Looks.{is_shared};
 ghost use Rattle.block_values.specs.Seen.{outcome_of};
@@ -82,8 +82,8 @@ impl PathState {
         }
     }
 
-    /// What it comes to that a variable takes a value: alarm 31 of one that is read only, 33 with the
-    /// value of `#3000`, 41 of an offset past the range.
+    /// What it comes to that a variable takes a value: alarm 31 of one that is read only, 33 with
+    /// the value of `#3000`, 41 of an offset past the range.
     fn written(&self, variable: Variable, value: Var) -> Result<Writing, Stop>
         requires { IsVariable variable }
         ensures { (left : List Var) → outcome_of (after_writing self.now) result left
@@ -225,8 +225,8 @@ impl PathState {
     /// What the statement comes to, with these values read so far; it looks only.
     ///
     /// It needs the shared variable that must be read next. Alarms: those of [`evaluate`], 30 of a
-    /// variable that does not exist, 31 of one that is read only, 33 with the value of `#3000`, 41 of an
-    /// offset past the range, and 50 and 53 of a computed jump.
+    /// variable that does not exist, 31 of one that is read only, 33 with the value of `#3000`, 41
+    /// of an offset past the range, and 50 and 53 of a computed jump.
     pub(crate) fn statement_step(
         &self,
         order: &BlockOrder,

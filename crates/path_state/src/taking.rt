@@ -1,132 +1,220 @@
 //! The turn of a block: it is decided first, and then done.
-ghost use Rattle.std.specs.Prelude.{◌≡◌, ℕ, [], Err};
-ghost use Rattle.block_order.specs.PlaceSteps.{MayPass};
+ghost use Rattle.std.specs.Prelude.{◌≡◌, false, [], List};
+ghost use Rattle.nc_moves.specs.declared.motion.Move.{Move};
+ghost use Rattle.block_order.specs.Frames.{MayPass};
+ghost use Rattle.block_values.specs.Purposes.{is_macro_call};
+ghost use Rattle.block_order.specs.declared.control.Control.TheVariants as Control;
 ghost use Rattle.tape_flow.specs.Places.{line_at};
-ghost use Rattle.path_state.specs.Advances.{effect_seen, path_after, StaysUnlessDone, AreMovesAt};
-ghost use Rattle.path_state.specs.Decisions.{decided, behind_words, MayTake};
-ghost use Rattle.path_state.specs.Fits.{HasFitWords, IsFit};
-ghost use Rattle.path_state.specs.Effect.{effect_of, Done};
-ghost use Rattle.path_state.specs.StatementSteps.{after_step, step_seen, write_seen};
-ghost use Rattle.path_state.specs.View.{PathView};
+ghost use Rattle.path_state.specs.Advances.{effect_told, effect_seen, moves_of, path_after, StaysUnlessTold, StaysUnlessDone, AreFitMoves, AreMovesAt};
+ghost use Rattle.path_state.specs.Decisions.{decided, words_decided, behind_words, MayTake, MayTakeWords};
+ghost use Rattle.path_state.specs.Fits.{HasFitWords, IsFit, IsFitTurn};
+ghost use Rattle.path_state.specs.Effect.{block_of_words, effect_of, effect_of_body, macro_effect};
+ghost use Rattle.path_state.specs.StatementSteps.{step_seen};
 
-use crate::advance::Advance;
-use crate::decision::Decision;
+use crate::advance::{Advance, BlockAnswer};
+use crate::decision::{Decision, answer_of_stop, macro_call};
 use crate::path::PathState;
-use crate::words_step::WordsStep;
-use crate::writing::{Change, StatementStep};
+use crate::words_step::{WordsStep, WordsTurn};
+use crate::writing::StatementStep;
+use block_forms::{FlowBlock, FlowBody, FlowWords};
+use block_order::{BlockOrder, Control};
 use block_values::Stop;
 use nc_moves::{MoveList, Moves};
-use nc_number::Var;
+use nc_number::{Cause, Var};
 use tape_flow::Flow;
 
 impl PathState {
-    /// Does what the words of a block do, and gives their moves.
-    fn take_words(&mut self, step: WordsStep) -> MoveList
+    /// Does what the words of a block do, but for where control goes.
+    fn take_step(&mut self, step: WordsStep)
         requires { IsFit step }
-        ensures path { self.new ≡ behind_words self.old step }
-        ensures moves { result ≡ step.moves }
+        ensures { self.new ≡ behind_words self.old step }
     {
         let WordsStep {
             modal,
             offset,
             position,
-            moves,
         } = step;
         self.modal = modal;
         if let Some((slot, to)) = offset {
             self.offsets.put(&slot, to);
         }
         self.position = position;
-        moves
     }
 
-    /// Does what was decided of the block at which the path stands, and tells it with the line of the block.
+    /// Does what was decided of words.
+    fn take_words(&mut self, turn: WordsTurn) -> BlockAnswer
+        requires fit { IsFitTurn turn }
+        requires may { MayTakeWords self.old turn }
+        ensures effect { (moves : List Move) → effect_told result moves self.new ≡ words_decided self.old turn moves }
+        ensures stays { StaysUnlessTold result self.old self.new }
+    {
+        match turn {
+            WordsTurn::Stops(stop) => answer_of_stop(stop),
+            WordsTurn::AtWait(code) => BlockAnswer::AtWait(code),
+            WordsTurn::AtEnd(step) => {
+                self.take_step(step);
+                BlockAnswer::AtEnd
+            }
+            WordsTurn::Goes(step, route) => {
+                self.take_step(step);
+                self.standing.go(route);
+                BlockAnswer::Done(None)
+            }
+        }
+    }
+
+    /// Does what was decided of the block at which the path stands. Its moves stand in the list
+    /// that was lent to [`decide`](PathState::decide).
     ///
-    /// Where the block must read, stands at a wait or raises an alarm, nothing changes. At its end the path
-    /// takes the effects of the block, and stays on it.
-    pub fn take(&mut self, line: u32, decision: Decision) -> Advance
+    /// Where the block must read, stands at a wait or raises an alarm, nothing changes. At its end
+    /// the path takes the effects of the block, and stays on it.
+    pub fn take(&mut self, decision: Decision) -> BlockAnswer
         requires fit { HasFitWords decision }
         requires may { MayTake self.old decision }
-        ensures effect { effect_seen result self.new ≡ decided self.old decision }
-        ensures stays { StaysUnlessDone result self.old self.new }
-        ensures moves { AreMovesAt line result }
+        ensures effect { (moves : List Move) → effect_told result moves self.new ≡ decided self.old decision moves }
+        ensures stays { StaysUnlessTold result self.old self.new }
     {
         match decision {
-            Decision::Need(variable) => Advance::Need(variable),
-            Decision::AtWait(code) => Advance::AtWait(code),
-            Decision::Alarm { number, value } => Advance::Alarm {
-                cause: number,
-                value,
-            },
-            Decision::AtEnd(step) => Advance::AtEnd {
-                moves: Moves {
-                    line,
-                    list: self.take_words(step),
-                },
-            },
-            Decision::Words(step, route) => {
-                let list = self.take_words(step);
-                self.standing.go(route);
-                Advance::Effect {
-                    write: None,
-                    moves: Moves { line, list },
-                }
-            }
+            Decision::Stops(stop) => answer_of_stop(stop),
+            Decision::Words(turn) => self.take_words(turn),
             Decision::Macro {
                 program,
                 repeats,
                 arguments,
             } => {
                 self.standing.call_macro(program, repeats, &arguments);
-                silent(line, None)
+                BlockAnswer::Done(None)
             }
-            Decision::Statement(step) => silent(line, self.take_statement(step)),
+            Decision::Statement(step) => BlockAnswer::Done(self.take_statement(step)),
         }
     }
 
-    /// The turn of the block at which the path stands, with the values of shared variables that were
-    /// read for it so far.
+    /// The turn of the block at which the path stands, with the values of shared variables that
+    /// were read for it so far. Its moves are put into the list, which is cleared first.
     ///
-    /// Where it must read, stands at a wait or raises an alarm, nothing changes. At its end the path
-    /// takes the effects of the block, and stays on it.
+    /// Where it must read, stands at a wait or raises an alarm, nothing else changes. At its end
+    /// the path takes the effects of the block, and stays on it.
+    pub fn advance_into(&mut self, flow: &Flow, reads: &[Var], moves: &mut MoveList) -> BlockAnswer
+        ensures effect { effect_told result moves.new self.new ≡ effect_of flow.now self.old reads.now }
+        ensures stays { StaysUnlessTold result self.old self.new }
+        ensures moves { moves.new ≡ moves_of (effect_of flow.now self.old reads.now) }
+        ensures fit { AreFitMoves moves.new }
+    {
+        moves.clear();
+        match self.block(flow) {
+            Some(block) => self.take_block(&flow.order, block, reads, moves),
+            None => answer_of_stop(Stop::of(Cause::RanOff)),
+        }
+    }
+
+    /// The turn of a block. What words come to is large, and so are the arguments of a macro: each
+    /// kind of block takes a way of its own.
+    fn take_block(
+        &mut self,
+        order: &BlockOrder,
+        block: &FlowBlock,
+        reads: &[Var],
+        moves: &mut MoveList,
+    ) -> BlockAnswer
+        requires next { MayPass self.old.place }
+        requires empty { moves.old ≡ [] }
+        ensures effect { effect_told result moves.new self.new
+            ≡ effect_of_body order.now self.old.fixed self.old block.now.body block.now.control reads.now }
+        ensures stays { StaysUnlessTold result self.old self.new }
+        ensures moves { moves.new
+            ≡ moves_of (effect_of_body order.now self.old.fixed self.old block.now.body block.now.control reads.now) }
+        ensures fit { AreFitMoves moves.new }
+    {
+        match &block.body {
+            FlowBody::Words(words) => match macro_call(words, block.control) {
+                Some((program, repeats)) => self.macro_turn(order, words, program, repeats, reads),
+                None => self.words_turn(order, words, block.control, reads, moves),
+            },
+            FlowBody::Statement(statement) => {
+                let step = self.statement_step(order, statement, reads);
+                self.statement_turn(step)
+            }
+        }
+    }
+
+    /// The turn of words that call no macro, and their moves.
+    #[tactic(auto, using(crate::proofs::Decided::may_take_words))]
+    #[inline(never)]
+    fn words_turn(
+        &mut self,
+        order: &BlockOrder,
+        words: &FlowWords,
+        control: Control,
+        reads: &[Var],
+        moves: &mut MoveList,
+    ) -> BlockAnswer
+        requires calls { is_macro_call words.now.purpose ≡ false }
+        requires next { MayPass self.old.place }
+        requires empty { moves.old ≡ [] }
+        ensures effect { effect_told result moves.new self.new ≡ block_of_words order.now self.old.fixed self.old
+            words.now.purpose words.now.dialect.system words.now.words control reads.now }
+        ensures stays { StaysUnlessTold result self.old self.new }
+        ensures moves { moves.new ≡ moves_of (block_of_words order.now self.old.fixed self.old
+            words.now.purpose words.now.dialect.system words.now.words control reads.now) }
+        ensures fit { AreFitMoves moves.new }
+    {
+        let turn = self.decide_words(order, words, control, reads, moves);
+        self.take_words(turn)
+    }
+
+    /// The turn of words that call a macro, which moves nothing.
+    #[inline(never)]
+    fn macro_turn(
+        &mut self,
+        order: &BlockOrder,
+        words: &FlowWords,
+        program: u16,
+        repeats: u16,
+        reads: &[Var],
+    ) -> BlockAnswer
+        requires { MayPass self.old.place }
+        ensures effect { effect_told result [] self.new ≡ macro_effect order.now self.old.fixed self.old
+            words.now.words (Control.Call program repeats) reads.now }
+        ensures stays { StaysUnlessTold result self.old self.new }
+        ensures still { moves_of (macro_effect order.now self.old.fixed self.old words.now.words
+            (Control.Call program repeats) reads.now) ≡ [] }
+    {
+        match self.decide_macro(order, words, program, repeats, reads) {
+            Ok(arguments) => {
+                self.standing.call_macro(program, repeats, &arguments);
+                BlockAnswer::Done(None)
+            }
+            Err(stop) => answer_of_stop(stop),
+        }
+    }
+
+    /// The turn of a statement that comes to this, which moves nothing.
+    fn statement_turn(&mut self, step: Result<StatementStep, Stop>) -> BlockAnswer
+        requires { MayPass self.old.place }
+        ensures effect { effect_told result [] self.new ≡ step_seen self.old step }
+        ensures stays { StaysUnlessTold result self.old self.new }
+        ensures still { moves_of (step_seen self.old step) ≡ [] }
+    {
+        match step {
+            Ok(step) => BlockAnswer::Done(self.take_statement(step)),
+            Err(stop) => answer_of_stop(stop),
+        }
+    }
+
+    /// The turn of the block at which the path stands, with the values of shared variables that
+    /// were read for it so far.
+    ///
+    /// Where it must read, stands at a wait or raises an alarm, nothing changes. At its end the
+    /// path takes the effects of the block, and stays on it.
     pub fn advance(&mut self, flow: &Flow, reads: &[Var]) -> Advance
         ensures effect { effect_seen result self.new ≡ effect_of flow.now self.old reads.now }
         ensures stays { StaysUnlessDone result self.old self.new }
         ensures moves { AreMovesAt (line_at flow.now.order self.old.place) result }
     {
         let line = self.line(flow);
-        match self.statement(flow) {
-            Some(statement) => {
-                let step = self.statement_step(&flow.order, statement, reads);
-                self.take_step(line, step)
-            }
-            None => self.take_block(line, flow, reads),
-        }
-    }
-
-    /// The turn of any block, whose line is given. What words come to is large, so that a statement
-    /// takes a way of its own.
-    #[inline(never)]
-    fn take_block(&mut self, line: u32, flow: &Flow, reads: &[Var]) -> Advance
-        ensures effect { effect_seen result self.new ≡ effect_of flow.now self.old reads.now }
-        ensures stays { StaysUnlessDone result self.old self.new }
-        ensures moves { AreMovesAt line result }
-    {
-        let decision = self.decide(flow, reads);
-        self.take(line, decision)
-    }
-
-    /// Does what a statement comes to, and tells it with the line of the block.
-    fn take_step(&mut self, line: u32, step: Result<StatementStep, Stop>) -> Advance
-        requires { MayPass self.old.place }
-        ensures effect { effect_seen result self.new ≡ step_seen self.old step }
-        ensures stays { StaysUnlessDone result self.old self.new }
-        ensures moves { AreMovesAt line result }
-    {
-        match step {
-            Ok(step) => silent(line, self.take_statement(step)),
-            Err(stop) => stopped(stop),
-        }
+        let mut list = MoveList::empty();
+        let answer = self.advance_into(flow, reads, &mut list);
+        Advance::of(answer, Moves { line, list })
     }
 
     /// What [`advance`](PathState::advance) would answer; nothing changes.
@@ -136,72 +224,8 @@ impl PathState {
         ensures moves { AreMovesAt (line_at flow.now.order self.now.place) result }
     {
         let line = self.line(flow);
-        match self.decide(flow, reads) {
-            Decision::Need(variable) => Advance::Need(variable),
-            Decision::AtWait(code) => Advance::AtWait(code),
-            Decision::Alarm { number, value } => Advance::Alarm {
-                cause: number,
-                value,
-            },
-            Decision::AtEnd(step) => Advance::AtEnd {
-                moves: Moves {
-                    line,
-                    list: step.moves,
-                },
-            },
-            Decision::Words(step, _) => Advance::Effect {
-                write: None,
-                moves: Moves {
-                    line,
-                    list: step.moves,
-                },
-            },
-            Decision::Macro { .. } => silent(line, None),
-            Decision::Statement(step) => silent(line, shared_write(&step)),
-        }
-    }
-}
-
-/// What a statement writes to a shared variable.
-fn shared_write(step: &StatementStep) -> Option<(u32, Var)>
-    ensures { (path : PathView) → write_seen result ≡ (after_step path step.now).write }
-{
-    match step {
-        StatementStep::Write(writing) => match writing.change {
-            Change::Shared(v, value) => Some((v, value)),
-            _ => None,
-        },
-        StatementStep::Next => None,
-        StatementStep::To(_) => None,
-    }
-}
-
-/// The need or the alarm at which a statement stopped.
-fn stopped(stop: Stop) -> Advance
-    ensures effect { (before after : PathView) → effect_seen result after ≡ step_seen before (Err stop) }
-    ensures stays { (path : PathView) → StaysUnlessDone result path path }
-    ensures moves { (line : ℕ) → AreMovesAt line result }
-{
-    match stop {
-        Stop::Needs(variable) => Advance::Need(variable),
-        Stop::Alarms { number, value } => Advance::Alarm {
-            cause: number,
-            value,
-        },
-    }
-}
-
-/// A block that is done without a move.
-fn silent(line: u32, write: Option<(u32, Var)>) -> Advance
-    ensures effect { (after : PathView) → effect_seen result after ≡ Done after (write_seen write) [] }
-    ensures stays { (before after : PathView) → StaysUnlessDone result before after }
-    ensures moves { AreMovesAt line result }
-{
-    Advance::Effect {
-        write,
-        moves: Moves {
-            line,
-            list: MoveList::empty(),
-        },
+        let mut list = MoveList::empty();
+        let answer = self.decide(flow, reads, &mut list).answer();
+        Advance::of(answer, Moves { line, list })
     }
 }

@@ -1,11 +1,12 @@
-//! What the words of a block do to its path, but for where control goes.
+//! What the words of a block do to its path; their moves stand in a list that was lent.
 
+use crate::route::Route;
+use block_values::Stop;
 use modal_state::Modal;
-use nc_moves::MoveList;
 use nc_number::Point;
 use offset_store::Slot;
 
-/// What the words of a block do to its path.
+/// What the words of a block do to its path, but for where control goes.
 #[derive(Drop)]
 pub struct WordsStep {
     /// What is in force behind the block.
@@ -14,6 +15,17 @@ pub struct WordsStep {
     pub(crate) offset: Option<(Slot, Point)>,
     /// Where the turret stands behind the block.
     pub(crate) position: Point,
-    /// All moves of the block.
-    pub(crate) moves: MoveList,
+}
+
+/// What a block of words comes to that calls no macro.
+#[derive(Drop)]
+pub enum WordsTurn {
+    /// It must read first, or raises an alarm.
+    Stops(Stop),
+    /// The path is at a wait of this code.
+    AtWait(u16),
+    /// The path is at its end, behind these words.
+    AtEnd(WordsStep),
+    /// They are done, and control goes on.
+    Goes(WordsStep, Route),
 }

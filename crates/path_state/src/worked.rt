@@ -1,3 +1,4 @@
+//! Worked blocks.
 ghost use Rattle.path_state.specs.Worked.{WorkedBlocks};
 
 /// Worked blocks, and what the definitions make of them.

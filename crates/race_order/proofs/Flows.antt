@@ -1,4 +1,5 @@
--- Two tapes: where no part of one may write what the same part of the other names, all runs that finish agree.
+-- Two tapes: where no part of one may write what the same part of the other names, all runs that
+-- finish agree.
 use Rattle.std.proofs.Common.{◌≡◌, ℕ, Bool, true, List, [], ◌∷◌, Option, Some, None, refl, ap, sym, subst, ◌∙◌}
 use Rattle.std.proofs.lemmas.Bool.{or_left}
 use Rattle.nc_number.specs.declared.value.Var.{Var}
@@ -14,7 +15,7 @@ use Rattle.tape_flow.specs.Places.{flow_block}
 use Rattle.path_state.specs.View.{PathView}
 use Rattle.path_state.specs.Looks.{is_shared}
 use Rattle.path_state.specs.Statements.{Write as Written}
-use Rattle.path_state.specs.Effect.{Effect, effect_of}
+use Rattle.path_state.specs.Effect.{effect_of}
 use Rattle.path_state.specs.Effect as effect
 use Rattle.path_state.specs.Controlled.{GoesAsOrdered, KeepsFixed}
 use Rattle.path_state.proofs.ControlledFlow.{steady}

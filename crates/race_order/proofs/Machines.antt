@@ -9,9 +9,10 @@ use Rattle.path_state.specs.Effect.{Effect}
 use Rattle.path_state.specs.Effect as effect
 use Rattle.two_path.specs.Turns.{Blocks, moves_at, path_behind_wait}
 use Rattle.race_order.proofs.Alone as alone
-use Rattle.race_order.proofs.Alone.{PathOf, Half, half_at, Mode, Running, Waiting, Finished, set_at}
+use Rattle.race_order.proofs.Alone.{PathOf}
 
--- What is known of the blocks: the places behind n waits, the variables that part n names and may write.
+-- What is known of the blocks: the places behind n waits, the variables that part n names and may
+-- write.
 pub record Known (blocks : Blocks) : Type 1 where
   pub names : ℕ → ℕ → Type 0
   pub may : ℕ → ℕ → Type 0

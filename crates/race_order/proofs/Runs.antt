@@ -1,4 +1,5 @@
--- Where no part has a race, all runs of the machine that finish have the same moves, the same paths and the same values.
+-- Where no part has a race, all runs of the machine that finish have the same moves, the same paths
+-- and the same values.
 use Rattle.std.proofs.Common.{◌≡◌, ℕ, ◌+◌, Bool, true, List, [], ◌∷◌, ◌++◌, Option, Some, None, refl, ap, sym, subst, ◌∙◌, arith, append-nil, append_assoc}
 use Rattle.nc_number.specs.declared.path.Path.{Path}
 use Rattle.nc_number.specs.declared.path.Path.TheVariants.{One, Two}

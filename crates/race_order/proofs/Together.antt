@@ -1,6 +1,8 @@
--- Two paths with shared variables: where no part has a race, all runs that finish come to one state.
+-- Two paths with shared variables: where no part has a race, all runs that finish come to one
+-- state.
 use Rattle.std.proofs.Common.{◌≡◌, ℕ, zero, suc, ◌<◌, ◌⊎◌, inl, inr, [], refl, ap, sym, subst, ◌∙◌, arith}
 use Rattle.std.proofs.Math.Path.{fun_ext}
+use Rattle.nc_number.proofs.Counts.{last_or_before}
 use Rattle.race_order.proofs.Alone.{Running, Waiting, Finished, Half, half_at, Solo, solo_at, PathOf, turn, alone, Stands, Agree, turn_like, IsIdle, waits, finished, one_idle}
 
 pub record Pair (V : Type 0) (p q : PathOf V) : Type 0 where
@@ -30,7 +32,8 @@ pub record IsFree {V : Type 0} (p q : PathOf V) : Type 0 where
   pub first : (n v : ℕ) → p.may n v → q.names n v → ⊥
   pub second : (n v : ℕ) → q.may n v → p.names n v → ⊥
 
--- Within part n, which it began there: this many turns alone lead to where the path is, and to the values that its part names.
+-- Within part n, which it began there: this many turns alone lead to where the path is, and to the
+-- values that its part names.
 record Side {V : Type 0} (p : PathOf V) (n : ℕ) (x : Solo p.S V) (h : Half p.S V) (env : ℕ → V) : Type 0 where
   k : ℕ
   half : h ≡ (alone p k x).half
@@ -193,14 +196,11 @@ record IsPassed {V : Type 0} (p q : PathOf V) (start : Pair V p q) (n : ℕ) : T
   here : m.first.mode ≡ Waiting
   there : m.second.mode ≡ Waiting
 
-last_or_before : (n k : ℕ) → n < suc k → (n ≡ k) ⊎ (n < k)
-last_or_before n k h = grind arith
-
 -- before a part that begins each one ended in waits
 passed_before : {V : Type 0} → (p q : PathOf V) (start : Pair V p q) (n k : ℕ) (to : Pair V p q) → Begins p q start k to → n < k → IsPassed p q start n
 passed_before p q start n _ _ at_start h = absurd (omega arith)
 passed_before p q start n _ _ (behind k m0 m before w here there) h =
-    go (last_or_before n k h) (λ less. passed_before p q start n k m0 before less)
+    go (last_or_before n k (omega (arith, h))) (λ less. passed_before p q start n k m0 before less)
   where
     go : (n ≡ k) ⊎ (n < k) → (n < k → IsPassed p q start n) → IsPassed p q start n
     go (inl e) further =

@@ -15,7 +15,7 @@ use Rattle.two_path.specs.declared.turn.Turn.{Turn}
 use Rattle.two_path.specs.declared.turn.Turn.TheVariants as turn
 use Rattle.two_path.specs.Machine.{Part, MachineView}
 use Rattle.two_path.specs.Turns.{Blocks, TurnResult, result, with_write, behind_meeting, alarm_result, crossed_waits, result_by, result_at_wait, unless_idle, block_turn, own_turn}
-use Rattle.race_order.proofs.Alone.{PathOf, Half, half_at, Solo, solo_at, Mode, Running, Waiting, Finished, set_at}
+use Rattle.race_order.proofs.Alone.{PathOf, Half, half_at, solo_at, Mode, Running, Waiting, Finished, set_at}
 use Rattle.race_order.proofs.Alone as alone
 use Rattle.race_order.proofs.Together.{Pair, pair_at, one, meet, IsRun, begun, gone, behind_wait}
 use Rattle.race_order.specs.Agreement.{moves_in, AreMixed}

@@ -64,8 +64,9 @@ pub data AreMixed : List Written → List Written → List Write → Type 0 wher
   two : (mine yours : List Written) (writes : List Write) (stamp : ℕ) (w : Written) → AreMixed mine yours writes
       → AreMixed mine (yours ++ w ∷ []) (writes ++ record { stamp = stamp; variable = w.variable; value = w.value } ∷ [])
 
--- The runs of two lists of turns come to the same: one machine but for the order of its records and their numbers, and the moves
--- of each path. Each path has written the same in the same order, and each variable holds the same.
+-- The runs of two lists of turns come to the same: one machine but for the order of its records and
+-- their numbers, and the moves of each path. Each path has written the same in the same order, and
+-- each variable holds the same.
 pub record Agree (tapes : Tapes) (start : MachineView) (turns others : List Path) : Type 0 where
   pub machine : but_for_order (run tapes start (turns_of turns)) ≡ but_for_order (run tapes start (turns_of others))
   pub first_moves : moves_by tapes One start turns ≡ moves_by tapes One start others
@@ -82,7 +83,8 @@ pub record IsBeginning (flow : Flow) (shared : ℕ → Bool) (path : PathView) :
   pub place : path.place ≡ start flow.order
   pub shares : (v : ℕ) → is_shared path.fixed v ≡ shared v
 
--- Where there is no race, all runs of turns that finish come to the same, whichever path has which turn. An edit is no turn.
+-- Where there is no race, all runs of turns that finish come to the same, whichever path has which
+-- turn. An edit is no turn.
 abbrev pub RaceFreeRunsAgree : Flow → Flow → Type 0
 RaceFreeRunsAgree left right =
     (shared : ℕ → Bool) → HasNoRace shared left right

@@ -14,8 +14,8 @@ abbrev pub PartMayWrite : Flow → ℕ → ℕ → Type 0
 PartMayWrite flow n v =
     (program block : ℕ) × IsInPart flow.order n program block × (block_may_write flow program block v ≡ true)
 
--- A race of the variable behind n waits: both paths share it, part n of the writer has a block that may write it, and part n of
--- the other path has a block that names it.
+-- A race of the variable behind n waits: both paths share it, part n of the writer has a block that
+-- may write it, and part n of the other path has a block that names it.
 pub record IsRace (shared : ℕ → Bool) (writer other : Flow) (n v : ℕ) : Type 0 where
   pub is_shared : shared v ≡ true
   pub writes : PartMayWrite writer n v

@@ -3,8 +3,9 @@ ghost use Rattle.block_order.specs.Labels.{IsUnforked};
 ghost use Rattle.tape_flow.specs.declared.flow.Flow.{Flow};
 ghost use Rattle.race_order.specs.Agreement.{RaceFreeRunsAgree};
 
-/// Where no part of one path may write what the same part of the other names, all runs that finish come to
-/// the same machine, but for the order of records and their numbers, and to the same moves of each path.
+/// Where no part of one path may write what the same part of the other names, all runs that finish
+/// come to the same machine, but for the order of records and their numbers, and to the same moves
+/// of each path.
 pub fn race_free_runs_agree()
     ensures { (left right : Flow) → IsUnforked left.order → IsUnforked right.order → RaceFreeRunsAgree left right }
 {}

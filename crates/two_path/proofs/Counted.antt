@@ -13,11 +13,13 @@ use Rattle.path_state.specs.Statements.{Write as Written}
 use Rattle.path_state.specs.Edits.{shared_write}
 use Rattle.path_state.specs.Effect.{Effect, Need, Done, AtWait, AtEnd}
 use Rattle.path_state.specs.Effect as effect
+use Rattle.nc_number.proofs.Counts.{some_is}
 use Rattle.two_path.specs.declared.turn.Turn.TheVariants as turn
 use Rattle.two_path.specs.Machine.{MachineView, own_first, without_reads, opening}
 use Rattle.two_path.specs.Turns.{Blocks, Tapes, tape_of, result, behind_meeting, crossed_waits, alarm_result, with_write, result_at_wait, result_by, kind_of}
-use Rattle.two_path.specs.Edits.{behind_edit_of, edit_entry}
+use Rattle.two_path.specs.Edits.{behind_edit_of}
 use Rattle.two_path.specs.Histories.{values_at, with_values, with_reads, IsStep, behind_step, behind_entry, IsNext, fold, IsLegal, is_coming, came_from, Counts, HistoriesAreRuns}
+use Rattle.two_path.proofs.Folds.{fold_parts}
 use Rattle.two_path.proofs.Idle.{own_awake, awake_of}
 use Rattle.two_path.proofs.Edited.{step_no_edit, behind_step_entry, behind_edit_entry}
 use Rattle.two_path.proofs.Lawful.{value_written, opening_sound}
@@ -34,9 +36,6 @@ pub record Grows (n to : MachineView) (mine theirs : Bool) : Type 0 where
   pub second : to.second.since ≡ since_after theirs n.count n.second.since
   pub write : Option Written
   pub writes : to.writes ≡ with_write (n.count + 1) write n.writes
-
-some_is : {X : Type 0} {a b : X} → Some a ≡ Some b → a ≡ b
-some_is e = cc
 
 grows_wait : (path : Path) (line : ℕ) (n : MachineView) (rs : List Var) (ks : List ℕ) (code : ℕ) (o : Option ℕ) (k : EntryKind)
     → kind_of (result_at_wait path line (with_values rs ks n) code o).turn ≡ Some k
@@ -133,10 +132,6 @@ at_later tapes m (e ∷ es) k v legal h =
 legal_parts : (tapes : Tapes) (m : MachineView) (rs ss : List Entry) → IsLegal tapes m (rs ++ ss) → IsLegal tapes m rs × IsLegal tapes (fold tapes m rs) ss
 legal_parts tapes m [] ss legal = (tt, legal)
 legal_parts tapes m (r ∷ rs) ss legal = let rest = legal_parts tapes (behind_entry tapes r m) rs ss legal.1 in ((legal.0, rest.0), rest.1)
-
-pub fold_parts : (tapes : Tapes) (m : MachineView) (rs ss : List Entry) → fold tapes m (rs ++ ss) ≡ fold tapes (fold tapes m rs) ss
-fold_parts tapes m [] ss = refl
-fold_parts tapes m (r ∷ rs) ss = fold_parts tapes (behind_entry tapes r m) rs ss
 
 values_of : (tapes : Tapes) (m : MachineView) (before after : List Entry) (v : ℕ) → m.count ≡ 0 → IsLegal tapes m (before ++ after)
     → value_after (length before) v (fold tapes m (before ++ after)).writes ≡ value_after (fold tapes m before).count v (fold tapes m before).writes

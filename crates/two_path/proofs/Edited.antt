@@ -7,20 +7,18 @@ use Rattle.run_records.specs.Entries.{Entry, edit_of}
 use Rattle.run_records.specs.declared.edit.Edit.{Edit}
 use Rattle.run_records.specs.declared.entry.EntryKind.{EntryKind}
 use Rattle.run_records.specs.declared.entry.EntryKind.TheVariants as kind
+use Rattle.nc_number.proofs.Counts.{some_is}
 use Rattle.two_path.specs.declared.turn.Turn.{Turn}
 use Rattle.two_path.specs.declared.turn.Turn.TheVariants as turn
 use Rattle.path_state.specs.Edits.{edited}
 use Rattle.two_path.specs.Machine.{Part, MachineView, own_first, without_reads}
 use Rattle.two_path.specs.Turns.{Blocks, Tapes, tape_of, part_at, own_turn, kind_of}
 use Rattle.two_path.specs.Edits.{behind_edit_of, edit_entry, unless_alarm}
-use Rattle.two_path.specs.Histories.{with_reads, IsStep, behind_step, behind_own, behind_entry, IsEdit, IsNext}
+use Rattle.two_path.specs.Histories.{with_reads, IsStep, behind_step, behind_own, behind_entry, IsNext}
 use Rattle.two_path.specs.Again.{turn_by, turn_of_entry, IsDoneAgain, IsRefused}
 
 abbrev pub entry : Path → EntryKind → List ℕ → Entry
 entry p k ks = record { path = p; kind = k; stamps = ks }
-
-some_is : {X : Type 0} {a b : X} → Some a ≡ Some b → a ≡ b
-some_is e = cc
 
 -- without an alarm an edit is done
 pub calmly : {A : Type 0} (a : Option Alarm) (still rest : A) → a ≡ None → unless_alarm a still rest ≡ rest

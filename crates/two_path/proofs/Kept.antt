@@ -1,4 +1,5 @@
--- What a machine beside its history keeps: over each event, each record that is done again, and each restart.
+-- What a machine beside its history keeps: over each event, each record that is done again, and
+-- each restart.
 use Rattle.std.proofs.Common.{◌≡◌, ℕ, ◌+◌, ◌≤◌, Bool, true, false, List, [], ◌∷◌, ◌++◌, take, refl, sym, ap, subst, append-nil, arith}
 use Rattle.nc_number.specs.declared.path.Path.TheVariants.{One, Two}
 use Rattle.run_records.specs.Entries.{Entry}
@@ -7,14 +8,11 @@ use Rattle.two_path.specs.Machine.{Part, MachineView, own_first, part_without_re
 use Rattle.two_path.specs.Turns.{Tapes}
 use Rattle.two_path.specs.Histories.{Event, behind_event, records_of, behind_entry, IsNext, fold, IsLegal, is_coming, IsKept, Keeps, Episode, Happens, Restarts, Recorded, behind_episode, behind_episodes, IsKeptOverRestarts}
 use Rattle.two_path.proofs.Edited.{entry_bare}
+use Rattle.two_path.proofs.Folds.{fold_parts, fold_push, legal_join, legal_push}
 use Rattle.two_path.proofs.Lawful.{event_sound, lawful_none, opening_sound}
 use Rattle.two_path.proofs.Recorded.{joins_event}
-use Rattle.two_path.proofs.Scheduled.{from_end, fold_push, legal_front, legal_push, fold_bare}
-use Rattle.two_path.proofs.Counted.{fold_parts, since_after, grows, legal_take}
-
-legal_join : (tapes : Tapes) (m : MachineView) (rs ss : List Entry) → IsLegal tapes m rs → IsLegal tapes (fold tapes m rs) ss → IsLegal tapes m (rs ++ ss)
-legal_join tapes m [] ss legal more = more
-legal_join tapes m (r ∷ rs) ss legal more = (legal.0, legal_join tapes (behind_entry tapes r m) rs ss legal.1 more)
+use Rattle.two_path.proofs.Scheduled.{from_end, legal_front, fold_bare}
+use Rattle.two_path.proofs.Counted.{since_after, grows, legal_take}
 
 event_kept : (tapes : Tapes) (m : MachineView) (rs : List Entry) (now : MachineView) (e : Event) → IsKept tapes m rs now
     → IsKept tapes m (rs ++ records_of tapes e now) (behind_event tapes e now)

@@ -1,4 +1,5 @@
 mod Idle
+pub mod Folds
 pub mod Edited
 mod Lawful
 mod Recorded
@@ -15,6 +16,7 @@ mod Behind
 mod Stays
 mod Settled
 mod NoMoves
+pub mod Apart
 mod Steady
 mod Replayed
 mod Redone

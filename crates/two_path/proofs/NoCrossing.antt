@@ -1,4 +1,5 @@
--- No step of a block raises the alarm of waits that differ: the numbers of alarms, and what an expression comes to.
+-- No step of a block raises the alarm of waits that differ: the numbers of alarms, and what an
+-- expression comes to.
 use Rattle.std.proofs.Common.{◌≡◌, ℕ, ◌==◌, Bool, true, false, List, [], ◌∷◌, Option, Some, None, Result, Ok, Err, ℤ, unsigned_abs, refl, if◌then◌else◌}
 use Rattle.std.specs.Int.{is_negative}
 use Rattle.nc_number.specs.declared.cause.Cause.{Cause}

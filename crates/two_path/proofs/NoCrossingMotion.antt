@@ -4,7 +4,7 @@ use Rattle.nc_number.specs.declared.cause.Cause.TheVariants.{PositionRange, ArcR
 use Rattle.nc_number.specs.declared.point.Point.{Point}
 use Rattle.nc_number.specs.Arithmetic.{is_zero}
 use Rattle.nc_number.specs.Results.{◌>>=◌}
-use Rattle.nc_number.specs.Position.{is_position}
+use Rattle.nc_number.specs.Position.{is_position, origin}
 use Rattle.nc_moves.specs.declared.motion.Move.{Move}
 use Rattle.nc_moves.specs.declared.motion.Centre.{Centre}
 use Rattle.code_tables.specs.declared.kind.CodeKind.{CodeKind}
@@ -12,7 +12,7 @@ use Rattle.code_tables.specs.declared.kind.CodeKind.TheVariants as kind
 use Rattle.modal_state.specs.View.{ModalView}
 use Rattle.motion_track.specs.declared.block.BlockMotion.{BlockMotion}
 use Rattle.motion_track.specs.declared.fault.MotionFault.{MotionFault}
-use Rattle.motion_track.specs.Block.{names_axis, is_move_due, target_in, arc_in, origin, moves_due, moves_of}
+use Rattle.motion_track.specs.Block.{names_axis, is_move_due, target_in, arc_in, moves_due, moves_of}
 use Rattle.motion_track.specs.Centre.{centre_of}
 use Rattle.motion_track.specs.Circle.{misses, arc_of}
 use Rattle.motion_track.specs.Cut.{at_feed, line_of, thread_of}

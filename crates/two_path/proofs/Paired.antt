@@ -1,4 +1,5 @@
--- Two paths over tapes whose lists of labels agree: an invariant of both, which each turn keeps, and under which they go on.
+-- Two paths over tapes whose lists of labels agree: an invariant of both, which each turn keeps,
+-- and under which they go on.
 use Rattle.std.proofs.Common.{◌≡◌, ◌≢◌, ℕ, ◌⊎◌, inl, inr, Bool, true, false, ◌==◌, ◌||◌, List, [], ◌∷◌, Option, Some, None, is_some, ℤ, refl, ap, sym, subst, ◌∙◌, arith}
 use Rattle.std.proofs.lemmas.Bool.Decides.{nat_tests}
 use Rattle.nc_number.specs.declared.cause.Cause.TheVariants.{WaitDiffers}
@@ -8,20 +9,19 @@ use Rattle.nc_number.specs.declared.value.Var.{Var}
 use Rattle.nc_number.specs.Causes.{cause_number}
 use Rattle.nc_moves.specs.declared.alarm.Alarm.{Alarm}
 use Rattle.nc_moves.specs.declared.motion.Move.{Move}
-use Rattle.block_order.specs.declared.control.Control.{Control}
 use Rattle.block_order.specs.declared.control.Control.TheVariants as control
-use Rattle.block_order.specs.declared.frame.Frame.{Frame}
 use Rattle.block_order.specs.declared.label.Label.{Label}
-use Rattle.block_order.specs.declared.label.Label.TheVariants as label
 use Rattle.block_order.specs.declared.program.ControlProgram.{ControlProgram}
 use Rattle.block_order.specs.Labels.{ahead, list, start}
-use Rattle.block_order.specs.Steps.{Step, IsPlace, standing, passed, Kept, KeepsLabels}
+use Rattle.block_order.specs.Steps.{Step, IsPlace, standing, place_behind, KeepsLabels}
 use Rattle.run_records.specs.declared.edit.Edit.{Edit}
 use Rattle.path_state.specs.View.{PathView}
 use Rattle.path_state.specs.Statements.{Write as Written}
 use Rattle.path_state.specs.Effect.{Effect, Need, Done, AtWait, AtEnd}
 use Rattle.path_state.specs.Effect as effect
 use Rattle.path_state.specs.Controlled.{GoesAsOrdered}
+use Rattle.nc_number.proofs.Counts.{some_is}
+use Rattle.pair_order.proofs.Meetings.{Agree, agree_swap, agree_waits, agree_end, step_keeps}
 use Rattle.two_path.specs.Machine.{Part, MachineView, own_first, opening}
 use Rattle.two_path.specs.Turns.{Blocks, Tapes, tape_of, result_at_wait, result_by, own_turn}
 use Rattle.two_path.specs.Edits.{behind_edit_of, unless_alarm}
@@ -39,25 +39,18 @@ record IsSide (tape : List ControlProgram) (p : Part) : Type 0 where
   waits : (code : ℕ) → p.waiting ≡ Some code → standing tape p.path.place ≡ Some (control.Wait code)
   ends : p.finished ≡ true → standing tape p.path.place ≡ Some control.End
 
--- the labels ahead are the same, or one path has gone back to its start and the other is about to
-abbrev Agree : List Label → List Label → List Label → Type 0
-Agree all xs ys = (xs ≡ ys) ⊎ (((xs ≡ all) × (ys ≡ label.Again ∷ [])) ⊎ ((xs ≡ label.Again ∷ []) × (ys ≡ all)))
-
+-- both stand at places of their tapes, the labels ahead agree, and one path at most waits
 record IsSound (left right : List ControlProgram) (all : List Label) (m : MachineView) : Type 0 where
   first : IsSide left m.first
   second : IsSide right m.second
   agree : Agree all (ahead left m.first.path.place) (ahead right m.second.path.place)
   one : (m.first.waiting ≡ None) ⊎ (m.second.waiting ≡ None)
 
--- without an alarm the state is sound, and an alarm is another than that of paths that wait at different codes
+-- without an alarm the state is sound, and an alarm is another than that of paths that wait at
+-- different codes
 record IsPaired (left right : List ControlProgram) (all : List Label) (m : MachineView) : Type 0 where
   sound : m.alarm ≡ None → IsSound left right all m
   never : (alarm : Alarm) → m.alarm ≡ Some alarm → alarm.cause ≢ cause_number WaitDiffers
-
-agree_swap : (all xs ys : List Label) → Agree all xs ys → Agree all ys xs
-agree_swap all xs ys (inl e) = inl (sym e)
-agree_swap all xs ys (inr (inl p)) = inr (inr (p.1, p.0))
-agree_swap all xs ys (inr (inr p)) = inr (inl (p.1, p.0))
 
 one_swap : {A B : Type 0} → A ⊎ B → B ⊎ A
 one_swap (inl a) = inr a
@@ -74,47 +67,6 @@ sound_swap left right all m s = record {
 paired_swap : (left right : List ControlProgram) (all : List Label) (m : MachineView) → IsPaired left right all m
     → IsPaired right left all (own_first Two m)
 paired_swap left right all m k = record { sound = λ e. sound_swap left right all m (k.sound e); never = k.never }
-
--- a step leaves the agreement, also one back to the start
-agree_same : (all xs ys xs' : List Label) → xs' ≡ xs → Agree all xs ys → Agree all xs' ys
-agree_same all xs ys xs' e a = subst (λ zs. Agree all zs ys) (sym e) a
-
-agree_again : (all xs ys xs' : List Label) → xs ≡ label.Again ∷ [] → xs' ≡ all → Agree all xs ys → Agree all xs' ys
-agree_again all xs ys xs' again new (inl e) = inr (inl (new, sym e ∙ again))
-agree_again all xs ys xs' again new (inr (inl p)) = inr (inl (new, p.1))
-agree_again all xs ys xs' again new (inr (inr p)) = inl (new ∙ sym p.1)
-
--- where one begins with a wait and the other with a wait or the end, they are the same
-agree_waits : (all xs ys : List Label) (code other : ℕ) → Agree all (label.Wait code ∷ xs) (label.Wait other ∷ ys) → (code ≡ other) × (xs ≡ ys)
-agree_waits all xs ys code other (inl e) = (cc, cc)
-agree_waits all xs ys code other (inr (inl p)) = absurd (cc (p.1))
-agree_waits all xs ys code other (inr (inr p)) = absurd (cc (p.0))
-
-agree_end : (all xs : List Label) (code : ℕ) → Agree all (label.Wait code ∷ xs) (label.End ∷ []) → ⊥
-agree_end all xs code (inl e) = cc
-agree_end all xs code (inr (inl p)) = cc (p.1)
-agree_end all xs code (inr (inr p)) = cc (p.0)
-
-kept_agree : (tape : List ControlProgram) (ys : List Label) (f : Frame) (stack : List Frame) (c : Control) (to : List Frame)
-    → Kept tape f stack c to → Agree (list tape) (ahead tape (f ∷ stack)) ys → Agree (list tape) (ahead tape to) ys
-kept_agree tape ys f stack control.Next to k a = agree_same (list tape) (ahead tape (f ∷ stack)) ys (ahead tape to) k a
-kept_agree tape ys f stack (control.Goto n) to k a = agree_same (list tape) (ahead tape (f ∷ stack)) ys (ahead tape to) k a
-kept_agree tape ys f stack (control.While m) to k a = agree_same (list tape) (ahead tape (f ∷ stack)) ys (ahead tape to) k a
-kept_agree tape ys f stack (control.Do m) to k a = agree_same (list tape) (ahead tape (f ∷ stack)) ys (ahead tape to) k a
-kept_agree tape ys f stack (control.EndLoop m) to k a = agree_same (list tape) (ahead tape (f ∷ stack)) ys (ahead tape to) k a
-kept_agree tape ys f stack (control.Wait code) to k a = agree_same (list tape) (ahead tape (f ∷ stack)) ys (ahead tape to) k a
-kept_agree tape ys f stack control.End to k a = agree_same (list tape) (ahead tape (f ∷ stack)) ys (ahead tape to) k a
-kept_agree tape ys f stack (control.Call q r) to k a = agree_same (list tape) (ahead tape (f ∷ stack)) ys (ahead tape to) k a
-kept_agree tape ys f stack (control.BackTo n) to k a = agree_same (list tape) (ahead tape (f ∷ stack)) ys (ahead tape to) k a
-kept_agree tape ys f (g ∷ stack) control.Back to k a = agree_same (list tape) (ahead tape (f ∷ g ∷ stack)) ys (ahead tape to) k a
-kept_agree tape ys f [] control.Back to k a = agree_again (list tape) (ahead tape (f ∷ [])) ys (ahead tape to) k.0 k.1 a
-
--- a step leads to a place, and leaves the agreement
-step_keeps : (tape : List ControlProgram) → KeepsLabels tape → (ys : List Label) (from to : List Frame) → IsPlace tape from → Step tape from to
-    → Agree (list tape) (ahead tape from) ys → IsPlace tape to × Agree (list tape) (ahead tape to) ys
-step_keeps tape law ys [] to place step a = absurd place
-step_keeps tape law ys (f ∷ stack) to place (c, is, goes) a =
-    let k = law.step f stack place c is to goes in (k.0, kept_agree tape ys f stack c to k.1 a)
 
 no_alarm : {A : Type 0} {x : Option Alarm} {alarm : Alarm} → x ≡ None → x ≡ Some alarm → A
 no_alarm e d = absurd cc
@@ -149,14 +101,11 @@ end_sound left right path line m to moves s awake is stays = record {
 -- a wait of the first path, and one at which the other waits: both are the next label
 meeting : (left right : List ControlProgram) → KeepsLabels left → KeepsLabels right → (m : MachineView) → IsSound left right (list left) m → (code there : ℕ)
     → standing left m.first.path.place ≡ Some (control.Wait code) → m.second.waiting ≡ Some there
-    → (code ≡ there) × (ahead left (passed m.first.path.place) ≡ ahead right (passed m.second.path.place))
+    → (code ≡ there) × (ahead left (place_behind m.first.path.place) ≡ ahead right (place_behind m.second.path.place))
 meeting left right here_law there_law m s code there is waits =
     let here = (here_law.wait m.first.path.place code s.first.place is).1 in
     let other = (there_law.wait m.second.path.place there s.second.place (s.second.waits there waits)).1 in
-    agree_waits (list left) (ahead left (passed m.first.path.place)) (ahead right (passed m.second.path.place)) code there (rw (← here, ← other) (s.agree))
-
-some_is : {x y : ℕ} → Some x ≡ Some y → x ≡ y
-some_is p = cc
+    agree_waits (list left) (ahead left (place_behind m.first.path.place)) (ahead right (place_behind m.second.path.place)) code there (rw (← here, ← other) (s.agree))
 
 wait_paired : (left right : List ControlProgram) → KeepsLabels left → KeepsLabels right → (path : Path) (line : ℕ) (m : MachineView) → m.alarm ≡ None
     → IsSound left right (list left) m → m.first.finished ≡ false → (code : ℕ) → standing left m.first.path.place ≡ Some (control.Wait code)
@@ -170,7 +119,7 @@ wait_paired left right law law' path line m calm s going code is None e =
     })
 wait_paired left right law law' path line m calm s going code is (Some there) e = go (code == there) refl
   where
-    both : (code ≡ there) × (ahead left (passed m.first.path.place) ≡ ahead right (passed m.second.path.place))
+    both : (code ≡ there) × (ahead left (place_behind m.first.path.place) ≡ ahead right (place_behind m.second.path.place))
     both = meeting left right law law' m s code there is e
 
     go : (x : Bool) → (code == there) ≡ x → IsPaired left right (list left) (result_at_wait path line m code (Some there)).machine
@@ -241,7 +190,8 @@ turn_paired left right a raises law law' led path m k = go (is_still m) refl
         rw (own_awake a path m e) (by_paired left right a raises law law' path (a.line m.first.path.place) m all.0 (k.sound all.0) all.2 all.1
         (a.effect m.first.path m.first.values) (led m.first.path m.first.values) refl)
 
--- the laws of both tapes, that their lists are equal, and that no block raises the alarm of waits that differ
+-- the laws of both tapes, that their lists are equal, and that no block raises the alarm of waits
+-- that differ
 pub record IsLawfulPair (left right : List ControlProgram) (tapes : Tapes) : Type 0 where
   pub first : KeepsLabels left
   pub second : KeepsLabels right
@@ -314,7 +264,7 @@ waiting_stuck : (left right : List ControlProgram) → KeepsLabels left → Keep
 waiting_stuck left right law law' all m s true fe o oe un i f' fe' o' oe' i' = absurd cc
 waiting_stuck left right law law' all m s false fe None oe un i f' fe' o' oe' i' = absurd cc
 waiting_stuck left right law law' all m s false fe (Some code) oe un i true fe' o' oe' i' =
-    agree_end all (ahead left (passed m.first.path.place)) code
+    agree_end all (ahead left (place_behind m.first.path.place)) code
     (rw (← (law.wait m.first.path.place code s.first.place (s.first.waits code oe)).1, ← law'.ends m.second.path.place s.second.place (s.second.ends fe')) (s.agree))
 waiting_stuck left right law law' all m s false fe (Some code) oe un i false fe' None oe' i' = absurd cc
 waiting_stuck left right law law' all m s false fe (Some code) oe un i false fe' (Some other) oe' i' = go s.one

@@ -1,5 +1,5 @@
 -- What a machine keeps over each record that is done again, in the parts that the code keeps.
-use Rattle.std.proofs.Common.{◌≡◌, List, Option, None, Result, Ok, Err, IfOk, OnErr, refl, sym, ap, subst, ◌∙◌}
+use Rattle.std.proofs.Common.{◌≡◌, List, None, Result, Ok, Err, IfOk, OnErr, refl, sym, ap, subst, ◌∙◌}
 use Rattle.nc_number.specs.declared.path.Path.{Path}
 use Rattle.nc_number.specs.declared.path.Path.TheVariants.{One, Two}
 use Rattle.block_order.specs.declared.program.ControlProgram.{ControlProgram}
@@ -64,16 +64,16 @@ refused_by tapes e before after step s = record {
   unchanged = sym (twice e.path after) ∙ ap (own_first e.path) s.unchanged ∙ twice e.path before;
 }
 
-pub done_in : {E : Type 0} (result : Result Turn E) (tapes : Tapes) (p : Path) (entry : Entry) (before after : MachineView) → entry.path ≡ p
-    → edit_of entry.kind ≡ None
-    → IfOk result (λ turn. IsStepDone (tape_of tapes p) entry.path entry.kind entry.stamps (own_first p before) (own_first p after) turn)
-    → IfOk result (λ turn. IsDoneAgain tapes entry before after turn)
-done_in (Ok turn) tapes p entry before after e step s =
-    done_by tapes entry before after turn step
-    (subst (λ q. IsStepDone (tape_of tapes q) entry.path entry.kind entry.stamps (own_first q before) (own_first q after) turn) (sym e) s)
-done_in (Err error) tapes p entry before after e step s = tt
+pub done_in : {A E : Type 0} (result : Result A E) (turn_for : A → Turn) (tapes : Tapes) (p : Path) (entry : Entry) (before after : MachineView)
+    → entry.path ≡ p → edit_of entry.kind ≡ None
+    → IfOk result (λ a. IsStepDone (tape_of tapes p) entry.path entry.kind entry.stamps (own_first p before) (own_first p after) (turn_for a))
+    → IfOk result (λ a. IsDoneAgain tapes entry before after (turn_for a))
+done_in (Ok a) turn_for tapes p entry before after e step s =
+    done_by tapes entry before after (turn_for a) step
+    (subst (λ q. IsStepDone (tape_of tapes q) entry.path entry.kind entry.stamps (own_first q before) (own_first q after) (turn_for a)) (sym e) s)
+done_in (Err error) turn_for tapes p entry before after e step s = tt
 
-pub refused_in : {E : Type 0} (result : Result Turn E) (tapes : Tapes) (p : Path) (entry : Entry) (before after : MachineView) → entry.path ≡ p
+pub refused_in : {A E : Type 0} (result : Result A E) (tapes : Tapes) (p : Path) (entry : Entry) (before after : MachineView) → entry.path ≡ p
     → edit_of entry.kind ≡ None
     → OnErr result (IsStepRefused (tape_of tapes p) entry.path entry.kind entry.stamps (own_first p before) (own_first p after))
     → OnErr result (IsRefused tapes entry before after)

@@ -1,5 +1,5 @@
 -- A history that is done again record by record.
-use Rattle.std.proofs.Common.{◌≡◌, ℕ, ◌+◌, ◌<◌, ◌≤◌, List, [], ◌∷◌, ◌++◌, length, take, drop, get_or, append_assoc, append-nil, length-take-le, refl, sym, subst, ◌∙◌, ap, Option, Some, None}
+use Rattle.std.proofs.Common.{◌≡◌, ℕ, ◌+◌, ◌<◌, ◌≤◌, List, [], ◌∷◌, ◌++◌, length, take, drop, get_or, append_assoc, append-nil, length-take-le, sym, subst, ◌∙◌, ap, Option, Some, None}
 use Rattle.std.proofs.lemmas.List.{at_drop_all, take_more, drop_more}
 use Rattle.block_order.specs.declared.program.ControlProgram.{ControlProgram}
 use Rattle.nc_number.specs.declared.path.Path.{Path}
@@ -11,6 +11,7 @@ use Rattle.two_path.specs.Turns.{Tapes}
 use Rattle.two_path.specs.Histories.{HistoriesAreRuns, IsLegal, IsNext, behind_entry, fold}
 use Rattle.two_path.specs.Joined.{AreAtTheirWaits}
 use Rattle.two_path.specs.Again.{turn_of_entry}
+use Rattle.two_path.proofs.Folds.{fold_push}
 use Rattle.nc_outside.specs.declared.lined_move.LinedMove.{LinedMove}
 use Rattle.two_path.specs.Made.{PathTurn, made_by, moves_in, turns_from}
 
@@ -49,16 +50,11 @@ pub next_is_legal : (tapes : Tapes) (m : MachineView) (left rest : List Entry) (
     → IsLegal tapes m left → IsNext tapes m e × IsLegal tapes (behind_entry tapes e m) rest
 next_is_legal tapes m left rest e is legal = subst (IsLegal tapes m) is legal
 
-fold_on : (tapes : Tapes) (m : MachineView) (front : List Entry) (e : Entry)
-    → fold tapes m (front ++ e ∷ []) ≡ behind_entry tapes e (fold tapes m front)
-fold_on tapes m [] e = refl
-fold_on tapes m (x ∷ front) e = fold_on tapes (behind_entry tapes x m) front e
-
 -- the machine behind one record more
 pub fold_more : (tapes : Tapes) (start m : MachineView) (front more : List Entry) (e : Entry) → more ≡ front ++ e ∷ []
     → m ≡ fold tapes start front → behind_entry tapes e m ≡ fold tapes start more
 fold_more tapes start m front more e is so_far =
-    ap (behind_entry tapes e) so_far ∙ sym (fold_on tapes start front e) ∙ ap (fold tapes start) (sym is)
+    ap (behind_entry tapes e) so_far ∙ sym (fold_push tapes start front e) ∙ ap (fold tapes start) (sym is)
 
 -- how many records there are behind the first so many
 pub counted : (tapes : Tapes) (start m : MachineView) (entries : List Entry) (i : ℕ) → HistoriesAreRuns tapes start

@@ -1,4 +1,5 @@
--- Each legal history is recorded by some list of events: the reads of each record are taken as soon as there are as many records as their stamps say.
+-- Each legal history is recorded by some list of events: the reads of each record are taken as soon
+-- as there are as many records as their stamps say.
 use Rattle.std.proofs.Common.{◌≡◌, ℕ, ◌+◌, ◌≤◌, ◌<◌, Bool, true, false, ◌==◌, ◌||◌, ◌⊎◌, inl, inr, List, [], ◌∷◌, ◌++◌, Option, Some, None, is_some, refl, sym, ap, subst, ◌∙◌, append_assoc, append-nil, arith}
 use Rattle.std.proofs.lemmas.Bool.Decides.{nat_tests}
 use Rattle.nc_number.specs.declared.path.Path.{Path}
@@ -13,10 +14,12 @@ use Rattle.path_state.specs.View.{PathView}
 use Rattle.path_state.specs.Statements.{Write as Written}
 use Rattle.path_state.specs.Effect.{Effect, Need, Done, AtWait, AtEnd}
 use Rattle.path_state.specs.Effect as effect
+use Rattle.nc_number.proofs.Bools.{or_right}
 use Rattle.two_path.specs.Machine.{Part, MachineView, own_first, part_without_reads, without_reads, opening}
 use Rattle.two_path.specs.Turns.{Blocks, Tapes, tape_of, with_write, part_at, crossed_waits, result_at_wait, result_by, own_turn, kind_of}
-use Rattle.two_path.specs.Edits.{behind_edit_of, edit_entry, unless_alarm}
+use Rattle.two_path.specs.Edits.{behind_edit_of, edit_entry}
 use Rattle.two_path.specs.Histories.{Event, TurnOf, EditOf, behind_event, records_of, run, history, and_next, values_from, values_at, AsksFrom, AreInOrder, MayRead, with_values, with_reads, IsStep, behind_step, behind_entry, IsNext, fold, IsLegal, is_idle, IsLawful, AreLawful, IsReached, IsRun}
+use Rattle.two_path.proofs.Folds.{fold_push}
 use Rattle.two_path.proofs.Idle.{is_still, own_awake, awake_of}
 use Rattle.two_path.proofs.Edited.{entry, calmly, step_no_edit, behind_step_entry, behind_edit_entry, entry_bare}
 use Rattle.two_path.proofs.Lawful.{next_written, values_written, values_push}
@@ -26,19 +29,12 @@ pub from_end : {X : Type 0} (P : List X → Type 0) → P [] → ((xs : List X) 
 from_end P none more [] = none
 from_end P none more (x ∷ xs) = from_end (λ ys. P (x ∷ ys)) (more [] x none) (λ ys y p. more (x ∷ ys) y p) xs
 
--- one more at the end
-pub fold_push : (tapes : Tapes) (m : MachineView) (rs : List Entry) (e : Entry) → fold tapes m (rs ++ e ∷ []) ≡ behind_entry tapes e (fold tapes m rs)
-fold_push tapes m [] e = refl
-fold_push tapes m (r ∷ rs) e = fold_push tapes (behind_entry tapes r m) rs e
-
+-- the records before the last, and the last
 pub legal_front : (tapes : Tapes) (m : MachineView) (rs : List Entry) (e : Entry) → IsLegal tapes m (rs ++ e ∷ []) → IsLegal tapes m rs × IsNext tapes (fold tapes m rs) e
 legal_front tapes m [] e legal = (tt, legal.0)
 legal_front tapes m (r ∷ rs) e legal = let rest = legal_front tapes (behind_entry tapes r m) rs e legal.1 in ((legal.0, rest.0), rest.1)
 
-pub legal_push : (tapes : Tapes) (m : MachineView) (rs : List Entry) (e : Entry) → IsLegal tapes m rs → IsNext tapes (fold tapes m rs) e → IsLegal tapes m (rs ++ e ∷ [])
-legal_push tapes m [] e legal next = (next, tt)
-legal_push tapes m (r ∷ rs) e legal next = (legal.0, legal_push tapes (behind_entry tapes r m) rs e legal.1 next)
-
+-- one event more at the end
 run_push : (tapes : Tapes) (m : MachineView) (es : List Event) (e : Event) → run tapes m (es ++ e ∷ []) ≡ behind_event tapes e (run tapes m es)
 run_push tapes m [] e = refl
 run_push tapes m (f ∷ es) e = run_push tapes (behind_event tapes f m) es e
@@ -105,11 +101,8 @@ order_none : (c high : ℕ) (ks : List ℕ) → AreInOrder c high ks → Below c
 order_none c high [] i b = refl
 order_none c high (k ∷ ks) i b = absurd (omega (arith, i.0, b.0))
 
-or_true : (b x : Bool) → x ≡ true → (b || x) ≡ true
-or_true true x e = refl
-or_true false x e = e
-
--- from n a record of the first path leads to this machine, whatever the other has read: what either path may have read since, and before
+-- from n a record of the first path leads to this machine, whatever the other has read: what either
+-- path may have read since, and before
 record StepsTo (a b : Blocks) (n to : MachineView) (from_reads : List Var → List ℕ → MachineView) : Type 0 where
   count : to.count ≡ n.count + 1
   mine : (ks : List ℕ) → Ready a to ks → Below (n.count + 1) ks → ks ≡ []
@@ -128,7 +121,7 @@ before b n x o al ko awake r below =
     let order : AreInOrder n.second.since n.count ko = order_below n.second.since n.count ko r.may.order below in (
       record {
         may = record { order = order; asks = asks_before b n.second.path o n.writes n.count n.second.since [] ko order r.may.asks };
-        idle = λ i. r.idle (or_true (is_some al) (is_idle n.second) (calm n.alarm (is_idle n.first) (is_idle n.second) awake i));
+        idle = λ i. r.idle (or_right (is_some al) (is_idle n.second) (calm n.alarm (is_idle n.first) (is_idle n.second) awake i));
       },
       sym (values_written b n.second.path o n.writes n.count n.second.since [] ko order),
     )
@@ -141,7 +134,7 @@ stepped_wait : (a b : Blocks) (path : Path) (line : ℕ) (n : MachineView) (rs :
     → StepsTo a b n (without_reads (result_at_wait path line (with_values rs ks n) code o).machine) (λ ro ko. (result_at_wait path line (both rs ks ro ko n) code o).machine)
 stepped_wait a b path line n rs ks code None awake = record {
   count = refl;
-  mine = λ ks' r below. r.idle (or_true (is_some n.alarm) (n.first.finished || true) (or_true n.first.finished true refl));
+  mine = λ ks' r below. r.idle (or_right (is_some n.alarm) (n.first.finished || true) (or_right n.first.finished true refl));
   theirs = λ ko r below.
       let p = before b n (without_reads (result_at_wait path line (with_values rs ks n) code None).machine).first None n.alarm ko awake r below in (p.0, refl);
 }
@@ -175,7 +168,7 @@ stepped a b path line n rs ks (Done to write moves) k awake e = record {
 stepped a b path line n rs ks (AtWait code) k awake e = stepped_wait a b path line n rs ks code n.second.waiting awake
 stepped a b path line n rs ks (AtEnd to moves) k awake e = record {
   count = refl;
-  mine = λ ks' r below. r.idle (or_true (is_some n.alarm) true refl);
+  mine = λ ks' r below. r.idle (or_right (is_some n.alarm) true refl);
   theirs = λ ko r below.
       let p = before b n (without_reads (result_by path line (with_values rs ks n) (AtEnd to moves)).machine).first None n.alarm ko awake r below in (p.0, refl);
 }

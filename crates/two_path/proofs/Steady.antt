@@ -1,4 +1,5 @@
--- What each turn leaves as it is: what is fixed for both paths, and that a path that waits stands on a wait.
+-- What each turn leaves as it is: what is fixed for both paths, and that a path that waits stands
+-- on a wait.
 use Rattle.std.proofs.Common.{◌≡◌, ℕ, Bool, true, false, ◌==◌, ◌||◌, List, Option, Some, None, is_some, refl, sym, ap, ◌∙◌}
 use Rattle.nc_number.specs.declared.path.Path.{Path}
 use Rattle.nc_number.specs.declared.path.Path.TheVariants.{Two}
@@ -11,7 +12,8 @@ use Rattle.path_state.specs.View.{PathView}
 use Rattle.path_state.specs.Effect.{Effect, Need, Done, AtWait, AtEnd}
 use Rattle.path_state.specs.Effect as effect
 use Rattle.path_state.specs.Controlled.{GoesAsOrdered, KeepsFixed}
-use Rattle.two_path.specs.Machine.{Part, MachineView, own_first, opening}
+use Rattle.nc_number.proofs.Counts.{some_is}
+use Rattle.two_path.specs.Machine.{Part, MachineView, own_first}
 use Rattle.two_path.specs.Turns.{Blocks, result_at_wait, result_by, own_turn}
 use Rattle.two_path.specs.Histories.{with_reads, behind_step}
 use Rattle.two_path.specs.Joined.{JointView, machine_of, AreShared, IsLasting, AreAtTheirWaits}
@@ -53,9 +55,6 @@ still_shared before after joint left fixed lasting shared = record {
   upper = lasting.upper ∙ shared.upper ∙ ap (λ f. f.shared500) (sym fixed);
 }
 
-some_is : {x y : ℕ} → Some x ≡ Some y → x ≡ y
-some_is e = cc
-
 none_waits : {A : Type 0} {o : Option ℕ} {code : ℕ} → o ≡ None → o ≡ Some code → A
 none_waits e w = absurd cc
 
@@ -95,10 +94,6 @@ own_waits left right blocks led path m k = go (is_still m) refl
     go false e = rw (own_awake blocks path m e)
         (by_waits left right path (blocks.line m.first.path.place) m (blocks.effect m.first.path m.first.values)
         (not_waiting m.alarm m.first.finished m.first.waiting e) (led m.first.path m.first.values) k)
-
--- paths that have not begun
-pub opening_waits : (left right : List ControlProgram) (first second : PathView) → AreAtTheirWaits left right (opening first second)
-opening_waits left right first second = record { first = λ code same. absurd cc; second = λ code same. absurd cc }
 
 pub swapped : (left right : List ControlProgram) (m : MachineView) → AreAtTheirWaits left right m → AreAtTheirWaits right left (own_first Two m)
 swapped left right m k = record { first = k.second; second = k.first }

@@ -16,8 +16,8 @@ use Rattle.two_path.specs.Turns.{Blocks, Tapes, tape_of, own_turn}
 use Rattle.two_path.specs.Histories.{MayRead, with_reads, IsStep, behind_step, IsNext, behind_entry}
 use Rattle.two_path.specs.Joined.{JointView, machine_of, read_part, AreShared, IsAtItsWait}
 
--- Two paths of which records can be done again: both share the same variables, a path that waits stands on a wait, and no
--- block has read anything.
+-- Two paths of which records can be done again: both share the same variables, a path that waits
+-- stands on a wait, and no block has read anything.
 pub record AreReady (tape other_tape : List ControlProgram) (me other : Part) (joint : JointView) : Type 0 where
   pub my_shared : AreShared me joint
   pub other_shared : AreShared other joint
@@ -31,7 +31,8 @@ abbrev pub variable_asked : Effect → Option ℕ
 variable_asked (Need variable) = Some variable
 variable_asked _ = None
 
--- the variable that the block reads with this stamp, where it asks for one and the stamp is in order
+-- the variable that the block reads with this stamp, where it asks for one and the stamp is in
+-- order
 abbrev pub variable_due : ℕ → ℕ → ℕ → Effect → Option ℕ
 variable_due lowest highest stamp effect =
     if nat_le lowest stamp && nat_le stamp highest then variable_asked effect else None
@@ -41,7 +42,8 @@ abbrev pub kind_at_wait : ℕ → Option ℕ → EntryKind
 kind_at_wait code None = kind.Arrived
 kind_at_wait code (Some there) = if code == there then kind.Met else kind.Alarmed
 
--- the kind of the record of a block that comes to this, where the other path waits at this code, or not
+-- the kind of the record of a block that comes to this, where the other path waits at this code, or
+-- not
 abbrev pub kind_of_effect : Effect → Option ℕ → Option EntryKind
 kind_of_effect (Need variable) other = None
 kind_of_effect (Done path write moves) other = Some kind.Did

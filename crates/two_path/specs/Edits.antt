@@ -9,8 +9,9 @@ use Rattle.path_state.specs.Edits.{edited, shared_write}
 use Rattle.two_path.specs.Machine.{MachineView, own_first}
 use Rattle.two_path.specs.Turns.{part_at, with_write}
 
--- Behind an edit of the first path: an offset or a variable of its own is set, or one that both paths share. What blocks had read
--- is forgotten, and they read again, what is there after this record.
+-- Behind an edit of the first path: an offset or a variable of its own is set, or one that both
+-- paths share. What blocks had read is forgotten, and they read again, what is there after this
+-- record.
 abbrev pub behind_edit : Edit → MachineView → MachineView
 behind_edit edit m = record m {
   first = part_at (edited edit m.first.path) (m.count + 1) m.first;

@@ -2,6 +2,7 @@
 use Rattle.std.specs.Prelude.{◌≡◌, ℕ, ◌+◌, ◌≤◌, ◌⊎◌, Bool, true, false, ◌||◌, List, [], ◌∷◌, ◌++◌, length, take, map, Option, Some, None, is_some, if◌then◌else◌}
 use Rattle.nc_number.specs.declared.path.Path.{Path}
 use Rattle.nc_number.specs.declared.path.Path.TheVariants.{One, Two}
+use Rattle.nc_number.specs.Path.{is_same}
 use Rattle.nc_number.specs.declared.value.Var.{Var}
 use Rattle.nc_number.specs.declared.value.Var.TheVariants.{Vacant}
 use Rattle.common_vars.specs.declared.links.Write.{Write}
@@ -79,8 +80,8 @@ abbrev pub AreInOrder : ℕ → ℕ → List ℕ → Type 0
 AreInOrder lowest highest [] = Unit {0}
 AreInOrder lowest highest (stamp ∷ stamps) = (lowest ≤ stamp) × (stamp ≤ highest) × AreInOrder stamp highest stamps
 
--- With these stamps the first path's block may have read up to now: none is from before the path came to the
--- block or from before an edit, and none is later than the last record.
+-- With these stamps the first path's block may have read up to now: none is from before the path
+-- came to the block or from before an edit, and none is later than the last record.
 pub record MayRead (blocks : Blocks) (m : MachineView) (stamps : List ℕ) : Type 0 where
   pub order : AreInOrder m.first.since m.count stamps
   pub asks : AsksFrom blocks m.first.path m.writes [] stamps
@@ -136,8 +137,9 @@ IsLegal tapes m (e ∷ entries) = IsNext tapes m e × IsLegal tapes (behind_entr
 abbrev pub is_idle : Part → Bool
 is_idle part = part.finished || is_some part.waiting
 
--- What the first path's block has read is lawful: it may have read with these stamps, each value is that of its
--- stamp, a path that waits or has ended has no reads, and the path came to its block by a record that was made.
+-- What the first path's block has read is lawful: it may have read with these stamps, each value is
+-- that of its stamp, a path that waits or has ended has no reads, and the path came to its block by
+-- a record that was made.
 pub record IsLawful (blocks : Blocks) (m : MachineView) : Type 0 where
   pub may : MayRead blocks m m.first.stamps
   pub values : m.first.values ≡ values_at blocks m.first.path m.writes m.first.stamps
@@ -167,13 +169,8 @@ pub record IsRun (tapes : Tapes) (m : MachineView) (entries : List Entry) (to : 
   pub records : history tapes m events ≡ entries
   pub reaches : without_reads (run tapes m events) ≡ to
 
-abbrev pub is_same : Path → Path → Bool
-is_same One One = true
-is_same One Two = false
-is_same Two One = false
-is_same Two Two = true
-
--- a record of this path and kind brings that path to its next block, or back to its block, which then reads anew
+-- a record of this path and kind brings that path to its next block, or back to its block, which
+-- then reads anew
 abbrev pub is_coming : Path → EntryKind → Path → Bool
 is_coming path Did to = is_same path to
 is_coming path Arrived to = false
@@ -182,14 +179,15 @@ is_coming path Ended to = false
 is_coming path Alarmed to = false
 is_coming path (Edited edit) to = true
 
--- how many records there were just after the one by which the path came to its block or its reads began anew, counted on from here
+-- how many records there were just after the one by which the path came to its block or its reads
+-- began anew, counted on from here
 abbrev pub came_from : ℕ → ℕ → Path → List Entry → ℕ
 came_from since count path [] = since
 came_from since count path (e ∷ entries) =
     came_from (if is_coming e.path e.kind path then count + 1 else since) (count + 1) path entries
 
--- What the fold of a history counts: its records, from which of them on each path's block may have read, and what each variable
--- held after each number of records.
+-- What the fold of a history counts: its records, from which of them on each path's block may have
+-- read, and what each variable held after each number of records.
 pub record Counts (tapes : Tapes) (m : MachineView) (entries : List Entry) : Type 0 where
   pub count : (fold tapes m entries).count ≡ length entries
   pub first : (fold tapes m entries).first.since ≡ came_from 0 0 One entries
@@ -198,8 +196,8 @@ pub record Counts (tapes : Tapes) (m : MachineView) (entries : List Entry) : Typ
       → value_after (length before) variable (fold tapes m entries).writes
       ≡ value_after (fold tapes m before).count variable (fold tapes m before).writes
 
--- Each run's records are a legal history, and each legal history is the records of some run. Its fold is the
--- machine but for block reads, and each machine with lawful reads is reached.
+-- Each run's records are a legal history, and each legal history is the records of some run. Its
+-- fold is the machine but for block reads, and each machine with lawful reads is reached.
 pub record HistoriesAreRuns (tapes : Tapes) (m : MachineView) : Type 0 where
   pub run : (events : List Event) → IsHistory tapes m events
   pub history : (entries : List Entry) → IsLegal tapes m entries → IsRun tapes m entries (fold tapes m entries)
@@ -247,7 +245,8 @@ abbrev pub behind_episodes : Tapes → MachineView → List Episode → Recorded
 behind_episodes tapes m [] now = now
 behind_episodes tapes m (e ∷ episodes) now = behind_episodes tapes m episodes (behind_episode tapes m e now)
 
--- over any events and restarts the records are one legal history, and the machine is its fold with lawful reads
+-- over any events and restarts the records are one legal history, and the machine is its fold with
+-- lawful reads
 abbrev pub IsKeptOverRestarts : Tapes → MachineView → Type 0
 IsKeptOverRestarts tapes m = (episodes : List Episode)
     → IsKept tapes m (behind_episodes tapes m episodes (record { machine = m; history = [] })).history

@@ -5,9 +5,12 @@ use Rattle.common_vars.specs.Writes.{Writes}
 use Rattle.block_order.specs.declared.control.Control.TheVariants.{Wait}
 use Rattle.block_order.specs.declared.program.ControlProgram.{ControlProgram}
 use Rattle.block_order.specs.Steps.{standing}
-use Rattle.path_state.specs.declared.advance.Advance.{Advance}
+use Rattle.nc_moves.specs.declared.motion.Move.{Move}
+use Rattle.motion_track.specs.declared.targets.TheConstants.{LONGEST}
+use Rattle.motion_track.specs.Within.{AreMovesWithin}
+use Rattle.path_state.specs.declared.advance.BlockAnswer.{BlockAnswer}
 use Rattle.path_state.specs.declared.decision.Decision.{Decision}
-use Rattle.path_state.specs.Advances.{effect_seen, StaysUnlessDone, AreMovesAt}
+use Rattle.path_state.specs.Advances.{effect_told, moves_of, StaysUnlessTold}
 use Rattle.path_state.specs.Decisions.{decided, MayTake}
 use Rattle.path_state.specs.Fits.{HasFitWords}
 use Rattle.two_path.specs.Machine.{Part, MachineView}
@@ -52,18 +55,23 @@ pub record IsLasting (before after : JointView) : Type 0 where
   pub upper : after.shared.shared500 ≡ before.shared.shared500
   pub room : before.count + before.shared.room ≤ after.count + after.shared.room
 
--- what was decided is what the path's block comes to with what it has read, and it may be done
-pub record IsDecided (blocks : Blocks) (part : Part) (decision : Decision) : Type 0 where
-  pub effect : decided part.path decision ≡ blocks.effect part.path part.values
+-- what was decided, with these moves, is what the path's block comes to with what it has read, and
+-- it may be done
+pub record IsDecided (blocks : Blocks) (part : Part) (moves : List Move) (decision : Decision) : Type 0 where
+  pub effect : decided part.path decision moves ≡ blocks.effect part.path part.values
   pub fit : HasFitWords decision
   pub may : MayTake part.path decision
 
--- the path took what its block comes to with what it has read, and answered so
-pub record HasTaken (blocks : Blocks) (before now : Part) (answer : Advance) : Type 0 where
-  pub effect : effect_seen answer now.path ≡ blocks.effect before.path before.values
-  pub stays : StaysUnlessDone answer before.path now.path
-  pub moves : AreMovesAt (blocks.line before.path.place) answer
+-- the path took what its block comes to with what it has read, and answered so, with these moves
+pub record HasTaken (blocks : Blocks) (before now : Part) (answer : BlockAnswer) (moves : List Move) : Type 0 where
+  pub effect : effect_told answer moves now.path ≡ blocks.effect before.path before.values
+  pub stays : StaysUnlessTold answer before.path now.path
   pub rest : now ≡ record before { path = now.path }
+
+-- the moves of the block with what the path has read, none of which is too far
+pub record AreItsMoves (blocks : Blocks) (part : Part) (moves : List Move) : Type 0 where
+  pub are : moves ≡ moves_of (blocks.effect part.path part.values)
+  pub within : AreMovesWithin LONGEST moves
 
 -- a path that waits stands on a wait of its tape
 abbrev pub IsAtItsWait : List ControlProgram → Part → Type 0

@@ -17,7 +17,8 @@ pub record Part : Type 0 where
   -- the code of the wait at which it waits
   pub waiting : Option ℕ
   pub finished : Bool
-  -- how many records there were just after the one by which it came to its block, or just after a later edit
+  -- how many records there were just after the one by which it came to its block, or just after a
+  -- later edit
   pub since : ℕ
 
 pub record MachineView : Type 0 where

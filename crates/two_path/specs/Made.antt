@@ -1,6 +1,7 @@
 -- The moves of a history: of each of its records the turn, and of a turn its moves.
 use Rattle.std.specs.Prelude.{if◌then◌else◌, List, [], ◌∷◌}
 use Rattle.std.specs.List.{flat_map}
+use Rattle.nc_number.specs.Path.{is_same}
 use Rattle.nc_number.specs.declared.path.Path.{Path}
 use Rattle.nc_moves.specs.declared.motion.Move.{Move}
 use Rattle.nc_outside.specs.declared.lined_move.LinedMove.{LinedMove}
@@ -8,9 +9,11 @@ use Rattle.nc_outside.specs.Lined.{lined}
 use Rattle.run_records.specs.Entries.{Entry}
 use Rattle.two_path.specs.declared.turn.Turn.{Turn}
 use Rattle.two_path.specs.declared.turn.Turn.TheVariants.{Read, Did, Arrived, Met, Ended, Waiting, Finished, Alarm, Halted, Edited}
+use Rattle.two_path.specs.declared.turn.TurnAnswer.{TurnAnswer}
+use Rattle.two_path.specs.declared.turn.TurnAnswer.TheVariants as answer
 use Rattle.two_path.specs.Machine.{MachineView}
-use Rattle.two_path.specs.Turns.{Tapes}
-use Rattle.two_path.specs.Histories.{behind_entry, is_same}
+use Rattle.two_path.specs.Turns.{Tapes, moves_at}
+use Rattle.two_path.specs.Histories.{behind_entry}
 use Rattle.two_path.specs.Again.{turn_of_entry}
 
 -- the moves of a turn: those of the block that it did, or with which its path ended
@@ -26,7 +29,33 @@ moves_of_turn (Alarm alarm) = []
 moves_of_turn (Halted alarm) = []
 moves_of_turn Edited = []
 
--- the same, each with the line of its block
+-- a turn, its moves put apart
+abbrev pub answer_of : Turn → TurnAnswer
+answer_of (Did moves) = answer.Did moves.line
+answer_of (Ended moves) = answer.Ended moves.line
+answer_of (Read variable stamp) = answer.Read variable stamp
+answer_of (Arrived code) = answer.Arrived code
+answer_of (Met code) = answer.Met code
+answer_of (Waiting code) = answer.Waiting code
+answer_of Finished = answer.Finished
+answer_of (Alarm alarm) = answer.Alarm alarm
+answer_of (Halted alarm) = answer.Halted alarm
+answer_of Edited = answer.Edited
+
+-- and with them in it again
+abbrev pub turn_with : TurnAnswer → List Move → Turn
+turn_with (answer.Did line) moves = Did (moves_at line moves)
+turn_with (answer.Ended line) moves = Ended (moves_at line moves)
+turn_with (answer.Read variable stamp) moves = Read variable stamp
+turn_with (answer.Arrived code) moves = Arrived code
+turn_with (answer.Met code) moves = Met code
+turn_with (answer.Waiting code) moves = Waiting code
+turn_with answer.Finished moves = Finished
+turn_with (answer.Alarm alarm) moves = Alarm alarm
+turn_with (answer.Halted alarm) moves = Halted alarm
+turn_with answer.Edited moves = Edited
+
+-- the moves of a turn, each with the line of its block
 abbrev pub made_in : Turn → List LinedMove
 made_in (Did moves) = lined moves
 made_in (Ended moves) = lined moves

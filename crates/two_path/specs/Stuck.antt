@@ -38,7 +38,8 @@ abbrev pub RaisesNoCrossing : Blocks → Type 0
 RaisesNoCrossing blocks = (path : PathView) (values : List Var) (value : ℤ)
     → blocks.effect path values ≢ effect.Alarm (cause_number WaitDiffers) value
 
--- the paths are not stuck, no wait meets another, and no alarm is that of paths that wait at different codes
+-- the paths are not stuck, no wait meets another, and no alarm is that of paths that wait at
+-- different codes
 pub record IsFree (tapes : Tapes) (m : MachineView) : Type 0 where
   pub stuck : IsStuck m → ⊥
   pub crossed : (path : Path) → IsCrossed (tape_of tapes path) (own_first path m) → ⊥

@@ -11,7 +11,7 @@ use Rattle.nc_moves.specs.declared.motion.Moves.{Moves}
 use Rattle.common_vars.specs.declared.links.Write.{Write}
 use Rattle.common_vars.specs.Writes.{value_after}
 use Rattle.block_order.specs.declared.frame.Frame.{Frame}
-use Rattle.block_order.specs.Steps.{passed}
+use Rattle.block_order.specs.Steps.{place_behind}
 use Rattle.run_records.specs.Entries.{Entry}
 use Rattle.run_records.specs.declared.entry.EntryKind.{EntryKind}
 use Rattle.run_records.specs.declared.entry.EntryKind.TheVariants as kind
@@ -25,8 +25,8 @@ use Rattle.two_path.specs.declared.turn.Turn.{Turn}
 use Rattle.two_path.specs.declared.turn.Turn.TheVariants as turn
 use Rattle.two_path.specs.Machine.{Part, MachineView, own_first, part_without_reads}
 
--- The blocks of a tape: what the block at which a path stands comes to, with these values read so far, and
--- the line of the block at a place.
+-- The blocks of a tape: what the block at which a path stands comes to, with these values read so
+-- far, and the line of the block at a place.
 pub record Blocks : Type 0 where
   pub effect : PathView → List Var → Effect
   pub line : List Frame → ℕ
@@ -81,7 +81,7 @@ behind_block path write m = record m {
 }
 
 abbrev pub path_behind_wait : PathView → PathView
-path_behind_wait path = record path { place = passed path.place }
+path_behind_wait path = record path { place = place_behind path.place }
 
 -- a path behind the wait at which it was
 abbrev pub part_behind_wait : ℕ → Part → Part
@@ -126,7 +126,8 @@ crossed_waits path line = alarm_at path line (cause_number WaitDiffers) (pos 0)
 abbrev pub alarm_result : Alarm → MachineView → TurnResult
 alarm_result alarm m = result (turn.Alarm alarm) (with_alarm alarm m)
 
--- The first path is at a wait of this code. The other waits at that code, at another, or not at all.
+-- The first path is at a wait of this code. The other waits at that code, at another, or not at
+-- all.
 abbrev pub result_at_wait : Path → ℕ → MachineView → ℕ → Option ℕ → TurnResult
 result_at_wait path line m code (Some there) =
     if code == there then result (turn.Met code) (behind_meeting m) else alarm_result (crossed_waits path line) m

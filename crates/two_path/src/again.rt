@@ -1,24 +1,28 @@
-//! A record that is done again, over the path's own part, the other's, and what both have in common.
-ghost use Rattle.std.specs.Prelude.{◌≡◌, ◌≤◌, ◌<◌, ◌||◌, Some, None, is_some, IsTrue, OnOk, OnErr, IfOk};
+//! A record that is done again, over the path's own part, the other's, and what both have in
+//! common.
+ghost use Rattle.std.specs.Prelude.{◌≡◌, ◌≤◌, ◌<◌, ◌||◌, List, Some, None, is_some, IsTrue, OnOk, OnErr, IfOk};
 ghost use Rattle.motion_track.specs.Within.{AreMovesWithin};
 ghost use Rattle.run_records.specs.Entries.{edit_of};
 ghost use Rattle.path_state.specs.View.{PathView};
 ghost use Rattle.path_state.specs.Effect.{effect_of};
-ghost use Rattle.path_state.specs.Decisions.{decided};
+ghost use Rattle.path_state.specs.Advances.{effect_told};
 ghost use Rattle.two_path.specs.Machine.{part_without_reads};
 ghost use Rattle.two_path.specs.Turns.{blocks_of};
 ghost use Rattle.two_path.specs.Histories.{is_idle};
-ghost use Rattle.two_path.specs.Made.{moves_of_turn};
-ghost use Rattle.two_path.specs.Joined.{machine_of, AreShared, IsDecided, IsLasting};
-ghost use Rattle.two_path.specs.Again.{AreReady, variable_due, kind_at_wait, kind_of_effect, IsReadAgain, IsUnread, HasRead, MayNotRead, IsFit, IsUnfit, IsStepDone, IsStepRefused};
+ghost use Rattle.two_path.specs.Made.{moves_of_turn, turn_with};
+ghost use Rattle.nc_moves.specs.declared.motion.Move.{Move};
+ghost use Rattle.two_path.specs.Joined.{machine_of, AreItsMoves, AreShared, IsDecided, IsLasting};
+ghost use Rattle.two_path.specs.Again.{AreReady, variable_asked, variable_due, kind_at_wait, kind_of_effect, IsReadAgain, IsUnread, HasRead, MayNotRead, IsFit, IsUnfit, IsStepDone, IsStepRefused};
 
 use crate::joint::Joint;
 use crate::part::Part;
-use crate::turn::Turn;
+use crate::turn::TurnAnswer;
 use crate::turning::settle;
 use motion_track::LONGEST;
+use nc_moves::MoveList;
 use path_state::{
-    Decision, a_block_asks_for_each_variable_once_at_most, control_goes_as_the_flow_orders,
+    BlockAnswer, Decision, a_block_asks_for_each_variable_once_at_most,
+    control_goes_as_the_flow_orders,
 };
 use run_records::{Entry, EntryKind};
 use tape_flow::Flow;
@@ -29,17 +33,35 @@ use thiserror::Error;
 #[error("not legal")]
 pub struct Illegal;
 
-/// The variable that the block reads with this stamp, where it asks for one and the stamp is in order.
-fn variable_due(me: &Part, flow: &Flow, lowest: u32, highest: u32, stamp: u32) -> Option<u32>
+/// The variable that a block reads next whose path will answer this.
+fn variable_asked(answer: BlockAnswer) -> Option<u32>
+    ensures { (moves : List Move) (after : PathView) → result ≡ variable_asked (effect_told answer moves after) }
+{
+    match answer {
+        BlockAnswer::Need(variable) => Some(variable),
+        BlockAnswer::Done(_) => None,
+        BlockAnswer::AtWait(_) => None,
+        BlockAnswer::AtEnd => None,
+        BlockAnswer::Alarm { .. } => None,
+    }
+}
+
+/// The variable that the block reads with this stamp, where it asks for one and the stamp is in
+/// order.
+fn variable_due(
+    me: &Part,
+    flow: &Flow,
+    lowest: u32,
+    highest: u32,
+    stamp: u32,
+    moves: &mut MoveList,
+) -> Option<u32>
     ensures { result ≡ variable_due lowest highest stamp (effect_of flow.now me.now.path me.now.values) }
 {
     if stamp < lowest || stamp > highest {
         return None;
     }
-    match me.decide(flow) {
-        Decision::Need(variable) => Some(variable),
-        _ => None,
-    }
+    variable_asked(me.decide(flow, moves).answer())
 }
 
 /// The block reads once more: what the variable that it asks for was after so many records.
@@ -49,13 +71,14 @@ fn read_again(
     flow: &Flow,
     lowest: u32,
     stamp: u32,
+    moves: &mut MoveList,
 ) -> Result<(), Illegal>
     requires shared { AreShared me.old joint.now }
     ensures read { OnOk result (IsReadAgain (blocks_of flow.now) joint.now lowest stamp me.old me.new) }
     ensures refused { OnErr result (IsUnread (blocks_of flow.now) joint.now lowest stamp me.old me.new) }
 {
     a_block_asks_for_each_variable_once_at_most();
-    let Some(variable) = variable_due(me, flow, lowest, joint.count(), stamp) else {
+    let Some(variable) = variable_due(me, flow, lowest, joint.count(), stamp, moves) else {
         return Err(Illegal);
     };
     me.read(joint.at(stamp, variable), stamp);
@@ -63,7 +86,13 @@ fn read_again(
 }
 
 /// The block reads again what these stamps stand for, up to the first that is not legal.
-fn read_all_again(me: &mut Part, joint: &Joint, flow: &Flow, stamps: &[u32]) -> Result<(), Illegal>
+fn read_all_again(
+    me: &mut Part,
+    joint: &Joint,
+    flow: &Flow,
+    stamps: &[u32],
+    moves: &mut MoveList,
+) -> Result<(), Illegal>
     requires shared { AreShared me.old joint.now }
     requires no_reads { part_without_reads me.old ≡ me.old }
     ensures read { OnOk result (HasRead (blocks_of flow.now) joint.now stamps.now me.old me.new) }
@@ -71,7 +100,7 @@ fn read_all_again(me: &mut Part, joint: &Joint, flow: &Flow, stamps: &[u32]) -> 
 {
     let mut lowest = me.since();
     for stamp in stamps {
-        read_again(me, joint, flow, lowest, *stamp)?;
+        read_again(me, joint, flow, lowest, *stamp, moves)?;
         lowest = *stamp;
     }
     Ok(())
@@ -91,18 +120,17 @@ fn kind_at_wait(code: u16, other: Option<u16>) -> EntryKind
     }
 }
 
-/// The kind of the record that a block makes of which this was decided.
-fn kind_due(decision: &Decision, other: &Part) -> Option<EntryKind>
-    ensures { (path : PathView) → result ≡ kind_of_effect (decided path decision.now) other.now.waiting }
+/// The kind of the record that a block makes whose path will answer this.
+fn kind_due(answer: BlockAnswer, other: &Part) -> Option<EntryKind>
+    ensures { (moves : List Move) (path : PathView)
+        → result ≡ kind_of_effect (effect_told answer moves path) other.now.waiting }
 {
-    match decision {
-        Decision::Need(_) => None,
-        Decision::AtWait(code) => Some(kind_at_wait(*code, other.waiting())),
-        Decision::AtEnd(_) => Some(EntryKind::Ended),
-        Decision::Alarm { .. } => Some(EntryKind::Alarmed),
-        Decision::Words(_, _) | Decision::Macro { .. } | Decision::Statement(_) => {
-            Some(EntryKind::Did)
-        }
+    match answer {
+        BlockAnswer::Need(_) => None,
+        BlockAnswer::AtWait(code) => Some(kind_at_wait(code, other.waiting())),
+        BlockAnswer::AtEnd => Some(EntryKind::Ended),
+        BlockAnswer::Alarm { .. } => Some(EntryKind::Alarmed),
+        BlockAnswer::Done(_) => Some(EntryKind::Did),
     }
 }
 
@@ -124,34 +152,39 @@ fn is_still(me: &Part, joint: &Joint) -> bool
     joint.alarm().is_some() || me.finished() || me.waiting().is_some()
 }
 
-/// The block reads again what the record's stamps stand for, and is decided; it would then make that record.
+/// The block reads again what the record's stamps stand for, and is decided; it would then make
+/// that record.
 fn fits(
     me: &mut Part,
     other: &Part,
     joint: &Joint,
     flow: &Flow,
     entry: &Entry,
+    moves: &mut MoveList,
 ) -> Result<Decision, Illegal>
     requires shared { AreShared me.old joint.now }
     requires no_reads { part_without_reads me.old ≡ me.old }
     requires step { edit_of entry.now.kind ≡ None }
-    ensures decided { IfOk result (IsDecided (blocks_of flow.now) me.new) }
+    ensures decided { IfOk result (IsDecided (blocks_of flow.now) me.new moves.new) }
+    ensures moves { IfOk result (λ decision. AreItsMoves (blocks_of flow.now) me.new moves.new) }
     ensures fit { OnOk result (IsFit (blocks_of flow.now) entry.now other.now joint.now me.old me.new) }
     ensures refused { OnErr result (IsUnfit (blocks_of flow.now) entry.now other.now joint.now me.old me.new) }
 {
     if is_still(me, joint) {
         return Err(Illegal);
     }
-    read_all_again(me, joint, flow, entry.stamps.as_slice())?;
-    let decision = me.decide(flow);
-    if is_due(kind_due(&decision, other), &entry.kind) {
+    read_all_again(me, joint, flow, entry.stamps.as_slice(), moves)?;
+    let decision = me.decide(flow, moves);
+    if is_due(kind_due(decision.answer(), other), &entry.kind) {
         Ok(decision)
     } else {
         Err(Illegal)
     }
 }
 
-/// Does the record of a step again: the path's block reads what its stamps stand for, is decided once, and is done.
+/// Does the record of a step again: the path's block reads what its stamps stand for, is decided
+/// once, and is done. Its moves are put into the list, which holds none that count where the record
+/// is not legal.
 pub(crate) fn do_again(
     me: &mut Part,
     other: &mut Part,
@@ -159,24 +192,27 @@ pub(crate) fn do_again(
     flow: &Flow,
     other_flow: &Flow,
     entry: &Entry,
-) -> Result<Turn, Illegal>
+    moves: &mut MoveList,
+) -> Result<TurnAnswer, Illegal>
     requires room { 0 < joint.old.shared.room }
     requires few { joint.old.count ≤ 4000000 }
     requires ready { AreReady flow.now.order other_flow.now.order me.old other.old joint.old }
     requires step { edit_of entry.now.kind ≡ None }
-    ensures done { IfOk result (λ turn. IsStepDone (blocks_of flow.now) entry.now.path entry.now.kind entry.now.stamps
-        (machine_of me.old other.old joint.old) (machine_of me.new other.new joint.new) turn) }
+    ensures done { IfOk result (λ answer. IsStepDone (blocks_of flow.now) entry.now.path entry.now.kind entry.now.stamps
+        (machine_of me.old other.old joint.old) (machine_of me.new other.new joint.new) (turn_with answer moves.new)) }
+    ensures apart { IfOk result (λ answer. moves_of_turn (turn_with answer moves.new) ≡ moves.new) }
     ensures refused { OnErr result (IsStepRefused (blocks_of flow.now) entry.now.path entry.now.kind entry.now.stamps
         (machine_of me.old other.old joint.old) (machine_of me.new other.new joint.new)) }
     ensures lasting { IsLasting joint.old joint.new }
     ensures ready { AreReady flow.now.order other_flow.now.order me.new other.new joint.new }
-    ensures within { IfOk result (λ turn. AreMovesWithin LONGEST (moves_of_turn turn)) }
+    ensures within { IfOk result (λ answer. AreMovesWithin LONGEST moves.new) }
 {
     control_goes_as_the_flow_orders();
-    match fits(me, other, joint, flow, entry) {
+    match fits(me, other, joint, flow, entry, moves) {
         Ok(decision) => {
-            let answer = me.take(flow, decision);
-            Ok(settle(me, other, joint, flow, other_flow, entry.path, answer).turn)
+            let line = me.line(flow);
+            let answer = me.take(decision);
+            Ok(settle(me, other, joint, flow, other_flow, entry.path, line, answer).answer)
         }
         Err(illegal) => {
             me.forget();

@@ -1,5 +1,5 @@
 //! What both paths have in common.
-ghost use Rattle.std.specs.Prelude.{◌≡◌, ◌≤◌, ◌<◌, ◌+◌, ◌↔◌, IsTrue, [], Some, None, IfOk, OnOk, IsOk, IfSome};
+ghost use Rattle.std.specs.Prelude.{◌≡◌, ◌≤◌, ◌<◌, ◌+◌, ◌↔◌, IsTrue, [], Some, None, IfOk, OnOk, IfSome};
 ghost use Rattle.common_vars.specs.Writes.{IsShared, value_after};
 ghost use Rattle.path_state.specs.StatementSteps.{write_seen};
 ghost use Rattle.two_path.specs.Joined.{IsLasting};
@@ -11,11 +11,8 @@ use nc_number::{NoMemory, Var};
 use std::alloc::Global;
 use std::marker::Model;
 
-/// How many records a run may have.
-pub const MOST_RECORDS: u32 = 4_000_000;
-
-/// The shared variables with all their writes, the number of records, and the alarm that stopped both
-/// paths.
+/// The shared variables with all their writes, the number of records, and the alarm that stopped
+/// both paths.
 #[derive(Debug, Drop)]
 pub(crate) struct Joint {
     shared: Shared,

@@ -1,5 +1,5 @@
-//! What holds of every machine, for the crates above. Each law is the contract of a function that does
-//! nothing: who calls it has the law.
+//! What holds of every machine, for the crates above. Each law is the contract of a function that
+//! does nothing: who calls it has the law.
 ghost use Rattle.std.specs.Prelude.{List};
 ghost use Rattle.block_order.specs.declared.program.ControlProgram.{ControlProgram};
 ghost use Rattle.tape_flow.specs.declared.flow.Flow.{Flow};
@@ -13,7 +13,7 @@ ghost use Rattle.two_path.specs.Stuck.{RaisesNoCrossing, IsPair, IsNeverStuck, I
 use block_order::each_step_keeps_the_labels;
 
 /// No path of a machine that has not begun waits.
-#[tactic(auto, using(crate::proofs::Steady::opening_waits))]
+#[tactic(auto, using(crate::proofs::Replays::none_waits))]
 pub fn a_machine_begins_without_waits()
     ensures { (left right : List ControlProgram) (first second : PathView)
         → AreAtTheirWaits left right (opening first second) }

@@ -1,9 +1,12 @@
 //! The machine: two paths that take turns, and what they share.
 //!
-//! One turn of a path is one event, and most turns make one record. The records of a run are a legal
-//! history, each legal history is the records of some run, and its fold is the machine of that run but
-//! for what unfinished blocks have read. Over a pair of tapes whose lists of labels agree no order of
-//! turns ends where neither path can go on.
+//! An event is a turn of a path or an operator's edit of one. Most turns make a record, and so does
+//! each edit. The records of any events are a legal history, and each legal history is the records
+//! of some events: its fold, each record done again, is their machine but for what unfinished
+//! blocks have read. A record that can't follow those before it is illegal, and changes nothing.
+//! Over a pair of tapes whose lists of labels agree no order of events ends where neither path can
+//! go on. The layer above leans on [`Machine::turn_into`], which puts the moves of a turn into a
+//! list that the caller lends, on [`Machine::edit`] and [`Machine::apply`], and on the laws.
 #![tactic(auto)]
 
 mod again;
@@ -17,12 +20,11 @@ mod turning;
 mod walk;
 
 pub use again::Illegal;
-pub use joint::MOST_RECORDS;
 pub use laws::{
     a_machine_begins_without_waits, each_event_keeps_the_history, histories_are_runs,
     no_block_says_that_waits_differ, no_legal_history_is_stuck, no_pair_is_stuck,
     restarts_keep_the_history,
 };
 pub use machine::Machine;
-pub use turn::{Turn, Turned};
+pub use turn::{Answered, Turn, TurnAnswer, Turned};
 pub use walk::done_again;

@@ -11,17 +11,17 @@ ghost use Rattle.run_records.specs.Entries.{edit_of};
 ghost use Rattle.two_path.specs.Edits.{behind_edit_of, edit_entry};
 ghost use Rattle.two_path.specs.Joined.{AreAtTheirWaits};
 ghost use Rattle.two_path.specs.Again.{IsDoneAgain, IsRefused};
-ghost use Rattle.two_path.specs.Made.{moves_of_turn};
+ghost use Rattle.two_path.specs.Made.{answer_of, moves_of_turn, turn_with};
 
 use crate::again::{Illegal, do_again};
 use crate::editing::set;
 use crate::joint::Joint;
 use crate::part::Part;
-use crate::turn::{Turn, Turned};
+use crate::turn::{Answered, Turn, TurnAnswer, Turned};
 use crate::turning::take_turn;
 use cell_settings::Settings;
 use motion_track::LONGEST;
-use nc_moves::Alarm;
+use nc_moves::{Alarm, MoveList};
 use nc_number::{NoMemory, Path, Var};
 use path_state::{PathState, control_goes_as_the_flow_orders};
 use run_records::{Edit, Entry};
@@ -31,8 +31,8 @@ use tape_flow::Flow;
 
 /// The machine: two paths that take turns, and what they share.
 ///
-/// It is used with the flows of which it was made, the left one for path 1 and the right one for path
-/// 2.
+/// It is used with the flows of which it was made, the left one for path 1 and the right one for
+/// path 2.
 #[derive(Debug, Drop)]
 pub struct Machine {
     first: Part,
@@ -80,10 +80,57 @@ impl Machine {
         self.joint.reserve(n)
     }
 
-    /// One turn of the path, with its record where it makes one. It takes no memory. Its moves lead to
-    /// positions, and no I, K or R of theirs is longer than the longest length.
+    /// One turn of the path, with its record where it makes one. Its moves are put into the list,
+    /// which is cleared first: they are those of the [`turn`](Machine::turn), whose answer has them
+    /// apart. It takes no memory.
+    ///
+    /// It asks for what [`turn`](Machine::turn) asks for.
+    pub fn turn_into(
+        &mut self,
+        left: &Flow,
+        right: &Flow,
+        path: Path,
+        moves: &mut MoveList,
+    ) -> Answered
+        requires room { 0 < self.old.room }
+        requires few { self.old.machine.count < 4000000 }
+        requires waits { AreAtTheirWaits left.now.order right.now.order self.old.machine }
+        ensures machine { self.new.machine ≡ (turn_of (tapes_of left.now right.now) path self.old.machine).machine }
+        ensures answer { result.answer ≡ answer_of (turn_of (tapes_of left.now right.now) path self.old.machine).turn }
+        ensures moves { moves.new ≡ moves_of_turn (turn_of (tapes_of left.now right.now) path self.old.machine).turn }
+        ensures entry { result.entry ≡ entry_of (tapes_of left.now right.now) path self.old.machine }
+        ensures room { self.old.machine.count + self.old.room ≤ self.new.machine.count + self.new.room }
+        ensures waits { AreAtTheirWaits left.now.order right.now.order self.new.machine }
+        ensures within { AreMovesWithin LONGEST moves.new }
+    {
+        control_goes_as_the_flow_orders();
+        match path {
+            Path::One => take_turn(
+                &mut self.first,
+                &mut self.second,
+                &mut self.joint,
+                left,
+                right,
+                Path::One,
+                moves,
+            ),
+            Path::Two => take_turn(
+                &mut self.second,
+                &mut self.first,
+                &mut self.joint,
+                right,
+                left,
+                Path::Two,
+                moves,
+            ),
+        }
+    }
+
+    /// One turn of the path, with its record where it makes one. It takes no memory. Its moves lead
+    /// to positions, and no I, K or R of theirs is longer than the longest length.
     ///
     /// It asks for room for a record, and for fewer than 4,000,000 records.
+    #[tactic(auto, using(crate::proofs::Apart::rejoined))]
     pub fn turn(&mut self, left: &Flow, right: &Flow, path: Path) -> Turned
         requires room { 0 < self.old.room }
         requires few { self.old.machine.count < 4000000 }
@@ -95,32 +142,19 @@ impl Machine {
         ensures waits { AreAtTheirWaits left.now.order right.now.order self.new.machine }
         ensures moves { AreMovesWithin LONGEST (moves_of_turn result.turn) }
     {
-        control_goes_as_the_flow_orders();
-        match path {
-            Path::One => take_turn(
-                &mut self.first,
-                &mut self.second,
-                &mut self.joint,
-                left,
-                right,
-                Path::One,
-            ),
-            Path::Two => take_turn(
-                &mut self.second,
-                &mut self.first,
-                &mut self.joint,
-                right,
-                left,
-                Path::Two,
-            ),
+        let mut moves = MoveList::empty();
+        let Answered { answer, entry } = self.turn_into(left, right, path, &mut moves);
+        Turned {
+            turn: Turn::of(answer, moves),
+            entry,
         }
     }
 
-    /// An operator's edit of the path, which sets an offset or a common variable, and its record. It takes
-    /// no memory. Both paths' blocks read anew, what is there after it.
+    /// An operator's edit of the path, which sets an offset or a common variable, and its record.
+    /// It takes no memory. Both paths' blocks read anew, what is there after it.
     ///
-    /// It asks for room for a record, for fewer than 4,000,000 records, and that no alarm has stopped both
-    /// paths.
+    /// It asks for room for a record, for fewer than 4,000,000 records, and that no alarm has
+    /// stopped both paths.
     pub fn edit(&mut self, path: Path, what: &Edit) -> Entry
         requires room { 0 < self.old.room }
         requires few { self.old.machine.count < 4000000 }
@@ -151,12 +185,44 @@ impl Machine {
         }
     }
 
-    /// Does the record again, and answers what its turn answered, or that it was an edit. It takes no
+    /// Does the record again, and answers what its turn answered, or that it was an edit. Its moves
+    /// are put into the list, which holds none that count where the record is illegal. It takes no
     /// memory.
     ///
-    /// It asks for room for a record, for at most 4,000,000 records, and for a machine whose blocks have
-    /// read nothing. A record that can't follow those before it is illegal, and nothing changes. The moves
-    /// are as far as those of a turn.
+    /// It asks for what [`apply`](Machine::apply) asks for.
+    pub fn apply_into(
+        &mut self,
+        left: &Flow,
+        right: &Flow,
+        entry: &Entry,
+        moves: &mut MoveList,
+    ) -> Result<TurnAnswer, Illegal>
+        requires room { 0 < self.old.room }
+        requires few { self.old.machine.count ≤ 4000000 }
+        requires no_reads { without_reads self.old.machine ≡ self.old.machine }
+        requires waits { AreAtTheirWaits left.now.order right.now.order self.old.machine }
+        ensures done { IfOk result (λ answer. IsDoneAgain (tapes_of left.now right.now) entry.now
+            self.old.machine self.new.machine (turn_with answer moves.new)) }
+        ensures apart { IfOk result (λ answer. moves_of_turn (turn_with answer moves.new) ≡ moves.new) }
+        ensures refused { OnErr result (IsRefused (tapes_of left.now right.now) entry.now
+            self.old.machine self.new.machine) }
+        ensures room { self.old.machine.count + self.old.room ≤ self.new.machine.count + self.new.room }
+        ensures no_reads { without_reads self.new.machine ≡ self.new.machine }
+        ensures waits { AreAtTheirWaits left.now.order right.now.order self.new.machine }
+        ensures within { IfOk result (λ answer. AreMovesWithin LONGEST moves.new) }
+    {
+        match entry.kind.edit() {
+            Some(what) => self.edit_again(entry, what, moves),
+            None => self.step_again(left, right, entry, moves),
+        }
+    }
+
+    /// Does the record again, and answers what its turn answered, or that it was an edit. It takes
+    /// no memory.
+    ///
+    /// It asks for room for a record, for at most 4,000,000 records, and for a machine whose blocks
+    /// have read nothing. A record that can't follow those before it is illegal, and nothing
+    /// changes. The moves are as far as those of a turn.
     pub fn apply(&mut self, left: &Flow, right: &Flow, entry: &Entry) -> Result<Turn, Illegal>
         requires room { 0 < self.old.room }
         requires few { self.old.machine.count ≤ 4000000 }
@@ -171,48 +237,65 @@ impl Machine {
         ensures waits { AreAtTheirWaits left.now.order right.now.order self.new.machine }
         ensures moves { IfOk result (λ turn. AreMovesWithin LONGEST (moves_of_turn turn)) }
     {
-        match entry.kind.edit() {
-            Some(what) => self.edit_again(entry, what),
-            None => self.step_again(left, right, entry),
+        let mut moves = MoveList::empty();
+        match self.apply_into(left, right, entry, &mut moves) {
+            Ok(answer) => Ok(Turn::of(answer, moves)),
+            Err(illegal) => Err(illegal),
         }
     }
 
     /// Does the record of an edit again. It is illegal where an alarm has stopped both paths.
-    fn edit_again(&mut self, entry: &Entry, what: &Edit) -> Result<Turn, Illegal>
+    #[tactic(auto, using(crate::proofs::NoMoves::none_within))]
+    fn edit_again(
+        &mut self,
+        entry: &Entry,
+        what: &Edit,
+        moves: &mut MoveList,
+    ) -> Result<TurnAnswer, Illegal>
         requires edit { edit_of entry.now.kind ≡ Some what.now }
         requires room { 0 < self.old.room }
         requires few { self.old.machine.count ≤ 4000000 }
-        ensures done { (tapes : Tapes) → IfOk result (λ turn. IsDoneAgain tapes entry.now self.old.machine self.new.machine turn) }
+        ensures done { (tapes : Tapes) → IfOk result (λ answer. IsDoneAgain tapes entry.now
+            self.old.machine self.new.machine (turn_with answer moves.new)) }
+        ensures apart { IfOk result (λ answer. moves_of_turn (turn_with answer moves.new) ≡ moves.new) }
         ensures refused { (tapes : Tapes) → OnErr result (IsRefused tapes entry.now self.old.machine self.new.machine) }
         ensures room { self.old.machine.count + self.old.room ≤ self.new.machine.count + self.new.room }
         ensures no_reads { without_reads self.old.machine ≡ self.old.machine
             → without_reads self.new.machine ≡ self.new.machine }
         ensures waits { (left right : List ControlProgram) → AreAtTheirWaits left right self.old.machine
             → AreAtTheirWaits left right self.new.machine }
-        ensures moves { IfOk result (λ turn. AreMovesWithin LONGEST (moves_of_turn turn)) }
+        ensures within { IfOk result (λ answer. AreMovesWithin LONGEST moves.new) }
     {
+        moves.clear();
         if self.joint.alarm().is_some() {
             return Err(Illegal);
         }
         self.set(entry.path, what);
-        Ok(Turn::Edited)
+        Ok(TurnAnswer::Edited)
     }
 
     /// Does the record of a path's step again.
-    fn step_again(&mut self, left: &Flow, right: &Flow, entry: &Entry) -> Result<Turn, Illegal>
+    fn step_again(
+        &mut self,
+        left: &Flow,
+        right: &Flow,
+        entry: &Entry,
+        moves: &mut MoveList,
+    ) -> Result<TurnAnswer, Illegal>
         requires step { edit_of entry.now.kind ≡ None }
         requires room { 0 < self.old.room }
         requires few { self.old.machine.count ≤ 4000000 }
         requires no_reads { without_reads self.old.machine ≡ self.old.machine }
         requires waits { AreAtTheirWaits left.now.order right.now.order self.old.machine }
-        ensures done { IfOk result (λ turn. IsDoneAgain (tapes_of left.now right.now) entry.now
-            self.old.machine self.new.machine turn) }
+        ensures done { IfOk result (λ answer. IsDoneAgain (tapes_of left.now right.now) entry.now
+            self.old.machine self.new.machine (turn_with answer moves.new)) }
+        ensures apart { IfOk result (λ answer. moves_of_turn (turn_with answer moves.new) ≡ moves.new) }
         ensures refused { OnErr result (IsRefused (tapes_of left.now right.now) entry.now
             self.old.machine self.new.machine) }
         ensures room { self.old.machine.count + self.old.room ≤ self.new.machine.count + self.new.room }
         ensures no_reads { without_reads self.new.machine ≡ self.new.machine }
         ensures waits { AreAtTheirWaits left.now.order right.now.order self.new.machine }
-        ensures moves { IfOk result (λ turn. AreMovesWithin LONGEST (moves_of_turn turn)) }
+        ensures within { IfOk result (λ answer. AreMovesWithin LONGEST moves.new) }
     {
         match entry.path {
             Path::One => do_again(
@@ -222,6 +305,7 @@ impl Machine {
                 left,
                 right,
                 entry,
+                moves,
             ),
             Path::Two => do_again(
                 &mut self.second,
@@ -230,6 +314,7 @@ impl Machine {
                 right,
                 left,
                 entry,
+                moves,
             ),
         }
     }

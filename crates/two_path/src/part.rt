@@ -1,5 +1,5 @@
 //! One path in the machine.
-ghost use Rattle.std.specs.Prelude.{◌≡◌, ◌<◌, ℕ, [], ◌∷◌, ◌++◌, Some, None, true, length};
+ghost use Rattle.std.specs.Prelude.{◌≡◌, ◌<◌, ℕ, List, [], ◌∷◌, ◌++◌, Some, None, true, length};
 ghost use Rattle.block_order.specs.declared.control.Control.TheVariants.{Wait};
 ghost use Rattle.block_order.specs.Steps.{standing};
 ghost use Rattle.path_state.specs.Decisions.{decided, MayTake};
@@ -8,19 +8,19 @@ ghost use Rattle.path_state.specs.Effect.{effect_of};
 ghost use Rattle.path_state.specs.Fits.{HasFitWords};
 ghost use Rattle.run_records.specs.Entries.{edit_of};
 ghost use Rattle.two_path.specs.Machine.{opening_part, part_without_reads};
-ghost use Rattle.two_path.specs.Turns.{blocks_of, part_at, part_behind_wait};
-ghost use Rattle.two_path.specs.Joined.{IsDecided, HasTaken};
+ghost use Rattle.two_path.specs.Turns.{Blocks, blocks_of, part_at, part_behind_wait};
+ghost use Rattle.tape_flow.specs.Places.{line_at};
+ghost use Rattle.nc_moves.specs.declared.motion.Move.{Move};
+ghost use Rattle.two_path.specs.Joined.{AreItsMoves, IsDecided, HasTaken};
 
 use arrayvec::ArrayVec;
-use nc_number::{Path, Var};
-use path_state::{Advance, Decision, PathState};
+use nc_moves::MoveList;
+use nc_number::{MOST_READS, Path, Var};
+use path_state::{BlockAnswer, Decision, PathState};
 use run_records::{Edit, Entry, EntryKind, StampList};
 use std::marker::Model;
 use std::mem;
 use tape_flow::Flow;
-
-/// The most values that one block reads.
-const MOST_READS: usize = 32;
 
 /// One path in the machine, with what its block has read so far.
 #[derive(Debug, Drop)]
@@ -87,37 +87,48 @@ impl Part {
         self.finished
     }
 
-    /// How many records there were just after the one by which it came to its block, or just after a
-    /// later edit.
+    /// How many records there were just after the one by which it came to its block, or just after
+    /// a later edit.
     pub(crate) fn since(&self) -> u32
         ensures { result ≡ self.now.since }
     {
         self.since
     }
 
-    /// What its block comes to with what it has read. Its state is then behind the block.
-    pub(crate) fn advance(&mut self, flow: &Flow) -> Advance
-        ensures { HasTaken (blocks_of flow.now) self.old self.new result }
+    /// The line of its block.
+    pub(crate) fn line(&self, flow: &Flow) -> u32
+        ensures { result ≡ line_at flow.now.order self.now.path.place }
     {
-        self.path.advance(flow, self.values.as_slice())
+        self.path.line(flow)
     }
 
-    /// What its block comes to with what it has read. It looks only.
-    pub(crate) fn decide(&self, flow: &Flow) -> Decision
-        ensures effect { decided self.now.path result ≡ effect_of flow.now self.now.path self.now.values }
+    /// What its block comes to with what it has read, and the moves of the block. Its state is then
+    /// behind the block.
+    pub(crate) fn advance(&mut self, flow: &Flow, moves: &mut MoveList) -> BlockAnswer
+        ensures taken { HasTaken (blocks_of flow.now) self.old self.new result moves.new }
+        ensures moves { AreItsMoves (blocks_of flow.now) self.old moves.new }
+    {
+        self.path.advance_into(flow, self.values.as_slice(), moves)
+    }
+
+    /// What its block comes to with what it has read, and the moves of the block. It looks only.
+    pub(crate) fn decide(&self, flow: &Flow, moves: &mut MoveList) -> Decision
+        ensures effect { decided self.now.path result moves.new ≡ effect_of flow.now self.now.path self.now.values }
         ensures fit { HasFitWords result }
         ensures may { MayTake self.now.path result }
+        ensures moves { AreItsMoves (blocks_of flow.now) self.now moves.new }
     {
-        self.path.decide(flow, self.values.as_slice())
+        self.path.decide(flow, self.values.as_slice(), moves)
     }
 
     /// Does what was decided of its block, as [`advance`](Part::advance) would.
-    pub(crate) fn take(&mut self, flow: &Flow, decision: Decision) -> Advance
-        requires { IsDecided (blocks_of flow.now) self.old decision }
-        ensures { HasTaken (blocks_of flow.now) self.old self.new result }
+    pub(crate) fn take(&mut self, decision: Decision) -> BlockAnswer
+        requires fit { HasFitWords decision }
+        requires may { MayTake self.old.path decision }
+        ensures { (blocks : Blocks) (moves : List Move) → IsDecided blocks self.old moves decision
+            → HasTaken blocks self.old self.new result moves }
     {
-        let line = self.path.line(flow);
-        self.path.take(line, decision)
+        self.path.take(decision)
     }
 
     /// One read more of its block: a value, and how many records there were.

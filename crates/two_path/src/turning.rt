@@ -1,5 +1,6 @@
 //! A turn of a path, over its own part, the other's, and what both have in common.
-ghost use Rattle.std.specs.Prelude.{◌≡◌, ◌≤◌, ◌<◌, ◌+◌, ℕ, [], Some, None, length, IfSome};
+ghost use Rattle.std.specs.Prelude.{◌≡◌, ◌≤◌, ◌<◌, ℕ, List, [], Some, None, length, IfSome};
+ghost use Rattle.nc_moves.specs.declared.motion.Move.{Move};
 ghost use Rattle.block_order.specs.declared.control.Control.TheVariants.{Wait};
 ghost use Rattle.block_order.specs.Steps.{standing};
 ghost use Rattle.common_vars.specs.Writes.{IsShared};
@@ -7,141 +8,132 @@ ghost use Rattle.run_records.specs.declared.entry.EntryKind.TheVariants as Kind;
 ghost use Rattle.path_state.specs.View.{PathView};
 ghost use Rattle.path_state.specs.StatementSteps.{write_seen};
 ghost use Rattle.path_state.specs.Effect.{Need, Done, AtWait, AtEnd};
-ghost use Rattle.two_path.specs.declared.turn.Turn.TheVariants as Turn;
+ghost use Rattle.two_path.specs.declared.turn.TurnAnswer.TheVariants as Answer;
 ghost use Rattle.two_path.specs.Machine as Machine;
 ghost use Rattle.two_path.specs.Joined.{machine_of, AreShared, HasTaken, IsAtItsWait, IsLasting};
 ghost use Rattle.two_path.specs.Turns.{with_alarm, with_arrival, behind_meeting, blocks_of, own_turn, block_turn, result_at_wait, result_by, kind_of, entry_with};
 ghost use Rattle.tape_flow.specs.Places.{line_at};
 ghost use Rattle.motion_track.specs.Within.{AreMovesWithin};
-ghost use Rattle.two_path.specs.Made.{moves_of_turn};
+ghost use Rattle.two_path.specs.Made.{answer_of, moves_of_turn};
 
 use crate::joint::Joint;
 use crate::part::Part;
-use crate::turn::{Turn, Turned};
+use crate::turn::{Answered, TurnAnswer};
 use motion_track::LONGEST;
-use nc_moves::{Alarm, Moves};
+use nc_moves::{Alarm, MoveList};
 use nc_number::{Cause, Path, Value, Var};
 use path_state::{
-    Advance, a_block_asks_for_each_variable_once_at_most, control_goes_as_the_flow_orders,
+    BlockAnswer, a_block_asks_for_each_variable_once_at_most, control_goes_as_the_flow_orders,
     what_is_written_is_shared,
 };
 use run_records::EntryKind;
 use tape_flow::Flow;
 
 /// Its block reads a shared variable.
-#[tactic(auto, using(crate::proofs::NoMoves::none_within))]
-fn read(me: &mut Part, joint: &Joint, variable: u32) -> Turned
+fn read(me: &mut Part, joint: &Joint, variable: u32) -> Answered
     requires few { length me.old.values < 32 }
     requires shared { IsShared joint.now.shared.shared100 joint.now.shared.shared500 variable }
-    ensures turn { (path : Path) (line : ℕ) (other : Machine.Part)
-        → result.turn ≡ (result_by path line (machine_of me.old other joint.now) (Need variable)).turn }
+    ensures answer { (path : Path) (line : ℕ) (other : Machine.Part)
+        → result.answer ≡ answer_of (result_by path line (machine_of me.old other joint.now) (Need variable)).turn }
     ensures machine { (path : Path) (line : ℕ) (other : Machine.Part)
         → machine_of me.new other joint.now
         ≡ (result_by path line (machine_of me.old other joint.now) (Need variable)).machine }
     ensures entry { result.entry ≡ None }
-    ensures within { AreMovesWithin LONGEST (moves_of_turn result.turn) }
 {
     let stamp = joint.count();
     me.read(joint.at(stamp, variable), stamp);
-    Turned {
-        turn: Turn::Read { variable, stamp },
+    Answered {
+        answer: TurnAnswer::Read { variable, stamp },
         entry: None,
     }
 }
 
-/// Its block is done, and it stands behind it.
+/// Its block, of this line, is done, and it stands behind it.
 fn did(
     me: &mut Part,
     joint: &mut Joint,
     path: Path,
+    line: u32,
     write: Option<(u32, Var)>,
-    moves: Moves,
-) -> Turned
+) -> Answered
     requires room { 0 < joint.old.shared.room }
     requires few { joint.old.count ≤ 4000000 }
     requires shared { IfSome write (λ w. IsShared joint.old.shared.shared100 joint.old.shared.shared500 w.0) }
-    requires within { AreMovesWithin LONGEST moves.list }
-    ensures turn { result.turn ≡ Turn.Did moves }
-    ensures machine { (before : PathView) (line : ℕ) (other : Machine.Part) → machine_of me.new other joint.new
-        ≡ (result_by path line (machine_of (record me.old { path = before }) other joint.old)
-        (Done me.old.path (write_seen write) moves.list)).machine }
+    ensures answer { result.answer ≡ Answer.Did line }
+    ensures machine { (before : PathView) (at : ℕ) (other : Machine.Part) (moves : List Move)
+        → machine_of me.new other joint.new
+        ≡ (result_by path at (machine_of (record me.old { path = before }) other joint.old)
+        (Done me.old.path (write_seen write) moves)).machine }
     ensures entry { result.entry ≡ entry_with path me.old.stamps (Some Kind.Did) }
     ensures lasting { IsLasting joint.old joint.new }
-    ensures within { AreMovesWithin LONGEST (moves_of_turn result.turn) }
 {
     let entry = me.entry(path, EntryKind::Did);
     joint.add(write);
     me.come(joint.count());
-    Turned {
-        turn: Turn::Did { moves },
+    Answered {
+        answer: TurnAnswer::Did { line },
         entry: Some(entry),
     }
 }
 
-/// It has ended.
-fn ended(me: &mut Part, joint: &mut Joint, path: Path, moves: Moves) -> Turned
+/// It has ended, with its block of this line.
+fn ended(me: &mut Part, joint: &mut Joint, path: Path, line: u32) -> Answered
     requires room { 0 < joint.old.shared.room }
     requires few { joint.old.count ≤ 4000000 }
-    requires within { AreMovesWithin LONGEST moves.list }
-    ensures turn { result.turn ≡ Turn.Ended moves }
-    ensures machine { (before : PathView) (line : ℕ) (other : Machine.Part) → machine_of me.new other joint.new
-        ≡ (result_by path line (machine_of (record me.old { path = before }) other joint.old)
-        (AtEnd me.old.path moves.list)).machine }
+    ensures answer { result.answer ≡ Answer.Ended line }
+    ensures machine { (before : PathView) (at : ℕ) (other : Machine.Part) (moves : List Move)
+        → machine_of me.new other joint.new
+        ≡ (result_by path at (machine_of (record me.old { path = before }) other joint.old)
+        (AtEnd me.old.path moves)).machine }
     ensures entry { result.entry ≡ entry_with path me.old.stamps (Some Kind.Ended) }
     ensures lasting { IsLasting joint.old joint.new }
-    ensures within { AreMovesWithin LONGEST (moves_of_turn result.turn) }
 {
     let entry = me.entry(path, EntryKind::Ended);
     joint.add(None);
     me.end();
-    Turned {
-        turn: Turn::Ended { moves },
+    Answered {
+        answer: TurnAnswer::Ended { line },
         entry: Some(entry),
     }
 }
 
 /// It raises an alarm, which stops both paths.
-#[tactic(auto, using(crate::proofs::NoMoves::none_within))]
-fn alarmed(me: &mut Part, joint: &mut Joint, alarm: &Alarm) -> Turned
+fn alarmed(me: &mut Part, joint: &mut Joint, alarm: &Alarm) -> Answered
     requires few { joint.old.count ≤ 4000000 }
-    ensures turn { result.turn ≡ Turn.Alarm alarm.now }
+    ensures answer { result.answer ≡ Answer.Alarm alarm.now }
     ensures machine { (other : Machine.Part) → machine_of me.new other joint.new
         ≡ with_alarm alarm.now (machine_of me.old other joint.old) }
     ensures entry { result.entry ≡ entry_with alarm.now.path me.old.stamps (Some Kind.Alarmed) }
     ensures lasting { IsLasting joint.old joint.new }
-    ensures within { AreMovesWithin LONGEST (moves_of_turn result.turn) }
 {
     let entry = me.entry(alarm.path, EntryKind::Alarmed);
     joint.raise(*alarm);
-    Turned {
-        turn: Turn::Alarm { alarm: *alarm },
+    Answered {
+        answer: TurnAnswer::Alarm { alarm: *alarm },
         entry: Some(entry),
     }
 }
 
 /// It arrives at a wait, where it waits.
-#[tactic(auto, using(crate::proofs::NoMoves::none_within))]
-fn arrived(me: &mut Part, joint: &mut Joint, path: Path, code: u16) -> Turned
+fn arrived(me: &mut Part, joint: &mut Joint, path: Path, code: u16) -> Answered
     requires room { 0 < joint.old.shared.room }
     requires few { joint.old.count ≤ 4000000 }
-    ensures turn { result.turn ≡ Turn.Arrived code }
+    ensures answer { result.answer ≡ Answer.Arrived code }
     ensures machine { (other : Machine.Part) → machine_of me.new other joint.new
         ≡ with_arrival code (machine_of me.old other joint.old) }
     ensures entry { result.entry ≡ entry_with path me.old.stamps (Some Kind.Arrived) }
     ensures lasting { IsLasting joint.old joint.new }
-    ensures within { AreMovesWithin LONGEST (moves_of_turn result.turn) }
 {
     let entry = me.entry(path, EntryKind::Arrived);
     joint.add(None);
     me.wait(code);
-    Turned {
-        turn: Turn::Arrived { code },
+    Answered {
+        answer: TurnAnswer::Arrived { code },
         entry: Some(entry),
     }
 }
 
 /// It meets the other path, which waits at the same code, and both go on.
-#[tactic(auto, using(crate::proofs::NoMoves::none_within))]
 fn met(
     me: &mut Part,
     other: &mut Part,
@@ -150,28 +142,27 @@ fn met(
     other_flow: &Flow,
     path: Path,
     code: u16,
-) -> Turned
+) -> Answered
     requires room { 0 < joint.old.shared.room }
     requires few { joint.old.count ≤ 4000000 }
     requires here { (c : ℕ) × (standing flow.now.order me.old.path.place ≡ Some (Wait c)) }
     requires there { (c : ℕ) × (standing other_flow.now.order other.old.path.place ≡ Some (Wait c)) }
-    ensures turn { result.turn ≡ Turn.Met code }
+    ensures answer { result.answer ≡ Answer.Met code }
     ensures machine { machine_of me.new other.new joint.new ≡ behind_meeting (machine_of me.old other.old joint.old) }
     ensures entry { result.entry ≡ entry_with path me.old.stamps (Some Kind.Met) }
     ensures lasting { IsLasting joint.old joint.new }
-    ensures within { AreMovesWithin LONGEST (moves_of_turn result.turn) }
 {
     let entry = me.entry(path, EntryKind::Met);
     joint.add(None);
     me.pass(flow, joint.count());
     other.pass(other_flow, joint.count());
-    Turned {
-        turn: Turn::Met { code },
+    Answered {
+        answer: TurnAnswer::Met { code },
         entry: Some(entry),
     }
 }
 
-/// It is at a wait. The other path waits at the same code, at another, or not at all.
+/// It is at a wait, at this line. The other path waits at the same code, at another, or not at all.
 fn came_to_wait(
     me: &mut Part,
     other: &mut Part,
@@ -179,22 +170,20 @@ fn came_to_wait(
     flow: &Flow,
     other_flow: &Flow,
     path: Path,
+    line: u32,
     code: u16,
-) -> Turned
+) -> Answered
     requires room { 0 < joint.old.shared.room }
     requires few { joint.old.count ≤ 4000000 }
     requires here { standing flow.now.order me.old.path.place ≡ Some (Wait code) }
     requires there { IsAtItsWait other_flow.now.order other.old }
-    ensures turn { result.turn ≡ (result_at_wait path (line_at flow.now.order me.old.path.place)
+    ensures answer { result.answer ≡ answer_of (result_at_wait path line
         (machine_of me.old other.old joint.old) code other.old.waiting).turn }
     ensures machine { machine_of me.new other.new joint.new
-        ≡ (result_at_wait path (line_at flow.now.order me.old.path.place)
-        (machine_of me.old other.old joint.old) code other.old.waiting).machine }
+        ≡ (result_at_wait path line (machine_of me.old other.old joint.old) code other.old.waiting).machine }
     ensures entry { result.entry ≡ entry_with path me.old.stamps
-        (kind_of (result_at_wait path (line_at flow.now.order me.old.path.place)
-        (machine_of me.old other.old joint.old) code other.old.waiting).turn) }
+        (kind_of (result_at_wait path line (machine_of me.old other.old joint.old) code other.old.waiting).turn) }
     ensures lasting { IsLasting joint.old joint.new }
-    ensures within { AreMovesWithin LONGEST (moves_of_turn result.turn) }
 {
     match other.waiting() {
         None => arrived(me, joint, path, code),
@@ -203,7 +192,7 @@ fn came_to_wait(
         } else {
             let alarm = Alarm {
                 path,
-                line: me.path().line(flow),
+                line,
                 cause: Cause::WaitDiffers.number(),
                 value: Value::zero(),
             };
@@ -212,9 +201,8 @@ fn came_to_wait(
     }
 }
 
-/// Its block was taken with what it had read before, and this is the path's answer. Where it raises an
-/// alarm it stands where it stood, so that the line of its block is looked up for an alarm alone.
-#[inline]
+/// Its block, of this line, was taken with what it had read before, and this is the path's answer.
+#[inline(always)]
 pub(crate) fn settle(
     me: &mut Part,
     other: &mut Part,
@@ -222,36 +210,41 @@ pub(crate) fn settle(
     flow: &Flow,
     other_flow: &Flow,
     path: Path,
-    answer: Advance,
-) -> Turned
+    line: u32,
+    answer: BlockAnswer,
+) -> Answered
     requires room { 0 < joint.old.shared.room }
     requires few { joint.old.count ≤ 4000000 }
     requires there { IsAtItsWait other_flow.now.order other.old }
-    requires taken { (before : Machine.Part)
-        × (AreShared before joint.old × HasTaken (blocks_of flow.now) before me.old answer) }
-    ensures turn { (before : Machine.Part) → HasTaken (blocks_of flow.now) before me.old answer
-        → result.turn ≡ (block_turn (blocks_of flow.now) path (machine_of before other.old joint.old)).turn }
-    ensures machine { (before : Machine.Part) → HasTaken (blocks_of flow.now) before me.old answer
+    requires taken { (before : Machine.Part) × ((moves : List Move)
+        × (AreShared before joint.old × HasTaken (blocks_of flow.now) before me.old answer moves)) }
+    ensures answer { (before : Machine.Part) (moves : List Move) → line_at flow.now.order before.path.place ≡ line
+        → HasTaken (blocks_of flow.now) before me.old answer moves
+        → result.answer ≡ answer_of (block_turn (blocks_of flow.now) path (machine_of before other.old joint.old)).turn }
+    ensures machine { (before : Machine.Part) (moves : List Move) → line_at flow.now.order before.path.place ≡ line
+        → HasTaken (blocks_of flow.now) before me.old answer moves
         → machine_of me.new other.new joint.new
         ≡ (block_turn (blocks_of flow.now) path (machine_of before other.old joint.old)).machine }
-    ensures entry { (before : Machine.Part) → HasTaken (blocks_of flow.now) before me.old answer
+    ensures entry { (before : Machine.Part) (moves : List Move) → line_at flow.now.order before.path.place ≡ line
+        → HasTaken (blocks_of flow.now) before me.old answer moves
         → result.entry ≡ entry_with path before.stamps
         (kind_of (block_turn (blocks_of flow.now) path (machine_of before other.old joint.old)).turn) }
     ensures lasting { IsLasting joint.old joint.new }
-    ensures within { AreMovesWithin LONGEST (moves_of_turn result.turn) }
 {
     control_goes_as_the_flow_orders();
     a_block_asks_for_each_variable_once_at_most();
     what_is_written_is_shared();
     match answer {
-        Advance::Need(variable) => read(me, joint, variable),
-        Advance::Effect { write, moves } => did(me, joint, path, write, moves),
-        Advance::AtWait(code) => came_to_wait(me, other, joint, flow, other_flow, path, code),
-        Advance::AtEnd { moves } => ended(me, joint, path, moves),
-        Advance::Alarm { cause, value } => {
+        BlockAnswer::Need(variable) => read(me, joint, variable),
+        BlockAnswer::Done(write) => did(me, joint, path, line, write),
+        BlockAnswer::AtWait(code) => came_to_wait(
+            me, other, joint, flow, other_flow, path, line, code,
+        ),
+        BlockAnswer::AtEnd => ended(me, joint, path, line),
+        BlockAnswer::Alarm { cause, value } => {
             let alarm = Alarm {
                 path,
-                line: me.path().line(flow),
+                line,
                 cause,
                 value,
             };
@@ -268,25 +261,30 @@ pub(crate) fn run_block(
     flow: &Flow,
     other_flow: &Flow,
     path: Path,
-) -> Turned
+    moves: &mut MoveList,
+) -> Answered
     requires room { 0 < joint.old.shared.room }
     requires few { joint.old.count ≤ 4000000 }
     requires shared { AreShared me.old joint.old }
     requires there { IsAtItsWait other_flow.now.order other.old }
-    ensures turn { result.turn ≡ (block_turn (blocks_of flow.now) path (machine_of me.old other.old joint.old)).turn }
+    ensures answer { result.answer
+        ≡ answer_of (block_turn (blocks_of flow.now) path (machine_of me.old other.old joint.old)).turn }
     ensures machine { machine_of me.new other.new joint.new
         ≡ (block_turn (blocks_of flow.now) path (machine_of me.old other.old joint.old)).machine }
     ensures entry { result.entry ≡ entry_with path me.old.stamps
         (kind_of (block_turn (blocks_of flow.now) path (machine_of me.old other.old joint.old)).turn) }
     ensures lasting { IsLasting joint.old joint.new }
-    ensures within { AreMovesWithin LONGEST (moves_of_turn result.turn) }
+    ensures moves { moves.new
+        ≡ moves_of_turn (block_turn (blocks_of flow.now) path (machine_of me.old other.old joint.old)).turn }
+    ensures within { AreMovesWithin LONGEST moves.new }
 {
-    let answer = me.advance(flow);
-    settle(me, other, joint, flow, other_flow, path, answer)
+    let line = me.line(flow);
+    let answer = me.advance(flow, moves);
+    settle(me, other, joint, flow, other_flow, path, line, answer)
 }
 
 /// A turn of the path: nothing once there is an alarm, once it has ended, and while it waits; else
-/// its block runs.
+/// its block runs. Its moves are put into the list, which is cleared first.
 pub(crate) fn take_turn(
     me: &mut Part,
     other: &mut Part,
@@ -294,38 +292,46 @@ pub(crate) fn take_turn(
     flow: &Flow,
     other_flow: &Flow,
     path: Path,
-) -> Turned
+    moves: &mut MoveList,
+) -> Answered
     requires room { 0 < joint.old.shared.room }
     requires few { joint.old.count ≤ 4000000 }
     requires shared { AreShared me.old joint.old }
     requires there { IsAtItsWait other_flow.now.order other.old }
-    ensures turn { result.turn ≡ (own_turn (blocks_of flow.now) path (machine_of me.old other.old joint.old)).turn }
+    ensures answer { result.answer
+        ≡ answer_of (own_turn (blocks_of flow.now) path (machine_of me.old other.old joint.old)).turn }
     ensures machine { machine_of me.new other.new joint.new
         ≡ (own_turn (blocks_of flow.now) path (machine_of me.old other.old joint.old)).machine }
     ensures entry { result.entry ≡ entry_with path me.old.stamps
         (kind_of (own_turn (blocks_of flow.now) path (machine_of me.old other.old joint.old)).turn) }
     ensures lasting { IsLasting joint.old joint.new }
-    ensures within { AreMovesWithin LONGEST (moves_of_turn result.turn) }
+    ensures moves { moves.new
+        ≡ moves_of_turn (own_turn (blocks_of flow.now) path (machine_of me.old other.old joint.old)).turn }
+    ensures within { AreMovesWithin LONGEST moves.new }
 {
     if let Some(alarm) = joint.alarm() {
-        return idle(Turn::Halted { alarm });
+        return idle(TurnAnswer::Halted { alarm }, moves);
     }
     if me.finished() {
-        return idle(Turn::Finished);
+        return idle(TurnAnswer::Finished, moves);
     }
     if let Some(code) = me.waiting() {
-        return idle(Turn::Waiting { code });
+        return idle(TurnAnswer::Waiting { code }, moves);
     }
-    run_block(me, other, joint, flow, other_flow, path)
+    run_block(me, other, joint, flow, other_flow, path, moves)
 }
 
 /// A turn in which nothing happens.
 #[tactic(auto, using(crate::proofs::NoMoves::none_within))]
-fn idle(turn: Turn) -> Turned
-    requires { moves_of_turn turn ≡ [] }
-    ensures turn { result.turn ≡ turn }
+fn idle(answer: TurnAnswer, moves: &mut MoveList) -> Answered
+    ensures answer { result.answer ≡ answer }
     ensures entry { result.entry ≡ None }
-    ensures within { AreMovesWithin LONGEST (moves_of_turn result.turn) }
+    ensures moves { moves.new ≡ [] }
+    ensures within { AreMovesWithin LONGEST moves.new }
 {
-    Turned { turn, entry: None }
+    moves.clear();
+    Answered {
+        answer,
+        entry: None,
+    }
 }

@@ -1,4 +1,5 @@
-//! The walk over a history: its records, each of which is legal where it stands, are done again one by one.
+//! The walk over a history: its records, each of which is legal where it stands, are done again one
+//! by one.
 ghost use Rattle.std.specs.Prelude.{◌≡◌, ◌≤◌, ◌<◌, ◌+◌};
 ghost use Rattle.motion_track.specs.Within.{AreMovesWithin};
 ghost use Rattle.two_path.specs.Machine.{without_reads};

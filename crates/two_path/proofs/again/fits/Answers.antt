@@ -1,4 +1,4 @@
-use Rattle.std.proofs.Common.{rules, ◌≡◌, ◌||◌, false, Some, is_some, refl, sym, ap, subst, ◌∙◌}
+use Rattle.std.proofs.Common.{rules, ◌≡◌, ◌||◌, false, Some, is_some, sym, ap, subst, ◌∙◌}
 use Rattle.run_records.specs.Entries.{Entry, edit_of}
 use Rattle.two_path.specs.Turns.{blocks_of}
 use Rattle.two_path.specs.Histories.{is_idle}
@@ -20,8 +20,9 @@ returns-then-is_due-clause-fit c =
     fit (blocks_of c.args.flow.now) c.args.entry.now c.args.me.now c.read_all_again.new.me c.args.other.now c.args.joint.now awake
     (subst (λ stamps. HasRead (blocks_of c.args.flow.now) c.args.joint.now stamps c.args.me.now c.read_all_again.new.me)
     (c.as_slice.ensures.stamps ∙ ap (λ (e : Entry). e.stamps) c.entry.view_is) c.in_ok-read_all_again.ensures.read)
-    (ap (λ e. kind_of_effect e c.args.other.now.waiting) (sym c.decide-decision.ensures.effect)
-    ∙ sym (c.kind_due.ensures c.read_all_again.new.me.path) ∙ is)
+    (ap (λ e. kind_of_effect e c.args.other.now.waiting)
+    (sym c.decide-decision.ensures.effect ∙ sym (c.answer.ensures c.read_all_again.new.me.path c.decide-decision.new.moves))
+    ∙ sym (c.kind_due.ensures c.decide-decision.new.moves _) ∙ is)
 
 pub returns-else-is_due-clause-refused : goal.returns-else-is_due-clause-refused
 returns-else-is_due-clause-refused c =
@@ -31,8 +32,9 @@ returns-else-is_due-clause-refused c =
     (c.as_slice.ensures.stamps ∙ ap (λ (e : Entry). e.stamps) c.entry.view_is) c.in_ok-read_all_again.ensures.read)
     (λ is. not_due c.is_due.result
     (c.is_due.ensures.other
-    (c.kind_due.ensures c.read_all_again.new.me.path
-    ∙ ap (λ e. kind_of_effect e c.args.other.now.waiting) c.decide-decision.ensures.effect ∙ is
+    (c.kind_due.ensures c.decide-decision.new.moves _
+    ∙ ap (λ e. kind_of_effect e c.args.other.now.waiting)
+    (c.answer.ensures c.read_all_again.new.me.path c.decide-decision.new.moves ∙ c.decide-decision.ensures.effect) ∙ is
     ∙ ap (λ (e : Entry). Some e.kind) (sym c.entry.view_is))
     (ap (λ (e : Entry). edit_of e.kind) c.entry.view_is ∙ c.requires.step))
     c.if-is_due.false)

@@ -1,5 +1,5 @@
 use Rattle.std.proofs.Common.{subst, sym, ap, ◌∙◌, rules}
-use Rattle.block_order.specs.PlaceSteps.{MayPass, callers}
+use Rattle.block_order.specs.Frames.{MayPass, callers}
 use Rattle.path_state.proofs.NextBlocks.{may_pass_at}
 use Rattle.path_state.proofs.path.PathState.block.Goals as goal
 

@@ -3,13 +3,9 @@ use Rattle.path_state.proofs.Decided.{unwaiting}
 use Rattle.path_state.proofs.path.PathState.decide_words.Goals as goal
 
 -- a block whose words say nothing stops
-pub returns-in-Err : goal.returns-in-Err
-returns-in-Err c =
+pub returns-in-Err-clause-decided : goal.returns-in-Err-clause-decided
+returns-in-Err-clause-decided c =
     let words = c.args.words.now in
-    record {
-      fit = c.of_stop.ensures.fit;
-      decided = c.of_stop.ensures.decided c.args.self.now
-          ∙ sym (c.in-Err.ensures.said c.args.order.now c.args.control)
-          ∙ sym (unwaiting c.args.order.now c.args.self.now.fixed c.args.self.now words.purpose words.dialect.system words.words c.args.control c.args.reads.now
-          (λ code. c.in_default.not-Wait code) c.requires);
-    }
+    sym (c.in-Err.ensures.said c.args.order.now c.args.control)
+    ∙ sym (unwaiting c.args.order.now c.args.self.now.fixed c.args.self.now words.purpose words.dialect.system words.words c.args.control c.args.reads.now
+    (λ code. c.in_default.not-Wait code) c.requires.calls)

@@ -1,0 +1,19 @@
+-- Which writes are refused: of a variable that is protected, and of one that does not exist.
+use Rattle.std.specs.Prelude.{◌≡◌, ◌↔◌, ℕ, List, None, true}
+use Rattle.nc_number.specs.declared.cause.Cause.TheVariants.{Protected, VariableRange}
+use Rattle.nc_number.specs.declared.value.Var.{Var}
+use Rattle.common_vars.specs.declared.variable.Variable.{Variable}
+use Rattle.common_vars.specs.Variables.{is_protected}
+use Rattle.macro_expr.specs.Tree.{Fixed as Numbered}
+use Rattle.block_values.specs.Outcomes.{alarm}
+use Rattle.block_values.specs.Readings.{variable_in}
+use Rattle.path_state.specs.View.{Fixed, PathView}
+use Rattle.path_state.specs.Statements.{named, written}
+
+pub record WritesAreRefused : Type 0 where
+  -- a write is alarm 31 exactly where the variable is protected
+  pub protected : (fixed : Fixed) (path : PathView) (variable : Variable) (value : Var) (left : List Var)
+      → (written fixed path variable value left ≡ alarm Protected) ↔ (is_protected variable ≡ true)
+  -- and a left side is alarm 30 exactly where its number names no variable
+  pub missing : (fixed : Fixed) (path : PathView) (number : ℕ) (reads : List Var)
+      → (named fixed path (Numbered number) reads ≡ alarm VariableRange) ↔ (variable_in path.modal number ≡ None)

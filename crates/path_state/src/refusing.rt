@@ -1,0 +1,8 @@
+//! Which writes of variables are refused.
+ghost use Rattle.path_state.specs.Protected.{WritesAreRefused};
+
+/// A write is alarm 31 exactly where the variable is protected, as the table of variables says, and
+/// 30 where its number names none in the system of codes that is in force.
+pub fn a_protected_variable_is_not_written()
+    ensures { WritesAreRefused }
+{}
