@@ -1,4 +1,5 @@
--- Two lists of labels that agree as far as the shorter goes are equal, since each ends by its last label alone.
+-- Two lists of labels that agree as far as the shorter goes are equal, since each ends by its last
+-- label alone.
 use Rattle.std.proofs.Common.{◌≡◌, ℕ, ◌≤◌, min, List, [], ◌∷◌, take, length, zero, suc, ap, arith}
 use Rattle.block_order.specs.declared.label.Label.{Label}
 use Rattle.block_order.specs.declared.label.Label.TheVariants.{Wait, End, Again, Off}

@@ -1,4 +1,5 @@
--- Lines aside, the labels of a path are those ahead of its start: by induction over blocks and calls.
+-- Lines aside, the labels of a path are those ahead of its start: by induction over blocks and
+-- calls.
 use Rattle.std.proofs.Common.{◌≡◌, ℕ, zero, suc, Bool, true, false, List, [], ◌∷◌, ◌++◌, refl, ap, ◌∙◌}
 use Rattle.block_order.specs.declared.control.Control.{Control}
 use Rattle.block_order.specs.declared.control.Control.TheVariants.{Next, Goto, While, Do, EndLoop, Wait, End, Call, Back, BackTo}

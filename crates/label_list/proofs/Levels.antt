@@ -9,7 +9,7 @@ use Rattle.block_order.specs.Order.{blocks, program_of, control_at}
 use Rattle.block_order.specs.Loud.{loud}
 use Rattle.label_list.specs.declared.labelled.Labelled.{Labelled}
 use Rattle.label_list.specs.Lists.{at, times, block_labels, blocks_labels, off_line, whole}
-use Rattle.label_list.specs.Pieces.{IsShort}
+use Rattle.loud_calls.specs.Calls.{IsShort}
 
 times_same : (n : ℕ) (f g : List Labelled → List Labelled) (behind : List Labelled) → ((k : List Labelled) → f k ≡ g k)
     → times n f behind ≡ times n g behind

@@ -1,11 +1,12 @@
 -- A pair is accepted by its lists with their lines as by those of the blocks.
-use Rattle.std.proofs.Common.{◌≡◌, ◌↔◌, ◌≤◌, List, length, map, ap, sym, subst, ◌∙◌}
+use Rattle.std.proofs.Common.{◌≡◌, ◌↔◌, ◌≤◌, List, length, ap, sym, subst, ◌∙◌}
 use Rattle.std.proofs.lemmas.List.{length-map}
+use Rattle.nc_number.specs.declared.limits.TheConstants.{MOST_LABELS}
 use Rattle.block_order.specs.declared.program.ControlProgram.{ControlProgram}
 use Rattle.block_order.specs.Labels.{IsUnforked, list}
 use Rattle.label_list.specs.declared.labelled.Labelled.{Labelled}
 use Rattle.label_list.specs.Accepted.{AgreeOnLabels, IsAcceptedPair}
-use Rattle.label_list.specs.Lists.{bare, path_labels, most_labels}
+use Rattle.label_list.specs.Lists.{path_labels}
 use Rattle.label_list.proofs.Bare.{bare_path}
 
 -- lines aside, a list is as long
@@ -16,15 +17,15 @@ pub paired : (left right : List ControlProgram) → IsUnforked left → IsUnfork
     → IsAcceptedPair left right ↔ AgreeOnLabels left right
 paired left right one two = (
   λ pair. record {
-    left_few = subst (λ n. n ≤ most_labels) (as_long left) pair.left_few;
-    right_few = subst (λ n. n ≤ most_labels) (as_long right) pair.right_few;
+    left_few = subst (λ n. n ≤ MOST_LABELS) (as_long left) pair.left_few;
+    right_few = subst (λ n. n ≤ MOST_LABELS) (as_long right) pair.right_few;
     same = bare_path left ∙ (pair.same ∙ sym (bare_path right));
   },
   λ agree. record {
     left_unforked = one;
     right_unforked = two;
-    left_few = subst (λ n. n ≤ most_labels) (sym (as_long left)) agree.left_few;
-    right_few = subst (λ n. n ≤ most_labels) (sym (as_long right)) agree.right_few;
+    left_few = subst (λ n. n ≤ MOST_LABELS) (sym (as_long left)) agree.left_few;
+    right_few = subst (λ n. n ≤ MOST_LABELS) (sym (as_long right)) agree.right_few;
     same = sym (bare_path left) ∙ (agree.same ∙ bare_path right);
   },
 )

@@ -1,10 +1,11 @@
 -- The labels of a program as they grow block by block, and the labels that are known.
-use Rattle.std.proofs.Common.{◌≡◌, ℕ, zero, suc, ◌+◌, ◌-◌, ◌<◌, ◌≤◌, true, List, [], ◌∷◌, ◌++◌, length, drop, get_or, Some, None, ◌⊎◌, inl, inr, refl, ap, sym, subst, ◌∙◌, arith}
+use Rattle.std.proofs.Common.{◌≡◌, ℕ, zero, suc, ◌+◌, ◌-◌, ◌<◌, ◌≤◌, true, List, [], ◌∷◌, ◌++◌, length, drop, get_or, Some, None, refl, ap, sym, subst, ◌∙◌, arith}
 use Rattle.std.proofs.lemmas.List.{append-nil, length-append}
 use Rattle.std.proofs.Math.Seq.{drop-cons}
 use Rattle.std.proofs.Math.ListN.{drop_of_length-le}
 use Rattle.nc_number.specs.declared.fault.Failing.{Failing}
 use Rattle.nc_number.specs.declared.fault.Failing.TheVariants.{Fault, NoMemory}
+use Rattle.nc_number.specs.declared.limits.TheConstants.{MOST_LABELS}
 use Rattle.block_order.specs.declared.control.Control.{Control}
 use Rattle.block_order.specs.declared.control.Control.TheVariants.{Next, Goto, While, Do, EndLoop, Wait, End, Call, Back, BackTo}
 use Rattle.block_order.specs.declared.label.Label.TheVariants as label
@@ -13,55 +14,19 @@ use Rattle.block_order.specs.declared.program.ControlProgram.{ControlProgram}
 use Rattle.block_order.specs.Answers.{IfFault}
 use Rattle.block_order.specs.Loud.{loud}
 use Rattle.block_order.specs.Order.{blocks, main_number, program_of}
+use Rattle.loud_calls.specs.Calls.{IsShort, IsShortCall}
 use Rattle.label_list.specs.declared.fault.PairFault.{PairFault}
-use Rattle.label_list.specs.declared.known.KnownPieces.{KnownPieces}
 use Rattle.label_list.specs.declared.labelled.Labelled.{Labelled}
 use Rattle.label_list.specs.declared.piece.Ending.{Ending}
 use Rattle.label_list.specs.declared.piece.Ending.TheVariants.{Stops, Returns}
-use Rattle.label_list.specs.declared.piece.Piece.{Piece}
-use Rattle.label_list.specs.Lists.{at, times, blocks_labels, off_line, whole, path_labels, most_labels}
-use Rattle.label_list.specs.Pieces.{coming, from_block, piece_known, AreKnown, IsAppended, IsTooLong, IsCallOf, IsReady, IsShort, IsShortCall, IsPiece, IsTaken, IsSoFar, IsLong, FailsAt, FailsInCall, FailsLong, IsListTooLong}
+use Rattle.label_list.specs.Lists.{at, times, blocks_labels, off_line, whole, path_labels}
+use Rattle.label_list.specs.Pieces.{coming, from_block, IsAppended, IsTooLong, IsPiece, IsTaken, IsSoFar, IsLong, FailsAt, FailsInCall, FailsLong, IsListTooLong}
 
 -- what follows from the one fault follows for an error
 pub by_fault : (P Q : PairFault → Type 0) (error : Failing PairFault) → ((fault : PairFault) → P fault → Q fault)
     → IfFault error P → IfFault error Q
 by_fault P Q (Fault fault) follows p = follows fault p
 by_fault P Q NoMemory follows p = tt
-
--- a block calls one program
-pub one_call : (tape : List ControlProgram) (control : Control) (p q : ℕ) → IsCallOf tape control p → IsCallOf tape control q → p ≡ q
-one_call tape control p q a b = let e : Call p a.repeats ≡ Call q b.repeats = sym a.is ∙ b.is in cc
-
-pub call_of : (tape : List ControlProgram) (q r : ℕ) → loud tape q ≡ true → 0 < r → IsCallOf tape (Call q r) q
-call_of tape q r noisy some = record { repeats = r; is = refl; some = some; is_loud = noisy }
-
-pub ready_by : (tape : List ControlProgram) (known : KnownPieces) (control : Control) (p : ℕ) (piece : Piece)
-    → IsCallOf tape control p → piece_known known p ≡ Some piece → IsReady tape known control
-ready_by tape known control p piece call is = λ q other.
-    (piece, subst (λ k. piece_known known k ≡ Some piece) (one_call tape control p q call other) is)
-
--- a program more is known
-pub known_more : (tape : List ControlProgram) (old new : KnownPieces) (p : ℕ) (piece : Piece) → AreKnown tape old
-    → IsPiece tape p piece.labels.items piece.ending → piece_known new p ≡ Some piece
-    → ((q : ℕ) → (q ≡ p → ⊥) → piece_known new q ≡ piece_known old q) → AreKnown tape new
-known_more tape old new p piece known is kept others = λ q found told. go q found told (same_or_not q p)
-  where
-    use_same : (found : Piece) → Some found ≡ Some piece → IsPiece tape p found.labels.items found.ending
-    use_same found e = let same : piece ≡ found = cc in subst (λ x. IsPiece tape p x.labels.items x.ending) same is
-
-    same_or_not : (m n : ℕ) → (m ≡ n) ⊎ (m ≡ n → ⊥)
-    same_or_not m n = grind arith
-
-    go : (q : ℕ) (found : Piece) → piece_known new q ≡ Some found → (q ≡ p) ⊎ (q ≡ p → ⊥) → IsPiece tape q found.labels.items found.ending
-    go q found told (inl e) =
-        subst (λ k. IsPiece tape k found.labels.items found.ending) (sym e)
-        (use_same found (sym (subst (λ k. piece_known new k ≡ Some found) e told) ∙ kept))
-    go q found told (inr n) = known q found (sym (others q n) ∙ told)
-
--- a program in which no call may follow has no short chains
-pub short_some : (tape : List ControlProgram) (n p : ℕ) → IsShort tape n p → 0 < n
-short_some tape zero p short = absurd (short tt)
-short_some tape (suc n) p short = omega arith
 
 pub so_far_start : (tape : List ControlProgram) (p : ℕ) → IsSoFar tape p [] (blocks tape p)
 unfolding whole
@@ -146,7 +111,7 @@ fails_off tape p line old fault so long = record {
   long = λ n back short. go n back short;
 }
   where
-    go : (n : ℕ) (back : ℕ → List Labelled) → IsShort tape n p → most_labels < length (whole tape n p back)
+    go : (n : ℕ) (back : ℕ → List Labelled) → IsShort tape n p → MOST_LABELS < length (whole tape n p back)
     go zero back short = absurd (short tt)
     go (suc n) back short =
         omega (arith, ap length (so.are n back short), long.long, length-append old (at label.Off (off_line (program_of tape p)) ∷ []))
@@ -159,15 +124,15 @@ fails_at tape p old b rest fault so fails = record {
   long = λ n back short. go n back short;
 }
   where
-    go : (n : ℕ) (back : ℕ → List Labelled) → IsShort tape n p → most_labels < length (whole tape n p back)
+    go : (n : ℕ) (back : ℕ → List Labelled) → IsShort tape n p → MOST_LABELS < length (whole tape n p back)
     go zero back short = absurd (short tt)
     go (suc n) back short =
-        subst (λ ys. most_labels < length ys) (sym (so.are n back short))
+        subst (λ ys. MOST_LABELS < length ys) (sym (so.are n back short))
         (fails.long n back (left_labels tape p n back rest) (short_call tape n p old b rest so short))
 
 -- a run of a program that is too long makes the caller too long
 called_long : (tape : List ControlProgram) (n q r line : ℕ) (back : ℕ → List Labelled) (behind : List Labelled) → loud tape q ≡ true → 0 < r
-    → IsLong tape q → IsShort tape n q → most_labels < length (from_block tape n back line (Call q r) behind)
+    → IsLong tape q → IsShort tape n q → MOST_LABELS < length (from_block tape n back line (Call q r) behind)
 called_long tape n q zero line back behind noisy some long short = absurd (omega arith)
 called_long tape n q (suc r) line back behind noisy some long short =
     rw noisy (long n (λ at_line. times r (λ k. whole tape n q (λ at_line. k)) behind) short)
@@ -179,17 +144,17 @@ fails_in_call tape p old b rest fault so fails = record {
   long = λ n back short. go n back short;
 }
   where
-    go : (n : ℕ) (back : ℕ → List Labelled) → IsShort tape n p → most_labels < length (whole tape n p back)
+    go : (n : ℕ) (back : ℕ → List Labelled) → IsShort tape n p → MOST_LABELS < length (whole tape n p back)
     go zero back short = absurd (short tt)
     go (suc n) back short =
         let behind = left_labels tape p n back rest in
         let call = fails.call in
         let short' : IsShortCall tape n (Call fails.program call.repeats) =
         subst (λ c. IsShortCall tape n c) call.is (short_call tape n p old b rest so short) in
-        let long : most_labels < length (from_block tape n back b.line (Call fails.program call.repeats) behind) =
+        let long : MOST_LABELS < length (from_block tape n back b.line (Call fails.program call.repeats) behind) =
         called_long tape n fails.program call.repeats b.line back behind call.is_loud call.some fails.long (short' call.is_loud) in
-        let here : most_labels < length (from_block tape n back b.line b.control behind) =
-        subst (λ c. most_labels < length (from_block tape n back b.line c behind)) (sym call.is) long in
+        let here : MOST_LABELS < length (from_block tape n back b.line b.control behind) =
+        subst (λ c. MOST_LABELS < length (from_block tape n back b.line c behind)) (sym call.is) long in
         omega (arith, here, ap length (so.are n back short), length-append old (from_block tape n back b.line b.control behind))
 
 -- what stands for a block where there is none

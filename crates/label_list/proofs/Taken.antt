@@ -1,6 +1,7 @@
 -- What a call of a loud program gives to the labels of the program that makes it.
 use Rattle.std.proofs.Common.{◌≡◌, ℕ, zero, suc, ◌+◌, ◌<◌, true, List, ◌++◌, length, ap, sym, subst, ◌∙◌, arith, append_assoc}
 use Rattle.std.proofs.lemmas.List.{length-append}
+use Rattle.nc_number.specs.declared.limits.TheConstants.{MOST_LABELS}
 use Rattle.block_order.specs.declared.control.Control.TheVariants.{Call}
 use Rattle.block_order.specs.declared.program.ControlProgram.{ControlProgram}
 use Rattle.block_order.specs.Loud.{loud}
@@ -8,8 +9,9 @@ use Rattle.label_list.specs.declared.fault.PairFault.{PairFault}
 use Rattle.label_list.specs.declared.labelled.Labelled.{Labelled}
 use Rattle.label_list.specs.declared.piece.Ending.{Ending}
 use Rattle.label_list.specs.declared.piece.Ending.TheVariants.{Stops, Returns}
-use Rattle.label_list.specs.Lists.{times, whole, most_labels}
-use Rattle.label_list.specs.Pieces.{copies, stop_of, coming, from_block, IsAppended, IsTooLong, IsShortCall, IsPiece, IsTaken, FailsAt}
+use Rattle.label_list.specs.Lists.{times, whole}
+use Rattle.loud_calls.specs.Calls.{IsShortCall}
+use Rattle.label_list.specs.Pieces.{copies, stop_of, coming, from_block, IsAppended, IsTooLong, IsPiece, IsTaken, FailsAt}
 use Rattle.label_list.proofs.Joined.{times_repeated}
 
 -- old and more are put together by the one or the other
@@ -38,7 +40,7 @@ taken_call tape line q r old new xs ending noisy some piece appended =
     }
 
 -- too many already with what is added, whatever follows
-too_long : (old more behind : List Labelled) → most_labels < length old + length more → most_labels < length (old ++ (more ++ behind))
+too_long : (old more behind : List Labelled) → MOST_LABELS < length old + length more → MOST_LABELS < length (old ++ (more ++ behind))
 too_long old more behind h = omega (arith, h, length-append old (more ++ behind), length-append more behind)
 
 pub fails_call : (tape : List ControlProgram) (line q r : ℕ) (old xs : List Labelled) (ending : Ending) (fault : PairFault)
@@ -48,6 +50,6 @@ fails_call tape line q r old xs ending fault noisy some piece long =
     record {
       is = long.is;
       long = λ n back behind short.
-          subst (λ ys. most_labels < length (old ++ ys)) (sym (call_gives tape line q r n back xs behind ending noisy some piece short))
+          subst (λ ys. MOST_LABELS < length (old ++ ys)) (sym (call_gives tape line q r n back xs behind ending noisy some piece short))
           (too_long old (copies ending r xs) (coming (stop_of ending) back behind) long.long);
     }

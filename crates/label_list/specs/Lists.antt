@@ -1,5 +1,6 @@
 -- The labels of a path with their lines, in the order in which the path comes to them.
 use Rattle.std.specs.Prelude.{◌≡◌, ℕ, zero, suc, ◌≤◌, Bool, List, [], ◌∷◌, length, map, Option, Some, None, if◌then◌else◌}
+use Rattle.nc_number.specs.declared.limits.TheConstants.{MOST_LABELS}
 use Rattle.block_order.specs.declared.control.Control.{Control}
 use Rattle.block_order.specs.declared.control.Control.TheVariants.{Wait, End, Call, Back}
 use Rattle.block_order.specs.declared.label.Label.{Label}
@@ -20,8 +21,9 @@ abbrev pub times : ℕ → (List Labelled → List Labelled) → List Labelled �
 times zero f behind = behind
 times (suc n) f behind = f (times n f behind)
 
--- The labels from a block of this line and control on. A loud program that it calls gives its labels before those behind the
--- call; back is what follows an M99 of a line; behind an end nothing follows.
+-- The labels from a block of this line and control on. A loud program that it calls gives its
+-- labels before those behind the call; back is what follows an M99 of a line; behind an end nothing
+-- follows.
 abbrev pub block_labels : (ℕ → Bool) → (ℕ → List Labelled → List Labelled) → (ℕ → List Labelled) → ℕ → Control → List Labelled → List Labelled
 block_labels loud called back line (Wait code) behind = at (label.Wait code) line ∷ behind
 block_labels loud called back line End behind = at label.End line ∷ []
@@ -30,7 +32,8 @@ block_labels loud called back line (Call program repeats) behind =
 block_labels loud called back line Back behind = back line
 block_labels loud called back line other behind = behind
 
--- the labels from these blocks on, of which the last one is the program's last; off is the line of the place past it
+-- the labels from these blocks on, of which the last one is the program's last; off is the line of
+-- the place past it
 abbrev pub blocks_labels : (ℕ → Bool) → (ℕ → List Labelled → List Labelled) → (ℕ → List Labelled) → ℕ → List ControlBlock → List Labelled
 blocks_labels loud called back off [] = at label.Off off ∷ []
 blocks_labels loud called back off (b ∷ bs) =
@@ -41,7 +44,8 @@ abbrev pub off_line : Option ControlProgram → ℕ
 off_line None = 0
 off_line (Some program) = last_line program
 
--- The labels of a program that is run with fewer than n calls to follow in it, one in another; back is what follows its M99.
+-- The labels of a program that is run with fewer than n calls to follow in it, one in another; back
+-- is what follows its M99.
 unfoldable pub whole : List ControlProgram → ℕ → ℕ → (ℕ → List Labelled) → List Labelled
 whole tape zero program back = back 0
 whole tape (suc n) program back =
@@ -54,10 +58,6 @@ path_labels tape = whole tape 9 (main_number tape) (λ line. at label.Again line
 -- the labels, lines aside
 abbrev pub bare : List Labelled → List Label
 bare xs = map (λ (x : Labelled). x.label) xs
-
--- the most labels that a path may have
-abbrev pub most_labels : ℕ
-most_labels = 65536
 
 abbrev pub ended_by : Label → List Labelled → Type 0 → Type 0
 ended_by (label.Wait code) xs rest = rest
@@ -73,4 +73,4 @@ IsEnded (x ∷ xs) = ended_by x.label xs (IsEnded xs)
 -- so ended, and no longer than it may be
 pub record IsListed (xs : List Labelled) : Type 0 where
   pub ended : IsEnded xs
-  pub few : length xs ≤ most_labels
+  pub few : length xs ≤ MOST_LABELS

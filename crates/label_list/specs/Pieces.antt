@@ -1,21 +1,21 @@
 -- The labels of single programs, as they are made and joined.
-use Rattle.std.specs.Prelude.{◌≡◌, ℕ, zero, suc, ◌+◌, ◌<◌, ◌≤◌, true, List, [], ◌++◌, length, Option, Some, None, nat_eq}
-use Rattle.indexmap.specs.IndexMap.{get}
+use Rattle.std.specs.Prelude.{◌≡◌, ℕ, zero, suc, ◌+◌, ◌<◌, ◌≤◌, List, [], ◌++◌, length, Option, Some, None}
+use Rattle.nc_number.specs.declared.limits.TheConstants.{MOST_LABELS}
 use Rattle.block_order.specs.declared.control.Control.{Control}
-use Rattle.block_order.specs.declared.control.Control.TheVariants.{Call}
 use Rattle.block_order.specs.declared.program.ControlBlock.{ControlBlock}
 use Rattle.block_order.specs.declared.program.ControlProgram.{ControlProgram}
 use Rattle.block_order.specs.Order.{blocks, control_at, program_of}
-use Rattle.block_order.specs.Labels.{Chain}
 use Rattle.block_order.specs.Loud.{loud}
+use Rattle.loud_calls.specs.declared.known.KnownPrograms.{KnownPrograms}
+use Rattle.loud_calls.specs.Calls.{IsCallOf, IsShort, IsShortCall}
+use Rattle.loud_calls.specs.Known.{piece_known}
 use Rattle.label_list.specs.declared.fault.PairFault.{PairFault}
-use Rattle.label_list.specs.declared.known.KnownPieces.{KnownPieces}
 use Rattle.label_list.specs.declared.labelled.Labelled.{Labelled}
 use Rattle.label_list.specs.declared.piece.Ending.{Ending}
 use Rattle.label_list.specs.declared.piece.Ending.TheVariants.{Stops, Returns}
 use Rattle.label_list.specs.declared.piece.Piece.{Piece}
 use Rattle.label_list.specs.Faults.{too_many}
-use Rattle.label_list.specs.Lists.{block_labels, blocks_labels, off_line, whole, most_labels}
+use Rattle.label_list.specs.Lists.{block_labels, blocks_labels, off_line, whole}
 
 -- these labels so many times
 abbrev pub repeated : ℕ → List Labelled → List Labelled
@@ -35,12 +35,12 @@ stop_of (Returns line) = None
 -- these labels stand behind those, and there are not too many
 pub record IsAppended (old new more : List Labelled) : Type 0 where
   pub are : new ≡ old ++ more
-  pub few : length new ≤ most_labels
+  pub few : length new ≤ MOST_LABELS
 
 -- with these labels there are too many
 pub record IsTooLong (old more : List Labelled) (fault : PairFault) : Type 0 where
   pub is : fault ≡ too_many
-  pub long : most_labels < length old + length more
+  pub long : MOST_LABELS < length old + length more
 
 -- what comes behind the labels of a program
 abbrev pub coming : Option Ending → (ℕ → List Labelled) → List Labelled → List Labelled
@@ -48,58 +48,35 @@ coming None back behind = behind
 coming (Some Stops) back behind = []
 coming (Some (Returns line)) back behind = back line
 
--- no chain of n calls of loud programs begins in the program
-abbrev pub IsShort : List ControlProgram → ℕ → ℕ → Type 0
-IsShort tape n program = Chain tape n program → ⊥
-
--- no such chain begins in the program that is called
-abbrev pub IsShortCall : List ControlProgram → ℕ → Control → Type 0
-IsShortCall tape n (Call program repeats) = loud tape program ≡ true → IsShort tape n program
-IsShortCall tape n other = Unit {0}
-
 -- these are the labels of the program, and so it ends
 pub record IsPiece (tape : List ControlProgram) (program : ℕ) (labels : List Labelled) (ending : Ending) : Type 0 where
-  pub few : length labels ≤ most_labels
+  pub few : length labels ≤ MOST_LABELS
   pub are : (n : ℕ) (back : ℕ → List Labelled) → IsShort tape n program
       → whole tape n program back ≡ labels ++ coming (Some ending) back []
 
 -- whatever follows it, the program has too many labels
 abbrev pub IsLong : List ControlProgram → ℕ → Type 0
-IsLong tape program = (n : ℕ) (back : ℕ → List Labelled) → IsShort tape n program → most_labels < length (whole tape n program back)
+IsLong tape program = (n : ℕ) (back : ℕ → List Labelled) → IsShort tape n program → MOST_LABELS < length (whole tape n program back)
 
 -- so the making of a program's labels fails
 pub record FailsLong (tape : List ControlProgram) (program : ℕ) (fault : PairFault) : Type 0 where
   pub is : fault ≡ too_many
   pub long : IsLong tape program
 
--- what is kept of a program's labels
-abbrev pub piece_known : KnownPieces → ℕ → Option Piece
-piece_known known program = get nat_eq known.pieces program
-
 -- what is kept are the labels of each program
-abbrev pub AreKnown : List ControlProgram → KnownPieces → Type 0
+abbrev pub AreKnown : List ControlProgram → KnownPrograms Piece → Type 0
 AreKnown tape known =
     (program : ℕ) (piece : Piece) → piece_known known program ≡ Some piece → IsPiece tape program piece.labels.items piece.ending
 
--- the block calls the program, which is loud, at least once
-pub record IsCallOf (tape : List ControlProgram) (control : Control) (program : ℕ) : Type 0 where
-  pub repeats : ℕ
-  pub is : control ≡ Call program repeats
-  pub some : 0 < repeats
-  pub is_loud : loud tape program ≡ true
-
--- the labels of the loud program that a block calls are known
-abbrev pub IsReady : List ControlProgram → KnownPieces → Control → Type 0
-IsReady tape known control = (program : ℕ) → IsCallOf tape control program → (piece : Piece) × (piece_known known program ≡ Some piece)
-
--- the labels from a block of this line and control on, with fewer than n calls to follow, one in another
+-- the labels from a block of this line and control on, with fewer than n calls to follow, one in
+-- another
 abbrev pub from_block : List ControlProgram → ℕ → (ℕ → List Labelled) → ℕ → Control → List Labelled → List Labelled
 from_block tape n back line control behind =
     block_labels (loud tape) (λ q rest. whole tape n q (λ at_line. rest)) back line control behind
 
 -- what the block gives is added to the labels of its program, which ends there or goes on
 pub record IsTaken (tape : List ControlProgram) (line : ℕ) (control : Control) (old new : List Labelled) (ending : Option Ending) : Type 0 where
-  pub few : length new ≤ most_labels
+  pub few : length new ≤ MOST_LABELS
   pub are : (n : ℕ) (back : ℕ → List Labelled) (behind : List Labelled) → IsShortCall tape n control
       → old ++ from_block tape n back line control behind ≡ new ++ coming ending back behind
 
@@ -107,7 +84,7 @@ pub record IsTaken (tape : List ControlProgram) (line : ℕ) (control : Control)
 pub record FailsAt (tape : List ControlProgram) (line : ℕ) (control : Control) (old : List Labelled) (fault : PairFault) : Type 0 where
   pub is : fault ≡ too_many
   pub long : (n : ℕ) (back : ℕ → List Labelled) (behind : List Labelled) → IsShortCall tape n control
-      → most_labels < length (old ++ from_block tape n back line control behind)
+      → MOST_LABELS < length (old ++ from_block tape n back line control behind)
 
 -- a program that the block calls has too many labels
 pub record FailsInCall (tape : List ControlProgram) (control : Control) (fault : PairFault) : Type 0 where
@@ -118,7 +95,7 @@ pub record FailsInCall (tape : List ControlProgram) (control : Control) (fault :
 
 -- the labels so far and those of the blocks that are left are the labels of the program
 pub record IsSoFar (tape : List ControlProgram) (program : ℕ) (labels : List Labelled) (rest : List ControlBlock) : Type 0 where
-  pub few : length labels ≤ most_labels
+  pub few : length labels ≤ MOST_LABELS
   pub calls : (place : ℕ) (c : Control) → control_at rest place ≡ Some c
       → (own : ℕ) × (control_at (blocks tape program) own ≡ Some c)
   pub are : (n : ℕ) (back : ℕ → List Labelled) → IsShort tape (suc n) program
@@ -128,4 +105,4 @@ pub record IsSoFar (tape : List ControlProgram) (program : ℕ) (labels : List L
 -- the list of a path is too long
 pub record IsListTooLong (labels : List Labelled) (fault : PairFault) : Type 0 where
   pub is : fault ≡ too_many
-  pub long : most_labels < length labels
+  pub long : MOST_LABELS < length labels

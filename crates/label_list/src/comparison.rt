@@ -1,5 +1,7 @@
+//! Where the labels of two paths differ.
 ghost use Rattle.std.specs.Prelude.{◌≡◌, ◌≤◌, length, IsOk, IfErr, IfSome, IfNone};
-ghost use Rattle.label_list.specs.Lists.{bare, most_labels, IsEnded};
+ghost use Rattle.nc_number.specs.declared.limits.TheConstants.{MOST_LABELS};
+ghost use Rattle.label_list.specs.Lists.{bare, IsEnded};
 ghost use Rattle.label_list.specs.Faults.{IsMismatch};
 
 use crate::fault::PairFault;
@@ -10,7 +12,7 @@ use crate::list::LabelList;
 fn first_difference(left: &[Labelled], right: &[Labelled]) -> Option<PairFault>
     requires left_ended { IsEnded left.now }
     requires right_ended { IsEnded right.now }
-    requires few { length left.now ≤ most_labels }
+    requires few { length left.now ≤ MOST_LABELS }
     ensures some { IfSome result (IsMismatch left.now right.now) }
     ensures none { IfNone result (bare left.now ≡ bare right.now) }
 {

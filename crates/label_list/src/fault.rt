@@ -1,7 +1,9 @@
+//! Why two tapes make no pair.
 use nc_number::Cause;
 use thiserror::Error;
 
-/// Why two tapes make no pair: a path has too many labels, 70, or the labels of the paths differ, 72.
+/// Why two tapes make no pair: a path has too many labels, 70, or the labels of the paths differ,
+/// 72.
 #[derive(Clone, Copy, Debug, PartialEq, Eq, Error)]
 #[error("refusal {number} of path {path} at line {line} against line {other} after {after} labels")]
 pub struct PairFault {

@@ -5,22 +5,22 @@ ghost use Rattle.block_order.specs.Labels.{IsUnforked, list};
 ghost use Rattle.label_list.specs.Accepted.{AgreeOnLabels, IsAcceptedPair};
 ghost use Rattle.label_list.specs.declared.labelled.Labelled.{Labelled};
 ghost use Rattle.label_list.specs.Lists.{bare, path_labels, whole};
-ghost use Rattle.label_list.specs.Pieces.{IsShort};
+ghost use Rattle.loud_calls.specs.Calls.{IsShort};
 
 /// The labels of a path with their lines are, lines aside, the labels ahead of its start.
 pub fn labels_are_those_of_the_blocks()
     ensures { (tape : List ControlProgram) → bare (path_labels tape) ≡ list tape }
 {}
 
-/// The labels of a program do not hang on how many calls may follow in it, where no chain of calls of
-/// loud programs is too long.
+/// The labels of a program do not hang on how many calls may follow in it, where no chain of calls
+/// of loud programs is too long.
 pub fn labels_hang_on_no_number_of_calls()
     ensures { (tape : List ControlProgram) (n m program : ℕ) (back : ℕ → List Labelled) → IsShort tape n program → n ≤ m
         → whole tape n program back ≡ whole tape m program back }
 {}
 
-/// Two tapes that have one list of labels each are an accepted pair exactly where the lists with their
-/// lines are short enough and agree, lines aside.
+/// Two tapes that have one list of labels each are an accepted pair exactly where the lists with
+/// their lines are short enough and agree, lines aside.
 pub fn a_pair_is_accepted_by_its_lists()
     ensures { (left right : List ControlProgram) → IsUnforked left → IsUnforked right
         → IsAcceptedPair left right ↔ AgreeOnLabels left right }

@@ -1,13 +1,12 @@
 //! The labels of a path: what its tape comes to that the other path can tell, in order.
 //!
-//! [`labels`] unfolds every call of a flow, and makes the list of each program once. [`compare`] tells
-//! whether two paths come to the same labels, and where they first differ. Two flows whose lists agree
-//! are an accepted pair: the crates above rest on that.
+//! [`labels`] unfolds every call of a flow, and makes the list of each program once. [`compare`]
+//! tells whether two paths come to the same labels, and where they first differ. Two flows whose
+//! lists agree are an accepted pair: the crates above rest on that.
 #![tactic(auto)]
 
 mod comparison;
 mod fault;
-mod known;
 mod labelled;
 mod laws;
 mod list;

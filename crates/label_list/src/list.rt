@@ -1,11 +1,13 @@
+//! The labels of a path.
 ghost use Rattle.std.specs.Prelude.{◌≡◌, ◌≤◌, length};
-ghost use Rattle.label_list.specs.Lists.{most_labels, IsEnded, IsListed};
+ghost use Rattle.nc_number.specs.declared.limits.TheConstants.{MOST_LABELS};
+ghost use Rattle.label_list.specs.Lists.{IsEnded, IsListed};
 
 use crate::labelled::Labelled;
 use std::marker::Model;
 
-/// The labels of a path in their order, at most 65,536. The last one, and no other, is `End`, `Again` or
-/// `Off`.
+/// The labels of a path in their order, at most 65,536. The last one, and no other, is `End`,
+/// `Again` or `Off`.
 #[derive(Debug, Drop)]
 pub struct LabelList {
     labels: Vec<Labelled>,
@@ -24,6 +26,7 @@ impl Model for LabelList {
 }
 
 impl LabelList {
+    /// The list of these labels, which end as a path ends.
     pub(crate) fn of(labels: Vec<Labelled>) -> Self
         requires { IsListed labels.items }
         ensures { result ≡ labels.items }
@@ -35,7 +38,7 @@ impl LabelList {
     pub fn as_slice(&self) -> &[Labelled]
         ensures same { result.now ≡ self.now }
         ensures ended { IsEnded self.now }
-        ensures few { length self.now ≤ most_labels }
+        ensures few { length self.now ≤ MOST_LABELS }
     {
         self.labels.as_slice()
     }

@@ -1,22 +1,22 @@
 //! The list of labels of a flow: each program's once, joined by the calls.
 ghost use Rattle.std.specs.Prelude.{◌≡◌, ℕ, ◌≤◌, ◌++◌, ◌∷◌, [], Some, length, IfOk, IfErr, IfSome, IfNone, OnOk};
+ghost use Rattle.nc_number.specs.declared.limits.TheConstants.{MOST_LABELS};
 ghost use Rattle.block_order.specs.declared.control.Control.TheVariants as Control;
 ghost use Rattle.block_order.specs.declared.label.Label.TheVariants as Label;
 ghost use Rattle.block_order.specs.Answers.{IfFault};
-ghost use Rattle.block_order.specs.Labels.{IsUnforked};
 ghost use Rattle.block_order.specs.Order.{program_of};
-ghost use Rattle.label_list.specs.Lists.{at, most_labels, off_line, path_labels};
-ghost use Rattle.label_list.specs.Pieces.{AreKnown, IsReady, IsShort, IsShortCall, IsPiece, IsCallOf, IsTaken};
+ghost use Rattle.loud_calls.specs.Calls.{IsReady, IsShort, IsShortCall};
+ghost use Rattle.loud_calls.specs.Known.{piece_known};
+ghost use Rattle.label_list.specs.Lists.{at, off_line, path_labels};
+ghost use Rattle.label_list.specs.Pieces.{AreKnown, IsPiece, IsTaken};
 ghost use Rattle.label_list.specs.Pieces.{coming, FailsAt, FailsInCall, FailsLong, IsListTooLong};
 
 use crate::fault::PairFault;
-use crate::known::KnownPieces;
 use crate::labelled::Labelled;
 use crate::list::LabelList;
 use crate::piece::{Ending, Piece, push_at};
-use block_order::{
-    BlockOrder, Control, ControlBlock, Label, MOST_CALLS, a_tape_without_faults_is_unforked,
-};
+use block_order::{BlockOrder, Control, ControlBlock, Label, MOST_CALLS};
+use loud_calls::{KnownPrograms, runs_have_one_list, unknown_call};
 use nc_number::Failing;
 use std::alloc::Global;
 use tape_flow::{Flow, last_line};
@@ -31,47 +31,18 @@ fn off_line(order: &BlockOrder, number: u16) -> u32
     }
 }
 
-/// The loud program that a block calls at least once.
-fn loud_call(order: &BlockOrder, control: &Control) -> Option<u16>
-    ensures some { IfSome result (IsCallOf order.now control.now) }
-    ensures none { IfNone result ((program : ℕ) → IsCallOf order.now control.now program → ⊥) }
-{
-    match *control {
-        Control::Call { program, repeats } => if repeats > 0 && order.is_loud(program) {
-            Some(program)
-        } else {
-            None
-        }
-        _ => None,
-    }
-}
-
-/// The same where the labels of that program are still to be made.
-fn unknown_call(order: &BlockOrder, known: &KnownPieces, control: &Control) -> Option<u16>
-    ensures some { IfSome result (IsCallOf order.now control.now) }
-    ensures none { IfNone result (IsReady order.now known.now control.now) }
-{
-    match loud_call(order, control) {
-        Some(program) => match known.get(program) {
-            Some(_) => None,
-            None => Some(program),
-        }
-        None => None,
-    }
-}
-
 /// Adds the labels of a call; how the calling program ends there, if it does.
 fn take_call(
     order: &BlockOrder,
-    known: &KnownPieces,
+    known: &KnownPrograms<Piece>,
     labels: &mut Vec<Labelled>,
     line: u32,
     program: u16,
     repeats: u16,
 ) -> Result<Option<Ending>, Failing<PairFault>>
     requires known { AreKnown order.now known.now }
-    requires ready { IsReady order.now known.now (Control.Call program repeats) }
-    requires few { length labels.old.items ≤ most_labels }
+    requires ready { IsReady order.now (piece_known known.now) (Control.Call program repeats) }
+    requires few { length labels.old.items ≤ MOST_LABELS }
     ensures taken { IfOk result (IsTaken order.now line (Control.Call program repeats)
         labels.old.items labels.new.items) }
     ensures many { IfErr result (λ error. IfFault error
@@ -92,13 +63,13 @@ fn take_call(
 /// Adds what a block gives to the labels of its program; how the program ends there, if it does.
 fn take_block(
     order: &BlockOrder,
-    known: &KnownPieces,
+    known: &KnownPrograms<Piece>,
     labels: &mut Vec<Labelled>,
     block: &ControlBlock,
 ) -> Result<Option<Ending>, Failing<PairFault>>
     requires known { AreKnown order.now known.now }
-    requires ready { IsReady order.now known.now block.now.control }
-    requires few { length labels.old.items ≤ most_labels }
+    requires ready { IsReady order.now (piece_known known.now) block.now.control }
+    requires few { length labels.old.items ≤ MOST_LABELS }
     ensures taken { IfOk result (IsTaken order.now block.now.line block.now.control
         labels.old.items labels.new.items) }
     ensures many { IfErr result (λ error. IfFault error
@@ -130,14 +101,14 @@ fn take_block(
 fn learn_call(
     alloc: Global,
     order: &BlockOrder,
-    known: &mut KnownPieces,
+    known: &mut KnownPrograms<Piece>,
     control: &Control,
     left: u8,
 ) -> Result<(), Failing<PairFault>>
     requires known { AreKnown order.now known.old }
     requires short { IsShortCall order.now left control.now }
     ensures known { OnOk result (AreKnown order.now known.new) }
-    ensures ready { OnOk result (IsReady order.now known.new control.now) }
+    ensures ready { OnOk result (IsReady order.now (piece_known known.new) control.now) }
     ensures many { IfErr result (λ error. IfFault error (FailsInCall order.now control.now)) }
 {
     let Some(program) = unknown_call(order, known, control) else {
@@ -152,12 +123,13 @@ fn learn_call(
     }
 }
 
-/// The labels of a program in which fewer than so many calls of loud programs follow, one in another.
+/// The labels of a program in which fewer than so many calls of loud programs follow, one in
+/// another.
 #[cycle(calls)]
 fn piece_of(
     alloc: Global,
     order: &BlockOrder,
-    known: &mut KnownPieces,
+    known: &mut KnownPrograms<Piece>,
     number: u16,
     left: u8,
 ) -> Result<Piece, Failing<PairFault>>
@@ -188,20 +160,12 @@ fn piece_of(
     }
 }
 
-/// All runs of a flow come to one list of labels.
-fn is_unforked(order: &BlockOrder)
-    ensures { IsUnforked order.now }
-{
-    let _programs = order.as_slice();
-    a_tape_without_faults_is_unforked();
-}
-
 /// The labels of the main program, behind whose M99 the path begins anew.
 fn with_start(piece: Piece) -> Result<Vec<Labelled>, Failing<PairFault>>
-    requires { length piece.labels.items ≤ most_labels }
+    requires { length piece.labels.items ≤ MOST_LABELS }
     ensures list { IfOk result (λ labels. labels.items ≡ piece.labels.items
         ++ coming (Some piece.ending) (λ line. at Label.Again line ∷ []) []) }
-    ensures few { IfOk result (λ labels. length labels.items ≤ most_labels) }
+    ensures few { IfOk result (λ labels. length labels.items ≤ MOST_LABELS) }
     ensures many { IfErr result (λ error. IfFault error (IsListTooLong (piece.labels.items
         ++ coming (Some piece.ending) (λ line. at Label.Again line ∷ []) []))) }
 {
@@ -221,11 +185,11 @@ pub(crate) fn main_labels(
     order: &BlockOrder,
 ) -> Result<Vec<Labelled>, Failing<PairFault>>
     ensures list { IfOk result (λ labels. labels.items ≡ path_labels order.now) }
-    ensures few { IfOk result (λ labels. length labels.items ≤ most_labels) }
+    ensures few { IfOk result (λ labels. length labels.items ≤ MOST_LABELS) }
     ensures many { IfErr result (λ error. IfFault error (IsListTooLong (path_labels order.now))) }
 {
-    is_unforked(order);
-    let mut known = KnownPieces::new(alloc);
+    runs_have_one_list(order);
+    let mut known = KnownPrograms::new(alloc);
     match piece_of(alloc, order, &mut known, order.main(), MOST_CALLS as u8 + 1) {
         Ok(piece) => match with_start(piece) {
             Ok(labels) => Ok(labels),

@@ -1,16 +1,14 @@
 //! The labels of one program.
 ghost use Rattle.std.specs.Prelude.{◌≡◌, ◌≤◌, ◌∷◌, [], length, OnOk, IfOk, IfErr};
+ghost use Rattle.nc_number.specs.declared.limits.TheConstants.{MOST_LABELS};
 ghost use Rattle.block_order.specs.Answers.{IfFault};
-ghost use Rattle.label_list.specs.Lists.{at, most_labels};
+ghost use Rattle.label_list.specs.Lists.{at};
 ghost use Rattle.label_list.specs.Pieces.{repeated, copies, stop_of, IsTooLong, IsAppended};
 
 use crate::fault::PairFault;
 use crate::labelled::Labelled;
 use block_order::Label;
-use nc_number::Failing;
-
-/// The most labels that a path may have.
-pub(crate) const MOST_LABELS: usize = 65_536;
+use nc_number::{Failing, MOST_LABELS};
 
 /// What comes behind the labels of a program.
 #[derive(Clone, Copy, Debug, PartialEq, Eq)]
@@ -62,7 +60,7 @@ pub(crate) fn push_at(
 
 /// Adds the labels of a program.
 fn append(labels: &mut Vec<Labelled>, more: &[Labelled]) -> Result<(), Failing<PairFault>>
-    requires { length labels.old.items ≤ most_labels }
+    requires { length labels.old.items ≤ MOST_LABELS }
     ensures added { OnOk result (IsAppended labels.old.items labels.new.items more.now) }
     ensures many { IfErr result (λ error. IfFault error (IsTooLong labels.old.items more.now)) }
 {
@@ -81,7 +79,7 @@ fn append_times(
     more: &[Labelled],
     times: u16,
 ) -> Result<(), Failing<PairFault>>
-    requires { length labels.old.items ≤ most_labels }
+    requires { length labels.old.items ≤ MOST_LABELS }
     ensures added { OnOk result (IsAppended labels.old.items labels.new.items (repeated times more.now)) }
     ensures many { IfErr result (λ error. IfFault error (IsTooLong labels.old.items (repeated times more.now))) }
 {
@@ -98,14 +96,14 @@ fn append_times(
 }
 
 impl Piece {
-    /// Adds these labels to those of the program that makes the call so many times, at least once. The
-    /// ending of that program, where nothing comes behind these labels.
+    /// Adds these labels to those of the program that makes the call so many times, at least once.
+    /// The ending of that program, where nothing comes behind these labels.
     pub(crate) fn append_to(
         &self,
         labels: &mut Vec<Labelled>,
         times: u16,
     ) -> Result<Option<Ending>, Failing<PairFault>>
-        requires { length labels.old.items ≤ most_labels }
+        requires { length labels.old.items ≤ MOST_LABELS }
         ensures added { OnOk result (IsAppended labels.old.items labels.new.items
             (copies self.now.ending times self.now.labels.items)) }
         ensures stops { IfOk result (λ ending. ending ≡ stop_of self.now.ending) }

@@ -1,6 +1,4 @@
-pub mod NameRoom
 pub mod CauseByNumber
-pub mod InPieces
 pub mod EachFrom
 pub mod Fixed
 pub mod SharedNumbers

@@ -1,22 +1,17 @@
 -- The last lines of a report: how many records there are, and how the run ended.
-use Rattle.std.specs.Prelude.{ℕ, ◌==◌, if◌then◌else◌, List, [], ◌++◌, Option, Some, None, find, codes, decimal}
+use Rattle.std.specs.Prelude.{ℕ, ◌==◌, if◌then◌else◌, List, [], ◌++◌, Option, find, codes, decimal}
 use Rattle.nc_number.specs.declared.cause.Cause.{Cause}
 use Rattle.nc_number.specs.declared.cause.Cause.TheVariants.{MacroAlarm}
 use Rattle.nc_number.specs.declared.path.Path.{Path}
-use Rattle.nc_number.specs.Causes.{cause_number, cause_name, every_cause}
+use Rattle.nc_number.specs.Causes.{cause_number, every_cause}
 use Rattle.nc_number.specs.Printed.{value_text}
 use Rattle.nc_moves.specs.declared.alarm.Alarm.{Alarm}
 use Rattle.move_list.specs.declared.end_line.Reason.{Reason}
-use Rattle.move_text.specs.Pieces.{path_name}
+use Rattle.text_pieces.specs.Pieces.{name_text, path_name}
 
 -- the cause of a number, if there is one
 abbrev pub cause_of : ℕ → Option Cause
 cause_of number = find (λ cause. cause_number cause == number) every_cause
-
--- the name of the cause of a number
-unfoldable pub name_text : Option Cause → List ℕ
-name_text None = []
-name_text (Some cause) = codes " " ++ cause_name cause
 
 -- what a macro alarm was given
 unfoldable pub given_text : Alarm → List ℕ

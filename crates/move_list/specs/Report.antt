@@ -1,11 +1,12 @@
--- The report of a history: for each path its records' moves in order, the number of records, and how the run ended.
+-- The report of a history: for each path its records' moves in order, the number of records, and
+-- how the run ended.
 use Rattle.std.specs.Prelude.{ℕ, List, ◌++◌, length, codes, decimal}
 use Rattle.std.specs.List.{flat_map}
 use Rattle.nc_number.specs.declared.path.Path.{Path}
 use Rattle.nc_number.specs.declared.path.Path.TheVariants.{One, Two}
 use Rattle.nc_outside.specs.declared.lined_move.LinedMove.{LinedMove}
 use Rattle.move_text.specs.MoveText.{line_text}
-use Rattle.move_text.specs.Pieces.{path_name}
+use Rattle.text_pieces.specs.Pieces.{path_name}
 use Rattle.cell_settings.specs.declared.settings.Settings.{Settings}
 use Rattle.tape_flow.specs.declared.flow.Flow.{Flow}
 use Rattle.run_records.specs.Entries.{Entry}

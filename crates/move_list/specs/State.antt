@@ -1,6 +1,7 @@
 -- The text of a machine: of each path where it stands and what it holds, then what both share.
 use Rattle.std.specs.Prelude.{◌≡◌, ℕ, ◌+◌, ◌-◌, ◌≤◌, ◌<◌, ◌==◌, Bool, ◌&&◌, if◌then◌else◌, List, [], ◌∷◌, ◌++◌, length, Option, Some, None, unsigned_abs, codes, decimal}
 use Rattle.std.specs.List.{flat_map}
+use Rattle.nc_number.specs.Path.{is_same}
 use Rattle.nc_number.specs.declared.path.Path.{Path}
 use Rattle.nc_number.specs.declared.path.Path.TheVariants.{One, Two}
 use Rattle.nc_number.specs.declared.point.Point.{Point}
@@ -20,15 +21,16 @@ use Rattle.path_state.specs.View.{Fixed, PathView}
 use Rattle.path_state.specs.Looks.{is_shared}
 use Rattle.two_path.specs.Machine.{Part, MachineView, own_first, without_reads}
 use Rattle.two_path.specs.Turns.{Blocks, Tapes}
-use Rattle.two_path.specs.Histories.{fold, IsLegal, is_same}
+use Rattle.two_path.specs.Histories.{fold, IsLegal}
 use Rattle.move_list.specs.declared.condition.Condition.{Condition}
 use Rattle.move_list.specs.declared.listing.Listing.{Listing}
 use Rattle.move_list.specs.declared.listing.Listing.TheVariants.{Work, Geometry, Wear, Locals, OwnHundreds, OwnUpper, SharedHundreds, SharedUpper}
-use Rattle.move_text.specs.Pieces.{code_text, path_name, point_text}
+use Rattle.text_pieces.specs.Pieces.{code_text, path_name, point_text}
 use Rattle.move_list.specs.Pieces.{each_from}
 use Rattle.move_list.specs.EndText.{records_text}
 
--- the machine is the fold of a legal history from this one on, but for what unfinished blocks have read
+-- the machine is the fold of a legal history from this one on, but for what unfinished blocks have
+-- read
 pub record IsMachineOf (tapes : Tapes) (start m : MachineView) : Type 0 where
   pub entries : List Entry
   pub legal : IsLegal tapes start entries
@@ -101,7 +103,8 @@ position_text at = codes "at" ++ point_text at ++ codes "\n"
 unfoldable pub depth_text : ℕ → List ℕ
 depth_text depth = codes "depth " ++ decimal depth ++ codes "\n"
 
--- the lines that each path has: where it stands, where its turret stands, what is in force, and how many calls are open
+-- the lines that each path has: where it stands, where its turret stands, what is in force, and how
+-- many calls are open
 unfoldable pub standing_text : Path → ℕ → Condition → PathView → List ℕ
 standing_text path line condition p =
     place_text path line condition ++ position_text p.position ++ modal_text p.modal ++ words_text p.modal

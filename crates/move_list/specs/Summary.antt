@@ -1,4 +1,5 @@
--- The summary of a history: how long the tapes of the pair are, what the history comes to, and where both paths end.
+-- The summary of a history: how long the tapes of the pair are, what the history comes to, and
+-- where both paths end.
 use Rattle.std.specs.Prelude.{ℕ, Bool, true, false, List, ◌++◌, length, filter, codes, decimal}
 use Rattle.std.specs.List.{sum_by}
 use Rattle.nc_number.specs.declared.path.Path.{Path}
@@ -14,7 +15,7 @@ use Rattle.run_records.specs.declared.entry.EntryKind.TheVariants.{Did, Arrived,
 use Rattle.two_path.specs.Machine.{MachineView}
 use Rattle.two_path.specs.Turns.{Tapes, tapes_of}
 use Rattle.two_path.specs.Histories.{fold}
-use Rattle.move_text.specs.Pieces.{point_text}
+use Rattle.text_pieces.specs.Pieces.{point_text}
 use Rattle.move_list.specs.EndText.{records_text}
 use Rattle.two_path.specs.Made.{moves_of}
 use Rattle.move_list.specs.Report.{machine_at_start}

@@ -4,8 +4,8 @@ ghost use Rattle.nc_moves.specs.declared.alarm.Alarm.{Alarm};
 ghost use Rattle.two_path.specs.Machine.{own_first};
 ghost use Rattle.move_list.specs.State.{condition_at_wait, condition_of, condition_text};
 
-use move_text::Piece;
 use nc_number::Path;
+use text_pieces::Piece;
 use two_path::Machine;
 
 /// How a path stands.

@@ -1,10 +1,10 @@
 //! How many records there are, and how the run ended.
 ghost use Rattle.std.specs.Prelude.{◌≡◌, ◌+◌, ◌≤◌, ℕ, Some, [], ◌++◌, length};
-ghost use Rattle.move_list.specs.EndText.{alarm_text, cause_of, cause_text, end_text, given_text, name_text, reason_text, records_text, turret_text};
+ghost use Rattle.move_list.specs.EndText.{alarm_text, cause_of, cause_text, end_text, given_text, reason_text, records_text, turret_text};
 
-use move_text::Piece;
 use nc_moves::Alarm;
 use nc_number::{Cause, Path};
+use text_pieces::Piece;
 
 /// How a run ended.
 #[derive(Clone, Copy, Debug, PartialEq, Eq)]
@@ -30,19 +30,6 @@ fn cause_of(number: u8) -> Option<Cause>
     Cause::of_number(number)
 }
 
-/// The name of a cause, if there is one.
-#[tactic(auto, using(crate::proofs::NameRoom::name_room), unfolding(crate::specs::EndText::name_text))]
-fn add_name(piece: &mut Piece, cause: Option<Cause>)
-    requires { length piece.old + 20 ≤ 512 }
-    ensures text { piece.new ≡ piece.old ++ name_text cause }
-    ensures size { length piece.new ≤ length piece.old + 20 }
-{
-    if let Some(cause) = cause {
-        piece.add(b" ");
-        piece.add(cause.name().as_bytes());
-    }
-}
-
 /// What a macro alarm was given.
 #[tactic(auto, unfolding(crate::specs::EndText::given_text))]
 fn add_given(piece: &mut Piece, alarm: &Alarm)
@@ -64,7 +51,7 @@ pub fn add_cause(piece: &mut Piece, alarm: &Alarm)
     ensures size { length piece.new ≤ length piece.old + 65 }
 {
     piece.add_number(u64::from(alarm.cause));
-    add_name(piece, cause_of(alarm.cause));
+    piece.add_name(cause_of(alarm.cause));
     add_given(piece, alarm);
 }
 

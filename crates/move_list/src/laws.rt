@@ -13,8 +13,8 @@ ghost use Rattle.two_path.specs.Turns.{Tapes};
 ghost use Rattle.two_path.specs.Made.{moves_of};
 ghost use Rattle.move_list.specs.Report.{head_text, lines_text, path_text};
 
-/// A turret that was placed at a point, got exactly these moves and writes what it gets, writes the line of its place and then
-/// exactly the lines that a report has for these moves.
+/// A turret that was placed at a point, got exactly these moves and writes what it gets, writes the
+/// line of its place and then exactly the lines that a report has for these moves.
 pub fn law_of_streams()
     ensures stream { (at : Point) (moves : List LinedMove)
         → stream_of (Placed at ∷ map Moved moves) ≡ placed_text at ++ lines_text moves }
@@ -22,7 +22,8 @@ pub fn law_of_streams()
         → path_text path moves ≡ head_text path (length moves) ++ lines_text moves }
 {}
 
-/// The moves of a path's records are those of the first records, and after them those of the records that were made later.
+/// The moves of a path's records are those of the first records, and after them those of the
+/// records that were made later.
 pub fn law_of_later_moves()
     ensures { (tapes : Tapes) (m : MachineView) (path : Path) (before later : List Entry)
         → moves_of tapes m path (before ++ later)

@@ -1,16 +1,15 @@
 //! The texts of a run: the report of a history, and the state of a machine.
 //!
-//! [`write_report`] does the records of a legal history again, once, and puts for each path its records'
-//! moves, the number of records and how the run ended. [`write_state`] puts what a machine holds. The layer
-//! above leans on this: on Ok the sink holds what it held, followed by exactly that text; on an error it
-//! holds a part of it, from its start.
+//! [`write_report`] does the records of a legal history again, once, and puts for each path its
+//! records' moves, the number of records and how the run ended. [`write_state`] puts what a machine
+//! holds. The layer above leans on this: on Ok the sink holds what it held, followed by exactly
+//! that text; on an error it holds a part of it, from its start.
 #![tactic(auto)]
 
 mod condition;
 mod end_line;
 mod laws;
 mod listing;
-mod putting;
 mod report;
 mod standing;
 mod state;

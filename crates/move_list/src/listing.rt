@@ -1,5 +1,5 @@
-//! What is listed of a machine beside the standing of its paths: the offsets that are not 0, and the
-//! variables that are not vacant.
+//! What is listed of a machine beside the standing of its paths: the offsets that are not 0, and
+//! the variables that are not vacant.
 ghost use Rattle.std.specs.Prelude.{◌≡◌, ◌+◌, ◌≤◌, ◌^◌, ◌<◌, [], ◌++◌, length, codes};
 ghost use Rattle.common_vars.specs.Common.{IsCommon};
 ghost use Rattle.path_state.specs.View.{Fixed};
@@ -8,9 +8,9 @@ ghost use Rattle.two_path.specs.Machine.{own_first};
 ghost use Rattle.move_list.specs.State.{IsListed, SharesAs, count_of, first_of, is_zero, line_of, offset_line, own_line, shared_line, variable_line};
 
 use cell_settings::Settings;
-use move_text::Piece;
 use nc_number::{Path, Point, Var};
 use path_state::PathState;
+use text_pieces::Piece;
 use two_path::Machine;
 
 /// What has a line for each of its numbers that is set.
@@ -70,6 +70,7 @@ impl Listing {
     }
 }
 
+/// Whether an offset is 0 in both axes.
 fn is_zero(at: &Point) -> bool
     ensures { result ≡ is_zero at.now }
 {

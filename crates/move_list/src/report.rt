@@ -1,6 +1,7 @@
 //! The report of a history.
 ghost use Rattle.std.specs.Prelude.{◌≡◌, ◌≤◌, [], ◌++◌, length};
 ghost use Rattle.std.specs.List.{flat_map};
+ghost use Rattle.nc_number.specs.declared.limits.TheConstants.{MOST_RECORDS};
 ghost use Rattle.nc_number.specs.declared.path.Path.TheVariants.{One, Two};
 ghost use Rattle.nc_verify.specs.Printed.{IsPut};
 ghost use Rattle.two_path.specs.Turns.{tapes_of};
@@ -9,16 +10,16 @@ ghost use Rattle.move_list.specs.EndText.{end_text};
 ghost use Rattle.move_list.specs.Report.{head_text, lined_text, machine_at_start, path_text, report_text};
 
 use crate::end_line::{Reason, end_lines};
-use crate::putting::put_piece;
-use crate::turns::{PathMoves, history_done};
+use crate::turns::history_done;
 use cell_settings::Settings;
-use move_text::{Piece, move_line};
-use nc_number::Path;
+use move_text::move_line;
+use nc_number::{Both, Path};
 use nc_outside::{LinedMove, PutFault, Sink};
-use nc_verify::Verified;
+use nc_verify::{Verified, put_piece};
 use run_records::EntryList;
 use std::alloc::Global;
 use tape_flow::Flow;
+use text_pieces::Piece;
 
 /// The line that says how many moves a path has.
 #[tactic(auto, unfolding(crate::specs::Report::head_text))]
@@ -110,7 +111,7 @@ fn put_moves<K: Sink>(
 /// Puts the report of a history whose moves these are.
 fn put_made<K: Sink>(
     sink: &mut K,
-    made: &PathMoves,
+    made: &Both<Vec<LinedMove>>,
     count: u64,
     reason: &Reason,
 ) -> Result<(), PutFault>
@@ -138,7 +139,7 @@ fn put_report<K: Sink>(
 ) -> Result<(), PutFault>
     requires legal { IsLegal (tapes_of left.now right.now)
         (machine_at_start left.now right.now settings.now) entries.now.items }
-    requires few { length entries.now.items ≤ 4000000 }
+    requires few { length entries.now.items ≤ MOST_RECORDS }
     ensures { IsPut (K.state sink.old) (K.state sink.new) (report_text (tapes_of left.now right.now)
         (machine_at_start left.now right.now settings.now) entries.now.items reason.now) result }
 {
@@ -148,12 +149,12 @@ fn put_report<K: Sink>(
     }
 }
 
-/// Writes the report of a history of the pair: for each path its records' moves in order, each with the
-/// line of the tape whose block made it; the number of records; and how the run ended. The records are
-/// done again once, and the text is put line by line.
+/// Writes the report of a history of the pair: for each path its records' moves in order, each with
+/// the line of the tape whose block made it; the number of records; and how the run ended. The
+/// records are done again once, and the text is put line by line.
 ///
-/// It asks for a legal history of at most 4,000,000 records. Errors: those of the sink, which then holds
-/// a part of the text, from its start; and want of memory.
+/// It asks for a legal history of at most 4,000,000 records. Errors: those of the sink, which then
+/// holds a part of the text, from its start; and want of memory.
 pub fn write_report<K: Sink>(
     alloc: Global,
     verified: &Verified,
@@ -163,7 +164,7 @@ pub fn write_report<K: Sink>(
 ) -> Result<(), PutFault>
     requires legal { IsLegal (tapes_of verified.now.left verified.now.right)
         (machine_at_start verified.now.left verified.now.right verified.now.settings) entries.now.items }
-    requires few { length entries.now.items ≤ 4000000 }
+    requires few { length entries.now.items ≤ MOST_RECORDS }
     ensures { IsPut (K.state sink.old) (K.state sink.new) (report_text (tapes_of verified.now.left verified.now.right)
         (machine_at_start verified.now.left verified.now.right verified.now.settings) entries.now.items reason) result }
 {

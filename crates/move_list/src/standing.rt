@@ -1,5 +1,5 @@
-//! The lines that each path has: where it stands, where its turret stands, what is in force, and how
-//! many calls are open.
+//! The lines that each path has: where it stands, where its turret stands, what is in force, and
+//! how many calls are open.
 ghost use Rattle.std.specs.Prelude.{◌≡◌, ◌+◌, ◌-◌, ◌≤◌, [], ◌++◌, length};
 ghost use Rattle.two_path.specs.Turns.{blocks_of};
 ghost use Rattle.move_list.specs.State.{depth_text, group_text, groups_text, in_force_text, modal_text, place_text, position_text, standing_of, var_text, words_text};
@@ -9,9 +9,9 @@ use code_tables::{
     ABSOLUTE_GROUP, FEED_GROUP, MOTION_GROUP, NOSE_GROUP, SPINDLE_GROUP, UNIT_GROUP, WORK_GROUP,
 };
 use modal_state::Modal;
-use move_text::Piece;
 use nc_number::{Path, Point, Var};
 use tape_flow::Flow;
+use text_pieces::Piece;
 use two_path::Machine;
 
 /// A variable: vacant, or its value.

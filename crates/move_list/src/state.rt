@@ -10,12 +10,11 @@ ghost use Rattle.move_list.specs.State.{IsListed, IsMachineOf, SharesAs, line_of
 
 use crate::end_line::records_line;
 use crate::listing::{Listing, line_of};
-use crate::putting::put_piece;
 use crate::standing::standing_lines;
 use cell_settings::Settings;
 use nc_number::Path;
 use nc_outside::{PutFault, Sink};
-use nc_verify::Verified;
+use nc_verify::{Verified, put_piece};
 use path_state::control_goes_as_the_flow_orders;
 use tape_flow::Flow;
 use two_path::Machine;
@@ -192,9 +191,9 @@ fn machines_share_as_the_settings_say(verified: &Verified, machine: &Machine)
     control_goes_as_the_flow_orders();
 }
 
-/// Writes the text of a machine of the pair: of each path where it stands, where its turret stands, what
-/// is in force, its open calls, its offsets that are not 0 and its variables that are not vacant; the
-/// shared variables that are not vacant; and the number of records. It takes no memory.
+/// Writes the text of a machine of the pair: of each path where it stands, where its turret stands,
+/// what is in force, its open calls, its offsets that are not 0 and its variables that are not
+/// vacant; the shared variables that are not vacant; and the number of records. It takes no memory.
 ///
 /// Errors: those of the sink, which then holds a part of the text, from its start.
 pub fn write_state<K: Sink>(

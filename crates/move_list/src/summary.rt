@@ -1,5 +1,6 @@
 //! The summary of a history.
 ghost use Rattle.std.specs.Prelude.{◌≡◌, ◌+◌, ◌≤◌, ◌++◌, length, codes};
+ghost use Rattle.nc_number.specs.declared.limits.TheConstants.{MOST_RECORDS};
 ghost use Rattle.nc_verify.specs.Printed.{IsPut};
 ghost use Rattle.two_path.specs.Turns.{tapes_of};
 ghost use Rattle.two_path.specs.Histories.{IsLegal, fold};
@@ -8,16 +9,15 @@ ghost use Rattle.move_list.specs.Report.{machine_at_start};
 ghost use Rattle.move_list.specs.Summary.{block_count, history_text, is_meeting, meetings_in, number_line, numbers_line, pair_text, place_text, places_text, summary_text};
 
 use crate::end_line::records_line;
-use crate::putting::put_piece;
-use crate::turns::{DoneAgain, PathMoves, history_done};
+use crate::turns::{DoneAgain, history_done};
 use cell_settings::Settings;
-use move_text::Piece;
-use nc_number::{Path, Point};
-use nc_outside::{PutFault, Sink};
-use nc_verify::Verified;
+use nc_number::{Both, Path, Point};
+use nc_outside::{LinedMove, PutFault, Sink};
+use nc_verify::{Verified, put_piece};
 use run_records::{Entry, EntryKind, EntryList};
 use std::alloc::Global;
 use tape_flow::{Flow, FlowProgram};
+use text_pieces::Piece;
 use two_path::Machine;
 
 /// How many blocks a tape has, in all its programs.
@@ -110,7 +110,7 @@ fn add_history(piece: &mut Piece, entries: &EntryList)
 }
 
 /// How many moves each path's records made.
-fn add_moves(piece: &mut Piece, made: &PathMoves)
+fn add_moves(piece: &mut Piece, made: &Both<Vec<LinedMove>>)
     requires { length piece.old + 88 ≤ 512 }
     ensures text { piece.new ≡ piece.old
         ++ numbers_line (codes "moves ") (length made.now.one.items) (length made.now.two.items) }
@@ -178,7 +178,7 @@ fn put_summary<K: Sink>(
 ) -> Result<(), PutFault>
     requires legal { IsLegal (tapes_of left.now right.now)
         (machine_at_start left.now right.now settings.now) entries.now.items }
-    requires few { length entries.now.items ≤ 4000000 }
+    requires few { length entries.now.items ≤ MOST_RECORDS }
     ensures { IsPut (K.state sink.old) (K.state sink.new)
         (summary_text number left.now right.now settings.now entries.now.items) result }
 {
@@ -188,13 +188,13 @@ fn put_summary<K: Sink>(
     }
 }
 
-/// Writes the summary of a history of the made pair of this number: how many blocks each tape has, in all
-/// its programs; at how many records the paths met; how many records there are; how many moves each path's
-/// records made; and where both turrets stand behind the last record, in machine coordinates. The records
-/// are done again once.
+/// Writes the summary of a history of the made pair of this number: how many blocks each tape has,
+/// in all its programs; at how many records the paths met; how many records there are; how many
+/// moves each path's records made; and where both turrets stand behind the last record, in machine
+/// coordinates. The records are done again once.
 ///
-/// It asks for a legal history of at most 4,000,000 records. Errors: those of the sink, which then holds
-/// a part of the text, from its start; and want of memory.
+/// It asks for a legal history of at most 4,000,000 records. Errors: those of the sink, which then
+/// holds a part of the text, from its start; and want of memory.
 pub fn write_summary<K: Sink>(
     alloc: Global,
     number: u32,
@@ -204,7 +204,7 @@ pub fn write_summary<K: Sink>(
 ) -> Result<(), PutFault>
     requires legal { IsLegal (tapes_of verified.now.left verified.now.right)
         (machine_at_start verified.now.left verified.now.right verified.now.settings) entries.now.items }
-    requires few { length entries.now.items ≤ 4000000 }
+    requires few { length entries.now.items ≤ MOST_RECORDS }
     ensures { IsPut (K.state sink.old) (K.state sink.new)
         (summary_text number verified.now.left verified.now.right verified.now.settings entries.now.items) result }
 {

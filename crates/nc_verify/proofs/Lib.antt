@@ -1,4 +1,5 @@
 pub mod Put
+pub mod InPieces
 pub mod Refused
 pub mod NotBoth
 pub mod OneRefusal

@@ -63,7 +63,7 @@ same_label (x ∷ xs) (y ∷ ys) zero a b e p q =
     sym (ap (λ (z : Labelled). z.label) one') ∙ (heads ∙ ap (λ (z : Labelled). z.label) two')
 same_label (x ∷ xs) (y ∷ ys) (suc n) a b e p q = same_label xs ys n a b (let t : bare xs ≡ bare ys = cc in t) p q
 
-not_both_pair : (l r : List ControlProgram) (refusal : Refusal) → AgreeOnLabels l r → IsPairRefusal l r refusal → ⊥
+pub not_both_pair : (l r : List ControlProgram) (refusal : Refusal) → AgreeOnLabels l r → IsPairRefusal l r refusal → ⊥
 not_both_pair l r refusal agree (one long) = omega (arith, long.long, agree.left_few)
 not_both_pair l r refusal agree (two few long) = omega (arith, long.long, agree.right_few)
 not_both_pair l r refusal agree (differ few_l few_r fault m is) =

@@ -34,7 +34,7 @@ OneOfTape = (dialect : Dialect) (tape : List Program) (line other_line number ot
 abbrev pub Rising : Type 0
 Rising = (skips : ℕ) (text : List ℕ) (tape : List Program) → tape_of skips text ≡ Ok tape → HasRisingBlocks tape
 
-one_of_settings : (text : List ℕ) (a b : Refusal) → AreRefusedSettings text a → AreRefusedSettings text b → a ≡ b
+pub one_of_settings : (text : List ℕ) (a b : Refusal) → AreRefusedSettings text a → AreRefusedSettings text b → a ≡ b
 one_of_settings text a b x y =
     let both : ◌≡◌ {A = Result Cell ℕ} (Err x.line) (Err y.line) = sym x.refused ∙ y.refused in
     let same : x.line ≡ y.line = cc in
@@ -42,7 +42,7 @@ one_of_settings text a b x y =
 
 -- The tape of a path.
 
-not_both_read : (text : List ℕ) (skips : ℕ) (tape : List Program) (fault : TextFault) → tape_of skips text ≡ Ok tape
+pub not_both_read : (text : List ℕ) (skips : ℕ) (tape : List Program) (fault : TextFault) → tape_of skips text ≡ Ok tape
     → tape_of skips text ≡ Err fault → ⊥
 not_both_read text skips tape fault read refused =
     absurd (let e : ◌≡◌ {A = Result (List Program) TextFault} (Ok tape) (Err fault) = sym read ∙ refused in cc)
@@ -96,7 +96,7 @@ one_mismatch l r f g x y = elim (before_or_not f.after g.after) [
       ∙ ap (λ (z : Labelled). labels.mismatch g.after y.one.line z.line) two' ∙ sym y.is
 ]
 
-one_of_pair : (l r : List ControlProgram) (a b : Refusal) → IsPairRefusal l r a → IsPairRefusal l r b → a ≡ b
+pub one_of_pair : (l r : List ControlProgram) (a b : Refusal) → IsPairRefusal l r a → IsPairRefusal l r b → a ≡ b
 one_of_pair l r a b (one x) (one y) = x.is ∙ sym y.is
 one_of_pair l r a b (one x) (two few y) = absurd (omega (arith, x.long, few))
 one_of_pair l r a b (one x) (differ few other fault m is) = absurd (omega (arith, x.long, few))
@@ -110,7 +110,7 @@ one_of_pair l r a b (differ few other fault m is) (differ few' other' fault' m' 
 
 -- Three texts.
 
-not_both_settings : (text : List ℕ) (cell : Cell) (a : Refusal) → AreRefusedSettings text a → settings_of text ≡ Ok cell → ⊥
+pub not_both_settings : (text : List ℕ) (cell : Cell) (a : Refusal) → AreRefusedSettings text a → settings_of text ≡ Ok cell → ⊥
 not_both_settings text cell a x read =
     absurd (let e : ◌≡◌ {A = Result Cell ℕ} (Ok cell) (Err x.line) = sym read ∙ x.refused in cc)
 

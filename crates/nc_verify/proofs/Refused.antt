@@ -4,6 +4,7 @@ use Rattle.nc_number.specs.declared.fault.Failing.{Failing}
 use Rattle.nc_number.specs.declared.fault.Failing.TheVariants.{Fault, NoMemory}
 use Rattle.nc_number.specs.declared.path.Path.{Path}
 use Rattle.nc_number.specs.Answers.{Fails}
+use Rattle.nc_number.specs.declared.limits.TheConstants.{MOST_LABELS}
 use Rattle.nc_text.specs.declared.fault.TextFault.{TextFault}
 use Rattle.nc_text.specs.declared.tape.Program.{Program}
 use Rattle.nc_text.specs.Tape.{tape_of}
@@ -15,7 +16,7 @@ use Rattle.tape_flow.specs.Exact.{IsRefused}
 use Rattle.label_list.specs.declared.fault.PairFault.{PairFault}
 use Rattle.label_list.specs.declared.labelled.Labelled.{Labelled}
 use Rattle.label_list.specs.Faults.{IsMismatch}
-use Rattle.label_list.specs.Lists.{path_labels, most_labels}
+use Rattle.label_list.specs.Lists.{path_labels}
 use Rattle.nc_verify.specs.declared.refusal.Refusal.{Refusal}
 use Rattle.nc_verify.specs.Refusals.{at_line, mismatch}
 use Rattle.nc_verify.specs.Verdict.{skips_of, dialect_in, IsTapeRefusal, IsPairRefusal}
@@ -46,8 +47,8 @@ flow_refused cell path text skips tape error fault refusal is same reads refused
 
 -- the labels of two flows differ
 pub labels_differ : (left right : List ControlProgram) (xs ys : List Labelled) (fault : PairFault) (refusal : Refusal)
-    → xs ≡ path_labels left → ys ≡ path_labels right → length xs ≤ most_labels → length ys ≤ most_labels
+    → xs ≡ path_labels left → ys ≡ path_labels right → length xs ≤ MOST_LABELS → length ys ≤ MOST_LABELS
     → IsMismatch xs ys fault → refusal ≡ mismatch fault → IsPairRefusal left right refusal
 labels_differ left right xs ys fault refusal l r few_l few_r m told =
-    differ (subst (λ zs. length zs ≤ most_labels) l few_l) (subst (λ zs. length zs ≤ most_labels) r few_r) fault
+    differ (subst (λ zs. length zs ≤ MOST_LABELS) l few_l) (subst (λ zs. length zs ≤ MOST_LABELS) r few_r) fault
     (subst (λ zs. IsMismatch (path_labels left) zs fault) r (subst (λ zs. IsMismatch zs ys fault) l m)) told

@@ -2,6 +2,7 @@
 use Rattle.std.proofs.Common.{◌≡◌, ◌≢◌, ℕ, suc, ◌<◌, ◌≤◌, ◌⊎◌, inl, inr, ◌↔◌, List, [], ◌∷◌, length, take, slice_get, Some, Result, Ok, Err, refl, ap, sym, ◌∙◌, arith}
 use Rattle.nc_number.specs.declared.path.Path.{Path}
 use Rattle.nc_number.specs.declared.path.Path.TheVariants.{One, Two}
+use Rattle.nc_number.specs.declared.limits.TheConstants.{MOST_LABELS}
 use Rattle.nc_text.specs.declared.fault.TextFault.{TextFault}
 use Rattle.nc_text.specs.declared.tape.Program.{Program}
 use Rattle.nc_text.specs.Tape.{tape_of}
@@ -20,7 +21,7 @@ use Rattle.label_list.specs.declared.labelled.Labelled.{Labelled}
 use Rattle.label_list.specs.Accepted.{AgreeOnLabels, IsAcceptedPair}
 use Rattle.label_list.specs.Faults as labels
 use Rattle.label_list.specs.Faults.{IsMismatch}
-use Rattle.label_list.specs.Lists.{path_labels, most_labels, bare, ended_by, IsEnded}
+use Rattle.label_list.specs.Lists.{path_labels, bare, ended_by, IsEnded}
 use Rattle.label_list.proofs.Ended.{path_ended}
 use Rattle.nc_verify.specs.declared.refusal.Refusal.{Refusal}
 use Rattle.nc_verify.specs.Refusals.{at_setting, at_line, too_long, mismatch}
@@ -107,15 +108,15 @@ mismatch_at l r after d = record {
   is = refl;
 }
 
-few_or_many : (n : ℕ) → (n ≤ most_labels) ⊎ (most_labels < n)
+few_or_many : (n : ℕ) → (n ≤ MOST_LABELS) ⊎ (MOST_LABELS < n)
 few_or_many n = grind arith
 
-pair_answer : ByLists → (l r : List ControlProgram) → IsUnforked l → IsUnforked r
+pub pair_answer : ByLists → (l r : List ControlProgram) → IsUnforked l → IsUnforked r
     → CantBothFail (IsAcceptedPair l r) ((refusal : Refusal) × IsPairRefusal l r refusal)
 pair_answer lists l r ul ur unaccepted unrefused = go (few_or_many (length (path_labels l))) (few_or_many (length (path_labels r)))
   where
-    go : (length (path_labels l) ≤ most_labels) ⊎ (most_labels < length (path_labels l))
-        → (length (path_labels r) ≤ most_labels) ⊎ (most_labels < length (path_labels r)) → ⊥
+    go : (length (path_labels l) ≤ MOST_LABELS) ⊎ (MOST_LABELS < length (path_labels l))
+        → (length (path_labels r) ≤ MOST_LABELS) ⊎ (MOST_LABELS < length (path_labels r)) → ⊥
     go (inr long) other = unrefused (too_long One, one (record { long = long; is = refl }))
     go (inl few) (inr long) = unrefused (too_long Two, two few (record { long = long; is = refl }))
     go (inl few) (inl other) =

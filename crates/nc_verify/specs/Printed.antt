@@ -1,8 +1,9 @@
 -- The line of a verdict as it is printed.
-use Rattle.std.specs.Prelude.{◌≡◌, ◌≢◌, ℕ, List, [], ◌++◌, take, Option, Some, None, Result, OnOk, OnErr, IsErrOf, codes, decimal}
+use Rattle.std.specs.Prelude.{◌≡◌, ◌≢◌, ℕ, List, ◌++◌, take, Option, Some, None, Result, OnOk, OnErr, IsErrOf, codes}
 use Rattle.nc_number.specs.declared.cause.Cause.{Cause}
 use Rattle.nc_number.specs.declared.cause.Cause.TheVariants.{BadSetting, TooManyLabels, WaitMismatch}
-use Rattle.nc_number.specs.Causes.{cause_number, cause_name}
+use Rattle.nc_number.specs.Causes.{cause_number}
+use Rattle.text_pieces.specs.Pieces.{name_text, numbered}
 use Rattle.nc_outside.specs.declared.sink.PutFault.{PutFault}
 use Rattle.nc_outside.specs.declared.sink.PutFault.TheVariants.{Failed}
 use Rattle.nc_outside.specs.Faults.{CountsFault}
@@ -13,9 +14,6 @@ use Rattle.nc_verify.specs.declared.refusal.Refusal.{Refusal}
 abbrev pub IsCauseOf : ℕ → Option Cause → Type 0
 IsCauseOf number None = (cause : Cause) → cause_number cause ≢ number
 IsCauseOf number (Some cause) = cause_number cause ≡ number
-
-abbrev pub numbered : List ℕ → ℕ → List ℕ
-numbered before number = before ++ decimal number
 
 -- a path and a line of its tape
 unfoldable pub place_text : ℕ → ℕ → List ℕ
@@ -36,21 +34,10 @@ about_text (Some TooManyLabels) refusal = numbered (codes " path ") refusal.path
 about_text (Some WaitMismatch) refusal = mismatch_text refusal
 about_text other refusal = place_text refusal.path refusal.line
 
--- the name of the cause
-abbrev pub name_text : Option Cause → List ℕ
-name_text None = []
-name_text (Some cause) = codes " " ++ cause_name cause
-
--- what the refusal is about, and the end of the line
-unfoldable pub end_text : Option Cause → Refusal → List ℕ
-end_text cause refusal = about_text cause refusal ++ codes "\n"
-
-unfoldable pub rest_text : Option Cause → Refusal → List ℕ
-rest_text cause refusal = name_text cause ++ end_text cause refusal
-
 -- a refusal of this cause as a line
 unfoldable pub refused_text : Option Cause → Refusal → List ℕ
-refused_text cause refusal = numbered (codes "refused ") refusal.number ++ rest_text cause refusal
+refused_text cause refusal =
+    numbered (codes "refused ") refusal.number ++ name_text cause ++ about_text cause refusal ++ codes "\n"
 
 -- the line of a verdict is this text
 abbrev pub IsVerdictText : Option Refusal → List ℕ → Type 0
@@ -58,7 +45,8 @@ IsVerdictText None text = text ≡ codes "accepted\n"
 IsVerdictText (Some refusal) text =
     (cause : Option Cause) × IsCauseOf refusal.number cause × (text ≡ refused_text cause refusal)
 
--- The text was put behind what the sink held, or the sink failed behind a part of it, or memory ran out.
+-- The text was put behind what the sink held, or the sink failed behind a part of it, or memory ran
+-- out.
 pub record IsPut (old new : SinkState) (text : List ℕ) (result : Result (Unit {0}) PutFault) : Type 0 where
   pub ok : OnOk result (Writes old new text)
   pub err : OnErr result ((n : ℕ) × Writes old new (take n text))

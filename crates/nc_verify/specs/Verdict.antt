@@ -3,6 +3,7 @@ use Rattle.std.specs.Prelude.{◌≡◌, ℕ, ◌<◌, ◌≤◌, List, length, 
 use Rattle.nc_number.specs.declared.path.Path.{Path}
 use Rattle.nc_number.specs.declared.path.Path.TheVariants.{One, Two}
 use Rattle.nc_number.specs.Path.{index_of}
+use Rattle.nc_number.specs.declared.limits.TheConstants.{MOST_LABELS}
 use Rattle.nc_text.specs.declared.fault.TextFault.{TextFault}
 use Rattle.nc_text.specs.declared.tape.Program.{Program}
 use Rattle.nc_text.specs.Tape.{tape_of}
@@ -15,7 +16,7 @@ use Rattle.tape_flow.specs.Forms.{ProgramForm}
 use Rattle.label_list.specs.declared.fault.PairFault.{PairFault}
 use Rattle.label_list.specs.Accepted.{IsAcceptedPair}
 use Rattle.label_list.specs.Faults.{IsMismatch}
-use Rattle.label_list.specs.Lists.{path_labels, most_labels}
+use Rattle.label_list.specs.Lists.{path_labels}
 use Rattle.nc_verify.specs.declared.refusal.Refusal.{Refusal}
 use Rattle.nc_verify.specs.Refusals.{at_setting, at_line, too_long, mismatch}
 
@@ -54,14 +55,15 @@ pub record AreRefusedSettings (text : List ℕ) (refusal : Refusal) : Type 0 whe
 
 -- a path has too many labels
 pub record IsTooLong (path : Path) (tape : List ControlProgram) (refusal : Refusal) : Type 0 where
-  pub long : most_labels < length (path_labels tape)
+  pub long : MOST_LABELS < length (path_labels tape)
   pub is : refusal ≡ too_long path
 
--- the refusal of two flows that are no accepted pair: path 1 has too many labels, or path 2 has, or the labels differ
+-- the refusal of two flows that are no accepted pair: path 1 has too many labels, or path 2 has, or
+-- the labels differ
 pub data IsPairRefusal (left right : List ControlProgram) (refusal : Refusal) : Type 0 where
   one : IsTooLong One left refusal → IsPairRefusal left right refusal
-  two : length (path_labels left) ≤ most_labels → IsTooLong Two right refusal → IsPairRefusal left right refusal
-  differ : length (path_labels left) ≤ most_labels → length (path_labels right) ≤ most_labels
+  two : length (path_labels left) ≤ MOST_LABELS → IsTooLong Two right refusal → IsPairRefusal left right refusal
+  differ : length (path_labels left) ≤ MOST_LABELS → length (path_labels right) ≤ MOST_LABELS
       → (fault : PairFault) → IsMismatch (path_labels left) (path_labels right) fault → refusal ≡ mismatch fault
       → IsPairRefusal left right refusal
 
@@ -76,7 +78,8 @@ pub record AreAccepted (texts : Texts) (cell : Cell) (left right : List ProgramF
   pub flows : AreFlows texts cell left right
   pub pair : IsAcceptedPair (controls left) (controls right)
 
--- The refusal of three texts: of the settings; else of path 1's tape; else of path 2's; else of the two flows as a pair.
+-- The refusal of three texts: of the settings; else of path 1's tape; else of path 2's; else of the
+-- two flows as a pair.
 pub data IsRefusalOf (texts : Texts) (refusal : Refusal) : Type 0 where
   settings : AreRefusedSettings texts.settings refusal → IsRefusalOf texts refusal
   left : (cell : Cell) → settings_of texts.settings ≡ Ok cell → IsTapeRefusal cell One texts.left refusal

@@ -1,11 +1,13 @@
 //! The verdict of two tapes and the settings of the cell.
 //!
-//! [`verdict`] accepts exactly the texts whose settings are allowed, whose tapes read and whose flows are an
-//! accepted pair, and else tells their one refusal. [`Verified`] is what was accepted: whoever holds one need
-//! not ask again. [`write_verdict`] prints the answer.
+//! [`verdict`] accepts exactly the texts whose settings are allowed, whose tapes read and whose
+//! flows are an accepted pair, and else tells their one refusal. [`Verified`] is what was accepted:
+//! whoever holds one need not ask again. [`write_verdict`] prints the answer.
 #![tactic(auto)]
 
 mod laws;
+mod meeting;
+mod putting;
 mod refusal;
 mod tape;
 mod verified;
@@ -15,7 +17,10 @@ mod writing;
 pub use laws::{
     accepted_texts_are_not_refused, no_texts_are_without_an_answer, texts_have_one_refusal,
 };
+pub use meeting::meet;
+pub use putting::put_piece;
 pub use refusal::Refusal;
+pub use tape::{read_tape, skips_of};
 pub use verified::Verified;
-pub use verifying::verdict;
+pub use verifying::{settings_of, verdict};
 pub use writing::write_verdict;

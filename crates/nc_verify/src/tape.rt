@@ -7,7 +7,7 @@ ghost use Rattle.nc_text.specs.Tape.{tape_of};
 ghost use Rattle.tape_flow.specs.Forms.{program_form};
 ghost use Rattle.nc_verify.specs.Verdict.{IsFlowOf, IsTapeRefusal, skips_of};
 
-use crate::refusal::{Refusal, of_tape};
+use crate::refusal::Refusal;
 use cell_settings::Settings;
 use nc_number::{Failing, Path};
 use nc_text::{Reader, Tape, TextFault};
@@ -15,7 +15,7 @@ use std::alloc::Global;
 use tape_flow::{Flow, compile};
 
 /// The tape of a text, where blocks of these switches are skipped.
-fn read_tape(alloc: Global, skips: u16, text: &[u8]) -> Result<Tape, Failing<TextFault>>
+pub fn read_tape(alloc: Global, skips: u16, text: &[u8]) -> Result<Tape, Failing<TextFault>>
     ensures { Gives (λ tape. tape) result (tape_of skips text.now) }
 {
     let mut reader = Reader::new(alloc, skips)?;
@@ -25,7 +25,8 @@ fn read_tape(alloc: Global, skips: u16, text: &[u8]) -> Result<Tape, Failing<Tex
     }
 }
 
-fn skips_of(settings: &Settings, path: Path) -> u16
+/// The switches of the blocks that a path skips, a bit for each.
+pub fn skips_of(settings: &Settings, path: Path) -> u16
     ensures { result ≡ skips_of path (view settings.now) }
 {
     settings.skips[path.index()]
@@ -43,7 +44,7 @@ pub(crate) fn flow_of(
 {
     let tape = match read_tape(alloc, skips_of(settings, path), text) {
         Ok(tape) => tape,
-        Err(Failing::Fault(fault)) => return Err(Failing::Fault(of_tape(
+        Err(Failing::Fault(fault)) => return Err(Failing::Fault(Refusal::at_line(
             path,
             fault.line,
             fault.number,
@@ -52,7 +53,11 @@ pub(crate) fn flow_of(
     };
     match compile(alloc, &tape, settings) {
         Ok(flow) => Ok(flow),
-        Err(Failing::Fault(fault)) => Err(Failing::Fault(of_tape(path, fault.line, fault.number))),
+        Err(Failing::Fault(fault)) => Err(Failing::Fault(Refusal::at_line(
+            path,
+            fault.line,
+            fault.number,
+        ))),
         Err(Failing::NoMemory) => Err(Failing::NoMemory),
     }
 }

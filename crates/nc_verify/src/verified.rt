@@ -1,3 +1,4 @@
+//! An accepted pair.
 ghost use Rattle.std.specs.Prelude.{◌≡◌};
 ghost use Rattle.label_list.specs.Accepted.{IsAcceptedPair};
 

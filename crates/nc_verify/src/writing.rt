@@ -1,152 +1,101 @@
 //! The line of a verdict.
-ghost use Rattle.std.specs.Prelude.{ℕ, List, Some, codes, decimal};
+ghost use Rattle.std.specs.Prelude.{◌≡◌, ◌+◌, ◌≤◌, ℕ, List, ◌++◌, length, codes};
 ghost use Rattle.std.specs.Option.{option_copied};
-ghost use Rattle.nc_number.specs.Causes.{cause_name};
-ghost use Rattle.nc_verify.specs.Printed.{IsPut, IsVerdictText, numbered, place_text, other_text, mismatch_text};
-ghost use Rattle.nc_verify.specs.Printed.{about_text, name_text, end_text, rest_text, refused_text};
+ghost use Rattle.nc_verify.specs.Printed.{IsPut, IsVerdictText, about_text, mismatch_text, other_text, place_text, refused_text};
 
+use crate::putting::put_piece;
 use crate::refusal::Refusal;
-use itoa::Buffer;
 use nc_number::Cause;
 use nc_outside::{PutFault, Sink};
+use text_pieces::Piece;
 
-fn put_bytes<K: Sink>(sink: &mut K, piece: &[u8]) -> Result<(), PutFault>
-    ensures { IsPut (K.state sink.old) (K.state sink.new) piece.now result }
+/// Adds a path and a line of its tape.
+#[tactic(auto, unfolding(crate::specs::Printed::place_text))]
+fn add_place(piece: &mut Piece, path: u8, line: u32)
+    requires { length piece.old + 52 ≤ 512 }
+    ensures text { piece.new ≡ piece.old ++ place_text path line }
+    ensures size { length piece.new ≤ length piece.old + 52 }
 {
-    sink.put(piece)
+    piece.add_numbered(b" path ", u64::from(path));
+    piece.add_numbered(b" line ", u64::from(line));
 }
 
-fn put_number<K: Sink>(sink: &mut K, number: u32) -> Result<(), PutFault>
-    ensures { IsPut (K.state sink.old) (K.state sink.new) (decimal number) result }
+/// Adds the place of path 2's label, and how many labels before are equal.
+#[tactic(auto, unfolding(crate::specs::Printed::other_text))]
+fn add_other(piece: &mut Piece, refusal: &Refusal)
+    requires { length piece.old + 79 ≤ 512 }
+    ensures text { piece.new ≡ piece.old ++ other_text refusal.now }
+    ensures size { length piece.new ≤ length piece.old + 79 }
 {
-    let mut buffer = Buffer::new();
-    put_bytes(sink, buffer.format(number).as_bytes())
+    add_place(piece, 2, refusal.other);
+    piece.add_numbered(b" after ", u64::from(refusal.after));
 }
 
-/// Puts bytes, and a number behind them.
-fn put_numbered<K: Sink>(sink: &mut K, before: &[u8], number: u32) -> Result<(), PutFault>
-    ensures { IsPut (K.state sink.old) (K.state sink.new) (numbered before.now number) result }
+/// Adds where the labels of the paths differ.
+#[tactic(auto, unfolding(crate::specs::Printed::mismatch_text))]
+fn add_mismatch(piece: &mut Piece, refusal: &Refusal)
+    requires { length piece.old + 131 ≤ 512 }
+    ensures text { piece.new ≡ piece.old ++ mismatch_text refusal.now }
+    ensures size { length piece.new ≤ length piece.old + 131 }
 {
-    match put_bytes(sink, before) {
-        Ok(()) => put_number(sink, number),
-        Err(fault) => Err(fault),
-    }
+    add_place(piece, 1, refusal.line);
+    add_other(piece, refusal);
 }
 
-fn put_place<K: Sink>(sink: &mut K, path: u32, line: u32) -> Result<(), PutFault>
-    ensures { IsPut (K.state sink.old) (K.state sink.new) (place_text path line) result }
-{
-    match put_numbered(sink, b" path ", path) {
-        Ok(()) => put_numbered(sink, b" line ", line),
-        Err(fault) => Err(fault),
-    }
-}
-
-/// Puts the place of path 2's label, and how many labels before are equal.
-fn put_other<K: Sink>(sink: &mut K, refusal: &Refusal) -> Result<(), PutFault>
-    ensures { IsPut (K.state sink.old) (K.state sink.new) (other_text refusal.now) result }
-{
-    match put_place(sink, 2, refusal.other) {
-        Ok(()) => put_numbered(sink, b" after ", refusal.after),
-        Err(fault) => Err(fault),
-    }
-}
-
-fn put_mismatch<K: Sink>(sink: &mut K, refusal: &Refusal) -> Result<(), PutFault>
-    ensures { IsPut (K.state sink.old) (K.state sink.new) (mismatch_text refusal.now) result }
-{
-    match put_place(sink, 1, refusal.line) {
-        Ok(()) => put_other(sink, refusal),
-        Err(fault) => Err(fault),
-    }
-}
-
-/// Puts what a refusal is about.
-fn put_about<K: Sink>(sink: &mut K, cause: Option<Cause>, refusal: &Refusal) -> Result<(), PutFault>
-    ensures { IsPut (K.state sink.old) (K.state sink.new) (about_text cause refusal.now) result }
+/// Adds what a refusal is about.
+fn add_about(piece: &mut Piece, cause: Option<Cause>, refusal: &Refusal)
+    requires { length piece.old + 131 ≤ 512 }
+    ensures text { piece.new ≡ piece.old ++ about_text cause refusal.now }
+    ensures size { length piece.new ≤ length piece.old + 131 }
 {
     match cause {
-        Some(Cause::BadSetting) => put_numbered(sink, b" line ", refusal.line),
-        Some(Cause::TooManyLabels) => put_numbered(sink, b" path ", u32::from(refusal.path)),
-        Some(Cause::WaitMismatch) => put_mismatch(sink, refusal),
-        _ => put_place(sink, u32::from(refusal.path), refusal.line),
+        Some(Cause::BadSetting) => piece.add_numbered(b" line ", u64::from(refusal.line)),
+        Some(Cause::TooManyLabels) => piece.add_numbered(b" path ", u64::from(refusal.path)),
+        Some(Cause::WaitMismatch) => add_mismatch(piece, refusal),
+        _ => add_place(piece, refusal.path, refusal.line),
     }
 }
 
-fn put_word<K: Sink>(sink: &mut K, cause: Cause) -> Result<(), PutFault>
-    ensures { IsPut (K.state sink.old) (K.state sink.new) (cause_name cause) result }
+/// The line of a refusal of this cause.
+#[tactic(auto, unfolding(crate::specs::Printed::refused_text))]
+fn refused_line(cause: Option<Cause>, refusal: &Refusal) -> Piece
+    ensures { result ≡ refused_text cause refusal.now }
 {
-    put_bytes(sink, cause.name().as_bytes())
+    let mut piece = Piece::empty();
+    piece.add_numbered(b"refused ", u64::from(refusal.number));
+    piece.add_name(cause);
+    add_about(&mut piece, cause, refusal);
+    piece.add(b"\n");
+    piece
 }
 
-fn put_cause<K: Sink>(sink: &mut K, cause: Cause) -> Result<(), PutFault>
-    ensures { IsPut (K.state sink.old) (K.state sink.new) (name_text (Some cause)) result }
+/// The line of a pair that is accepted.
+fn accepted_line() -> Piece
+    ensures { result ≡ codes "accepted\n" }
 {
-    match put_bytes(sink, b" ") {
-        Ok(()) => put_word(sink, cause),
-        Err(fault) => Err(fault),
+    let mut piece = Piece::empty();
+    piece.add(b"accepted\n");
+    piece
+}
+
+/// The line of a verdict.
+fn verdict_line(refusal: Option<&Refusal>) -> Piece
+    ensures { IsVerdictText (option_copied refusal.entry) result }
+{
+    match refusal {
+        Some(refusal) => refused_line(Cause::of_number(refusal.number), refusal),
+        None => accepted_line(),
     }
 }
 
-/// Puts the name of a cause.
-fn put_name<K: Sink>(sink: &mut K, cause: Option<Cause>) -> Result<(), PutFault>
-    ensures { IsPut (K.state sink.old) (K.state sink.new) (name_text cause) result }
-{
-    match cause {
-        Some(cause) => put_cause(sink, cause),
-        None => put_bytes(sink, b""),
-    }
-}
-
-/// Puts what the refusal is about, and the end of the line.
-fn put_end<K: Sink>(sink: &mut K, cause: Option<Cause>, refusal: &Refusal) -> Result<(), PutFault>
-    ensures { IsPut (K.state sink.old) (K.state sink.new) (end_text cause refusal.now) result }
-{
-    match put_about(sink, cause, refusal) {
-        Ok(()) => put_bytes(sink, b"\n"),
-        Err(fault) => Err(fault),
-    }
-}
-
-/// Puts what stands behind the number of the refusal.
-fn put_rest<K: Sink>(sink: &mut K, cause: Option<Cause>, refusal: &Refusal) -> Result<(), PutFault>
-    ensures { IsPut (K.state sink.old) (K.state sink.new) (rest_text cause refusal.now) result }
-{
-    match put_name(sink, cause) {
-        Ok(()) => put_end(sink, cause, refusal),
-        Err(fault) => Err(fault),
-    }
-}
-
-fn put_start<K: Sink>(sink: &mut K, refusal: &Refusal) -> Result<(), PutFault>
-    ensures { IsPut (K.state sink.old) (K.state sink.new) (numbered (codes "refused ") refusal.now.number) result }
-{
-    put_numbered(sink, b"refused ", u32::from(refusal.number))
-}
-
-fn put_refused<K: Sink>(
-    sink: &mut K,
-    cause: Option<Cause>,
-    refusal: &Refusal,
-) -> Result<(), PutFault>
-    ensures { IsPut (K.state sink.old) (K.state sink.new) (refused_text cause refusal.now) result }
-{
-    match put_start(sink, refusal) {
-        Ok(()) => put_rest(sink, cause, refusal),
-        Err(fault) => Err(fault),
-    }
-}
-
-/// Writes the line of a verdict: `accepted`, or `refused` with the number and the name of the refusal and
-/// what it is about.
+/// Writes the line of a verdict: `accepted`, or `refused` with the number and the name of the
+/// refusal and what it is about.
 ///
-/// Errors: those of the sink; it then holds a part of the line, from its start. Takes no memory itself.
+/// Errors: those of the sink; it then holds a part of the line, from its start. Takes no memory
+/// itself.
 pub fn write_verdict<K: Sink>(refusal: Option<&Refusal>, sink: &mut K) -> Result<(), PutFault>
     ensures { (text : List ℕ) × IsVerdictText (option_copied refusal.entry) text
         × IsPut (K.state sink.old) (K.state sink.new) text result }
 {
-    match refusal {
-        Some(refusal) => put_refused(sink, Cause::of_number(refusal.number), refusal),
-        None => put_bytes(sink, b"accepted\n"),
-    }
+    put_piece(sink, &verdict_line(refusal))
 }

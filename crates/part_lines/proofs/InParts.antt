@@ -1,4 +1,5 @@
--- A line of a part is one of a stretch that stands there: of a block of it, or of what the block opens.
+-- A line of a part is one of a stretch that stands there: of a block of it, or of what the block
+-- opens.
 use Rattle.std.proofs.Common.{◌≡◌, ℕ, ◌⊎◌, inl, inr, false, List, ◌∷◌, Option, Some, refl, sym, subst}
 use Rattle.block_order.specs.declared.control.Control.{Control}
 use Rattle.block_order.specs.declared.control.Control.TheVariants.{Call}

@@ -17,7 +17,8 @@ use Rattle.part_lines.proofs.Earlier.{earlier_none, with_both}
 use Rattle.part_lines.proofs.StretchLines.{next_number, stretch_line, none_behind}
 use Rattle.part_lines.proofs.Segments.{ends_anew}
 
--- the lines of the items, where each stretch has its own, and end is what comes once they begin anew
+-- the lines of the items, where each stretch has its own, and end is what comes once they begin
+-- anew
 abbrev pub item_lines : (ℕ → ℕ → Option ℕ) → Lines → List Item → Lines
 item_lines own end [] = None ∷ []
 item_lines own end (Stretch p s ∷ xs) = with_first (own p s) (item_lines own end xs)

@@ -1,12 +1,15 @@
 -- What was found of programs and what they open, as it grows, and when it is the least.
 use Rattle.std.proofs.Common.{◌≡◌, ◌==◌, ℕ, ◌≤◌, min, ◌⊎◌, inl, inr, Bool, true, false, List, [], ◌∷◌, Option, Some, None, slice_get, get_or, length, zero, suc, ◌+◌, ◌<◌, refl, ap, sym, subst, ◌∙◌, arith, if◌then◌else◌}
 use Rattle.std.proofs.lemmas.Bool.{eqb-true}
+use Rattle.nc_number.proofs.Counts.{last_or_before}
 use Rattle.block_order.specs.declared.control.Control.{Control}
 use Rattle.block_order.specs.declared.control.Control.TheVariants.{Next, Goto, While, Do, EndLoop, Wait, End, Call, Back, BackTo}
 use Rattle.block_order.specs.declared.program.ControlBlock.{ControlBlock}
 use Rattle.block_order.specs.declared.program.ControlProgram.{ControlProgram}
 use Rattle.block_order.specs.Order.{blocks, program_of, control_at}
 use Rattle.block_order.specs.Loud.{loud}
+use Rattle.block_order.proofs.NotedEnds.{control-get}
+use Rattle.block_order.proofs.Opened.{within_control}
 use Rattle.part_lines.specs.Least.{earlier, IsLeast}
 use Rattle.part_lines.specs.Lines.{called_line, seen_line, IsOpened, itself, calls, LineFrom}
 use Rattle.part_lines.specs.Pieces.{IsBelow, AreFound, IsClosedAt, IsClosed, AreQuietLines}
@@ -115,39 +118,25 @@ all_closed tape line found each q = go (program_of tape q) refl
         let at = found_stands tape q p e in
         subst (IsClosedAt tape line found) at.2 (each at.0 p at.1)
 
--- the block that stands at a place
-pub control_here : (bs : List ControlBlock) (i : ℕ) (d : ControlBlock) → i < length bs → control_at bs i ≡ Some (get_or bs i d).control
-control_here [] i d less = absurd (omega arith)
-control_here (b ∷ bs) zero d less = refl
-control_here (b ∷ bs) (suc i) d less = control_here bs i d (omega arith)
-
-control_within : (bs : List ControlBlock) (i : ℕ) (c : Control) → control_at bs i ≡ Some c → i < length bs
-control_within [] i c is = absurd cc
-control_within (b ∷ bs) zero c is = omega arith
-control_within (b ∷ bs) (suc i) c is = let rest = control_within bs i c is in omega arith
-
 -- no block before a place has a line that is less
 abbrev pub AreBelow : Option ℕ → (ℕ → Control → Option ℕ) → List ControlBlock → ℕ → Type 0
 AreBelow least seen bs i = (block : ℕ) (c : Control) → block < i → control_at bs block ≡ Some c → IsBelow least (seen block c)
 
 pub below_more : (least : Option ℕ) (seen : ℕ → Control → Option ℕ) (bs : List ControlBlock) (i : ℕ) (d : ControlBlock) → i < length bs
     → AreBelow least seen bs i → IsBelow least (seen i (get_or bs i d).control) → AreBelow least seen bs (i + 1)
-below_more least seen bs i d within before here block c less is = go (same_or_less block i less)
+below_more least seen bs i d within before here block c less is = go (last_or_before block i less)
   where
-    same_or_less : (m n : ℕ) → m < n + 1 → (m ≡ n) ⊎ (m < n)
-    same_or_less m n h = grind arith
-
     go : (block ≡ i) ⊎ (block < i) → IsBelow least (seen block c)
     go (inr below) = before block c below is
     go (inl e) =
         let own : control_at bs i ≡ Some c = subst (λ k. control_at bs k ≡ Some c) e is in
-        let one : Some (get_or bs i d).control ≡ Some c = sym (control_here bs i d within) ∙ own in
+        let one : Some (get_or bs i d).control ≡ Some c = sym (control-get bs i d within) ∙ own in
         let same : (get_or bs i d).control ≡ c = cc in
         subst (λ k. IsBelow least (seen k c)) (sym e) (subst (λ x. IsBelow least (seen i x)) same here)
 
 pub all_below : (least : Option ℕ) (seen : ℕ → Control → Option ℕ) (bs : List ControlBlock) (i : ℕ) → length bs ≤ i
     → AreBelow least seen bs i → (block : ℕ) (c : Control) → control_at bs block ≡ Some c → IsBelow least (seen block c)
-all_below least seen bs i past before block c is = before block c (let within = control_within bs block c is in omega arith) is
+all_below least seen bs i past before block c is = before block c (let within = within_control bs block c is in omega arith) is
 
 pub get_within : (tape : List ControlProgram) (j : ℕ) (p : ControlProgram) → slice_get tape j ≡ Some p → j < length tape
 get_within [] j p is = absurd cc

@@ -10,7 +10,8 @@ use Rattle.part_lines.specs.declared.piece.PieceLines.{PieceLines}
 use Rattle.part_lines.specs.Least.{earlier, IsLeast}
 use Rattle.part_lines.specs.PartLines.{LineInPart, AreLeastLines}
 use Rattle.part_lines.specs.Lines.{Lines, with_first}
-use Rattle.part_lines.specs.Pieces.{coming, first_of, closed, IsShort, IsPiece, AreQuietLines}
+use Rattle.loud_calls.specs.Calls.{IsShort}
+use Rattle.part_lines.specs.Pieces.{coming, first_of, closed, IsPiece, AreQuietLines}
 use Rattle.part_lines.proofs.Earlier.{earlier_none, least_either, least_same}
 use Rattle.part_lines.proofs.Segments.{Seg, ends_anew, stands, seg_listed, anew_listed}
 use Rattle.part_lines.proofs.InParts.{StretchLine, ListedLine, part_listed, listed_part}

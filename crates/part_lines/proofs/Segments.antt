@@ -1,4 +1,5 @@
--- What follows behind n waits of a list is what stands there, and behind the last wait what begins anew too.
+-- What follows behind n waits of a list is what stands there, and behind the last wait what begins
+-- anew too.
 use Rattle.std.proofs.Common.{◌≡◌, ℕ, zero, suc, ◌+◌, ◌≤◌, ◌⊎◌, inl, inr, Bool, true, false, List, [], ◌∷◌, refl, sym, subst, arith}
 use Rattle.part_order.specs.Parts.{Item, Stretch, Meets, Anew, Follows, first, behind_stretch, behind_wait, anew, waits_in}
 use Rattle.part_order.proofs.Folded.{folds}

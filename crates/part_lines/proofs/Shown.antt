@@ -12,7 +12,8 @@ use Rattle.part_lines.specs.declared.piece.Ending.TheVariants.{Stops, Returns}
 use Rattle.part_lines.specs.declared.piece.PieceLines.{PieceLines}
 use Rattle.part_lines.specs.Least.{earlier}
 use Rattle.part_lines.specs.Lines.{Lines, with_first, times, seen_line, block_lines, blocks_lines, whole}
-use Rattle.part_lines.specs.Pieces.{shown, coming, stop_of, IsSeen, AreJoined, AreAdded, IsShort, IsShortCall, IsPiece, IsTaken, IsSoFar, from_block}
+use Rattle.loud_calls.specs.Calls.{IsShort, IsShortCall}
+use Rattle.part_lines.specs.Pieces.{shown, coming, stop_of, IsSeen, AreJoined, AreAdded, IsPiece, IsTaken, IsSoFar, from_block}
 use Rattle.part_lines.proofs.Earlier.{earlier_none, with_none, with_both, with_again}
 
 pub new_shown : (lines : PieceLines) → lines.done.items ≡ [] → lines.last ≡ None → (behind : Lines) → shown lines behind ≡ behind

@@ -2,4 +2,3 @@ pub mod Least
 pub mod PartLines
 pub mod Lines
 pub mod Pieces
-pub mod Index

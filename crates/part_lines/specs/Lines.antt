@@ -1,4 +1,5 @@
--- The least lines of the parts of a path, as its blocks come one after another with all calls unfolded.
+-- The least lines of the parts of a path, as its blocks come one after another with all calls
+-- unfolded.
 use Rattle.std.specs.Prelude.{◌≡◌, ℕ, zero, suc, Bool, false, List, [], ◌∷◌, Option, Some, None, if◌then◌else◌}
 use Rattle.block_order.specs.declared.control.Control.{Control}
 use Rattle.block_order.specs.declared.control.Control.TheVariants.{Wait, End, Call, Back}
@@ -31,8 +32,8 @@ called_line loud quiet other = None
 abbrev pub seen_line : (ℕ → Bool) → (ℕ → Option ℕ) → Option ℕ → Control → Option ℕ
 seen_line loud quiet own control = earlier own (called_line loud quiet control)
 
--- What comes behind a block of this control. A loud program that it calls comes before what is behind the call; back is what
--- follows an M99; behind an end nothing comes.
+-- What comes behind a block of this control. A loud program that it calls comes before what is
+-- behind the call; back is what follows an M99; behind an end nothing comes.
 abbrev pub block_lines : (ℕ → Bool) → (ℕ → Lines → Lines) → Lines → Control → Lines → Lines
 block_lines loud called back (Wait code) behind = None ∷ behind
 block_lines loud called back End behind = None ∷ []
@@ -40,14 +41,16 @@ block_lines loud called back (Call program repeats) behind = if loud program the
 block_lines loud called back Back behind = back
 block_lines loud called back other behind = behind
 
--- from these blocks on, of which the first has this place in its program and the last one is the program's last
+-- from these blocks on, of which the first has this place in its program and the last one is the
+-- program's last
 abbrev pub blocks_lines : (ℕ → Bool) → (ℕ → Option ℕ) → (ℕ → Lines → Lines) → (ℕ → Option ℕ) → Lines → ℕ → List ControlBlock → Lines
 blocks_lines loud quiet called line back place [] = None ∷ []
 blocks_lines loud quiet called line back place (b ∷ bs) =
     with_first (seen_line loud quiet (line place) b.control)
     (block_lines loud called back b.control (blocks_lines loud quiet called line back (suc place) bs))
 
--- a program that is run with fewer than n calls to follow in it, one in another; back is what follows its M99
+-- a program that is run with fewer than n calls to follow in it, one in another; back is what
+-- follows its M99
 unfoldable pub whole : List ControlProgram → (ℕ → ℕ → Option ℕ) → (ℕ → Option ℕ) → ℕ → ℕ → Lines → Lines
 whole tape line quiet zero program back = back
 whole tape line quiet (suc n) program back =

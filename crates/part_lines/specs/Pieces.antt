@@ -1,14 +1,14 @@
 -- The least lines of single programs, as they are made and joined.
-use Rattle.std.specs.Prelude.{◌≡◌, ℕ, suc, ◌<◌, ◌≤◌, true, List, [], ◌∷◌, ◌++◌, Option, Some, None, nat_eq}
+use Rattle.std.specs.Prelude.{◌≡◌, ℕ, suc, ◌≤◌, List, [], ◌∷◌, ◌++◌, Option, Some, None, nat_eq}
 use Rattle.indexmap.specs.IndexMap.{get}
 use Rattle.block_order.specs.declared.control.Control.{Control}
-use Rattle.block_order.specs.declared.control.Control.TheVariants.{Call}
 use Rattle.block_order.specs.declared.program.ControlBlock.{ControlBlock}
 use Rattle.block_order.specs.declared.program.ControlProgram.{ControlProgram}
 use Rattle.block_order.specs.Order.{blocks, control_at}
-use Rattle.block_order.specs.Labels.{Chain}
 use Rattle.block_order.specs.Loud.{loud}
-use Rattle.part_lines.specs.declared.known.KnownPieces.{KnownPieces}
+use Rattle.loud_calls.specs.declared.known.KnownPrograms.{KnownPrograms}
+use Rattle.loud_calls.specs.Calls.{IsShort, IsShortCall}
+use Rattle.loud_calls.specs.Known.{piece_known}
 use Rattle.part_lines.specs.declared.piece.Ending.{Ending}
 use Rattle.part_lines.specs.declared.piece.Ending.TheVariants.{Stops, Returns}
 use Rattle.part_lines.specs.declared.piece.Piece.{Piece}
@@ -45,39 +45,15 @@ abbrev pub AreAdded : Ending → PieceLines → PieceLines → ℕ → PieceLine
 AreAdded Stops old new n more = (behind : Lines) → shown new behind ≡ shown old (shown more behind)
 AreAdded Returns old new n more = AreJoined old new n more
 
--- no chain of n calls of loud programs begins in the program
-abbrev pub IsShort : List ControlProgram → ℕ → ℕ → Type 0
-IsShort tape n program = Chain tape n program → ⊥
-
--- no such chain begins in the program that is called
-abbrev pub IsShortCall : List ControlProgram → ℕ → Control → Type 0
-IsShortCall tape n (Call program repeats) = loud tape program ≡ true → IsShort tape n program
-IsShortCall tape n other = Unit {0}
-
 -- these are the lines of the program, and so it ends
 abbrev pub IsPiece : List ControlProgram → (ℕ → ℕ → Option ℕ) → (ℕ → Option ℕ) → ℕ → PieceLines → Ending → Type 0
 IsPiece tape line quiet program lines ending =
     (n : ℕ) (back : Lines) → IsShort tape n program → whole tape line quiet n program back ≡ coming lines (Some ending) back []
 
--- what is kept of a program's lines
-abbrev pub piece_known : KnownPieces → ℕ → Option Piece
-piece_known known program = get nat_eq known.pieces program
-
 -- what is kept are the lines of each program
-abbrev pub AreKnown : List ControlProgram → (ℕ → ℕ → Option ℕ) → (ℕ → Option ℕ) → KnownPieces → Type 0
+abbrev pub AreKnown : List ControlProgram → (ℕ → ℕ → Option ℕ) → (ℕ → Option ℕ) → KnownPrograms Piece → Type 0
 AreKnown tape line quiet known =
     (program : ℕ) (piece : Piece) → piece_known known program ≡ Some piece → IsPiece tape line quiet program piece.lines piece.ending
-
--- the block calls the program, which is loud, at least once
-pub record IsCallOf (tape : List ControlProgram) (control : Control) (program : ℕ) : Type 0 where
-  pub repeats : ℕ
-  pub is : control ≡ Call program repeats
-  pub some : 0 < repeats
-  pub is_loud : loud tape program ≡ true
-
--- the lines of the loud program that a block calls are known
-abbrev pub IsReady : List ControlProgram → KnownPieces → Control → Type 0
-IsReady tape known control = (program : ℕ) → IsCallOf tape control program → (piece : Piece) × (piece_known known program ≡ Some piece)
 
 -- from a block of this control on, with fewer than n calls to follow, one in another
 abbrev pub from_block : List ControlProgram → (ℕ → ℕ → Option ℕ) → (ℕ → Option ℕ) → ℕ → Lines → Control → Lines → Lines

@@ -2,8 +2,7 @@
 //!
 //! Only time hangs on it: what is found by it is looked at again.
 
-use crate::index::TapeIndex;
-use block_order::{Control, ControlProgram};
+use block_order::{BlockOrder, Control, ControlProgram};
 use indexmap::IndexMap;
 use nc_number::NoMemory;
 use std::alloc::Global;
@@ -15,12 +14,13 @@ pub(crate) struct Callers {
 }
 
 impl Callers {
-    pub(crate) fn of(alloc: Global, tape: &TapeIndex) -> Result<Callers, NoMemory> {
+    /// Who calls the quiet programs of a tape.
+    pub(crate) fn of(alloc: Global, order: &BlockOrder) -> Result<Callers, NoMemory> {
         let mut callers = Callers {
             numbers: IndexMap::new(alloc),
         };
-        for program in tape.programs() {
-            callers.note_calls(alloc, tape, program)?;
+        for program in order.as_slice() {
+            callers.note_calls(alloc, order, program)?;
         }
         Ok(callers)
     }
@@ -29,7 +29,7 @@ impl Callers {
     fn note_calls(
         &mut self,
         alloc: Global,
-        tape: &TapeIndex,
+        order: &BlockOrder,
         caller: &ControlProgram,
     ) -> Result<(), NoMemory> {
         for block in caller.blocks.as_slice() {
@@ -38,7 +38,7 @@ impl Callers {
                 repeats: _,
             } = block.control
             {
-                if !tape.is_loud(program) {
+                if !order.is_loud(program) {
                     self.numbers
                         .entry(program)?
                         .or_insert(Vec::new(alloc))

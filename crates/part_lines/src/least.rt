@@ -1,3 +1,4 @@
+//! The lesser of two lines.
 ghost use Rattle.std.specs.Prelude.{◌≡◌};
 ghost use Rattle.part_lines.specs.Least.{earlier};
 

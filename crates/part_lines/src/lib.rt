@@ -1,12 +1,10 @@
 //! The least line of each part of a path, among the blocks that are looked for.
 //!
-//! [`least_lines`] goes through a tape as its calls are unfolded, and makes the lines of each program once.
-//! What is looked for, a [`BlockLines`] tells: this crate knows of no variable.
+//! [`least_lines`] goes through a tape as its calls are unfolded, and makes the lines of each
+//! program once. What is looked for, a [`BlockLines`] tells: this crate knows of no variable.
 #![tactic(auto)]
 
 mod callers;
-mod index;
-mod known;
 mod least;
 mod lines;
 mod listing;

@@ -1,3 +1,4 @@
+//! The blocks that are looked for.
 ghost use Rattle.std.specs.Prelude.{◌≡◌, ℕ, Option};
 
 /// The blocks of a tape that are looked for.

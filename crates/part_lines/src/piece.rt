@@ -69,7 +69,8 @@ impl PieceLines {
         Ok(())
     }
 
-    /// Takes the lines of a program that was called so many times. Repeats without a wait cost nothing.
+    /// Takes the lines of a program that was called so many times. Repeats without a wait cost
+    /// nothing.
     fn join_times(&mut self, more: &PieceLines, times: u16) -> Result<(), NoMemory>
         requires { 0 < times }
         ensures { OnOk result (AreJoined self.old self.new times more.now) }
@@ -86,8 +87,8 @@ impl PieceLines {
 }
 
 impl Piece {
-    /// Adds these lines to those of the program that makes the call so many times, at least once. The
-    /// ending of that program, where nothing comes behind these lines.
+    /// Adds these lines to those of the program that makes the call so many times, at least once.
+    /// The ending of that program, where nothing comes behind these lines.
     pub(crate) fn add_to(
         &self,
         lines: &mut PieceLines,

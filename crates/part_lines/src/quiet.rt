@@ -1,7 +1,7 @@
 //! The least line of each program and of the quiet ones that are called from there.
 //!
-//! A path may come to any block of a quiet program that it calls, and none of them waits: all that is
-//! opened from a block is in the part of that block.
+//! A path may come to any block of a quiet program that it calls, and none of them waits: all that
+//! is opened from a block is in the part of that block.
 ghost use Rattle.std.specs.Prelude.{◌≡◌, ◌≢◌, ◌↔◌, ℕ, true, Some, None, Option, IsTrue, Contains, IfOk, OnOk, map};
 ghost use Rattle.std.specs.Option.{option_copied};
 ghost use Rattle.block_order.specs.Loud.{loud};
@@ -11,10 +11,9 @@ ghost use Rattle.part_lines.specs.Lines.{called_line, seen_line, LineFrom};
 ghost use Rattle.part_lines.specs.Pieces.{quiet_known, AreFound, AreQuietLines, IsBelow, IsClosed, IsClosedAt};
 
 use crate::callers::Callers;
-use crate::index::TapeIndex;
 use crate::least::earlier;
 use crate::lines::BlockLines;
-use block_order::Control;
+use block_order::{BlockOrder, Control};
 use indexmap::IndexMap;
 use nc_number::NoMemory;
 use std::alloc::Global;
@@ -26,6 +25,7 @@ pub(crate) struct QuietLines {
 }
 
 impl QuietLines {
+    /// Nothing is found yet.
     fn new(alloc: Global) -> Self
         ensures { (q : ℕ) → quiet_known result q ≡ None }
     {
@@ -41,6 +41,7 @@ impl QuietLines {
         self.lines.get(&program).copied()
     }
 
+    /// Keeps the line of a program, in place of what was found before.
     fn keep(&mut self, program: u16, line: u32) -> Result<(), NoMemory>
         ensures kept { OnOk result (quiet_known self.new program ≡ Some line) }
         ensures others { (q : ℕ) → q ≢ program → quiet_known self.new q ≡ quiet_known self.old q }
@@ -50,11 +51,16 @@ impl QuietLines {
     }
 
     /// The line of a block, or of the quiet program that it calls.
-    pub(crate) fn seen(&self, tape: &TapeIndex, own: Option<u32>, control: &Control) -> Option<u32>
-        ensures { result ≡ seen_line (loud tape.now) (quiet_known self.now) own control.now }
+    pub(crate) fn seen(
+        &self,
+        order: &BlockOrder,
+        own: Option<u32>,
+        control: &Control,
+    ) -> Option<u32>
+        ensures { result ≡ seen_line (loud order.now) (quiet_known self.now) own control.now }
     {
         match *control {
-            Control::Call { program, .. } if !tape.is_loud(program) => earlier(
+            Control::Call { program, .. } if !order.is_loud(program) => earlier(
                 own,
                 self.get(program),
             ),
@@ -76,18 +82,18 @@ fn is_below(found: Option<u32>, line: Option<u32>) -> bool
 
 /// Whether no block of a program has or calls a line that is less than what was found.
 fn is_closed_at<L: BlockLines>(
-    tape: &TapeIndex,
+    order: &BlockOrder,
     lines: &L,
     found: &QuietLines,
     program: u16,
 ) -> bool
-    ensures { IsTrue result → IsClosedAt tape.now (L.line lines.now) (quiet_known found.now) program }
+    ensures { IsTrue result → IsClosedAt order.now (L.line lines.now) (quiet_known found.now) program }
 {
     let least = found.get(program);
-    let blocks = tape.blocks_of(program);
+    let blocks = order.blocks(program);
     for place in 0..blocks.len() {
         let block = &blocks[place];
-        let seen = found.seen(tape, lines.line(program, place), &block.control);
+        let seen = found.seen(order, lines.line(program, place), &block.control);
         if !is_below(least, seen) {
             return false;
         }
@@ -96,11 +102,11 @@ fn is_closed_at<L: BlockLines>(
 }
 
 /// Whether no line is less than what was found.
-fn is_closed<L: BlockLines>(tape: &TapeIndex, lines: &L, found: &QuietLines) -> bool
-    ensures { IsTrue result → IsClosed tape.now (L.line lines.now) (quiet_known found.now) }
+fn is_closed<L: BlockLines>(order: &BlockOrder, lines: &L, found: &QuietLines) -> bool
+    ensures { IsTrue result → IsClosed order.now (L.line lines.now) (quiet_known found.now) }
 {
-    for program in tape.programs() {
-        if !is_closed_at(tape, lines, found, program.number) {
+    for program in order.as_slice() {
+        if !is_closed_at(order, lines, found, program.number) {
             return false;
         }
     }
@@ -109,21 +115,21 @@ fn is_closed<L: BlockLines>(tape: &TapeIndex, lines: &L, found: &QuietLines) -> 
 
 /// Lowers what was found of a program to the least line of its blocks and of what they call.
 fn lower<L: BlockLines>(
-    tape: &TapeIndex,
+    order: &BlockOrder,
     lines: &L,
     found: &mut QuietLines,
     program: u16,
 ) -> Result<(), NoMemory>
-    requires { AreFound tape.now (L.line lines.now) (quiet_known found.old) }
-    ensures { OnOk result (AreFound tape.now (L.line lines.now) (quiet_known found.new)) }
+    requires { AreFound order.now (L.line lines.now) (quiet_known found.old) }
+    ensures { OnOk result (AreFound order.now (L.line lines.now) (quiet_known found.new)) }
 {
     let mut least = found.get(program);
-    let blocks = tape.blocks_of(program);
+    let blocks = order.blocks(program);
     for place in 0..blocks.len() {
         let block = &blocks[place];
         least = earlier(
             least,
-            found.seen(tape, lines.line(program, place), &block.control),
+            found.seen(order, lines.line(program, place), &block.control),
         );
     }
     match least {
@@ -134,49 +140,50 @@ fn lower<L: BlockLines>(
 
 /// Lowers what was found of every program, from the last one to the first.
 fn lower_all<L: BlockLines>(
-    tape: &TapeIndex,
+    order: &BlockOrder,
     lines: &L,
     found: &mut QuietLines,
 ) -> Result<(), NoMemory>
-    requires { AreFound tape.now (L.line lines.now) (quiet_known found.old) }
-    ensures { OnOk result (AreFound tape.now (L.line lines.now) (quiet_known found.new)) }
+    requires { AreFound order.now (L.line lines.now) (quiet_known found.old) }
+    ensures { OnOk result (AreFound order.now (L.line lines.now) (quiet_known found.new)) }
 {
-    for program in tape.programs().iter().rev() {
-        lower(tape, lines, found, program.number)?;
+    for program in order.as_slice().iter().rev() {
+        lower(order, lines, found, program.number)?;
     }
     Ok(())
 }
 
 /// Lowers a program of which nothing was found so far. Whether something is found of it now.
 fn find<L: BlockLines>(
-    tape: &TapeIndex,
+    order: &BlockOrder,
     lines: &L,
     found: &mut QuietLines,
     program: u16,
 ) -> Result<bool, NoMemory>
-    requires { AreFound tape.now (L.line lines.now) (quiet_known found.old) }
-    ensures { OnOk result (AreFound tape.now (L.line lines.now) (quiet_known found.new)) }
+    requires { AreFound order.now (L.line lines.now) (quiet_known found.old) }
+    ensures { OnOk result (AreFound order.now (L.line lines.now) (quiet_known found.new)) }
 {
     if found.get(program).is_some() {
         return Ok(false);
     }
-    lower(tape, lines, found, program)?;
+    lower(order, lines, found, program)?;
     Ok(found.get(program).is_some())
 }
 
-/// The same of each of these programs. Those of which something is found only now are put behind the others.
+/// The same of each of these programs. Those of which something is found only now are put behind
+/// the others.
 fn find_each<L: BlockLines>(
-    tape: &TapeIndex,
+    order: &BlockOrder,
     lines: &L,
     found: &mut QuietLines,
     these: &[u16],
     fresh: &mut Vec<u16>,
 ) -> Result<(), NoMemory>
-    requires { AreFound tape.now (L.line lines.now) (quiet_known found.old) }
-    ensures { OnOk result (AreFound tape.now (L.line lines.now) (quiet_known found.new)) }
+    requires { AreFound order.now (L.line lines.now) (quiet_known found.old) }
+    ensures { OnOk result (AreFound order.now (L.line lines.now) (quiet_known found.new)) }
 {
     for program in these {
-        if find(tape, lines, found, *program)? {
+        if find(order, lines, found, *program)? {
             fresh.push(*program)?;
         }
     }
@@ -185,61 +192,63 @@ fn find_each<L: BlockLines>(
 
 /// Goes from the programs of which something was found last to those that call them, and so on.
 fn find_callers<L: BlockLines>(
-    tape: &TapeIndex,
+    order: &BlockOrder,
     lines: &L,
     callers: &Callers,
     found: &mut QuietLines,
     fresh: &mut Vec<u16>,
 ) -> Result<(), NoMemory>
-    requires { AreFound tape.now (L.line lines.now) (quiet_known found.old) }
-    ensures { OnOk result (AreFound tape.now (L.line lines.now) (quiet_known found.new)) }
+    requires { AreFound order.now (L.line lines.now) (quiet_known found.old) }
+    ensures { OnOk result (AreFound order.now (L.line lines.now) (quiet_known found.new)) }
 {
-    for _program in tape.programs() {
+    for _program in order.as_slice() {
         let Some(program) = fresh.pop() else {
             return Ok(());
         };
-        find_each(tape, lines, found, callers.of_program(program), fresh)?;
+        find_each(order, lines, found, callers.of_program(program), fresh)?;
     }
     Ok(())
 }
 
-/// What is found program by program, as they stand in the text: of each all that call it are found before the
-/// next one. Where the lines rise along the text, the line by which a program is found is its least.
+/// What is found program by program, as they stand in the text: of each all that call it are found
+/// before the next one. Where the lines rise along the text, the line by which a program is found
+/// is its least.
 fn found_in_order<L: BlockLines>(
     alloc: Global,
-    tape: &TapeIndex,
+    order: &BlockOrder,
     lines: &L,
 ) -> Result<QuietLines, NoMemory>
-    ensures { IfOk result (λ found. AreFound tape.now (L.line lines.now) (quiet_known found)) }
+    ensures { IfOk result (λ found. AreFound order.now (L.line lines.now) (quiet_known found)) }
 {
-    let callers = Callers::of(alloc, tape)?;
+    let callers = Callers::of(alloc, order)?;
     let mut found = QuietLines::new(alloc);
     let mut fresh: Vec<u16> = Vec::new(alloc);
-    for program in tape.programs() {
+    for program in order.as_slice() {
         let number = program.number;
-        find_each(tape, lines, &mut found, &[number], &mut fresh)?;
-        find_callers(tape, lines, &callers, &mut found, &mut fresh)?;
+        find_each(order, lines, &mut found, &[number], &mut fresh)?;
+        find_callers(order, lines, &callers, &mut found, &mut fresh)?;
     }
     Ok(found)
 }
 
 /// The least line of each program and of the quiet ones that are called from there.
 ///
-/// What is found in the order of the text mostly is it. Else each round brings the lines a call further up, so
-/// there are fewer rounds than programs. A round more would be refused as if memory ran out; none is needed.
+/// What is found in the order of the text mostly is it. Else each round brings the lines a call
+/// further up, so there are fewer rounds than programs. A round more would be refused as if memory
+/// ran out; none is needed.
 pub(crate) fn quiet_lines<L: BlockLines>(
     alloc: Global,
-    tape: &TapeIndex,
+    order: &BlockOrder,
     lines: &L,
 ) -> Result<QuietLines, NoMemory>
-    ensures { IfOk result (λ found. AreQuietLines tape.now (L.line lines.now) (quiet_known found)) }
+    ensures { IfOk result (λ found. AreQuietLines order.now (L.line lines.now) (quiet_known found)) }
 {
-    let mut found = found_in_order(alloc, tape, lines)?;
-    for _program in tape.programs() {
-        if is_closed(tape, lines, &found) {
+    let mut found = found_in_order(alloc, order, lines)?;
+    for _program in order.as_slice() {
+        if is_closed(order, lines, &found) {
             return Ok(found);
         }
-        lower_all(tape, lines, &mut found)?;
+        lower_all(order, lines, &mut found)?;
     }
     Err(NoMemory)
 }

@@ -1,5 +1,7 @@
 -- An accepted pair has few parts, and equally many in both lists.
 use Rattle.std.proofs.Common.{◌≡◌, ℕ, suc, ◌≤◌, Bool, true, List, [], ◌∷◌, length, Option, refl, sym, subst, arith}
+use Rattle.nc_number.specs.declared.both.Both.{Both}
+use Rattle.nc_number.specs.declared.limits.TheConstants.{MOST_LABELS}
 use Rattle.block_order.specs.declared.label.Label.{Label}
 use Rattle.block_order.specs.declared.label.Label.TheVariants as label
 use Rattle.block_order.specs.Labels.{list}
@@ -8,7 +10,7 @@ use Rattle.label_list.specs.Accepted.{IsAcceptedPair}
 use Rattle.part_order.specs.Parts.{path_waits}
 use Rattle.part_order.proofs.Counted.{waits_of, list_waits, waits_agree}
 use Rattle.race_report.specs.declared.race.Race.{Race}
-use Rattle.race_report.specs.declared.racing.PairLines.{PairLines}
+use Rattle.race_report.specs.declared.racing.PathLines.{PathLines}
 use Rattle.race_report.specs.Tables.{ArePairLines}
 use Rattle.race_report.specs.Found.{first_from, IsAnswer}
 use Rattle.race_report.proofs.FewerWaits.{HaveWaits}
@@ -21,7 +23,7 @@ few_waits (label.End ∷ ls) = let rest = few_waits ls in omega arith
 few_waits (label.Again ∷ ls) = let rest = few_waits ls in omega arith
 few_waits (label.Off ∷ ls) = let rest = few_waits ls in omega arith
 
-pub few_parts : (left right : Flow) → IsAcceptedPair left.order right.order → path_waits left.order ≤ 65536
+pub few_parts : (left right : Flow) → IsAcceptedPair left.order right.order → path_waits left.order ≤ MOST_LABELS
 few_parts left right pair =
     let same : path_waits left.order ≡ waits_of (list left.order) = list_waits left.order in
     let few = few_waits (list left.order) in
@@ -31,16 +33,17 @@ pub have_waits : (left right : Flow) → IsAcceptedPair left.order right.order �
 have_waits left right pair = record { one = refl; two = sym (waits_agree left.order right.order pair.same) }
 
 -- so each list of least lines is short
-pub few_lines : (left right l r : Flow) (v : ℕ) (lines : PairLines) → l ≡ left → IsAcceptedPair left.order right.order → ArePairLines l r v lines
-    → length lines.one_writes.items ≤ 65537
+pub few_lines : (left right l r : Flow) (v : ℕ) (lines : Both PathLines) → l ≡ left → IsAcceptedPair left.order right.order → ArePairLines l r v lines
+    → length lines.one.writes.items ≤ 65537
 few_lines left right l r v lines at pair are =
-    let few : path_waits l.order ≤ 65536 = subst (λ (f : Flow). path_waits f.order ≤ 65536) (sym at) (few_parts left right pair) in
-    let many : length lines.one_writes.items ≡ suc (path_waits l.order) = are.one_writes.many in omega arith
+    let few : path_waits l.order ≤ MOST_LABELS = subst (λ (f : Flow). path_waits f.order ≤ MOST_LABELS) (sym at) (few_parts left right pair) in
+    let most : MOST_LABELS ≡ 65536 = refl in
+    let many : length lines.one.writes.items ≡ suc (path_waits l.order) = are.one.writes.many in omega arith
 
 -- the first race of a variable is what is found among the lines of the flows at hand
-pub first_found : (shared : ℕ → Bool) (left right l r : Flow) (v : ℕ) (lines : PairLines) (found : Option Race) → l ≡ left → r ≡ right
+pub first_found : (shared : ℕ → Bool) (left right l r : Flow) (v : ℕ) (lines : Both PathLines) (found : Option Race) → l ≡ left → r ≡ right
     → shared v ≡ true → IsAcceptedPair left.order right.order → ArePairLines l r v lines
-    → found ≡ first_from lines v (length lines.one_writes.items) 0 → IsAnswer shared left right v found
+    → found ≡ first_from lines v (length lines.one.writes.items) 0 → IsAnswer shared left right v found
 first_found shared left right l r v lines found at also is_shared pair are is =
     let one : ArePairLines left r v lines = subst (λ (f : Flow). ArePairLines f r v lines) at are in
     let both : ArePairLines left right v lines = subst (λ (f : Flow). ArePairLines left f v lines) also one in

@@ -1,5 +1,6 @@
 -- A race behind more waits than the lists have is one of a round before too.
 use Rattle.std.proofs.Common.{◌≡◌, ℕ, zero, suc, ◌+◌, ◌-◌, ◌<◌, ◌≤◌, ◌⊎◌, inl, inr, Bool, refl, subst, sym, arith}
+use Rattle.nc_number.proofs.Counts.{le_or_lt}
 use Rattle.nc_number.specs.declared.path.Path.{Path}
 use Rattle.nc_number.specs.declared.path.Path.TheVariants.{One, Two}
 use Rattle.tape_flow.specs.declared.flow.Flow.{Flow}
@@ -62,7 +63,8 @@ one_round shared left right waits n have race some e is =
       );
     }
 
--- the race stands behind no more waits than the lists have, and behind fewer where it did not before
+-- the race stands behind no more waits than the lists have, and behind fewer where it did not
+-- before
 pub record IsDown (shared : ℕ → Bool) (left right : Flow) (waits : ℕ) (race : Race) : Type 0 where
   pub n : ℕ
   pub few : n ≤ waits
@@ -75,15 +77,12 @@ without shared left right race have is =
     (parts_repeat (writer_of race.writer left right).order).alone race.after w.0 w.1
     (waits_of_writer left right 0 have race.writer) w.3
 
-few_or_more : (m w : ℕ) → (m ≤ w) ⊎ (w < m)
-few_or_more m w = grind arith
-
 down : (shared : ℕ → Bool) (left right : Flow) (waits fuel : ℕ) → HaveWaits left right waits → (race : Race) → race.after ≤ fuel
     → IsRaceAt shared left right race → IsDown shared left right waits race
 down shared left right waits zero have race within is =
     record { n = race.after; few = omega arith; fewer = inl refl; is = is }
 down shared left right waits (suc fuel) have race within is =
-    go (few_or_more race.after waits) (λ smaller less there. down shared left right waits fuel have smaller less there)
+    go (le_or_lt race.after waits) (λ smaller less there. down shared left right waits fuel have smaller less there)
   where
     less : (n : ℕ) → waits < race.after → 0 < waits → (n ≡ race.after - waits) ⊎ (n < race.after - waits) → n < race.after
     less n more some (inl e) = omega arith

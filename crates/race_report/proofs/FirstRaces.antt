@@ -1,12 +1,13 @@
 -- The first race of a variable, among the least lines of the parts.
 use Rattle.std.proofs.Common.{◌≡◌, ℕ, zero, suc, ◌+◌, ◌<◌, ◌≤◌, ◌⊎◌, inl, inr, Bool, true, List, [], ◌∷◌, length, Option, Some, None, is_some, false, slice_get, refl, ap, sym, subst, ◌∙◌, arith}
+use Rattle.nc_number.specs.declared.both.Both.{Both}
 use Rattle.nc_number.specs.declared.path.Path.{Path}
 use Rattle.nc_number.specs.declared.path.Path.TheVariants.{One, Two}
 use Rattle.tape_flow.specs.declared.flow.Flow.{Flow}
 use Rattle.part_lines.specs.Least.{IsLeast}
 use Rattle.part_lines.specs.PartLines.{LineInPart, AreLeastLines}
 use Rattle.race_report.specs.declared.race.Race.{Race}
-use Rattle.race_report.specs.declared.racing.PairLines.{PairLines}
+use Rattle.race_report.specs.declared.racing.PathLines.{PathLines}
 use Rattle.race_report.specs.declared.sought.Sought.{Sought}
 use Rattle.race_report.specs.declared.sought.Sought.TheVariants.{Writes, Names}
 use Rattle.race_report.specs.Lines.{sought_line}
@@ -101,21 +102,21 @@ module _ (shared : ℕ → Bool) (left right : Flow) (v : ℕ) (is_shared : shar
       go race a b at One e = none race a b e at
       go race a b at Two e = never race a b e at
 
-  module _ (waits : ℕ) (have : HaveWaits left right waits) (lines : PairLines) (are : ArePairLines left right v lines) where
+  module _ (waits : ℕ) (have : HaveWaits left right waits) (lines : Both PathLines) (are : ArePairLines left right v lines) where
     at : (n : ℕ) → n ≤ waits → IsAt n (race_at lines v n)
     at n few =
-        let one_writes = least_at left Writes v n (line_at lines.one_writes.items n)
-        (sought_least left Writes v n lines.one_writes.items are.one_writes (let m = are.one_writes.many in let w = have.one in omega arith)) in
-        let one_names = least_at left Names v n (line_at lines.one_names.items n)
-        (sought_least left Names v n lines.one_names.items are.one_names (let m = are.one_names.many in let w = have.one in omega arith)) in
-        let two_writes = least_at right Writes v n (line_at lines.two_writes.items n)
-        (sought_least right Writes v n lines.two_writes.items are.two_writes (let m = are.two_writes.many in let w = have.two in omega arith)) in
-        let two_names = least_at right Names v n (line_at lines.two_names.items n)
-        (sought_least right Names v n lines.two_names.items are.two_names (let m = are.two_names.many in let w = have.two in omega arith)) in
-        either_at n (race_between v n One (line_at lines.one_writes.items n) (line_at lines.two_names.items n))
-        (race_between v n Two (line_at lines.two_writes.items n) (line_at lines.one_names.items n))
-        (between n One (line_at lines.one_writes.items n) (line_at lines.two_names.items n) one_writes two_names)
-        (between n Two (line_at lines.two_writes.items n) (line_at lines.one_names.items n) two_writes one_names)
+        let one_writes = least_at left Writes v n (line_at lines.one.writes.items n)
+        (sought_least left Writes v n lines.one.writes.items are.one.writes (let m = are.one.writes.many in let w = have.one in omega arith)) in
+        let one_names = least_at left Names v n (line_at lines.one.names.items n)
+        (sought_least left Names v n lines.one.names.items are.one.names (let m = are.one.names.many in let w = have.one in omega arith)) in
+        let two_writes = least_at right Writes v n (line_at lines.two.writes.items n)
+        (sought_least right Writes v n lines.two.writes.items are.two.writes (let m = are.two.writes.many in let w = have.two in omega arith)) in
+        let two_names = least_at right Names v n (line_at lines.two.names.items n)
+        (sought_least right Names v n lines.two.names.items are.two.names (let m = are.two.names.many in let w = have.two in omega arith)) in
+        either_at n (race_between v n One (line_at lines.one.writes.items n) (line_at lines.two.names.items n))
+        (race_between v n Two (line_at lines.two.writes.items n) (line_at lines.one.names.items n))
+        (between n One (line_at lines.one.writes.items n) (line_at lines.two.names.items n) one_writes two_names)
+        (between n Two (line_at lines.two.writes.items n) (line_at lines.one.names.items n) two_writes one_names)
 
     -- in the parts from one on: the first of them, and none before it
     abbrev IsFrom : ℕ → Option Race → Type 0
@@ -181,22 +182,22 @@ module _ (shared : ℕ → Bool) (left right : Flow) (v : ℕ) (is_shared : shar
         go other n (inr more) (inl less) = inl (omega arith)
         go other n (inr more) (inr (own, writes)) = inl (omega arith)
 
-    pub answers : IsAnswer shared left right v (first_from lines v (length lines.one_writes.items) 0)
+    pub answers : IsAnswer shared left right v (first_from lines v (length lines.one.writes.items) 0)
     answers =
-        let all = are.one_writes.many in
+        let all = are.one.writes.many in
         let w = have.one in
-        first_is (first_from lines v (length lines.one_writes.items) 0) (from (length lines.one_writes.items) 0 (omega arith))
+        first_is (first_from lines v (length lines.one.writes.items) 0) (from (length lines.one.writes.items) 0 (omega arith))
 
 -- in the parts that are left stands the first race of all
-pub record IsLeft (lines : PairLines) (v after total : ℕ) : Type 0 where
+pub record IsLeft (lines : Both PathLines) (v after total : ℕ) : Type 0 where
   pub count : ℕ
   pub all : after + count ≡ total
   pub same : first_from lines v count after ≡ first_from lines v total 0
 
-pub left_start : (lines : PairLines) (v total : ℕ) → IsLeft lines v 0 total
+pub left_start : (lines : Both PathLines) (v total : ℕ) → IsLeft lines v 0 total
 left_start lines v total = record { count = total; all = omega arith; same = refl }
 
-pub left_here : (lines : PairLines) (v after total : ℕ) → IsLeft lines v after total → after < total
+pub left_here : (lines : Both PathLines) (v after total : ℕ) → IsLeft lines v after total → after < total
     → is_some (race_at lines v after) ≡ true → race_at lines v after ≡ first_from lines v total 0
 left_here lines v after total left less some = go left.count left.all ∙ left.same
   where
@@ -208,7 +209,7 @@ left_here lines v after total left less some = go left.count left.all ∙ left.s
     go zero all = absurd (omega arith)
     go (suc c) all = by (race_at lines v after) c refl
 
-pub left_next : (lines : PairLines) (v after total : ℕ) → IsLeft lines v after total → after < total
+pub left_next : (lines : Both PathLines) (v after total : ℕ) → IsLeft lines v after total → after < total
     → is_some (race_at lines v after) ≡ false → IsLeft lines v (after + 1) total
 left_next lines v after total left less none = go left.count left.all left.same
   where
@@ -227,7 +228,7 @@ left_next lines v after total left less none = go left.count left.all left.same
           same = ap (λ k. first_from lines v c k) (sym next) ∙ (sym (by (race_at lines v after) c refl) ∙ same);
         }
 
-pub left_none : (lines : PairLines) (v after total : ℕ) → IsLeft lines v after total → total ≤ after → None ≡ first_from lines v total 0
+pub left_none : (lines : Both PathLines) (v after total : ℕ) → IsLeft lines v after total → total ≤ after → None ≡ first_from lines v total 0
 left_none lines v after total left past = go left.count left.all ∙ left.same
   where
     go : (count : ℕ) → after + count ≡ total → None ≡ first_from lines v count after

@@ -1,5 +1,6 @@
 -- The list of races, as it takes one variable after another.
 use Rattle.std.proofs.Common.{◌≡◌, ℕ, zero, suc, ◌+◌, ◌<◌, ◌≤◌, ◌⊎◌, inl, inr, Bool, true, false, List, [], ◌∷◌, ◌++◌, Some, None, sym, subst, ◌∙◌, arith}
+use Rattle.nc_number.proofs.Counts.{last_or_before}
 use Rattle.cell_settings.specs.declared.settings.Settings.{Settings}
 use Rattle.tape_flow.specs.declared.flow.Flow.{Flow}
 use Rattle.race_order.specs.Races.{IsRace}
@@ -35,9 +36,6 @@ has_now : (v : ℕ) (races : List Race) (race : Race) → race.variable ≡ v �
 has_now v [] race e = inl e
 has_now v (r ∷ races) race e = inr (has_now v races race e)
 
-less_or_same : (u v : ℕ) → u < v + 1 → (u ≡ v) ⊎ (u < v)
-less_or_same u v h = grind arith
-
 module _ (shared : ℕ → Bool) (left right : Flow) where
   -- a variable with a race
   pub listed_one : (v : ℕ) (races : List Race) (race : Race) → 0 < v → IsListedBelow shared left right v races
@@ -46,8 +44,8 @@ module _ (shared : ℕ → Bool) (left right : Flow) where
     rising = rising_more 0 v races race some is.0 listed.rising listed.below;
     below = below_more v races race is.0 listed.below;
     firsts = firsts_more shared left right races race listed.firsts is.1;
-    one = λ n u less there. one n u there (less_or_same u v less);
-    two = λ n u less there. two n u there (less_or_same u v less);
+    one = λ n u less there. one n u there (last_or_before u v less);
+    two = λ n u less there. two n u there (last_or_before u v less);
   }
     where
       one : (n u : ℕ) → IsRace shared left right n u → (u ≡ v) ⊎ (u < v) → HasVariable u (races ++ race ∷ [])
@@ -65,8 +63,8 @@ module _ (shared : ℕ → Bool) (left right : Flow) where
     rising = listed.rising;
     below = below_later v (v + 1) races (omega arith) listed.below;
     firsts = listed.firsts;
-    one = λ n u less there. one n u there (less_or_same u v less);
-    two = λ n u less there. two n u there (less_or_same u v less);
+    one = λ n u less there. one n u there (last_or_before u v less);
+    two = λ n u less there. two n u there (last_or_before u v less);
   }
     where
       one : (n u : ℕ) → IsRace shared left right n u → (u ≡ v) ⊎ (u < v) → HasVariable u races

@@ -1,5 +1,6 @@
 -- A variable to which the paths do not both come has no race.
 use Rattle.std.proofs.Common.{◌≡◌, ◌==◌, ℕ, zero, suc, ◌||◌, ◌&&◌, Bool, true, false, List, [], ◌∷◌, Some, None, slice_get, refl, ap, sym, subst, ◌∙◌}
+use Rattle.nc_number.proofs.Bools.{both_true, or_left, or_right}
 use Rattle.block_forms.specs.declared.block.FlowBlock.{FlowBlock}
 use Rattle.tape_flow.specs.declared.flow.Flow.{Flow}
 use Rattle.tape_flow.specs.declared.program.FlowProgram.{FlowProgram}
@@ -13,23 +14,13 @@ use Rattle.race_report.specs.Meeting.{some_block, some_program, may_meet, may_ra
 use Rattle.race_report.specs.Found.{IsAnswer}
 use Rattle.race_report.proofs.SoughtLines.{part_writes_at, part_names_at}
 
-or_true : (a b : Bool) → b ≡ true → (a || b) ≡ true
-or_true true b e = refl
-or_true false b e = e
-
-true_or : (a b : Bool) → a ≡ true → (a || b) ≡ true
-true_or a b e = rw e refl
-
-both_true : (a b : Bool) → a ≡ true → b ≡ true → (a && b) ≡ true
-both_true a b x y = rw (x, y) refl
-
 block_at : (sought : Sought) (v : ℕ) (blocks : List FlowBlock) (place : ℕ) (block : FlowBlock) → slice_get blocks place ≡ Some block
     → does sought v block ≡ true → some_block sought v blocks ≡ true
 block_at sought v [] place block at e = absurd cc
 block_at sought v (b ∷ blocks) zero block at e =
-    let same : b ≡ block = cc in true_or (does sought v b) (some_block sought v blocks) (ap (does sought v) same ∙ e)
+    let same : b ≡ block = cc in or_left (does sought v b) (some_block sought v blocks) (ap (does sought v) same ∙ e)
 block_at sought v (b ∷ blocks) (suc place) block at e =
-    or_true (does sought v b) (some_block sought v blocks) (block_at sought v blocks place block at e)
+    or_right (does sought v b) (some_block sought v blocks) (block_at sought v blocks place block at e)
 
 program_at : (sought : Sought) (v : ℕ) (programs : List FlowProgram) (q place : ℕ) (block : FlowBlock)
     → flow_block programs q place ≡ Some block → does sought v block ≡ true → some_program sought v programs ≡ true
@@ -40,11 +31,11 @@ program_at sought v (p ∷ programs) q place block at e = go (p.number == q) ref
         → some_program sought v (p ∷ programs) ≡ true
     go true is rest =
         let found : flow_program (p ∷ programs) q ≡ Some p = rw is refl in
-        true_or (some_block sought v p.blocks) (some_program sought v programs)
+        or_left (some_block sought v p.blocks) (some_program sought v programs)
         (block_at sought v p.blocks place block (subst (λ f. slice_get (flow_blocks f) place ≡ Some block) found at) e)
     go false is rest =
         let found : flow_program (p ∷ programs) q ≡ flow_program programs q = rw is refl in
-        or_true (some_block sought v p.blocks) (some_program sought v programs)
+        or_right (some_block sought v p.blocks) (some_program sought v programs)
         (rest (subst (λ f. slice_get (flow_blocks f) place ≡ Some block) found at))
 
 writes_somewhere : (flow : Flow) (n v : ℕ) → PartMayWrite flow n v → some_program Writes v flow.programs ≡ true
@@ -64,8 +55,8 @@ meets shared writer other n v is =
 
 pub no_meeting : (shared : ℕ → Bool) (left right : Flow) (v : ℕ) → may_race v left right ≡ false → IsAnswer shared left right v None
 no_meeting shared left right v none = (
-  λ n is. let some = true_or (may_meet v left right) (may_meet v right left) (meets shared left right n v is) in absurd cc,
-  λ n is. let some = or_true (may_meet v left right) (may_meet v right left) (meets shared right left n v is) in absurd cc,
+  λ n is. let some = or_left (may_meet v left right) (may_meet v right left) (meets shared left right n v is) in absurd cc,
+  λ n is. let some = or_right (may_meet v left right) (may_meet v right left) (meets shared right left n v is) in absurd cc,
 )
 
 -- the same of the flows that are at hand

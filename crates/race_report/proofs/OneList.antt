@@ -1,4 +1,5 @@
--- A pair has one list of races: each entry is the first race of its variable, and the variables rise.
+-- A pair has one list of races: each entry is the first race of its variable, and the variables
+-- rise.
 use Rattle.std.proofs.Common.{◌≡◌, ℕ, ◌<◌, ◌⊎◌, inl, inr, Bool, List, [], ◌∷◌, refl, sym, subst, ◌∙◌, arith}
 use Rattle.nc_number.specs.declared.path.Path.{Path}
 use Rattle.nc_number.specs.declared.path.Path.TheVariants.{One, Two}

@@ -1,24 +1,14 @@
 -- The lines of races, put one after another.
 use Rattle.std.proofs.Common.{◌≡◌, ℕ, suc, ◌+◌, ◌<◌, ◌≤◌, List, [], ◌∷◌, length, drop, get_or, Result, Ok, Err, refl, ap, subst, ◌∙◌, arith}
-use Rattle.std.proofs.KnownBytes.{Appends-nil}
 use Rattle.std.proofs.Math.Seq.{drop-cons}
 use Rattle.std.proofs.Math.ListN.{drop_of_length-le}
 use Rattle.nc_outside.specs.declared.sink.PutFault.{PutFault}
-use Rattle.nc_outside.specs.declared.sink.PutFault.TheVariants.{Failed}
 use Rattle.nc_outside.specs.Written.{SinkState}
 use Rattle.nc_verify.specs.Printed.{IsPut}
+use Rattle.nc_verify.proofs.InPieces.{put_nothing}
 use Rattle.nc_verify.proofs.Put.{put_then, put_stops}
 use Rattle.race_report.specs.declared.race.Race.{Race}
 use Rattle.race_report.specs.Texts.{race_text, races_text}
-
--- nothing is put where there is nothing to put
-put_nothing : (a : SinkState) → IsPut a a [] (Ok tt)
-put_nothing a = record {
-  ok = Appends-nil a.written;
-  err = tt;
-  tells = refl;
-  fault = record { later = omega arith; rose = λ failed. absurd (let e : ◌≡◌ {A = Result (Unit {0}) PutFault} (Ok tt) (Err Failed) = failed in cc); kept = λ none. refl };
-}
 
 -- whoever puts the rest from now on has put all
 abbrev pub PutsAll : SinkState → SinkState → List Race → List Race → Type 0

@@ -1,19 +1,12 @@
 -- The code of an expression reads the variables that the expression names.
 use Rattle.std.proofs.Common.{◌≡◌, ℕ, ◌||◌, Bool, true, false, List, [], ◌∷◌, refl, ap, ◌∙◌}
+use Rattle.nc_number.proofs.Bools.{or_true, or_false}
 use Rattle.macro_expr.specs.Tree.{Tree, Number, Variable, VariableOf, Signed, Applied, Joined}
 use Rattle.macro_eval.specs.declared.code.Instr.{Instr}
 use Rattle.macro_eval.specs.declared.code.Instr.TheVariants as instr
 use Rattle.macro_eval.specs.Postfix.{code_before, postfix}
 use Rattle.named_vars.specs.Names.{names}
 use Rattle.race_report.specs.Reads.{some_read}
-
-or_true : (a : Bool) → (a || true) ≡ true
-or_true true = refl
-or_true false = refl
-
-or_false : (a : Bool) → (a || false) ≡ a
-or_false true = refl
-or_false false = refl
 
 or_assoc : (a b c : Bool) → (a || (b || c)) ≡ ((a || b) || c)
 or_assoc true b c = refl

@@ -1,11 +1,12 @@
 -- The first race of a variable among the least lines of the parts, and the list as it grows.
 use Rattle.std.specs.Prelude.{◌≡◌, ℕ, zero, suc, ◌<◌, Bool, List, [], ◌∷◌, Option, Some, None}
+use Rattle.nc_number.specs.declared.both.Both.{Both}
 use Rattle.nc_number.specs.declared.path.Path.{Path}
 use Rattle.nc_number.specs.declared.path.Path.TheVariants.{One, Two}
 use Rattle.tape_flow.specs.declared.flow.Flow.{Flow}
 use Rattle.race_order.specs.Races.{IsRace}
 use Rattle.race_report.specs.declared.race.Race.{Race}
-use Rattle.race_report.specs.declared.racing.PairLines.{PairLines}
+use Rattle.race_report.specs.declared.racing.PathLines.{PathLines}
 use Rattle.race_report.specs.RaceLists.{IsFirstRace, AreFirst, AreRising, HasVariable}
 use Rattle.race_report.specs.Tables.{line_at}
 
@@ -21,13 +22,13 @@ or_race (Some race) other = Some race
 or_race None other = other
 
 -- behind so many waits, path 1 as the writer before path 2
-abbrev pub race_at : PairLines → ℕ → ℕ → Option Race
+abbrev pub race_at : Both PathLines → ℕ → ℕ → Option Race
 race_at lines v after =
-    or_race (race_between v after One (line_at lines.one_writes.items after) (line_at lines.two_names.items after))
-    (race_between v after Two (line_at lines.two_writes.items after) (line_at lines.one_names.items after))
+    or_race (race_between v after One (line_at lines.one.writes.items after) (line_at lines.two.names.items after))
+    (race_between v after Two (line_at lines.two.writes.items after) (line_at lines.one.names.items after))
 
 -- in so many parts from one on
-abbrev pub first_from : PairLines → ℕ → ℕ → ℕ → Option Race
+abbrev pub first_from : Both PathLines → ℕ → ℕ → ℕ → Option Race
 first_from lines v zero after = None
 first_from lines v (suc count) after = or_race (race_at lines v after) (first_from lines v count (suc after))
 

@@ -75,7 +75,8 @@ abbrev pub HasVariable : ℕ → List Race → Type 0
 HasVariable v [] = ⊥
 HasVariable v (race ∷ races) = (race.variable ≡ v) ⊎ HasVariable v races
 
--- The list of a pair: variables that rise, the first race of each, and no variable with a race is left out.
+-- The list of a pair: variables that rise, the first race of each, and no variable with a race is
+-- left out.
 pub record IsRaceList (shared : ℕ → Bool) (left right : Flow) (races : List Race) : Type 0 where
   pub rising : AreRising 0 races
   pub firsts : AreFirst shared left right races

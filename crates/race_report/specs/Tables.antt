@@ -1,11 +1,12 @@
 -- The lines that were found, by programs and by parts.
 use Rattle.std.specs.Prelude.{◌≡◌, ℕ, List, map, Option, Some, None, slice_get}
+use Rattle.nc_number.specs.declared.both.Both.{Both}
 use Rattle.block_forms.specs.declared.block.FlowBlock.{FlowBlock}
 use Rattle.tape_flow.specs.declared.flow.Flow.{Flow}
 use Rattle.tape_flow.specs.declared.program.FlowProgram.{FlowProgram}
 use Rattle.tape_flow.specs.Places.{flow_program, flow_blocks}
 use Rattle.part_lines.specs.PartLines.{AreLeastLines}
-use Rattle.race_report.specs.declared.racing.PairLines.{PairLines}
+use Rattle.race_report.specs.declared.racing.PathLines.{PathLines}
 use Rattle.race_report.specs.declared.sought.Sought.{Sought}
 use Rattle.race_report.specs.declared.sought.Sought.TheVariants.{Writes, Names}
 use Rattle.race_report.specs.declared.table.LineTable.{LineTable}
@@ -45,9 +46,12 @@ abbrev pub IsToldWith : Flow → Sought → ℕ → LineTable → List FlowProgr
 IsToldWith flow sought v table rest =
     (q place : ℕ) → told_or sought v (kept_lines table q) (flow_program rest q) place ≡ sought_line flow sought v q place
 
--- the least lines of the parts of both paths, for one variable
-pub record ArePairLines (left right : Flow) (v : ℕ) (lines : PairLines) : Type 0 where
-  pub one_writes : AreLeastLines left.order (sought_line left Writes v) lines.one_writes.items
-  pub one_names : AreLeastLines left.order (sought_line left Names v) lines.one_names.items
-  pub two_writes : AreLeastLines right.order (sought_line right Writes v) lines.two_writes.items
-  pub two_names : AreLeastLines right.order (sought_line right Names v) lines.two_names.items
+-- the least lines of the parts of a path, for one variable
+pub record ArePathLines (flow : Flow) (v : ℕ) (lines : PathLines) : Type 0 where
+  pub writes : AreLeastLines flow.order (sought_line flow Writes v) lines.writes.items
+  pub names : AreLeastLines flow.order (sought_line flow Names v) lines.names.items
+
+-- the same of both paths
+pub record ArePairLines (left right : Flow) (v : ℕ) (lines : Both PathLines) : Type 0 where
+  pub one : ArePathLines left v lines.one
+  pub two : ArePathLines right v lines.two

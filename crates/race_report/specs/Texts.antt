@@ -1,28 +1,19 @@
 -- The list of races as it is printed: how many there are, and a line for each.
-use Rattle.std.specs.Prelude.{ℕ, List, [], ◌∷◌, ◌++◌, length, codes, decimal}
+use Rattle.std.specs.Prelude.{ℕ, List, [], ◌∷◌, ◌++◌, length, codes}
 use Rattle.nc_number.specs.declared.path.Path.{Path}
 use Rattle.nc_number.specs.Path.{number_of, other_of}
+use Rattle.text_pieces.specs.Pieces.{numbered}
 use Rattle.race_report.specs.declared.race.Race.{Race}
-
-abbrev pub numbered : List ℕ → ℕ → List ℕ
-numbered before number = before ++ decimal number
 
 -- a path and a line of its tape
 unfoldable pub place_text : Path → ℕ → List ℕ
 place_text path line = numbered (codes " path ") (number_of path) ++ numbered (codes " line ") line
 
-unfoldable pub other_text : Race → List ℕ
-other_text race = place_text (other_of race.writer) race.other_line ++ codes "\n"
-
-unfoldable pub places_text : Race → List ℕ
-places_text race = place_text race.writer race.write_line ++ other_text race
-
-unfoldable pub part_text : Race → List ℕ
-part_text race = numbered (codes " after ") race.after ++ places_text race
-
--- the variable, behind how many waits, who writes it where, and where the other path names it
+-- the variable, after how many waits, who writes it where, and where the other path names it
 unfoldable pub race_text : Race → List ℕ
-race_text race = numbered (codes "#") race.variable ++ part_text race
+race_text race =
+    numbered (codes "#") race.variable ++ numbered (codes " after ") race.after ++ place_text race.writer race.write_line
+    ++ place_text (other_of race.writer) race.other_line ++ codes "\n"
 
 abbrev pub races_text : List Race → List ℕ
 races_text [] = []

@@ -1,7 +1,8 @@
 //! The races of a pair: shared variables whose values may hang on which path comes first.
 //!
-//! [`races`] lists, for each shared variable that has a race, the earliest one, and [`write_races`] prints
-//! the list. Where it is empty, all runs that finish come to the same: [`a_pair_without_races_has_one_outcome`].
+//! [`races`] lists, for each shared variable that has a race, the earliest one, and [`write_races`]
+//! prints the list. Where it is empty, all runs that finish come to the same:
+//! [`a_pair_without_races_has_one_outcome`].
 #![tactic(auto)]
 
 mod laws;

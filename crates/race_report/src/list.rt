@@ -1,3 +1,4 @@
+//! The races of a pair.
 ghost use Rattle.std.specs.Prelude.{◌≡◌, ◌↔◌, [], IsTrue};
 
 use crate::race::Race;
@@ -19,6 +20,7 @@ impl Model for RaceList {
 }
 
 impl RaceList {
+    /// The list of these races.
     pub(crate) fn of(races: Vec<Race>) -> Self
         ensures { result ≡ races.items }
     {

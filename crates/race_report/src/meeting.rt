@@ -7,6 +7,7 @@ use crate::sought::Sought;
 use block_forms::FlowBlock;
 use tape_flow::{Flow, FlowProgram};
 
+/// Whether one of the blocks does what is looked for.
 fn some_block(sought: Sought, variable: u32, blocks: &[FlowBlock]) -> bool
     ensures { result ≡ some_block sought variable blocks.now }
 {
@@ -18,6 +19,7 @@ fn some_block(sought: Sought, variable: u32, blocks: &[FlowBlock]) -> bool
     false
 }
 
+/// Whether a block of one of the programs does what is looked for.
 fn some_program(sought: Sought, variable: u32, programs: &[FlowProgram]) -> bool
     ensures { result ≡ some_program sought variable programs.now }
 {
@@ -37,7 +39,8 @@ fn may_meet(variable: u32, writer: &Flow, other: &Flow) -> bool
         && some_program(Sought::Names, variable, other.programs.as_slice())
 }
 
-/// Whether the variable can have a race, whichever path writes. It is far cheaper to tell than where.
+/// Whether the variable can have a race, whichever path writes. It is far cheaper to tell than
+/// where.
 pub(crate) fn may_race(variable: u32, left: &Flow, right: &Flow) -> bool
     ensures { result ≡ may_race variable left.now right.now }
 {

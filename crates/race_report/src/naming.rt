@@ -10,7 +10,8 @@ use block_forms::{FlowBlock, FlowBody, FlowStatement, FlowWord, WordValue};
 use macro_eval::{Code, Instr};
 use macro_expr::{Statement, VarRef};
 
-/// Whether the instruction puts what the variable holds on the stack, or what a variable of a computed number holds.
+/// Whether the instruction puts what the variable holds on the stack, or what a variable of a
+/// computed number holds.
 fn may_read(instr: &Instr, variable: u32) -> bool
     ensures { result ≡ may_read instr.now variable }
 {
@@ -21,6 +22,7 @@ fn may_read(instr: &Instr, variable: u32) -> bool
     }
 }
 
+/// Whether one of the instructions may read the variable.
 fn some_read(instrs: &[Instr], variable: u32) -> bool
     ensures { result ≡ some_read instrs.now variable }
 {
@@ -71,6 +73,7 @@ fn some_names(codes: &[Code], variable: u32) -> bool
     false
 }
 
+/// Whether the value of a word names the variable; a fixed one names none.
 fn word_names(value: &WordValue, variable: u32) -> bool
     ensures { result ≡ word_names value.now variable }
 {
@@ -92,6 +95,7 @@ fn words_name(words: &[FlowWord], variable: u32) -> bool
     false
 }
 
+/// Whether a statement names the variable, also on the left side of an assignment.
 fn statement_names(statement: &FlowStatement, variable: u32) -> bool
     ensures { result ≡ sentence_names (sentence_of statement.now.statement) variable }
 {
@@ -108,6 +112,7 @@ fn body_names(body: &FlowBody, variable: u32) -> bool
     }
 }
 
+/// Whether the block may write the variable; words write none.
 fn body_may_write(body: &FlowBody, variable: u32) -> bool
     ensures { result ≡ body_may_write body.now variable }
 {

@@ -1,3 +1,4 @@
+//! A race.
 use nc_number::Path;
 
 /// A race: one path may write the variable while the other names it.

@@ -3,7 +3,7 @@ ghost use Rattle.std.specs.Prelude.{◌≡◌, ◌≤◌, ◌+◌, IfOk, OnOk, l
 ghost use Rattle.part_lines.specs.PartLines.{AreLeastLines};
 ghost use Rattle.race_report.specs.Lines.{sought_line};
 ghost use Rattle.race_report.specs.RaceLists.{shared_by, IsRaceList};
-ghost use Rattle.race_report.specs.Tables.{ArePairLines};
+ghost use Rattle.race_report.specs.Tables.{ArePairLines, ArePathLines};
 ghost use Rattle.race_report.specs.Found.{race_between, race_at, first_from, IsListedBelow, IsAnswer};
 
 use crate::list::RaceList;
@@ -11,7 +11,7 @@ use crate::meeting::may_race;
 use crate::race::Race;
 use crate::sought::Sought;
 use crate::table::{line_at, table_of};
-use nc_number::{NoMemory, Path};
+use nc_number::{Both, NoMemory, Path};
 use nc_verify::Verified;
 use part_lines::least_lines;
 use std::alloc::Global;
@@ -20,13 +20,13 @@ use tape_flow::Flow;
 /// The most parts that a path may have: one more than labels.
 const MOST_PARTS: usize = 65_537;
 
-/// The least lines of the parts of both paths, for one variable.
+/// The least lines of the parts of a path, for one variable.
 #[derive(Debug, Drop)]
-pub(crate) struct PairLines {
-    pub(crate) one_writes: Vec<Option<u32>>,
-    pub(crate) one_names: Vec<Option<u32>>,
-    pub(crate) two_writes: Vec<Option<u32>>,
-    pub(crate) two_names: Vec<Option<u32>>,
+pub(crate) struct PathLines {
+    /// Among the blocks that may write it.
+    pub(crate) writes: Vec<Option<u32>>,
+    /// Among the blocks that name it.
+    pub(crate) names: Vec<Option<u32>>,
 }
 
 /// The least line of each part of a path, among the blocks that do what is looked for.
@@ -42,23 +42,32 @@ fn lines_in(
     least_lines(alloc, &flow.order, &table)
 }
 
+/// The least lines of a path, for one variable.
+fn path_lines(alloc: Global, variable: u32, flow: &Flow) -> Result<PathLines, NoMemory>
+    ensures { IfOk result (ArePathLines flow.now variable) }
+{
+    Ok(PathLines {
+        writes: lines_in(alloc, Sought::Writes, variable, flow)?,
+        names: lines_in(alloc, Sought::Names, variable, flow)?,
+    })
+}
+
+/// The least lines of both paths, for one variable.
 fn pair_lines(
     alloc: Global,
     variable: u32,
     left: &Flow,
     right: &Flow,
-) -> Result<PairLines, NoMemory>
+) -> Result<Both<PathLines>, NoMemory>
     ensures { IfOk result (ArePairLines left.now right.now variable) }
 {
-    Ok(PairLines {
-        one_writes: lines_in(alloc, Sought::Writes, variable, left)?,
-        one_names: lines_in(alloc, Sought::Names, variable, left)?,
-        two_writes: lines_in(alloc, Sought::Writes, variable, right)?,
-        two_names: lines_in(alloc, Sought::Names, variable, right)?,
+    Ok(Both {
+        one: path_lines(alloc, variable, left)?,
+        two: path_lines(alloc, variable, right)?,
     })
 }
 
-/// A race behind so many waits, where the writer has the one line and the other path has the other.
+/// A race after so many waits, where the writer has the one line and the other path has the other.
 fn race_between(
     variable: u32,
     after: u32,
@@ -80,8 +89,8 @@ fn race_between(
     }
 }
 
-/// The first race of the variable behind so many waits, path 1 as the writer before path 2.
-fn race_at(lines: &PairLines, variable: u32, after: u32) -> Option<Race>
+/// The first race of the variable after so many waits, path 1 as the writer before path 2.
+fn race_at(lines: &Both<PathLines>, variable: u32, after: u32) -> Option<Race>
     ensures { result ≡ race_at lines.now variable after }
 {
     let place = after as usize;
@@ -89,8 +98,8 @@ fn race_at(lines: &PairLines, variable: u32, after: u32) -> Option<Race>
         variable,
         after,
         Path::One,
-        line_at(&lines.one_writes, place),
-        line_at(&lines.two_names, place),
+        line_at(&lines.one.writes, place),
+        line_at(&lines.two.names, place),
     );
     if one.is_some() {
         return one;
@@ -99,17 +108,17 @@ fn race_at(lines: &PairLines, variable: u32, after: u32) -> Option<Race>
         variable,
         after,
         Path::Two,
-        line_at(&lines.two_writes, place),
-        line_at(&lines.one_names, place),
+        line_at(&lines.two.writes, place),
+        line_at(&lines.one.names, place),
     )
 }
 
 /// The first race of the variable.
-fn first_race(lines: &PairLines, variable: u32) -> Option<Race>
-    requires { length lines.now.one_writes.items ≤ MOST_PARTS }
-    ensures { result ≡ first_from lines.now variable (length lines.now.one_writes.items) 0 }
+fn first_race(lines: &Both<PathLines>, variable: u32) -> Option<Race>
+    requires { length lines.now.one.writes.items ≤ MOST_PARTS }
+    ensures { result ≡ first_from lines.now variable (length lines.now.one.writes.items) 0 }
 {
-    for after in 0..lines.one_writes.len() as u32 {
+    for after in 0..lines.one.writes.len() as u32 {
         let race = race_at(lines, variable, after);
         if race.is_some() {
             return race;
@@ -152,8 +161,8 @@ fn add_race(
     }
 }
 
-/// The races of a pair, by their variables: of each shared variable that has a race the first one, by the
-/// number of waits before it, then path 1 as the writer, then the least lines.
+/// The races of a pair, by their variables: of each shared variable that has a race the first one,
+/// by the number of waits before it, then path 1 as the writer, then the least lines.
 pub fn races(alloc: Global, verified: &Verified) -> Result<RaceList, NoMemory>
     ensures { IfOk result (IsRaceList (shared_by verified.now.settings) verified.now.left verified.now.right) }
 {

@@ -1,3 +1,5 @@
+//! What is looked for in the blocks of a path.
+
 /// What is looked for in the blocks of a path.
 #[derive(Clone, Copy, Debug, PartialEq, Eq)]
 pub(crate) enum Sought {

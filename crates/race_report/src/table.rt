@@ -33,6 +33,7 @@ impl BlockLines for LineTable {
     }
 }
 
+/// The line at a place, if there is one.
 pub(crate) fn line_at(lines: &[Option<u32>], place: usize) -> Option<u32>
     ensures { result ≡ line_at lines.now place }
 {
@@ -59,6 +60,7 @@ fn block_line(sought: Sought, variable: u32, block: &FlowBlock) -> Option<u32>
     }
 }
 
+/// The lines of the blocks of a program, in their order.
 fn program_lines(
     alloc: Global,
     sought: Sought,
@@ -76,6 +78,7 @@ fn program_lines(
 }
 
 impl LineTable {
+    /// Without a program.
     fn new(alloc: Global) -> Self
         ensures { (q : ℕ) → kept_lines result q ≡ None }
     {

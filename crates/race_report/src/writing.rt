@@ -1,89 +1,48 @@
 //! The list of races as it is printed.
-ghost use Rattle.std.specs.Prelude.{codes, decimal, length};
-ghost use Rattle.nc_number.specs.Path.{number_of};
+ghost use Rattle.std.specs.Prelude.{◌≡◌, ◌+◌, ◌≤◌, ◌++◌, length};
 ghost use Rattle.nc_verify.specs.Printed.{IsPut};
-ghost use Rattle.race_report.specs.Texts.{numbered, place_text, other_text, places_text, part_text, race_text, head_text, races_text, list_text};
+ghost use Rattle.race_report.specs.Texts.{place_text, race_text, head_text, races_text, list_text};
 
 use crate::list::RaceList;
 use crate::race::Race;
-use itoa::Buffer;
 use nc_number::Path;
 use nc_outside::{PutFault, Sink};
+use nc_verify::put_piece;
+use text_pieces::Piece;
 
-fn put_bytes<K: Sink>(sink: &mut K, piece: &[u8]) -> Result<(), PutFault>
-    ensures { IsPut (K.state sink.old) (K.state sink.new) piece.now result }
+/// Adds a path and a line of its tape.
+#[tactic(auto, unfolding(crate::specs::Texts::place_text))]
+fn add_place(piece: &mut Piece, path: Path, line: u32)
+    requires { length piece.old + 52 ≤ 512 }
+    ensures text { piece.new ≡ piece.old ++ place_text path line }
+    ensures size { length piece.new ≤ length piece.old + 52 }
 {
-    sink.put(piece)
+    piece.add_numbered(b" path ", u64::from(path.number()));
+    piece.add_numbered(b" line ", u64::from(line));
 }
 
-fn put_number<K: Sink>(sink: &mut K, number: u32) -> Result<(), PutFault>
-    ensures { IsPut (K.state sink.old) (K.state sink.new) (decimal number) result }
+/// The line of a race.
+#[tactic(auto, unfolding(crate::specs::Texts::race_text))]
+fn race_line(race: &Race) -> Piece
+    ensures { result ≡ race_text race.now }
 {
-    let mut buffer = Buffer::new();
-    put_bytes(sink, buffer.format(number).as_bytes())
+    let mut piece = Piece::empty();
+    piece.add_numbered(b"#", u64::from(race.variable));
+    piece.add_numbered(b" after ", u64::from(race.after));
+    add_place(&mut piece, race.writer, race.write_line);
+    add_place(&mut piece, race.writer.other(), race.other_line);
+    piece.add(b"\n");
+    piece
 }
 
-/// Puts bytes, and a number behind them.
-fn put_numbered<K: Sink>(sink: &mut K, before: &[u8], number: u32) -> Result<(), PutFault>
-    ensures { IsPut (K.state sink.old) (K.state sink.new) (numbered before.now number) result }
-{
-    match put_bytes(sink, before) {
-        Ok(()) => put_number(sink, number),
-        Err(fault) => Err(fault),
-    }
-}
-
-fn put_path<K: Sink>(sink: &mut K, path: Path) -> Result<(), PutFault>
-    ensures { IsPut (K.state sink.old) (K.state sink.new) (numbered (codes " path ") (number_of path)) result }
-{
-    put_numbered(sink, b" path ", u32::from(path.number()))
-}
-
-fn put_place<K: Sink>(sink: &mut K, path: Path, line: u32) -> Result<(), PutFault>
-    ensures { IsPut (K.state sink.old) (K.state sink.new) (place_text path line) result }
-{
-    match put_path(sink, path) {
-        Ok(()) => put_numbered(sink, b" line ", line),
-        Err(fault) => Err(fault),
-    }
-}
-
-fn put_other<K: Sink>(sink: &mut K, race: &Race) -> Result<(), PutFault>
-    ensures { IsPut (K.state sink.old) (K.state sink.new) (other_text race.now) result }
-{
-    match put_place(sink, race.writer.other(), race.other_line) {
-        Ok(()) => put_bytes(sink, b"\n"),
-        Err(fault) => Err(fault),
-    }
-}
-
-fn put_places<K: Sink>(sink: &mut K, race: &Race) -> Result<(), PutFault>
-    ensures { IsPut (K.state sink.old) (K.state sink.new) (places_text race.now) result }
-{
-    match put_place(sink, race.writer, race.write_line) {
-        Ok(()) => put_other(sink, race),
-        Err(fault) => Err(fault),
-    }
-}
-
-fn put_part<K: Sink>(sink: &mut K, race: &Race) -> Result<(), PutFault>
-    ensures { IsPut (K.state sink.old) (K.state sink.new) (part_text race.now) result }
-{
-    match put_numbered(sink, b" after ", race.after) {
-        Ok(()) => put_places(sink, race),
-        Err(fault) => Err(fault),
-    }
-}
-
+/// Puts the line of a race.
 fn put_race<K: Sink>(sink: &mut K, race: &Race) -> Result<(), PutFault>
     ensures { IsPut (K.state sink.old) (K.state sink.new) (race_text race.now) result }
 {
-    match put_numbered(sink, b"#", race.variable) {
-        Ok(()) => put_part(sink, race),
-        Err(fault) => Err(fault),
-    }
+    put_piece(sink, &race_line(race))
 }
 
+/// Puts a line for each race.
 fn put_races<K: Sink>(sink: &mut K, races: &[Race]) -> Result<(), PutFault>
     ensures { IsPut (K.state sink.old) (K.state sink.new) (races_text races.now) result }
 {
@@ -96,35 +55,29 @@ fn put_races<K: Sink>(sink: &mut K, races: &[Race]) -> Result<(), PutFault>
     Ok(())
 }
 
-fn put_count<K: Sink>(sink: &mut K, count: u64) -> Result<(), PutFault>
-    ensures { IsPut (K.state sink.old) (K.state sink.new) (decimal count) result }
+/// The line of how many races there are.
+#[tactic(auto, unfolding(crate::specs::Texts::head_text))]
+fn head_line(count: u64) -> Piece
+    ensures { result ≡ head_text count }
 {
-    let mut buffer = Buffer::new();
-    put_bytes(sink, buffer.format(count).as_bytes())
+    let mut piece = Piece::empty();
+    piece.add_numbered(b"races ", count);
+    piece.add(b"\n");
+    piece
 }
 
-fn put_title<K: Sink>(sink: &mut K, count: u64) -> Result<(), PutFault>
-    ensures { IsPut (K.state sink.old) (K.state sink.new) (numbered (codes "races ") count) result }
-{
-    match put_bytes(sink, b"races ") {
-        Ok(()) => put_count(sink, count),
-        Err(fault) => Err(fault),
-    }
-}
-
+/// Puts how many races there are.
 fn put_head<K: Sink>(sink: &mut K, count: u64) -> Result<(), PutFault>
     ensures { IsPut (K.state sink.old) (K.state sink.new) (head_text count) result }
 {
-    match put_title(sink, count) {
-        Ok(()) => put_bytes(sink, b"\n"),
-        Err(fault) => Err(fault),
-    }
+    put_piece(sink, &head_line(count))
 }
 
-/// Writes how many races there are, and a line for each: the variable, behind how many waits, the path that
-/// may write it and the line, and the other path and its line.
+/// Writes how many races there are, and a line for each: the variable, after how many waits, the
+/// path that may write it and the line, and the other path and its line.
 ///
-/// Errors: those of the sink; it then holds a part of the text, from its start. Takes no memory itself.
+/// Errors: those of the sink; it then holds a part of the text, from its start. Takes no memory
+/// itself.
 pub fn write_races<K: Sink>(list: &RaceList, sink: &mut K) -> Result<(), PutFault>
     ensures { IsPut (K.state sink.old) (K.state sink.new) (list_text list.now) result }
 {

@@ -1,9 +1,11 @@
--- The waits and the end of a path in a trace are the labels of its tape: by induction on the history, with the labels ahead of the
--- path's place of which the first is told already if the path waits or has ended.
+-- The waits and the end of a path in a trace are the labels of its tape: by induction on the
+-- history, with the labels ahead of the path's place of which the first is told already if the path
+-- waits or has ended.
 use Rattle.std.proofs.Common.{◌≡◌, ◌⊎◌, inl, inr, ℕ, ◌==◌, ◌||◌, Bool, true, false, List, [], ◌∷◌, ◌++◌, refl, sym, subst, ap, ◌∙◌, Option, Some, None, is_some, arith, append-nil}
 use Rattle.std.specs.Prelude.{if◌then◌else◌}
 use Rattle.std.proofs.lemmas.Grind.{flat_map-append}
 use Rattle.std.proofs.lemmas.Bool.Decides.{nat_tests}
+use Rattle.nc_number.specs.Path.{is_same}
 use Rattle.nc_number.specs.declared.path.Path.{Path}
 use Rattle.nc_number.specs.declared.path.Path.TheVariants.{One, Two}
 use Rattle.nc_number.specs.declared.point.Point.{Point}
@@ -18,7 +20,7 @@ use Rattle.block_order.specs.declared.label.Label.{Label}
 use Rattle.block_order.specs.declared.label.Label.TheVariants as label
 use Rattle.block_order.specs.declared.program.ControlProgram.{ControlProgram}
 use Rattle.block_order.specs.Labels.{ahead, list, start}
-use Rattle.block_order.specs.Steps.{Step, IsPlace, standing, passed, Kept, KeepsLabels}
+use Rattle.block_order.specs.Steps.{Step, IsPlace, standing, place_behind, Kept, KeepsLabels}
 use Rattle.run_records.specs.Entries.{Entry, edit_of}
 use Rattle.run_records.specs.declared.edit.Edit.{Edit}
 use Rattle.run_records.specs.declared.entry.EntryKind.{EntryKind}
@@ -31,7 +33,7 @@ use Rattle.two_path.specs.declared.turn.Turn.{Turn}
 use Rattle.two_path.specs.declared.turn.Turn.TheVariants as turn
 use Rattle.two_path.specs.Machine.{Part, MachineView, own_first, opening}
 use Rattle.two_path.specs.Turns.{Blocks, Tapes, TurnResult, block_turn, kind_of, own_turn, result_at_wait, result_by, tape_of, tapes_of, unless_idle}
-use Rattle.two_path.specs.Histories.{IsLegal, IsStep, behind_entry, behind_own, behind_step, is_same, with_reads}
+use Rattle.two_path.specs.Histories.{IsLegal, IsStep, behind_entry, behind_own, behind_step, with_reads}
 use Rattle.two_path.specs.Again.{turn_by, turn_of_entry}
 use Rattle.two_path.proofs.Edited.{step_of_next}
 use Rattle.two_path.specs.Stuck.{AreAtStart, IsPair}
@@ -180,7 +182,7 @@ module _ (tape : List ControlProgram) (law : KeepsLabels tape) (path : Path) (li
         subst (λ b. Follows (list tape) (left_of (b || true) (ahead tape m.first.path.place)) rest) unfinished f in
         from_here (label.Wait code ∷ []) rest
         (subst (λ xs. Follows (list tape) xs (label.Wait code ∷ rest)) (sym ahead_is)
-        (next (label.Wait code) (ahead tape (passed m.first.path.place)) rest (subst (λ xs. Follows (list tape) (left_of true xs) rest) ahead_is told)));
+        (next (label.Wait code) (ahead tape (place_behind m.first.path.place)) rest (subst (λ xs. Follows (list tape) (left_of true xs) rest) ahead_is told)));
   }
   at_wait code is (Some there) = go (code == there) refl
     where
@@ -189,10 +191,10 @@ module _ (tape : List ControlProgram) (law : KeepsLabels tape) (path : Path) (li
         side = record { place = (law.wait m.first.path.place code side.place is).0; waits = λ c same. absurd cc };
         follows = λ rest f.
             let ahead_is = (law.wait m.first.path.place code side.place is).1 in
-            let told : Follows (list tape) (ahead tape (passed m.first.path.place)) rest =
-            subst (λ b. Follows (list tape) (left_of (b || false) (ahead tape (passed m.first.path.place))) rest) unfinished f in
+            let told : Follows (list tape) (ahead tape (place_behind m.first.path.place)) rest =
+            subst (λ b. Follows (list tape) (left_of (b || false) (ahead tape (place_behind m.first.path.place))) rest) unfinished f in
             from_here (label.Wait code ∷ []) rest
-            (subst (λ xs. Follows (list tape) xs (label.Wait code ∷ rest)) (sym ahead_is) (next (label.Wait code) (ahead tape (passed m.first.path.place)) rest told));
+            (subst (λ xs. Follows (list tape) xs (label.Wait code ∷ rest)) (sym ahead_is) (next (label.Wait code) (ahead tape (place_behind m.first.path.place)) rest told));
       })
       go false e = rw e (record { side = side; follows = λ rest f. f })
 
@@ -228,9 +230,9 @@ module _ (tape : List ControlProgram) (law : KeepsLabels tape) (path : Path) (li
         side = record { place = (law.wait m.second.path.place there side.place waits.0).0; waits = λ c same. absurd cc };
         follows = λ rest f.
             let ahead_is = (law.wait m.second.path.place there side.place waits.0).1 in
-            let told : Follows (list tape) (ahead tape (passed m.second.path.place)) rest =
-            subst (λ b. Follows (list tape) (left_of (b || false) (ahead tape (passed m.second.path.place))) rest) waits.1 f in
-            let due_is : due tape m.second ≡ ahead tape (passed m.second.path.place) =
+            let told : Follows (list tape) (ahead tape (place_behind m.second.path.place)) rest =
+            subst (λ b. Follows (list tape) (left_of (b || false) (ahead tape (place_behind m.second.path.place))) rest) waits.1 f in
+            let due_is : due tape m.second ≡ ahead tape (place_behind m.second.path.place) =
             ap (λ (w : Option ℕ). left_of (m.second.finished || is_some w) (ahead tape m.second.path.place)) is
             ∙ ap (λ b. left_of (b || true) (ahead tape m.second.path.place)) waits.1
             ∙ ap (left_of true) ahead_is in

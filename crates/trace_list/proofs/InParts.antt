@@ -6,7 +6,7 @@ use Rattle.nc_outside.specs.declared.sink.PutFault.{PutFault}
 use Rattle.nc_outside.specs.Written.{SinkState}
 use Rattle.nc_verify.specs.Printed.{IsPut}
 use Rattle.nc_verify.proofs.Put.{put_then, put_stops}
-use Rattle.move_list.proofs.InPieces.{put_nothing}
+use Rattle.nc_verify.proofs.InPieces.{put_nothing}
 use Rattle.trace_list.specs.TraceText.{TraceLine, lines_text, trace_line_text}
 
 -- one line

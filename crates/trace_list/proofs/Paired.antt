@@ -1,7 +1,9 @@
--- Each meeting of a trace closes the open waits of both paths: by induction on the history, with the waits that the machine has.
+-- Each meeting of a trace closes the open waits of both paths: by induction on the history, with
+-- the waits that the machine has.
 use Rattle.std.proofs.Common.{◌≡◌, ℕ, ◌+◌, ◌==◌, ◌||◌, Bool, true, false, List, [], ◌∷◌, ◌++◌, refl, sym, subst, ap, ◌∙◌, append_assoc, Option, Some, None, arith}
 use Rattle.std.specs.Prelude.{if◌then◌else◌, map, option_map}
 use Rattle.nc_number.specs.declared.path.Path.{Path}
+use Rattle.nc_number.specs.Both.{of_path}
 use Rattle.nc_number.specs.declared.path.Path.TheVariants.{One, Two}
 use Rattle.nc_number.specs.declared.point.Point.{Point}
 use Rattle.nc_moves.specs.declared.alarm.Alarm.{Alarm}
@@ -23,7 +25,7 @@ use Rattle.two_path.proofs.Edited.{step_of_next}
 use Rattle.trace_list.specs.declared.looking.Look.{Look}
 use Rattle.trace_list.specs.declared.looking.Standing.{Standing}
 use Rattle.trace_list.specs.Meetings.{ArePaired, Goes, OpenWait, open_wait}
-use Rattle.trace_list.specs.Trace.{block_lines, is_same_point, is_same_way, line_here, line_of, lines_of, look_of, met_after, moved_lines, path_in, says_speed, shift_lines, spindle_lines, standing_of, traced, turn_lines}
+use Rattle.trace_list.specs.Trace.{block_lines, is_same_point, is_same_way, line_of, lines_of, look_of, met_after, moved_lines, path_in, says_speed, shift_lines, spindle_lines, standing_of, traced, turn_lines}
 use Rattle.trace_list.specs.TraceText.{TraceLine, Shift, Spindle, Moved, Wait, Met, Raised, Ended}
 
 -- the waits of a path and of the other one
@@ -91,12 +93,12 @@ waits blocks path code = option_map (λ c. open_wait (blocks.line path.place) c)
 
 -- the line at which the other path stands
 abbrev other_line : Path → Standing → ℕ
-other_line One s = s.two
-other_line Two s = s.one
+other_line One s = s.lines.two
+other_line Two s = s.lines.one
 
 met_on : (path : Path) (met code there : ℕ) (before : Standing) (other_line_is : ℕ) (rest : List TraceLine) → code ≡ there → other_line path before ≡ other_line_is
     → PairedFor path None None (met + 1) rest
-    → PairedFor path None (Some (open_wait other_line_is there)) met (Wait path (line_here path before) code ∷ Met (met + 1) code before.one before.two ∷ rest)
+    → PairedFor path None (Some (open_wait other_line_is there)) met (Wait path (of_path before.lines path) code ∷ Met (met + 1) code before.lines.one before.lines.two ∷ rest)
 met_on One met code there before line rest same is p =
     (refl, (refl, ap (λ c. Some (open_wait line c)) (sym same) ∙ ap (λ n. Some (open_wait n code)) (sym is), refl, p))
 met_on Two met code there before line rest same is p =
@@ -108,9 +110,10 @@ After blocks other path met rest r =
     PairedFor path (waits blocks r.machine.first.path r.machine.first.waiting) (waits other r.machine.second.path r.machine.second.waiting)
     (met_after met r.turn) rest
 
--- A turn of the path whose part is the first, by what its block comes to: what is in order after it makes its own lines be in order.
+-- A turn of the path whose part is the first, by what its block comes to: what is in order after it
+-- makes its own lines be in order.
 module _ (blocks other : Blocks) (path : Path) (met : ℕ) (m : MachineView) (before : Standing) (after : Look) (rest : List TraceLine)
-    (here : line_here path before ≡ blocks.line m.first.path.place) (there : other_line path before ≡ other.line m.second.path.place)
+    (here : of_path before.lines path ≡ blocks.line m.first.path.place) (there : other_line path before ≡ other.line m.second.path.place)
     (none : m.first.waiting ≡ None) where
   -- the path does not wait after a block
   goes : (at : PathView) (theirs : Option OpenWait) (n : ℕ) → PairedFor path (waits blocks at m.first.waiting) theirs n rest → PairedFor path None theirs n rest
@@ -170,7 +173,7 @@ awake_by m None false None rest kind is makes = record { none = is; same = refl 
 
 -- a record of the path whose part is the first
 step_on : (blocks other : Blocks) (path : Path) (kind : EntryKind) (stamps : List ℕ) (met : ℕ) (m : MachineView) (before : Standing) (after : Look) (rest : List TraceLine)
-    → line_here path before ≡ blocks.line m.first.path.place → other_line path before ≡ other.line m.second.path.place → IsStep blocks path m kind stamps
+    → of_path before.lines path ≡ blocks.line m.first.path.place → other_line path before ≡ other.line m.second.path.place → IsStep blocks path m kind stamps
     → After blocks other path met rest (own_turn blocks path (with_reads blocks stamps m))
     → PairedFor path (waits blocks m.first.path m.first.waiting) (waits other m.second.path m.second.waiting) met
     (turn_lines path met before after (own_turn blocks path (with_reads blocks stamps m)).turn ++ rest)

@@ -17,8 +17,9 @@ abbrev pub Goes : Path → Option OpenWait → Option OpenWait → Type 0
 Goes One one two = one ≡ None
 Goes Two one two = two ≡ None
 
--- The lines are in order, after so many meetings and with these waits open. A path that waits has no line before both paths meet. A
--- meeting closes an open wait of each path: it has their code, their lines, and the next number.
+-- The lines are in order, after so many meetings and with these waits open. A path that waits has
+-- no line before both paths meet. A meeting closes an open wait of each path: it has their code,
+-- their lines, and the next number.
 abbrev pub ArePaired : Option OpenWait → Option OpenWait → ℕ → List TraceLine → Type 0
 ArePaired one two met [] = Unit {0}
 ArePaired one two met (At path at ∷ rest) = Goes path one two × ArePaired one two met rest

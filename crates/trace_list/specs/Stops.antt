@@ -1,10 +1,10 @@
 -- The waits and the end of a path in a trace, beside the labels of its tape.
 use Rattle.std.specs.Prelude.{ℕ, if◌then◌else◌, List, [], ◌∷◌}
 use Rattle.std.specs.List.{flat_map}
+use Rattle.nc_number.specs.Path.{is_same}
 use Rattle.nc_number.specs.declared.path.Path.{Path}
 use Rattle.block_order.specs.declared.label.Label.{Label}
 use Rattle.block_order.specs.declared.label.Label.TheVariants as label
-use Rattle.two_path.specs.Histories.{is_same}
 use Rattle.trace_list.specs.TraceText.{TraceLine, At, Home, Shift, Spindle, Moved, Wait, Met, Raised, Ended}
 
 -- the label of a line, if it is a wait or the end of this path
@@ -17,8 +17,8 @@ stop_of path other = []
 abbrev pub stops_of : Path → List TraceLine → List Label
 stops_of path lines = flat_map (stop_of path) lines
 
--- With these labels ahead a path comes to these stops: they are the next labels, in their order. Before an M99 of the main program
--- the list of all its labels begins anew.
+-- With these labels ahead a path comes to these stops: they are the next labels, in their order.
+-- Before an M99 of the main program the list of all its labels begins anew.
 pub data Follows (all : List Label) : List Label → List Label → Type 0 where
   none : (ahead : List Label) → Follows all ahead []
   next : (stop : Label) (ahead stops : List Label) → Follows all ahead stops → Follows all (stop ∷ ahead) (stop ∷ stops)

@@ -3,6 +3,7 @@ use Rattle.std.specs.Prelude.{ℕ, ◌+◌, ◌==◌, ◌&&◌, ◌||◌, Bool, 
 use Rattle.std.specs.List.{list_any}
 use Rattle.std.specs.Ordering.{int_eq}
 use Rattle.nc_number.specs.declared.path.Path.{Path}
+use Rattle.nc_number.specs.Both.{of_path}
 use Rattle.nc_number.specs.declared.path.Path.TheVariants.{One, Two}
 use Rattle.nc_number.specs.declared.point.Point.{Point}
 use Rattle.nc_moves.specs.declared.motion.Move.{Move}
@@ -38,12 +39,7 @@ look_of path = record { shift = shift_now path; surface = path.modal.surface }
 
 -- and before a record of this path
 abbrev pub standing_of : Tapes → Path → MachineView → Standing
-standing_of tapes path m = record { one = line_of tapes One m; two = line_of tapes Two m; look = look_of (path_in path m) }
-
--- the line at which a path stands
-abbrev pub line_here : Path → Standing → ℕ
-line_here One standing = standing.one
-line_here Two standing = standing.two
+standing_of tapes path m = record { lines = record { one = line_of tapes One m; two = line_of tapes Two m }; look = look_of (path_in path m) }
 
 abbrev pub is_same_point : Point → Point → Bool
 is_same_point a b = int_eq a.x b.x && int_eq a.z b.z
@@ -61,7 +57,8 @@ is_speed other = false
 abbrev pub says_speed : List Move → Bool
 says_speed moves = list_any is_speed moves
 
--- the shift, if a block changed it; and the way of the spindle, if a block changed it without a speed
+-- the shift, if a block changed it; and the way of the spindle, if a block changed it without a
+-- speed
 abbrev pub shift_lines : Path → ℕ → Point → Point → List TraceLine
 shift_lines path line before after = if is_same_point before after then [] else Shift path line after ∷ []
 
@@ -83,9 +80,9 @@ block_lines path moves before after =
 abbrev pub turn_lines : Path → ℕ → Standing → Look → Turn → List TraceLine
 turn_lines path met before after (turn.Read variable stamp) = []
 turn_lines path met before after (turn.Did moves) = block_lines path moves before.look after
-turn_lines path met before after (turn.Arrived code) = Wait path (line_here path before) code ∷ []
+turn_lines path met before after (turn.Arrived code) = Wait path (of_path before.lines path) code ∷ []
 turn_lines path met before after (turn.Met code) =
-    Wait path (line_here path before) code ∷ Met (met + 1) code before.one before.two ∷ []
+    Wait path (of_path before.lines path) code ∷ Met (met + 1) code before.lines.one before.lines.two ∷ []
 turn_lines path met before after (turn.Ended moves) = block_lines path moves before.look after ++ Ended path moves.line ∷ []
 turn_lines path met before after (turn.Waiting code) = []
 turn_lines path met before after turn.Finished = []

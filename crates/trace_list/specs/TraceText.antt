@@ -6,7 +6,7 @@ use Rattle.nc_number.specs.declared.point.Point.{Point}
 use Rattle.nc_number.specs.Path.{number_of}
 use Rattle.nc_moves.specs.declared.alarm.Alarm.{Alarm}
 use Rattle.nc_outside.specs.declared.lined_move.LinedMove.{LinedMove}
-use Rattle.move_text.specs.Pieces.{code_text, point_text}
+use Rattle.text_pieces.specs.Pieces.{code_text, numbered, point_text}
 use Rattle.move_list.specs.EndText.{cause_text}
 use Rattle.move_list.specs.Report.{lined_text}
 
@@ -20,7 +20,8 @@ pub data TraceLine : Type 0 where
   -- whether the spindle of a path keeps a surface speed, from this line on
   Spindle : (path : Path) (line : ℕ) (surface : Bool) → TraceLine
   Moved : (path : Path) (made : LinedMove) → TraceLine
-  -- a path comes to its wait; both paths meet at their waits, for the first, second .. time, and go on
+  -- a path comes to its wait; both paths meet at their waits, for the first, second .. time, and go
+  -- on
   Wait : (path : Path) (line : ℕ) (code : ℕ) → TraceLine
   Met : (number : ℕ) (code : ℕ) (one : ℕ) (two : ℕ) → TraceLine
   Raised : (alarm : Alarm) → TraceLine
@@ -41,9 +42,7 @@ point_line path line word at = event_text path line ++ word ++ point_text at ++ 
 unfoldable pub met_text : ℕ → ℕ → List ℕ
 met_text number code = codes "met " ++ decimal number ++ codes " M" ++ code_text code
 
-unfoldable pub numbered : List ℕ → ℕ → List ℕ
-numbered word line = word ++ decimal line
-
+-- the lines of both waits of a meeting
 unfoldable pub waits_text : ℕ → ℕ → List ℕ
 waits_text one two = numbered (codes " path 1 line ") one ++ numbered (codes " path 2 line ") two ++ codes "\n"
 

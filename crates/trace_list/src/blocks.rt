@@ -1,8 +1,10 @@
 //! The lines of a record into a sink.
 ghost use Rattle.std.specs.Prelude.{◌≡◌, ◌+◌, ◌≤◌, [], ◌∷◌, ◌++◌};
+ghost use Rattle.nc_number.specs.declared.limits.TheConstants.{MOST_RECORDS};
+ghost use Rattle.nc_number.specs.Both.{of_path};
 ghost use Rattle.move_text.specs.MoveText.{line_text};
 ghost use Rattle.nc_verify.specs.Printed.{IsPut};
-ghost use Rattle.trace_list.specs.Trace.{block_lines, line_here, met_after, moved_lines, says_speed, shift_lines, spindle_lines, turn_lines};
+ghost use Rattle.trace_list.specs.Trace.{block_lines, met_after, moved_lines, says_speed, shift_lines, spindle_lines, turn_lines};
 ghost use Rattle.trace_list.specs.TraceText.{lines_text, path_text, trace_line_text};
 ghost use Rattle.trace_list.specs.TraceText as said;
 
@@ -10,22 +12,13 @@ use crate::lines::{
     alarm_line, ended_line, met_line, path_front, shift_line, spindle_line, wait_line,
 };
 use crate::looking::{Look, Standing, is_same_point, is_same_way};
-use move_text::{Piece, move_line};
+use move_text::move_line;
 use nc_moves::{Alarm, Move, Moves};
-use nc_number::{Path, Point};
+use nc_number::{Both, Path, Point};
 use nc_outside::{PutFault, Sink};
+use nc_verify::put_piece;
+use text_pieces::Piece;
 use two_path::Turn;
-
-/// Puts a piece; one without a byte is not put.
-pub(crate) fn put_piece<K: Sink>(sink: &mut K, piece: &Piece) -> Result<(), PutFault>
-    ensures { IsPut (K.state sink.old) (K.state sink.new) piece.now result }
-{
-    let bytes = piece.as_slice();
-    if bytes.is_empty() {
-        return Ok(());
-    }
-    sink.put(bytes)
-}
 
 /// Puts the path of a line.
 fn put_front<K: Sink>(sink: &mut K, path: Path) -> Result<(), PutFault>
@@ -182,16 +175,10 @@ fn put_wait<K: Sink>(sink: &mut K, path: Path, line: u32, code: u16) -> Result<(
 }
 
 /// Puts that both paths meet.
-fn put_met<K: Sink>(
-    sink: &mut K,
-    number: u64,
-    code: u16,
-    one: u32,
-    two: u32,
-) -> Result<(), PutFault>
-    ensures { IsPut (K.state sink.old) (K.state sink.new) (lines_text (said.Met number code one two ∷ [])) result }
+fn put_met<K: Sink>(sink: &mut K, number: u64, code: u16, lines: Both<u32>) -> Result<(), PutFault>
+    ensures { IsPut (K.state sink.old) (K.state sink.new) (lines_text (said.Met number code lines.one lines.two ∷ [])) result }
 {
-    put_piece(sink, &met_line(number, code, one, two))
+    put_piece(sink, &met_line(number, code, lines))
 }
 
 /// Puts an alarm.
@@ -209,12 +196,12 @@ fn put_meeting<K: Sink>(
     before: &Standing,
     code: u16,
 ) -> Result<(), PutFault>
-    requires { met ≤ 4000000 }
+    requires { met ≤ MOST_RECORDS }
     ensures { IsPut (K.state sink.old) (K.state sink.new) (lines_text
-        (said.Wait path (line_here path before.now) code ∷ said.Met (met + 1) code before.now.one before.now.two ∷ [])) result }
+        (said.Wait path (of_path before.now.lines path) code ∷ said.Met (met + 1) code before.now.lines.one before.now.lines.two ∷ [])) result }
 {
     match put_wait(sink, path, before.line(path), code) {
-        Ok(()) => put_met(sink, met + 1, code, before.one, before.two),
+        Ok(()) => put_met(sink, met + 1, code, before.lines),
         Err(fault) => Err(fault),
     }
 }
@@ -228,7 +215,7 @@ pub(crate) fn put_turn<K: Sink>(
     after: &Look,
     turn: &Turn,
 ) -> Result<(), PutFault>
-    requires { met ≤ 4000000 }
+    requires { met ≤ MOST_RECORDS }
     ensures { IsPut (K.state sink.old) (K.state sink.new)
         (lines_text (turn_lines path met before.now after.now turn.now)) result }
 {
@@ -244,7 +231,7 @@ pub(crate) fn put_turn<K: Sink>(
 
 /// How many meetings there were after a turn.
 pub(crate) fn met_after(met: u64, turn: &Turn) -> u64
-    requires { met ≤ 4000000 }
+    requires { met ≤ MOST_RECORDS }
     ensures { result ≡ met_after met turn.now }
 {
     match turn {

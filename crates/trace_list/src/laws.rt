@@ -1,4 +1,5 @@
-//! What holds of every trace. Each law is the contract of a function that does nothing: who calls it has the law.
+//! What holds of every trace. Each law is the contract of a function that does nothing: who calls
+//! it has the law.
 ghost use Rattle.std.specs.Prelude.{◌≡◌, ℕ, List, None};
 ghost use Rattle.block_order.specs.Labels.{list};
 ghost use Rattle.nc_number.specs.declared.path.Path.TheVariants.{One, Two};
@@ -18,22 +19,24 @@ ghost use Rattle.trace_list.specs.Trace.{traced};
 
 use block_order::each_step_keeps_the_labels;
 
-/// The moves of a path in the trace of a history are those of the history's report, in the same order and with the
-/// same lines.
+/// The moves of a path in the trace of a history are those of the history's report, in the same
+/// order and with the same lines.
 pub fn a_trace_has_the_moves_of_the_report()
     ensures { (tapes : Tapes) (met : ℕ) (m : MachineView) (path : Path) (entries : List Entry)
         → moves_traced path (traced tapes met m entries) ≡ moves_of tapes m path entries }
 {}
 
-/// Each meeting in the trace of a legal history is of the open waits of both paths: it has their code and their lines,
-/// and the meetings are numbered from 1. A path that waits has no line before it meets the other one.
+/// Each meeting in the trace of a legal history is of the open waits of both paths: it has their
+/// code and their lines, and the meetings are numbered from 1. A path that waits has no line before
+/// it meets the other one.
 pub fn meetings_are_numbered_and_paired()
     ensures { (tapes : Tapes) (first second : PathView) (entries : List Entry) → IsLegal tapes (opening first second) entries
         → ArePaired None None 0 (traced tapes 0 (opening first second) entries) }
 {}
 
-/// The waits and the end of a path in the trace of a legal history of an accepted pair are labels of its tape, in the
-/// order of its list of labels, from the first one on. M99 of the main program begins the list anew.
+/// The waits and the end of a path in the trace of a legal history of an accepted pair are labels
+/// of its tape, in the order of its list of labels, from the first one on. M99 of the main program
+/// begins the list anew.
 pub fn the_waits_of_a_trace_are_the_labels()
     ensures { (left right : Flow) → IsPair left right → (first second : PathView)
         → AreAtStart left.order right.order first second

@@ -1,12 +1,12 @@
 //! The lines of a trace, each as a piece.
 ghost use Rattle.std.specs.Prelude.{◌≡◌, ◌+◌, ◌≤◌, [], ◌++◌, length, codes};
-ghost use Rattle.trace_list.specs.TraceText.{event_text, head_text, met_text, numbered, path_text, point_line, trace_line_text, waits_text};
+ghost use Rattle.trace_list.specs.TraceText.{event_text, head_text, met_text, path_text, point_line, trace_line_text, waits_text};
 ghost use Rattle.trace_list.specs.TraceText as said;
 
 use move_list::add_cause;
-use move_text::Piece;
 use nc_moves::Alarm;
-use nc_number::{Path, Point};
+use nc_number::{Both, Path, Point};
+use text_pieces::Piece;
 
 /// The beginning of a path's line: the path and a line of its tape.
 #[tactic(auto, unfolding(crate::specs::TraceText::event_text))]
@@ -98,36 +98,25 @@ fn met(number: u64, code: u16) -> Piece
     piece
 }
 
-/// A line after its word.
-#[tactic(auto, unfolding(crate::specs::TraceText::numbered))]
-fn add_numbered(piece: &mut Piece, word: &[u8], line: u32)
-    requires { length piece.old + length word.now + 20 ≤ 512 }
-    ensures text { piece.new ≡ piece.old ++ numbered word.now line }
-    ensures size { length piece.new ≤ length piece.old + length word.now + 20 }
-{
-    piece.add(word);
-    piece.add_number(u64::from(line));
-}
-
 /// The lines of both waits of a meeting.
 #[tactic(auto, unfolding(crate::specs::TraceText::waits_text))]
-fn add_waits(piece: &mut Piece, one: u32, two: u32)
+fn add_waits(piece: &mut Piece, lines: Both<u32>)
     requires { length piece.old + 80 ≤ 512 }
-    ensures text { piece.new ≡ piece.old ++ waits_text one two }
+    ensures text { piece.new ≡ piece.old ++ waits_text lines.one lines.two }
     ensures size { length piece.new ≤ length piece.old + 80 }
 {
-    add_numbered(piece, b" path 1 line ", one);
-    add_numbered(piece, b" path 2 line ", two);
+    piece.add_numbered(b" path 1 line ", u64::from(lines.one));
+    piece.add_numbered(b" path 2 line ", u64::from(lines.two));
     piece.add(b"\n");
 }
 
 /// The line of a meeting: its number, its code, and the lines of both waits.
 #[tactic(auto, unfolding(crate::specs::TraceText::trace_line_text))]
-pub(crate) fn met_line(number: u64, code: u16, one: u32, two: u32) -> Piece
-    ensures { result ≡ trace_line_text (said.Met number code one two) }
+pub(crate) fn met_line(number: u64, code: u16, lines: Both<u32>) -> Piece
+    ensures { result ≡ trace_line_text (said.Met number code lines.one lines.two) }
 {
     let mut piece = met(number, code);
-    add_waits(&mut piece, one, two);
+    add_waits(&mut piece, lines);
     piece
 }
 

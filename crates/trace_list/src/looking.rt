@@ -1,10 +1,11 @@
 //! What a trace looks at between two records.
 ghost use Rattle.std.specs.Prelude.{◌≡◌};
+ghost use Rattle.nc_number.specs.Both.{of_path};
 ghost use Rattle.two_path.specs.Turns.{tapes_of};
-ghost use Rattle.trace_list.specs.Trace.{is_same_point, is_same_way, line_here, look_of, standing_of};
+ghost use Rattle.trace_list.specs.Trace.{is_same_point, is_same_way, look_of, standing_of};
 ghost use Rattle.path_state.specs.Looks.{shift_now};
 
-use nc_number::{Path, Point};
+use nc_number::{Both, Path, Point};
 use path_state::PathState;
 use tape_flow::Flow;
 use two_path::Machine;
@@ -19,12 +20,10 @@ pub(crate) struct Look {
 }
 
 /// What a trace looks at before a record of a path.
-#[derive(Clone, Copy, Debug, PartialEq, Eq)]
+#[derive(Clone, Copy)]
 pub(crate) struct Standing {
-    /// The line of its tape at which path 1 stands.
-    pub(crate) one: u32,
-    /// The line of its tape at which path 2 stands.
-    pub(crate) two: u32,
+    /// The line of its tape at which each path stands.
+    pub(crate) lines: Both<u32>,
     /// What is in force for the path of the record.
     pub(crate) look: Look,
 }
@@ -32,12 +31,9 @@ pub(crate) struct Standing {
 impl Standing {
     /// The line at which the path stands.
     pub(crate) fn line(&self, path: Path) -> u32
-        ensures { result ≡ line_here path self.now }
+        ensures { result ≡ of_path self.now.lines path }
     {
-        match path {
-            Path::One => self.one,
-            Path::Two => self.two,
-        }
+        *self.lines.of(path)
     }
 }
 
@@ -71,8 +67,10 @@ pub(crate) fn standing_of(machine: &Machine, left: &Flow, right: &Flow, path: Pa
     ensures { result ≡ standing_of (tapes_of left.now right.now) path machine.now.machine }
 {
     Standing {
-        one: machine.path(Path::One).line(left),
-        two: machine.path(Path::Two).line(right),
+        lines: Both {
+            one: machine.path(Path::One).line(left),
+            two: machine.path(Path::Two).line(right),
+        },
         look: look_of(machine.path(path)),
     }
 }

@@ -1,5 +1,6 @@
 //! The trace of a history.
 ghost use Rattle.std.specs.Prelude.{◌≡◌, ◌≤◌, ◌<◌, [], ◌∷◌, ◌++◌, length, OnOk};
+ghost use Rattle.nc_number.specs.declared.limits.TheConstants.{MOST_RECORDS};
 ghost use Rattle.nc_number.specs.declared.path.Path.TheVariants as Path;
 ghost use Rattle.nc_verify.specs.Printed.{IsPut};
 ghost use Rattle.path_state.specs.Looks.{shift_now};
@@ -15,14 +16,14 @@ ghost use Rattle.trace_list.specs.Trace.{begin_lines, lines_of, met_after, trace
 ghost use Rattle.trace_list.specs.TraceText.{head_text, lines_text};
 ghost use Rattle.trace_list.specs.TraceText as said;
 
-use crate::blocks::{met_after, put_piece, put_turn};
+use crate::blocks::{met_after, put_turn};
 use crate::lines::{at_line, head_line, home_line, shift_line};
 use crate::looking::{look_of, standing_of};
 use cell_settings::Settings;
 use move_list::{Reason, end_lines};
-use nc_number::{Path, Point};
+use nc_number::{Both, Path, Point};
 use nc_outside::{PutFault, Sink};
-use nc_verify::Verified;
+use nc_verify::{Verified, put_piece};
 use path_state::PathState;
 use run_records::{Entry, EntryList};
 use std::alloc::Global;
@@ -34,6 +35,17 @@ fn home_of(settings: &Settings, path: Path) -> Point
     ensures { result ≡ point_of path settings.now.home }
 {
     settings.home[path.index()]
+}
+
+/// The reference position of each path.
+fn homes_of(settings: &Settings) -> Both<Point>
+    ensures one { result.one ≡ point_of Path.One settings.now.home }
+    ensures two { result.two ≡ point_of Path.Two settings.now.home }
+{
+    Both {
+        one: home_of(settings, Path::One),
+        two: home_of(settings, Path::Two),
+    }
 }
 
 /// Puts where the turret of a path begins.
@@ -100,17 +112,12 @@ fn put_second<K: Sink>(sink: &mut K, machine: &Machine, home: Point) -> Result<(
 }
 
 /// Puts how both paths begin.
-fn put_paths<K: Sink>(
-    sink: &mut K,
-    machine: &Machine,
-    one: Point,
-    two: Point,
-) -> Result<(), PutFault>
-    ensures { IsPut (K.state sink.old) (K.state sink.new) (lines_text (begin_lines Path.One one machine.now.machine.first.path
-        ++ begin_lines Path.Two two machine.now.machine.second.path)) result }
+fn put_paths<K: Sink>(sink: &mut K, machine: &Machine, homes: Both<Point>) -> Result<(), PutFault>
+    ensures { IsPut (K.state sink.old) (K.state sink.new) (lines_text (begin_lines Path.One homes.one machine.now.machine.first.path
+        ++ begin_lines Path.Two homes.two machine.now.machine.second.path)) result }
 {
-    match put_first(sink, machine, one) {
-        Ok(()) => put_second(sink, machine, two),
+    match put_first(sink, machine, homes.one) {
+        Ok(()) => put_second(sink, machine, homes.two),
         Err(fault) => Err(fault),
     }
 }
@@ -123,17 +130,12 @@ fn put_head<K: Sink>(sink: &mut K) -> Result<(), PutFault>
 }
 
 /// Puts the first line, and how both paths begin.
-fn put_start<K: Sink>(
-    sink: &mut K,
-    machine: &Machine,
-    one: Point,
-    two: Point,
-) -> Result<(), PutFault>
-    ensures { IsPut (K.state sink.old) (K.state sink.new) (head_text ++ lines_text (begin_lines Path.One one machine.now.machine.first.path
-        ++ begin_lines Path.Two two machine.now.machine.second.path)) result }
+fn put_start<K: Sink>(sink: &mut K, machine: &Machine, homes: Both<Point>) -> Result<(), PutFault>
+    ensures { IsPut (K.state sink.old) (K.state sink.new) (head_text ++ lines_text (begin_lines Path.One homes.one machine.now.machine.first.path
+        ++ begin_lines Path.Two homes.two machine.now.machine.second.path)) result }
 {
     match put_head(sink) {
-        Ok(()) => put_paths(sink, machine, one, two),
+        Ok(()) => put_paths(sink, machine, homes),
         Err(fault) => Err(fault),
     }
 }
@@ -149,7 +151,7 @@ fn put_last<K: Sink>(sink: &mut K, count: u64, reason: &Reason) -> Result<(), Pu
 fn done_again(machine: &mut Machine, left: &Flow, right: &Flow, entry: &Entry) -> Turn
     requires legal { IsNext (tapes_of left.now right.now) machine.old.machine entry.now }
     requires room { 0 < machine.old.room }
-    requires few { machine.old.machine.count ≤ 4000000 }
+    requires few { machine.old.machine.count ≤ MOST_RECORDS }
     requires no_reads { without_reads machine.old.machine ≡ machine.old.machine }
     requires waits { AreAtTheirWaits left.now.order right.now.order machine.old.machine }
     ensures done { IsDoneAgain (tapes_of left.now right.now) entry.now machine.old.machine machine.new.machine result }
@@ -170,8 +172,8 @@ fn put_done<K: Sink>(
 ) -> Result<(), PutFault>
     requires legal { IsNext (tapes_of left.now right.now) machine.old.machine entry.now }
     requires room { 0 < machine.old.room }
-    requires few { machine.old.machine.count ≤ 4000000 }
-    requires few_met { met.old ≤ 4000000 }
+    requires few { machine.old.machine.count ≤ MOST_RECORDS }
+    requires few_met { met.old ≤ MOST_RECORDS }
     requires no_reads { without_reads machine.old.machine ≡ machine.old.machine }
     requires waits { AreAtTheirWaits left.now.order right.now.order machine.old.machine }
     ensures put { IsPut (K.state sink.old) (K.state sink.new)
@@ -199,8 +201,8 @@ fn put_again<K: Sink>(
     entry: &Entry,
 ) -> Result<(), PutFault>
     requires legal { IsNext (tapes_of left.now right.now) machine.old.machine entry.now }
-    requires few { machine.old.machine.count ≤ 4000000 }
-    requires few_met { met.old ≤ 4000000 }
+    requires few { machine.old.machine.count ≤ MOST_RECORDS }
+    requires few_met { met.old ≤ MOST_RECORDS }
     requires no_reads { without_reads machine.old.machine ≡ machine.old.machine }
     requires waits { AreAtTheirWaits left.now.order right.now.order machine.old.machine }
     ensures put { IsPut (K.state sink.old) (K.state sink.new)
@@ -229,16 +231,15 @@ fn put_from<K: Sink>(
     requires begins { machine.machine ≡ machine_at_start left.now right.now settings.now }
     requires legal { IsLegal (tapes_of left.now right.now)
         (machine_at_start left.now right.now settings.now) entries.now.items }
-    requires few { length entries.now.items ≤ 4000000 }
+    requires few { length entries.now.items ≤ MOST_RECORDS }
     ensures { IsPut (K.state sink.old) (K.state sink.new) (trace_text (tapes_of left.now right.now)
         (machine_at_start left.now right.now settings.now) entries.now.items reason.now) result }
 {
     histories_are_runs();
     let mut machine = machine;
     let mut met = 0u64;
-    let one = home_of(settings, Path::One);
-    let two = home_of(settings, Path::Two);
-    put_start(sink, &machine, one, two)?;
+    let homes = homes_of(settings);
+    put_start(sink, &machine, homes)?;
     for index in 0..entries.len() {
         let entry = entries.get(index);
         put_again(sink, &mut machine, &mut met, left, right, &entry)?;
@@ -258,7 +259,7 @@ fn put_trace<K: Sink>(
 ) -> Result<(), PutFault>
     requires legal { IsLegal (tapes_of left.now right.now)
         (machine_at_start left.now right.now settings.now) entries.now.items }
-    requires few { length entries.now.items ≤ 4000000 }
+    requires few { length entries.now.items ≤ MOST_RECORDS }
     ensures { IsPut (K.state sink.old) (K.state sink.new) (trace_text (tapes_of left.now right.now)
         (machine_at_start left.now right.now settings.now) entries.now.items reason.now) result }
 {
@@ -268,12 +269,12 @@ fn put_trace<K: Sink>(
     }
 }
 
-/// Writes the trace of a history of the pair: where both turrets begin, and then each event in its place, a line
-/// each; the number of records; and how the run ended. The records are done again once, and the text is put line
-/// by line.
+/// Writes the trace of a history of the pair: where both turrets begin, and then each event in its
+/// place, a line each; the number of records; and how the run ended. The records are done again
+/// once, and the text is put line by line.
 ///
-/// It asks for a legal history of at most 4,000,000 records. Errors: those of the sink, which then holds a part of
-/// the text, from its start; and out of memory.
+/// It asks for a legal history of at most 4,000,000 records. Errors: those of the sink, which then
+/// holds a part of the text, from its start; and out of memory.
 pub fn write_trace<K: Sink>(
     alloc: Global,
     verified: &Verified,
@@ -283,7 +284,7 @@ pub fn write_trace<K: Sink>(
 ) -> Result<(), PutFault>
     requires legal { IsLegal (tapes_of verified.now.left verified.now.right)
         (machine_at_start verified.now.left verified.now.right verified.now.settings) entries.now.items }
-    requires few { length entries.now.items ≤ 4000000 }
+    requires few { length entries.now.items ≤ MOST_RECORDS }
     ensures { IsPut (K.state sink.old) (K.state sink.new) (trace_text (tapes_of verified.now.left verified.now.right)
         (machine_at_start verified.now.left verified.now.right verified.now.settings) entries.now.items reason) result }
 {

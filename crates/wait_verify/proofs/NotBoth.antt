@@ -17,7 +17,8 @@ use Rattle.label_list.specs.Lists.{path_labels}
 use Rattle.nc_verify.specs.declared.refusal.Refusal.{Refusal}
 use Rattle.nc_verify.specs.Verdict.{skips_of, IsPairRefusal}
 use Rattle.nc_verify.specs.Verdict.IsPairRefusal.{one, two, differ}
-use Rattle.nc_verify.proofs.NotBoth.{one_cell, one_tape, same_label}
+use Rattle.nc_verify.proofs.NotBoth.{one_cell, one_tape, not_both_pair}
+use Rattle.nc_verify.proofs.SomeAnswer.{ByLists}
 use Rattle.open_order.specs.declared.premises.Premises.{Premises}
 use Rattle.wait_verify.specs.Asked.{Asked, opened}
 use Rattle.open_order.specs.Contours.{contour_fault}
@@ -71,16 +72,6 @@ not_both_tape premises skips path text programs own told x (tape_reading fault r
 not_both_tape premises skips path text programs own told x (tape_order other line number reads refused is) =
     let same : programs ≡ other = one_tape programs other (tape_of skips (opened text)) x.reads reads in
     not_both_order premises other own line number (subst (λ t. IsOrdered premises t own) same x.ordered) refused
-
-not_both_pair : (l r : List ControlProgram) (told : Refusal) → AgreeOnLabels l r → IsPairRefusal l r told → ⊥
-not_both_pair l r told agree (one long) = omega (arith, long.long, agree.left_few)
-not_both_pair l r told agree (two few long) = omega (arith, long.long, agree.right_few)
-not_both_pair l r told agree (differ few_l few_r fault m is) =
-    m.differ (same_label (path_labels l) (path_labels r) fault.after m.one m.two agree.same m.is_one m.is_two)
-
--- the law of lists of labels
-abbrev pub ByLists : Type 0
-ByLists = (l r : List ControlProgram) → IsUnforked l → IsUnforked r → IsAcceptedPair l r ↔ AgreeOnLabels l r
 
 pub not_both : ByLists → (asked : Asked) (judged : Judged) (told : Refusal) → AreAccepted asked judged → IsRefusalOf asked told → ⊥
 not_both lists asked judged told ok (settings s) =

@@ -21,7 +21,8 @@ use Rattle.nc_verify.specs.declared.refusal.Refusal.{Refusal}
 use Rattle.nc_verify.specs.Refusals.{at_setting, at_line, mismatch}
 use Rattle.nc_verify.specs.Verdict.{skips_of, AreRefusedSettings, IsPairRefusal}
 use Rattle.nc_verify.specs.Verdict.IsPairRefusal.{one, two, differ}
-use Rattle.nc_verify.proofs.NotBoth.{one_cell, one_tape, same_label}
+use Rattle.nc_verify.proofs.NotBoth.{one_cell, one_tape}
+use Rattle.nc_verify.proofs.OneRefusal.{one_of_settings, one_of_pair, not_both_read, not_both_settings}
 use Rattle.open_order.specs.declared.premises.Premises.{Premises}
 use Rattle.wait_verify.specs.Asked.{Asked, opened}
 use Rattle.open_order.specs.Contours.{contour_fault}
@@ -37,12 +38,6 @@ use Rattle.wait_verify.proofs.NotBoth.{one_order, no_fault, same_order, not_both
 abbrev pub OneFirst : Type 0
 OneFirst = (tape : List ControlProgram) (line other_line : ℕ) (cause other : Cause) → IsFirst tape line cause
     → IsFirst tape other_line other → (line ≡ other_line) × (cause ≡ other)
-
-one_of_settings : (text : List ℕ) (a b : Refusal) → AreRefusedSettings text a → AreRefusedSettings text b → a ≡ b
-one_of_settings text a b x y =
-    let both : ◌≡◌ {A = Result Cell ℕ} (Err x.line) (Err y.line) = sym x.refused ∙ y.refused in
-    let same : x.line ≡ y.line = cc in
-    x.is ∙ ap at_setting same ∙ sym y.is
 
 -- The tape of a path.
 
@@ -99,11 +94,6 @@ one_of_refused law premises programs line number other_line other (contour own r
     (same_some (contour_fault own' programs) (refusal line number) (refusal other_line other)
     (subst (λ o. contour_fault o programs ≡ Some (refusal line number)) same fault) fault')
 
-not_both_read : (text : List ℕ) (skips : ℕ) (programs : List Program) (fault : TextFault) → tape_of skips text ≡ Ok programs
-    → tape_of skips text ≡ Err fault → ⊥
-not_both_read text skips programs fault read refused =
-    absurd (let e : ◌≡◌ {A = Result (List Program) TextFault} (Ok programs) (Err fault) = sym read ∙ refused in cc)
-
 one_of_tape : OneFirst → (premises : Premises) (skips : ℕ) (path : Path) (text : List ℕ) (a b : Refusal)
     → IsTapeRefusal premises skips path text a → IsTapeRefusal premises skips path text b → a ≡ b
 one_of_tape law premises skips path text a b (tape_reading fault e is) (tape_reading other f own) =
@@ -120,56 +110,7 @@ one_of_tape law premises skips path text a b (tape_order programs line number re
     let at = one_of_refused law premises other line number other_line n here other_refused in
     is ∙ ap (λ k. at_line path k number) at.0 ∙ ap (λ k. at_line path other_line k) at.1 ∙ sym own
 
--- Two lists of labels.
-
-take_get : (xs : List Labelled) (n k : ℕ) → k < n → slice_get (take n xs) k ≡ slice_get xs k
-take_get xs zero k less = absurd (omega arith)
-take_get [] (suc n) k less = refl
-take_get (x ∷ xs) (suc n) zero less = refl
-take_get (x ∷ xs) (suc n) (suc k) less = take_get xs n k (omega arith)
-
--- no mismatch comes before another
-not_before : (l r : List Labelled) (f g : PairFault) → IsMismatch l r f → IsMismatch l r g → f.after < g.after → ⊥
-not_before l r f g x y less =
-    x.differ (same_label (take g.after l) (take g.after r) f.after x.one x.two y.equal
-    (take_get l g.after f.after less ∙ x.is_one) (take_get r g.after f.after less ∙ x.is_two))
-
-before_or_not : (n m : ℕ) → (n < m) ⊎ ((m < n) ⊎ (n ≡ m))
-before_or_not n m = grind arith
-
-one_label : (a b : Labelled) (o : Option Labelled) → o ≡ Some a → o ≡ Some b → a ≡ b
-one_label a b o p q = let both : ◌≡◌ {A = Option Labelled} (Some a) (Some b) = sym p ∙ q in cc
-
-one_mismatch : (l r : List Labelled) (f g : PairFault) → IsMismatch l r f → IsMismatch l r g → f ≡ g
-one_mismatch l r f g x y = elim (before_or_not f.after g.after) [
-  | inl less ↦ absurd (not_before l r f g x y less)
-  | inr (inl less) ↦ absurd (not_before l r g f y x less)
-  | inr (inr same) ↦
-      let one' : x.one ≡ y.one =
-      one_label x.one y.one (slice_get l g.after) (subst (λ k. slice_get l k ≡ Some x.one) same x.is_one) y.is_one in
-      let two' : x.two ≡ y.two =
-      one_label x.two y.two (slice_get r g.after) (subst (λ k. slice_get r k ≡ Some x.two) same x.is_two) y.is_two in
-      x.is ∙ ap (λ k. labels.mismatch k x.one.line x.two.line) same ∙ ap (λ (z : Labelled). labels.mismatch g.after z.line x.two.line) one'
-      ∙ ap (λ (z : Labelled). labels.mismatch g.after y.one.line z.line) two' ∙ sym y.is
-]
-
-one_of_pair : (l r : List ControlProgram) (a b : Refusal) → IsPairRefusal l r a → IsPairRefusal l r b → a ≡ b
-one_of_pair l r a b (one x) (one y) = x.is ∙ sym y.is
-one_of_pair l r a b (one x) (two few y) = absurd (omega (arith, x.long, few))
-one_of_pair l r a b (one x) (differ few other fault m is) = absurd (omega (arith, x.long, few))
-one_of_pair l r a b (two few x) (one y) = absurd (omega (arith, y.long, few))
-one_of_pair l r a b (two few x) (two other y) = x.is ∙ sym y.is
-one_of_pair l r a b (two few x) (differ one_few other fault m is) = absurd (omega (arith, x.long, other))
-one_of_pair l r a b (differ few other fault m is) (one y) = absurd (omega (arith, y.long, few))
-one_of_pair l r a b (differ few other fault m is) (two one_few y) = absurd (omega (arith, y.long, other))
-one_of_pair l r a b (differ few other fault m is) (differ few' other' fault' m' is') =
-    is ∙ ap mismatch (one_mismatch (path_labels l) (path_labels r) fault fault' m m') ∙ sym is'
-
 -- A pair.
-
-not_both_settings : (text : List ℕ) (cell : Cell) (a : Refusal) → AreRefusedSettings text a → settings_of text ≡ Ok cell → ⊥
-not_both_settings text cell a x read =
-    absurd (let e : ◌≡◌ {A = Result Cell ℕ} (Ok cell) (Err x.line) = sym read ∙ x.refused in cc)
 
 -- the tape of a path, under the settings of one text
 abbrev IsPathOrder : Asked → Path → List ℕ → Cell → List Program → List ControlProgram → Type 0

@@ -12,12 +12,6 @@ pub three : {T E : Type 0} (result : Result T E) (old a b c x y z : List ℕ) �
 three (Ok done) old a b c x y z first second third = two old (a ++ b) c y z (two old a b x y first second) third
 three (Err fault) old a b c x y z first second third = tt
 
--- four pieces
-pub four : {T E : Type 0} (result : Result T E) (old a b c d x y z w : List ℕ) → x ≡ old ++ a → y ≡ x ++ b → z ≡ y ++ c
-    → OnOk result (w ≡ z ++ d) → OnOk result (w ≡ old ++ (((a ++ b) ++ c) ++ d))
-four result old a b c d x y z w first second third last =
-    three result old (a ++ b) c d y z w (two old a b x y first second) third last
-
 -- after the shorter list nothing follows
 pub no_more : (left right : List Labelled) (n : ℕ) → min (length left) (length right) ≤ n
     → meetings_text (drop n left) (drop n right) ≡ []

@@ -37,7 +37,8 @@ use Rattle.block_words.specs.Words.{is_one_of}
 use Rattle.open_forms.specs.Codes.{is_macro}
 use Rattle.open_forms.specs.Words.{words_of, written}
 use Rattle.open_forms.proofs.Accepts.{IsAccepted, accepted}
-use Rattle.open_forms.proofs.AmongLetters.{fewer_computed, neither, one_among}
+use Rattle.nc_number.proofs.Bools.{neither}
+use Rattle.open_forms.proofs.AmongLetters.{fewer_computed, one_among}
 use Rattle.open_forms.proofs.ReadWords.{AreSaid, are_said, same_words_of}
 use Rattle.open_forms.proofs.TableRows.{in_each, macro_is, no_such_g, same_kind}
 use Rattle.open_forms.specs.Controls.{open_control, numbered}

@@ -4,22 +4,20 @@ use Rattle.nc_number.specs.Printed.{value_text}
 use Rattle.block_order.specs.declared.label.Label.{Label}
 use Rattle.block_order.specs.declared.label.Label.TheVariants.{Wait, End, Again, Off}
 use Rattle.label_list.specs.declared.labelled.Labelled.{Labelled}
+use Rattle.text_pieces.specs.Pieces.{numbered}
 use Rattle.open_order.specs.Trusted.{TrustView, is_nothing}
 
 -- a meeting by its code, or how the list ends
 abbrev pub label_text : Label → List ℕ
-label_text (Wait code) = codes "M" ++ decimal code
+label_text (Wait code) = numbered (codes "M") code
 label_text End = codes "end"
 label_text Again = codes "again"
 label_text Off = codes "off"
 
-abbrev pub place_text : List ℕ → ℕ → List ℕ
-place_text path line = path ++ decimal line
-
 -- a label of both paths, with the line of each
 unfoldable pub meeting_text : Labelled → Labelled → List ℕ
 meeting_text one two =
-    label_text one.label ++ place_text (codes " path 1 line ") one.line ++ place_text (codes " path 2 line ") two.line ++ codes "\n"
+    label_text one.label ++ numbered (codes " path 1 line ") one.line ++ numbered (codes " path 2 line ") two.line ++ codes "\n"
 
 -- a line for each label of both lists
 abbrev pub meetings_text : List Labelled → List Labelled → List ℕ
@@ -50,7 +48,7 @@ trust_text trust = if is_nothing trust then [] else codes "goes on" ++ codes_tex
 
 -- how often the paths meet: each label but the last is a wait
 abbrev pub head_text : List Labelled → List ℕ
-head_text left = codes "waits " ++ decimal (length left - 1) ++ codes "\n"
+head_text left = numbered (codes "waits ") (length left - 1) ++ codes "\n"
 
 -- the text of an accepted pair
 unfoldable pub waits_text : List Labelled → List Labelled → TrustView → List ℕ

@@ -61,7 +61,8 @@ pub record AreAccepted (asked : Asked) (judged : Judged) : Type 0 where
   pub orders : AreOrders asked judged
   pub pair : IsAcceptedPair judged.left judged.right
 
--- The refusal of a pair: of the settings; else of path 1's tape; else of path 2's; else of the two orders as a pair.
+-- The refusal of a pair: of the settings; else of path 1's tape; else of path 2's; else of the two
+-- orders as a pair.
 pub data IsRefusalOf (asked : Asked) (refusal : Refusal) : Type 0 where
   settings : AreRefusedSettings asked.texts.settings refusal → IsRefusalOf asked refusal
   left : (cell : Cell) → settings_of asked.texts.settings ≡ Ok cell
@@ -76,7 +77,8 @@ abbrev pub trust_of : Asked → Judged → TrustView
 trust_of asked judged =
     with_tape (premises_of asked judged.cell) (with_tape (premises_of asked judged.cell) no_trust judged.left_tape) judged.right_tape
 
--- what is told of an accepted pair: the labels of both paths with their lines, and what was taken on trust
+-- what is told of an accepted pair: the labels of both paths with their lines, and what was taken
+-- on trust
 pub record IsTold (asked : Asked) (judged : Judged) (left right : List Labelled) (trust : TrustView) : Type 0 where
   pub accepted : AreAccepted asked judged
   pub left_are : left ≡ path_labels judged.left

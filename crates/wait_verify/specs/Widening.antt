@@ -30,7 +30,8 @@ pub record ArePlain (texts : Texts) (cell : Cell) : Type 0 where
   pub left : IsPlainText (dialect_in cell) (skips_of One cell) texts.left
   pub right : IsPlainText (dialect_in cell) (skips_of Two cell) texts.right
 
--- the pair is accepted for its waits, with the same orders of blocks, and so with the same lists of labels
+-- the pair is accepted for its waits, with the same orders of blocks, and so with the same lists of
+-- labels
 pub record IsWidened (texts : Texts) (cell : Cell) (left right : List ProgramForm) : Type 0 where
   pub judged : Judged
   pub left_same : judged.left ≡ controls left

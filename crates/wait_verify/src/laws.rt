@@ -17,11 +17,11 @@ use label_list::a_pair_is_accepted_by_its_lists;
 use open_forms::{the_statements_of_a_tape_are_clean, what_reads_in_full_leads_where_it_said};
 use pair_order::no_pair_waits_in_vain;
 
-/// In an accepted pair no path waits in vain: wherever the orders of their blocks lead, two waits at which
-/// both paths stand are of one code, and no path waits for one that has ended.
+/// In an accepted pair no path waits in vain: wherever the orders of their blocks lead, two waits
+/// at which both paths stand are of one code, and no path waits for one that has ended.
 ///
-/// Of the machine only this is assumed: a path that has run a block stands where the control of the block
-/// lets it.
+/// Of the machine only this is assumed: a path that has run a block stands where the control of the
+/// block lets it.
 pub fn accepted_pairs_do_not_wait_in_vain()
     ensures { (asked : Asked) (judged : Judged) → AreAccepted asked judged → IsNeverStuck judged.left judged.right }
 {
@@ -36,8 +36,8 @@ pub fn accepted_pairs_are_not_refused()
     a_pair_is_accepted_by_its_lists();
 }
 
-/// A pair has at most one refusal: one number, one path, one line of it, and for labels that differ one line
-/// of the other path and one count of equal labels before.
+/// A pair has at most one refusal: one number, one path, one line of it, and for labels that differ
+/// one line of the other path and one count of equal labels before.
 pub fn pairs_have_one_refusal()
     ensures { (asked : Asked) (refusal other : Refusal) → IsRefusalOf asked refusal → IsRefusalOf asked other
         → refusal ≡ other }
@@ -45,7 +45,8 @@ pub fn pairs_have_one_refusal()
     a_tape_has_one_first_fault();
 }
 
-/// No pair is neither accepted nor refused: with the two laws above, each pair has exactly one answer.
+/// No pair is neither accepted nor refused: with the two laws above, each pair has exactly one
+/// answer.
 pub fn no_pair_is_without_an_answer()
     ensures { (asked : Asked) → CantBothFail ((judged : Judged) × AreAccepted asked judged)
         ((refusal : Refusal) × IsRefusalOf asked refusal) }
@@ -55,10 +56,11 @@ pub fn no_pair_is_without_an_answer()
     a_pair_is_accepted_by_its_lists();
 }
 
-/// Every pair that the verdict on a run accepts is accepted for its waits, with the same lists of labels.
+/// Every pair that the verdict on a run accepts is accepted for its waits, with the same lists of
+/// labels.
 ///
-/// It speaks of texts without a comma, whose blocks have no M96, M97 or M198 but as a wait or an argument: these
-/// three are plain codes of a run, and refused here.
+/// It speaks of texts without a comma, whose blocks have no M96, M97 or M198 but as a wait or an
+/// argument: these three are plain codes of a run, and refused here.
 pub fn what_a_run_accepts_is_accepted()
     ensures { (texts : Texts) (cell : Cell) (left right : List ProgramForm) → ArePlain texts cell
         → run.AreAccepted texts cell left right → IsWidened texts cell left right }

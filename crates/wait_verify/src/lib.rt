@@ -1,16 +1,15 @@
 //! Whether two tapes wait for each other in one order, read for their waits alone.
 //!
-//! Each block is read for what it does to the order of blocks, and goes on to the next one if it says
-//! nothing of that. So a pair is judged also if the run of it would refuse its codes. [`verdict`] answers
-//! the meetings of both paths and what was taken on trust, or the one refusal of the pair; [`push_waits`]
-//! is the text of an accepted pair.
+//! Each block is read for what it does to the order of blocks, and goes on to the next one if it
+//! says nothing of that. So a pair is judged also if the run of it would refuse its codes.
+//! [`verdict`] answers the meetings of both paths and what was taken on trust, or the one refusal
+//! of the pair; [`push_waits`] is the text of an accepted pair.
 #![tactic(auto)]
 
 mod laws;
 mod opening;
 mod pair;
 mod printing;
-mod refusal;
 mod tape;
 mod verifying;
 

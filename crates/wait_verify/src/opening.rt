@@ -12,8 +12,8 @@ fn without_comma(byte: u8) -> u8
     if byte == b',' { b' ' } else { byte }
 }
 
-/// The text of a tape with a blank for each comma: a chamfer or a corner is written `,C1.` or `,R1.`, and
-/// the reader of tapes knows no comma. No line moves.
+/// The text of a tape with a blank for each comma: a chamfer or a corner is written `,C1.` or
+/// `,R1.`, and the reader of tapes knows no comma. No line moves.
 pub(crate) fn opened(alloc: Global, text: &[u8]) -> Result<Vec<u8>, NoMemory>
     ensures { IfOk result (λ bytes. bytes.items ≡ opened text.now) }
 {

@@ -1,60 +1,68 @@
 //! The text of an accepted pair.
-ghost use Rattle.std.specs.Prelude.{◌≡◌, ◌++◌, OnOk, codes, decimal};
+ghost use Rattle.std.specs.Prelude.{◌≡◌, ◌+◌, ◌≤◌, ◌++◌, OnOk, codes, length};
 ghost use Rattle.nc_number.specs.Printed.{value_text};
+ghost use Rattle.text_pieces.specs.Pieces.{numbered};
 ghost use Rattle.open_order.specs.Basis.{seen};
-ghost use Rattle.wait_verify.specs.Printed.{label_text, place_text, meeting_text, meetings_text, geometry_text, geometries_text, numbers_text, codes_text, trust_text, head_text, waits_text};
+ghost use Rattle.wait_verify.specs.Printed.{label_text, meeting_text, meetings_text, geometry_text, geometries_text, numbers_text, codes_text, trust_text, head_text, waits_text};
 
 use crate::pair::WaitPair;
 use block_order::Label;
-use itoa::Buffer;
 use label_list::Labelled;
 use nc_number::{NoMemory, Value};
 use open_order::Trust;
 use std::collections::BTreeSet;
+use text_pieces::Piece;
 
-/// Puts bytes as they are after what a text holds.
-fn push_bytes(text: &mut Vec<u8>, piece: &[u8]) -> Result<(), NoMemory>
+/// Puts a piece after what a text holds.
+fn push_piece(text: &mut Vec<u8>, piece: &Piece) -> Result<(), NoMemory>
     ensures { OnOk result (text.new.items ≡ text.old.items ++ piece.now) }
 {
-    text.extend_from_slice(piece)?;
+    text.extend_from_slice(piece.as_slice())?;
     Ok(())
-}
-
-/// Puts a whole number in decimal digits.
-fn push_number(text: &mut Vec<u8>, number: u64) -> Result<(), NoMemory>
-    ensures { OnOk result (text.new.items ≡ text.old.items ++ decimal number) }
-{
-    let mut buffer = Buffer::new();
-    push_bytes(text, buffer.format(number).as_bytes())
 }
 
 /// Puts a number after these bytes.
 fn push_numbered(text: &mut Vec<u8>, before: &[u8], number: u64) -> Result<(), NoMemory>
-    ensures { OnOk result (text.new.items ≡ text.old.items ++ place_text before.now number) }
+    requires { length before.now ≤ 100 }
+    ensures { OnOk result (text.new.items ≡ text.old.items ++ numbered before.now number) }
 {
-    push_bytes(text, before)?;
-    push_number(text, number)
+    let mut piece = Piece::empty();
+    piece.add_numbered(before, number);
+    push_piece(text, &piece)
 }
 
-fn push_label(text: &mut Vec<u8>, label: Label) -> Result<(), NoMemory>
-    ensures { OnOk result (text.new.items ≡ text.old.items ++ label_text label) }
+/// Adds a meeting by its code, or how the list ends.
+fn add_label(piece: &mut Piece, label: Label)
+    requires { length piece.old + 21 ≤ 512 }
+    ensures text { piece.new ≡ piece.old ++ label_text label }
+    ensures size { length piece.new ≤ length piece.old + 21 }
 {
     match label {
-        Label::Wait(code) => push_numbered(text, b"M", u64::from(code)),
-        Label::End => push_bytes(text, b"end"),
-        Label::Again => push_bytes(text, b"again"),
-        Label::Off => push_bytes(text, b"off"),
+        Label::Wait(code) => piece.add_numbered(b"M", u64::from(code)),
+        Label::End => piece.add(b"end"),
+        Label::Again => piece.add(b"again"),
+        Label::Off => piece.add(b"off"),
     }
+}
+
+/// The line of a label of both paths, with the line of each.
+#[tactic(auto, unfolding(crate::specs::Printed::meeting_text))]
+fn meeting_line(one: &Labelled, two: &Labelled) -> Piece
+    ensures { result ≡ meeting_text one.now two.now }
+{
+    let mut piece = Piece::empty();
+    add_label(&mut piece, one.label);
+    piece.add_numbered(b" path 1 line ", u64::from(one.line));
+    piece.add_numbered(b" path 2 line ", u64::from(two.line));
+    piece.add(b"\n");
+    piece
 }
 
 /// Puts a label of both paths, with the line of each.
 fn push_meeting(text: &mut Vec<u8>, one: &Labelled, two: &Labelled) -> Result<(), NoMemory>
     ensures { OnOk result (text.new.items ≡ text.old.items ++ meeting_text one.now two.now) }
 {
-    push_label(text, one.label)?;
-    push_numbered(text, b" path 1 line ", u64::from(one.line))?;
-    push_numbered(text, b" path 2 line ", u64::from(two.line))?;
-    push_bytes(text, b"\n")
+    push_piece(text, &meeting_line(one, two))
 }
 
 /// Puts a line for each label of both lists.
@@ -67,34 +75,37 @@ fn push_meetings(text: &mut Vec<u8>, left: &[Labelled], right: &[Labelled]) -> R
     Ok(())
 }
 
-fn push_value(text: &mut Vec<u8>, value: Value) -> Result<(), NoMemory>
-    ensures { OnOk result (text.new.items ≡ text.old.items ++ value_text value) }
+/// A G code after a blank.
+fn code_piece(value: Value) -> Piece
+    ensures { result ≡ codes " G" ++ value_text value }
 {
-    let mut room = [0; 24];
-    let end = nc_number::text(value, &mut room);
-    push_bytes(text, &room[..end])
+    let mut piece = Piece::empty();
+    piece.add(b" G");
+    piece.add_value(value);
+    piece
 }
 
-fn push_code(text: &mut Vec<u8>, value: Value) -> Result<(), NoMemory>
-    ensures { OnOk result (text.new.items ≡ text.old.items ++ codes " G" ++ value_text value) }
+/// A G code by its millionths. None has more of them than a value may have.
+fn geometry_piece(micro: u64) -> Piece
+    ensures { result ≡ geometry_text micro }
 {
-    push_bytes(text, b" G")?;
-    push_value(text, value)
+    if micro > 99_999_999_999_999 {
+        return Piece::empty();
+    }
+    match Value::of(micro as i64) {
+        Some(value) => code_piece(value),
+        None => Piece::empty(),
+    }
 }
 
-/// Puts a G code. None has more millionths than a value may have.
+/// Puts a G code.
 fn push_geometry(text: &mut Vec<u8>, micro: u64) -> Result<(), NoMemory>
     ensures { OnOk result (text.new.items ≡ text.old.items ++ geometry_text micro) }
 {
-    if micro > 99_999_999_999_999 {
-        return Ok(());
-    }
-    match Value::of(micro as i64) {
-        Some(value) => push_code(text, value),
-        None => Ok(()),
-    }
+    push_piece(text, &geometry_piece(micro))
 }
 
+/// Puts the G codes, each after a blank.
 fn push_geometries(text: &mut Vec<u8>, numbers: &BTreeSet<u64>) -> Result<(), NoMemory>
     ensures { OnOk result (text.new.items ≡ text.old.items ++ geometries_text numbers.now.keys) }
 {
@@ -104,6 +115,7 @@ fn push_geometries(text: &mut Vec<u8>, numbers: &BTreeSet<u64>) -> Result<(), No
     Ok(())
 }
 
+/// Puts the M codes, each after a blank.
 fn push_auxiliaries(text: &mut Vec<u8>, numbers: &BTreeSet<u32>) -> Result<(), NoMemory>
     ensures { OnOk result (text.new.items ≡ text.old.items ++ numbers_text (codes " M") numbers.now.keys) }
 {
@@ -113,6 +125,7 @@ fn push_auxiliaries(text: &mut Vec<u8>, numbers: &BTreeSet<u32>) -> Result<(), N
     Ok(())
 }
 
+/// Puts the programs that the tapes lack, each after a blank.
 fn push_programs(text: &mut Vec<u8>, numbers: &BTreeSet<u16>) -> Result<(), NoMemory>
     ensures { OnOk result (text.new.items ≡ text.old.items ++ numbers_text (codes " O") numbers.now.keys) }
 {
@@ -138,27 +151,38 @@ fn push_trust(text: &mut Vec<u8>, trust: &Trust) -> Result<(), NoMemory>
     if trust.is_empty() {
         return Ok(());
     }
-    push_bytes(text, b"goes on")?;
+    text.extend_from_slice(b"goes on")?;
     push_codes(text, trust)?;
-    push_bytes(text, b"\n")
+    text.extend_from_slice(b"\n")?;
+    Ok(())
+}
+
+/// The line of how often the paths meet.
+fn head_line(left: &[Labelled]) -> Piece
+    ensures { result ≡ head_text left.now }
+{
+    let mut piece = Piece::empty();
+    piece.add_numbered(b"waits ", left.len().saturating_sub(1) as u64);
+    piece.add(b"\n");
+    piece
 }
 
 /// Puts how often the paths meet.
 fn push_head(text: &mut Vec<u8>, left: &[Labelled]) -> Result<(), NoMemory>
     ensures { OnOk result (text.new.items ≡ text.old.items ++ head_text left.now) }
 {
-    push_numbered(text, b"waits ", left.len().saturating_sub(1) as u64)?;
-    push_bytes(text, b"\n")
+    push_piece(text, &head_line(left))
 }
 
-/// Puts the text of an accepted pair after what a text holds: how often the paths meet; each meeting with its
-/// code and the line of each path; how both paths end, `end`, `again` after an M99 of the main programs, or
-/// `off` past their last blocks; and the codes and programs that were taken on trust.
+/// Puts the text of an accepted pair after what a text holds: how often the paths meet; each
+/// meeting with its code and the line of each path; how both paths end, `end`, `again` after an M99
+/// of the main programs, or `off` past their last blocks; and the codes and programs that were
+/// taken on trust.
 pub fn push_waits(text: &mut Vec<u8>, pair: &WaitPair) -> Result<(), NoMemory>
-    ensures { OnOk result (text.new.items ≡ text.old.items ++ waits_text pair.now.left pair.now.right (seen pair.now.trust)) }
+    ensures { OnOk result (text.new.items ≡ text.old.items ++ waits_text pair.now.labels.one pair.now.labels.two (seen pair.now.trust)) }
 {
-    let left = pair.left.as_slice();
+    let left = pair.labels.one.as_slice();
     push_head(text, left)?;
-    push_meetings(text, left, pair.right.as_slice())?;
+    push_meetings(text, left, pair.labels.two.as_slice())?;
     push_trust(text, &pair.trust)
 }

@@ -9,11 +9,10 @@ ghost use Rattle.open_order.specs.Exact.{IsOrdered, IsRefused};
 ghost use Rattle.wait_verify.specs.Verdict.{IsOrderOf, IsTapeRefusal};
 
 use crate::opening::opened;
-use crate::refusal::of_tape;
 use block_order::BlockOrder;
 use nc_number::{Failing, Path};
-use nc_text::{Reader, Tape, TextFault};
-use nc_verify::Refusal;
+use nc_text::{Tape, TextFault};
+use nc_verify::{Refusal, read_tape};
 use open_order::{Premises, open_order};
 use std::alloc::Global;
 
@@ -24,23 +23,12 @@ pub(crate) struct OrderedTape {
     pub(crate) order: BlockOrder,
 }
 
-/// The tape of a text, where blocks of these switches are skipped.
-fn read_bytes(alloc: Global, skips: u16, bytes: &[u8]) -> Result<Tape, Failing<TextFault>>
-    ensures { Gives (λ tape. tape) result (tape_of skips bytes.now) }
-{
-    let mut reader = Reader::new(alloc, skips)?;
-    match reader.feed(bytes) {
-        Ok(()) => reader.finish(),
-        Err(fault) => Err(fault),
-    }
-}
-
-/// The same with a blank for each comma.
+/// The tape of a text with a blank for each comma, where blocks of these switches are skipped.
 fn read_text(alloc: Global, skips: u16, text: &[u8]) -> Result<Tape, Failing<TextFault>>
     ensures { Gives (λ tape. tape) result (tape_of skips (opened text.now)) }
 {
     let bytes = opened(alloc, text)?;
-    read_bytes(alloc, skips, bytes.as_slice())
+    read_tape(alloc, skips, bytes.as_slice())
 }
 
 /// The tape of a path, or the refusal of its reading.
@@ -55,7 +43,11 @@ fn tape_of_path(
 {
     match read_text(alloc, skips, text) {
         Ok(tape) => Ok(tape),
-        Err(Failing::Fault(fault)) => Err(Failing::Fault(of_tape(path, fault.line, fault.number))),
+        Err(Failing::Fault(fault)) => Err(Failing::Fault(Refusal::at_line(
+            path,
+            fault.line,
+            fault.number,
+        ))),
         Err(Failing::NoMemory) => Err(Failing::NoMemory),
     }
 }
@@ -73,7 +65,11 @@ fn order_of_path(
 {
     match open_order(alloc, premises, tape.as_slice()) {
         Ok(order) => Ok(order),
-        Err(Failing::Fault(fault)) => Err(Failing::Fault(of_tape(path, fault.line, fault.number))),
+        Err(Failing::Fault(fault)) => Err(Failing::Fault(Refusal::at_line(
+            path,
+            fault.line,
+            fault.number,
+        ))),
         Err(Failing::NoMemory) => Err(Failing::NoMemory),
     }
 }

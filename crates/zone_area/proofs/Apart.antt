@@ -1,7 +1,8 @@
 -- What lies in clear areas lies apart.
-use Rattle.std.proofs.Common.{◌≡◌, ℕ, ◌≤◌, Bool, true, false, ◌||◌, List, ℤ, pos, neg_ℤ, ◌+ℤ◌, ◌-ℤ◌, ◌*ℤ◌, ◌≤ℤ◌, ◌<ℤ◌, refl, arith, ◌⊎◌, inl, inr, if◌then◌else◌}
+use Rattle.std.proofs.Common.{◌≡◌, ℕ, ◌≤◌, Bool, true, false, List, ℤ, pos, neg_ℤ, ◌+ℤ◌, ◌-ℤ◌, ◌*ℤ◌, ◌≤ℤ◌, ◌<ℤ◌, arith, inl, inr, if◌then◌else◌}
 use Rattle.std.specs.Prelude.{int_lt}
 use Rattle.std.proofs.lemmas.Int.{ints}
+use Rattle.nc_number.proofs.Bools.{either}
 use Rattle.nc_number.specs.declared.point.Point.{Point}
 use Rattle.nc_moves.specs.declared.motion.Move.{Move}
 use Rattle.zone_area.specs.declared.area.Area.{Area}
@@ -11,10 +12,6 @@ use Rattle.zone_area.specs.Area.{area_of, area_in_cell, is_beyond, is_clear}
 use Rattle.zone_area.proofs.Scaled.{scaled_lt, scaled_add, scaled_neg}
 use Rattle.zone_area.proofs.InArea.{all_inside}
 use Rattle.zone_area.proofs.Least.{area_holds}
-
-either : (a b : Bool) → (a || b) ≡ true → (a ≡ true) ⊎ (b ≡ true)
-either true b is = inl refl
-either false b is = inr is
 
 lt_is : (a b : ℤ) → int_lt a b ≡ true → a <ℤ b
 lt_is a b e = grind (arith, ints)

@@ -1,4 +1,4 @@
--- Squares of lengths, and areas and points with equal parts.
+-- Squares of lengths, and areas with equal parts.
 use Rattle.std.proofs.Common.{◌≡◌, ℕ, ◌+◌, max, pos, ◌-ℤ◌, ◌*ℤ◌, sym, ◌*◌, ◌≤◌, ◌∙◌, ap, refl, arith, Bool, if◌then◌else◌, ◌+ℤ◌, ℤ, unsigned_abs, to_z, of_z, w64}
 use Rattle.std.specs.Int.{int_min, int_max}
 use Rattle.std.proofs.lemmas.Int.{to_z-of_z, fits_signed_from_abs, ints}
@@ -7,6 +7,7 @@ use Rattle.nc_number.specs.declared.point.Point.{Point}
 use Rattle.zone_area.specs.declared.area.Area.{Area}
 use Rattle.nc_moves.specs.declared.motion.Centre.TheVariants.{Offset}
 use Rattle.motion_track.specs.Circle.{place_of, centre_from, square_between}
+use Rattle.motion_track.proofs.Places.{same_point}
 use Rattle.zone_area.specs.Roots.{least_root}
 use Rattle.zone_area.specs.Passing.{middle_of, mirrored}
 use Rattle.zone_area.specs.Area.{reach_of, lie_apart}
@@ -14,11 +15,6 @@ use Rattle.zone_area.specs.Range.{far_apart, far_square, far_in_cell}
 
 pub square_bound : (d : ℕ) → d ≤ far_apart → d * d ≤ far_square
 square_bound d le = let squares : d * d ≤ 700000000000000 * 700000000000000 = mul-le-mul le le in squares
-
-pub same_point : (p q : Point) → p.x ≡ q.x → p.z ≡ q.z → p ≡ q
-same_point p q x z =
-    let at : ℤ → ℤ → Point = λ a b. record { x = a; z = b } in
-    ap (λ a. at a p.z) x ∙ ap (λ b. at q.x b) z
 
 pub same_area : (a b : Area) → a.low.x ≡ b.low.x → a.low.z ≡ b.low.z → a.high.x ≡ b.high.x → a.high.z ≡ b.high.z → a ≡ b
 same_area a b lx lz hx hz =

@@ -24,7 +24,8 @@ pub record Holds (area : Area) (p : Point) : Type 0 where
   pub below : area.low.z ≤ℤ p.z
   pub above : p.z ≤ℤ area.high.z
 
--- the area holds a middle plus and minus a reach in 0.0005 mm, in which X is counted as it is and Z doubled
+-- the area holds a middle plus and minus a reach in 0.0005 mm, in which X is counted as it is and Z
+-- doubled
 pub record HoldsAround (area : Area) (middle : Point) (reach : ℕ) : Type 0 where
   pub left : area.low.x ≤ℤ (middle.x -ℤ pos reach)
   pub right : (middle.x +ℤ pos reach) ≤ℤ area.high.x

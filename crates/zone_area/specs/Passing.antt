@@ -1,5 +1,5 @@
--- The points that a move may pass. They are counted in parts of a count of 0.001 mm, d parts to a count: a law for
--- every d leaves out no point between the whole counts.
+-- The points that a move may pass. They are counted in parts of a count of 0.001 mm, d parts to a
+-- count: a law for every d leaves out no point between the whole counts.
 use Rattle.std.specs.Prelude.{◌≡◌, ℕ, ◌*◌, ◌≤◌, max, Bool, List, [], ◌∷◌, ◌⊎◌, Option, Some, None, unwrap_or, ℤ, pos, neg_ℤ, ◌+ℤ◌, ◌-ℤ◌, ◌*ℤ◌, ◌≤ℤ◌, ◌<ℤ◌, unsigned_abs, if◌then◌else◌}
 use Rattle.nc_number.specs.declared.point.Point.{Point}
 use Rattle.nc_moves.specs.declared.motion.Centre.{Centre}
@@ -24,8 +24,8 @@ abbrev pub middle_of : Point → Centre → Point
 middle_of at (Offset i k) = record { x = at.x +ℤ pos 2 *ℤ i; z = at.z +ℤ k }
 middle_of at (Radius r) = at
 
--- the square of how far it may reach, in 0.0005 mm: to the farther of its ends, as the test of an arc's end measures
--- it, or twice its radius
+-- the square of how far it may reach, in 0.0005 mm: to the farther of its ends, as the test of an
+-- arc's end measures it, or twice its radius
 abbrev pub square_of : Point → Point → Centre → ℕ
 square_of at to (Offset i k) =
     max (square_between (centre_from (place_of at) i k) (place_of at)) (square_between (centre_from (place_of at) i k) (place_of to))
@@ -35,8 +35,8 @@ square_of at to (Radius r) = (4 * unsigned_abs r) * (4 * unsigned_abs r)
 abbrev pub place_after : Point → Move → Point
 place_after at move = unwrap_or (end_of move) at
 
--- A point, which is in parts, may be passed from a place by a move that leads there round this centre, or straight,
--- or that goes nowhere.
+-- A point, which is in parts, may be passed from a place by a move that leads there round this
+-- centre, or straight, or that goes nowhere.
 abbrev pub MayPassTo : ℕ → Point → Option Point → Option Centre → Point → Type 0
 MayPassTo d at None centre q = q ≡ in_parts d at
 MayPassTo d at (Some to) None q =

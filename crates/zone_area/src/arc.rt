@@ -24,6 +24,7 @@ pub(crate) fn arc_area(at: &Point, to: &Point, centre: &Centre) -> Area
     area_around(&middle_of(at, centre), reach_of(at, to, centre))
 }
 
+/// A middle plus and minus a reach; along Z half of it, rounded outward.
 fn area_around(middle: &Point, reach: u64) -> Area
     requires middle { IsWithin far_middle middle.now }
     requires reach { reach ≤ far_reach }
@@ -44,6 +45,7 @@ fn area_around(middle: &Point, reach: u64) -> Area
     }
 }
 
+/// The middle of the circle that the arc may reach.
 fn middle_of(at: &Point, centre: &Centre) -> Point
     requires at { IsPosition at.now }
     requires centre { IsCentreWithin LONGEST centre.now }
@@ -86,6 +88,7 @@ fn square_between(a: &Point, b: &Point) -> u128
     squared(a.x.abs_diff(b.x)) + squared(2 * a.z.abs_diff(b.z))
 }
 
+/// The square of how far two points are apart along one axis.
 #[tactic(auto, using(crate::proofs::Squares::square_bound))]
 fn squared(distance: u64) -> u128
     requires { distance ≤ far_apart }

@@ -1,3 +1,4 @@
+//! Rectangles.
 ghost use Rattle.std.specs.Prelude.{◌≡◌, ◌≤◌, unsigned_abs};
 ghost use Rattle.std.specs.Int.{int_min, int_max};
 ghost use Rattle.nc_number.specs.Position.{IsPosition};

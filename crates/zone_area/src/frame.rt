@@ -1,3 +1,4 @@
+//! How the points of a path lie in the cell.
 ghost use Rattle.std.specs.Prelude.{◌≡◌, ◌≤◌, ◌+ℤ◌, unsigned_abs, if◌then◌else◌};
 ghost use Rattle.nc_number.specs.Position.{travel, IsPosition};
 ghost use Rattle.zone_area.specs.Passing.{mirrored};

@@ -1,5 +1,5 @@
-//! What holds of every area, for the crates above. Each law is the contract of a function that does nothing: who calls
-//! it has the law.
+//! What holds of every area, for the crates above. Each law is the contract of a function that does
+//! nothing: who calls it has the law.
 ghost use Rattle.std.specs.Prelude.{◌≡◌, ◌≤◌, ℕ, List, true};
 ghost use Rattle.nc_number.specs.declared.point.Point.{Point};
 ghost use Rattle.nc_moves.specs.declared.motion.Move.{Move};
@@ -8,14 +8,15 @@ ghost use Rattle.zone_area.specs.declared.frame.Frame.{Frame};
 ghost use Rattle.zone_area.specs.Passing.{MayPassSome, IsInside, AreApart, point_in_cell};
 ghost use Rattle.zone_area.specs.Area.{HoldsAll, HoldsArea, area_of, area_in_cell, is_clear};
 
-/// Each area that holds the ends of moves and the reach of their arcs holds every point that one of the moves may
-/// pass, however finely points are counted.
+/// Each area that holds the ends of moves and the reach of their arcs holds every point that one of
+/// the moves may pass, however finely points are counted.
 pub fn an_area_holds_what_may_be_passed()
     ensures { (d : ℕ) (area : Area) (at : Point) (moves : List Move) (q : Point)
         → HoldsAll area at moves → MayPassSome d at moves q → IsInside d area q }
 {}
 
-/// The area of moves holds their ends and the reach of their arcs, and lies within each other that does.
+/// The area of moves holds their ends and the reach of their arcs, and lies within each other that
+/// does.
 pub fn an_area_is_the_least()
     ensures holds { (at : Point) (moves : List Move) → HoldsAll (area_of at moves) at moves }
     ensures least { (at : Point) (moves : List Move) (other : Area) → HoldsAll other at moves
@@ -28,8 +29,8 @@ pub fn an_area_in_the_cell_holds_what_may_be_passed()
         → IsInside d (area_in_cell f (area_of at moves)) (point_in_cell d f q) }
 {}
 
-/// Where the areas of the moves of two paths are clear in the cell, any two points that they may pass there differ by
-/// more than the gap in X or in Z.
+/// Where the areas of the moves of two paths are clear in the cell, any two points that they may
+/// pass there differ by more than the gap in X or in Z.
 pub fn clear_areas_keep_apart()
     ensures { (d : ℕ) (gap : Point) (f g : Frame) (at to : Point) (left right : List Move) (p q : Point)
         → 1 ≤ d

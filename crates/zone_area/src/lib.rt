@@ -1,9 +1,10 @@
 //! The area that the moves of a path may pass, and whether two of them are clear of each other.
 //!
-//! [`Swept`] takes one move after the other. Its area is the least of whole counts that holds where the path began,
-//! where each move ends, and what each arc may reach. The layer above leans on three laws: such an area holds every
-//! point that a move may pass, however finely points are counted; it lies within each other that does; and where two
-//! areas are clear, any two points of them are more than the gap apart.
+//! [`Swept`] takes one move after the other. Its area is the least of whole counts that holds where
+//! the path began, where each move ends, and what each arc may reach. The layer above leans on
+//! three laws: such an area holds every point that a move may pass, however finely points are
+//! counted; it lies within each other that does; and where two areas are clear, any two points of
+//! them are more than the gap apart.
 #![tactic(auto)]
 
 mod arc;

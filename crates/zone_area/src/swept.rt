@@ -1,3 +1,4 @@
+//! What a path may have passed.
 ghost use Rattle.std.specs.Prelude.{◌≡◌, All, IfSome};
 ghost use Rattle.nc_number.specs.Position.{IsPosition};
 ghost use Rattle.motion_track.specs.Centre.{IsGivenWithin};
@@ -43,7 +44,8 @@ impl Swept {
         }
     }
 
-    /// The least area that holds where the path began, each end of its moves, and what its arcs may reach.
+    /// The least area that holds where the path began, each end of its moves, and what its arcs may
+    /// reach.
     pub fn area(&self) -> Area
         ensures area { result ≡ self.now.area }
         ensures near { IsNearArea result }

@@ -6,7 +6,6 @@ use Rattle.nc_number.specs.Options.{◌>>=◌}
 use Rattle.nc_number.specs.Position.{IsPosition}
 use Rattle.field_lines.specs.Field.{path_of}
 use Rattle.field_lines.specs.Length.{point_of}
-use Rattle.field_lines.specs.Line.{line_fields}
 use Rattle.zone_cell.specs.declared.entry.Entry.{Entry}
 use Rattle.zone_cell.specs.declared.entry.Entry.TheVariants as says
 
@@ -48,12 +47,6 @@ named_of name values =
 unfoldable pub fields_say : List (List ℕ) → Option Entry
 fields_say [] = Some says.Nothing
 fields_say (name ∷ values) = named_of name values
-
--- a line says what its fields say
-unfoldable pub line_says : List ℕ → Option Entry
-line_says line = do
-  fields ← line_fields line
-  fields_say fields
 
 -- the conditions of a line
 abbrev pub IsAllowed : Entry → Type 0

@@ -23,7 +23,7 @@ state_text clear = if clear then codes " clear\n" else codes " hit\n"
 
 -- the line of a zone of this number
 unfoldable pub zone_text : ℕ → Zone → List ℕ
-zone_text number zone = decimal number ++ area_text zone.left ++ area_text zone.right ++ state_text zone.clear
+zone_text number zone = decimal number ++ area_text zone.areas.one ++ area_text zone.areas.two ++ state_text zone.clear
 
 -- the lines of zones, the first of which has this number
 unfoldable pub zone_texts : ℕ → List Zone → List ℕ

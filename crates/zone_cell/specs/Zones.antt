@@ -1,53 +1,56 @@
 -- The zones that a text gives: how the paths lie in the cell, and the gap that they are to keep.
-use Rattle.std.specs.Prelude.{ℕ, true, false, List, [], ◌∷◌, Result, pos}
+use Rattle.std.specs.Prelude.{ℕ, true, false, List, [], ◌∷◌, Result}
 use Rattle.std.specs.Str.Lines.{lines}
+use Rattle.nc_number.specs.declared.both.Both.{Both}
+use Rattle.nc_number.specs.declared.path.Path.{Path}
 use Rattle.nc_number.specs.declared.path.Path.TheVariants.{One, Two}
 use Rattle.nc_number.specs.declared.point.Point.{Point}
-use Rattle.nc_number.specs.Position.{IsPosition}
-use Rattle.field_lines.specs.Line.{entries_of, first_refused, unless_refused}
+use Rattle.nc_number.specs.Position.{IsPosition, origin}
+use Rattle.field_lines.specs.Line.{line_says, entries_of, first_refused, unless_refused}
 use Rattle.zone_area.specs.declared.area.Area.{Area}
 use Rattle.zone_area.specs.declared.frame.Frame.{Frame}
 use Rattle.zone_area.specs.Area.{area_in_cell, is_clear}
 use Rattle.zone_cell.specs.declared.cell.Zone.{Zone}
 use Rattle.zone_cell.specs.declared.entry.Entry.{Entry}
 use Rattle.zone_cell.specs.declared.entry.Entry.TheVariants as says
-use Rattle.zone_cell.specs.Entry.{line_says}
+use Rattle.zone_cell.specs.Entry.{fields_say}
 
 -- the zones as contracts see them
 pub record ZonesView : Type 0 where
-  pub left : Frame
-  pub right : Frame
+  pub frames : Both Frame
   pub gap : Point
 
 -- frames and gap are no farther than positions
 pub record AreNear (zones : ZonesView) : Type 0 where
-  pub left : IsPosition zones.left.shift
-  pub right : IsPosition zones.right.shift
+  pub one : IsPosition zones.frames.one.shift
+  pub two : IsPosition zones.frames.two.shift
   pub gap : IsPosition zones.gap
-
-abbrev pub origin : Point
-origin = record { x = pos 0; z = pos 0 }
 
 abbrev pub at_origin : Frame
 at_origin = record { mirror = false; shift = origin }
 
 -- the zones of an empty text
 abbrev pub standard : ZonesView
-standard = record { left = at_origin; right = at_origin; gap = origin }
+standard = record { frames = record { one = at_origin; two = at_origin }; gap = origin }
 
-abbrev pub shifted : Frame → Point → Frame
-shifted frame to = record { mirror = frame.mirror; shift = to }
+-- the frame with another shift
+abbrev pub shifted_to : Point → Frame → Frame
+shifted_to to frame = record { mirror = frame.mirror; shift = to }
 
+-- the frame of a path that sees X from the other side
 abbrev pub facing : Frame → Frame
 facing frame = record { mirror = true; shift = frame.shift }
+
+-- the frames with that of one path changed
+abbrev pub with_frame : Both Frame → Path → (Frame → Frame) → Both Frame
+with_frame frames One change = record frames { one = change frames.one }
+with_frame frames Two change = record frames { two = change frames.two }
 
 -- one line more: a frame and a gap take the place of an earlier one, and a mirror stays
 abbrev pub with_entry : ZonesView → Entry → ZonesView
 with_entry zones says.Nothing = zones
-with_entry zones (says.Frame One to) = record zones { left = shifted zones.left to }
-with_entry zones (says.Frame Two to) = record zones { right = shifted zones.right to }
-with_entry zones (says.Mirror One) = record zones { left = facing zones.left }
-with_entry zones (says.Mirror Two) = record zones { right = facing zones.right }
+with_entry zones (says.Frame path to) = record zones { frames = with_frame zones.frames path (shifted_to to) }
+with_entry zones (says.Mirror path) = record zones { frames = with_frame zones.frames path facing }
 with_entry zones (says.Gap gap) = record zones { gap = gap }
 
 -- what all lines say together
@@ -57,12 +60,13 @@ with_entries zones (entry ∷ entries) = with_entries (with_entry zones entry) e
 
 -- the zones of a text, or the number of its first line that is not allowed
 unfoldable pub zones_of : List ℕ → Result ZonesView ℕ
-zones_of text = unless_refused (first_refused line_says 1 (lines text)) (with_entries standard (entries_of line_says (lines text)))
+zones_of text =
+    unless_refused (first_refused (line_says fields_say) 1 (lines text))
+    (with_entries standard (entries_of (line_says fields_say) (lines text)))
 
 -- the zone of two areas: as they lie in the cell, and whether they are clear
-abbrev pub zone_of_areas : ZonesView → Area → Area → Zone
-zone_of_areas zones left right = record {
-  left = area_in_cell zones.left left;
-  right = area_in_cell zones.right right;
-  clear = is_clear zones.gap (area_in_cell zones.left left) (area_in_cell zones.right right);
+abbrev pub zone_of_areas : ZonesView → Both Area → Zone
+zone_of_areas zones areas = record {
+  areas = record { one = area_in_cell zones.frames.one areas.one; two = area_in_cell zones.frames.two areas.two };
+  clear = is_clear zones.gap (area_in_cell zones.frames.one areas.one) (area_in_cell zones.frames.two areas.two);
 }

@@ -1,18 +1,18 @@
+//! How both paths lie in the cell.
 ghost use Rattle.std.specs.Prelude.{◌≡◌};
 ghost use Rattle.zone_area.specs.Range.{IsNearArea};
 ghost use Rattle.zone_cell.specs.Entry.{IsAllowed};
 ghost use Rattle.zone_cell.specs.Zones.{standard, with_entry, zone_of_areas};
 
 use crate::entry::Entry;
-use nc_number::{Path, Point};
+use nc_number::{Both, Path, Point};
 use std::marker::Model;
 use zone_area::{Area, Frame, is_clear};
 
 /// How the paths lie in the cell, and how far apart they are to stay.
 #[derive(Debug, Drop)]
 pub struct Zones {
-    left: Frame,
-    right: Frame,
+    frames: Both<Frame>,
     gap: Point,
 }
 
@@ -21,16 +21,15 @@ impl Model for Zones {
 
     ghost Value = { Zones.ZonesView };
 
-    ghost view = { λ z. record { left = z.left; right = z.right; gap = z.gap } };
+    ghost view = { λ z. record { frames = z.frames; gap = z.gap } };
 
-    ghost invariant = { λ z. Zones.AreNear (record { left = z.left; right = z.right; gap = z.gap }) };
+    ghost invariant = { λ z. Zones.AreNear (record { frames = z.frames; gap = z.gap }) };
 }
 
 /// What both paths may pass between two meetings, as it lies in the cell.
 #[derive(Clone, Copy, Debug, PartialEq, Eq)]
 pub struct Zone {
-    pub left: Area,
-    pub right: Area,
+    pub areas: Both<Area>,
     /// The areas lie more than the gap apart in X or in Z.
     pub clear: bool,
 }
@@ -46,8 +45,10 @@ impl Zones {
             shift: origin,
         };
         Zones {
-            left: frame,
-            right: frame,
+            frames: Both {
+                one: frame,
+                two: frame,
+            },
             gap: origin,
         }
     }
@@ -62,29 +63,28 @@ impl Zones {
             Entry::Frame {
                 path: Path::One,
                 to,
-            } => self.left.shift = to,
+            } => self.frames.one.shift = to,
             Entry::Frame {
                 path: Path::Two,
                 to,
-            } => self.right.shift = to,
-            Entry::Mirror(Path::One) => self.left.mirror = true,
-            Entry::Mirror(Path::Two) => self.right.mirror = true,
+            } => self.frames.two.shift = to,
+            Entry::Mirror(Path::One) => self.frames.one.mirror = true,
+            Entry::Mirror(Path::Two) => self.frames.two.mirror = true,
             Entry::Gap(gap) => self.gap = gap,
         }
     }
 
-    /// The zone of an area of path 1 and one of path 2.
-    pub fn zone(&self, left: &Area, right: &Area) -> Zone
-        requires left { IsNearArea left.now }
-        requires right { IsNearArea right.now }
-        ensures { result ≡ zone_of_areas self.now left.now right.now }
+    /// The zone of an area of each path.
+    pub fn zone(&self, areas: &Both<Area>) -> Zone
+        requires one { IsNearArea areas.now.one }
+        requires two { IsNearArea areas.now.two }
+        ensures { result ≡ zone_of_areas self.now areas.now }
     {
-        let left = self.left.in_cell(left);
-        let right = self.right.in_cell(right);
+        let one = self.frames.one.in_cell(&areas.one);
+        let two = self.frames.two.in_cell(&areas.two);
         Zone {
-            left,
-            right,
-            clear: is_clear(&self.gap, &left, &right),
+            areas: Both { one, two },
+            clear: is_clear(&self.gap, &one, &two),
         }
     }
 }

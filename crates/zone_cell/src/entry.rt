@@ -1,3 +1,4 @@
+//! A line of a text of zones, read.
 use nc_number::{Path, Point};
 
 /// What a line of a text of zones says.

@@ -3,8 +3,8 @@ ghost use Rattle.std.specs.Prelude.{◌≡◌, ◌+◌, ◌≤◌, ◌++◌, len
 ghost use Rattle.zone_cell.specs.Lines.{across_text, along_text, area_text, state_text, zone_text, head_text, end_text};
 
 use crate::cell::Zone;
-use move_text::Piece;
 use nc_number::Point;
+use text_pieces::Piece;
 use zone_area::Area;
 
 /// Adds the edges of an area along X, which are those of its corners.
@@ -63,8 +63,8 @@ pub fn zone_line(number: u64, zone: &Zone) -> Piece
 {
     let mut piece = Piece::empty();
     piece.add_number(number);
-    add_area(&mut piece, zone.left);
-    add_area(&mut piece, zone.right);
+    add_area(&mut piece, zone.areas.one);
+    add_area(&mut piece, zone.areas.two);
     add_state(&mut piece, zone.clear);
     piece
 }

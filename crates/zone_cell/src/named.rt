@@ -1,12 +1,15 @@
+//! What the fields of a line of zones say.
 ghost use Rattle.std.specs.Prelude.{◌≡◌, IfOk, IfSome};
 ghost use Rattle.field_lines.specs.Field.{texts};
-ghost use Rattle.zone_cell.specs.Entry.{is_gap, frame_of, mirror_of, gap_of, named_of, fields_say, line_says, IsAllowed};
+ghost use Rattle.field_lines.specs.Line.{line_says};
+ghost use Rattle.zone_cell.specs.Entry.{is_gap, frame_of, mirror_of, gap_of, named_of, fields_say, IsAllowed};
 
 use crate::entry::Entry;
 use field_lines::{line_fields, read_path, read_point};
 use nc_number::Point;
 use std::alloc::{AllocError, Global};
 
+/// A path, and where its origin lies in the cell.
 #[tactic(auto, unfolding(crate::specs::Entry::frame_of))]
 fn frame(values: &[&[u8]]) -> Option<Entry>
     ensures value { result ≡ frame_of (texts values.now) }
@@ -22,6 +25,7 @@ fn frame(values: &[&[u8]]) -> Option<Entry>
     }
 }
 
+/// A path that sees X from the other side.
 #[tactic(auto, unfolding(crate::specs::Entry::mirror_of))]
 fn mirror(values: &[&[u8]]) -> Option<Entry>
     ensures value { result ≡ mirror_of (texts values.now) }
@@ -40,6 +44,7 @@ fn is_gap(gap: &Point) -> bool
     gap.x >= 0 && gap.z >= 0
 }
 
+/// How far apart the paths are to stay.
 #[tactic(auto, unfolding(crate::specs::Entry::gap_of))]
 fn gap(values: &[&[u8]]) -> Option<Entry>
     ensures value { result ≡ gap_of (texts values.now) }
@@ -58,6 +63,7 @@ fn gap(values: &[&[u8]]) -> Option<Entry>
     }
 }
 
+/// What a name and its values say.
 #[tactic(auto, unfolding(crate::specs::Entry::named_of))]
 fn named(name: &[u8], values: &[&[u8]]) -> Option<Entry>
     ensures value { result ≡ named_of name.now (texts values.now) }
@@ -87,9 +93,9 @@ fn read_fields(fields: &[&[u8]]) -> Option<Entry>
 }
 
 /// What a line says, if it is allowed.
-#[tactic(auto, unfolding(crate::specs::Entry::line_says))]
+#[tactic(auto, unfolding(field_lines::specs::Line::line_says))]
 pub(crate) fn read_line(alloc: Global, line: &[u8]) -> Result<Option<Entry>, AllocError>
-    ensures value { IfOk result (λ entry. entry ≡ line_says line.now) }
+    ensures value { IfOk result (λ entry. entry ≡ line_says fields_say line.now) }
     ensures allowed { IfOk result (λ entry. IfSome entry IsAllowed) }
 {
     match line_fields(alloc, line)? {

@@ -1,3 +1,4 @@
+//! From a text to the zones of a cell.
 ghost use Rattle.std.specs.Prelude.{◌≡◌, ◌<◌, ◌^◌, length};
 ghost use Rattle.nc_number.specs.Answers.{GivesBy};
 ghost use Rattle.zone_cell.specs.Zones.{zones_of};
@@ -35,8 +36,8 @@ impl ZoneFault {
 
 /// Reads a text of zones.
 ///
-/// A line is empty, a comment that begins with `(`, or one of `frame p X.. Z..`, `mirror p` and `gap X.. Z..`. A later
-/// frame of a path and a later gap take the place of an earlier one.
+/// A line is empty, a comment that begins with `(`, or one of `frame p X.. Z..`, `mirror p` and
+/// `gap X.. Z..`. A later frame of a path and a later gap take the place of an earlier one.
 pub fn read_zones(alloc: Global, text: &[u8]) -> Result<Zones, Failing<ZoneFault>>
     requires { length text.now < 2 ^ 32 }
     // The zones that the text gives, or the first line that is not allowed, unless memory runs out.

@@ -1,6 +1,7 @@
 -- The zones that are kept while records are done again are those of the segments.
 use Rattle.std.proofs.Common.{◌≡◌, ℕ, Bool, true, false, List, [], ◌∷◌, ◌++◌, map, refl, ap, sym, ◌∙◌, append_assoc, append-nil, if◌then◌else◌}
 use Rattle.std.proofs.lemmas.List.{map-append}
+use Rattle.nc_number.specs.declared.both.Both.{Both}
 use Rattle.nc_number.specs.declared.path.Path.{Path}
 use Rattle.nc_number.specs.declared.path.Path.TheVariants.{One, Two}
 use Rattle.nc_moves.specs.declared.motion.Move.{Move}
@@ -19,7 +20,7 @@ use Rattle.zone_area.specs.Area.{SweptView, swept_at, swept_with, swept_along}
 use Rattle.zone_cell.specs.declared.cell.Zone.{Zone}
 use Rattle.zone_cell.specs.Zones.{ZonesView}
 use Rattle.zone_check.specs.Segments.{Segment, path_moves, segment_of, is_meeting, segments_from, zone_of, zones_of_history}
-use Rattle.zone_check.specs.Kept.{StandingView, KeptView, standing_at, moves_by, standing_with, zones_from}
+use Rattle.zone_check.specs.Kept.{KeptView, standing_at, moves_by, standing_with, zones_from}
 
 -- the moves of a block without its line
 what_lined : (line : ℕ) (moves : List Move) → map (λ (made : LinedMove). made.what) (map (lined_move line) moves) ≡ moves
@@ -68,8 +69,8 @@ swept_on s [] back = refl
 swept_on s (move ∷ front) back = swept_on (swept_with s move) front back
 
 -- what is kept of a segment that has begun
-abbrev standing_of : Segment → StandingView
-standing_of s = record { left = swept_along (swept_at s.left_at) s.left; right = swept_along (swept_at s.right_at) s.right }
+abbrev standing_of : Segment → Both SweptView
+standing_of s = record { one = swept_along (swept_at s.left_at) s.left; two = swept_along (swept_at s.right_at) s.right }
 
 standing_more : (tapes : Tapes) (m : MachineView) (front : List Entry) (e : Entry)
     → standing_of (segment_of tapes m (front ++ e ∷ []))
@@ -78,7 +79,7 @@ standing_more tapes m front e =
     let left = swept_at m.first.path.position in
     let right = swept_at m.second.path.position in
     let turn = turn_of_entry tapes e (fold tapes m front) in
-    let at : SweptView → SweptView → StandingView = λ a b. record { left = a; right = b } in
+    let at : SweptView → SweptView → Both SweptView = λ a b. record { one = a; two = b } in
     let one : swept_along left (path_moves tapes m One (front ++ e ∷ [])) ≡ swept_along (swept_along left (path_moves tapes m One front)) (moves_by One e.path turn)
     = ap (swept_along left) (path_more tapes m One front e) ∙ swept_on left (path_moves tapes m One front) (moves_by One e.path turn) in
     let two : swept_along right (path_moves tapes m Two (front ++ e ∷ [])) ≡ swept_along (swept_along right (path_moves tapes m Two front)) (moves_by Two e.path turn)
@@ -110,13 +111,13 @@ folded tapes zones m front done (e ∷ entries) =
     let meeting : zones_from tapes zones (behind_entry tapes e now) (record { list = done ++ zone ∷ []; standing = standing_at (behind_entry tapes e now) }) entries
     ≡ done ++ map (zone_of zones) (segment_of tapes m front ∷ segments_from tapes next [] entries)
     = ap (λ (x : MachineView). zones_from tapes zones x (record { list = done ++ zone ∷ []; standing = standing_at x }) entries) is_next
-    ∙ (ap (λ (s : StandingView). zones_from tapes zones next (record { list = done ++ zone ∷ []; standing = s }) entries) (begun tapes next)
+    ∙ (ap (λ (s : Both SweptView). zones_from tapes zones next (record { list = done ++ zone ∷ []; standing = s }) entries) (begun tapes next)
     ∙ (folded tapes zones next [] (done ++ zone ∷ []) entries
     ∙ append_assoc done (zone ∷ []) (map (zone_of zones) (segments_from tapes next [] entries)))) in
     let other : zones_from tapes zones (behind_entry tapes e now) (record { list = done; standing = standing_with (standing_of (segment_of tapes m front)) e.path turn }) entries
     ≡ done ++ map (zone_of zones) (segments_from tapes m (front ++ e ∷ []) entries)
     = ap (λ (x : MachineView). zones_from tapes zones x (record { list = done; standing = standing_with (standing_of (segment_of tapes m front)) e.path turn }) entries) is_next
-    ∙ (ap (λ (s : StandingView). zones_from tapes zones next (record { list = done; standing = s }) entries) (sym (standing_more tapes m front e))
+    ∙ (ap (λ (s : Both SweptView). zones_from tapes zones next (record { list = done; standing = s }) entries) (sym (standing_more tapes m front e))
     ∙ folded tapes zones m (front ++ e ∷ []) done entries) in
     either_way (is_meeting e) (λ k. zones_from tapes zones (behind_entry tapes e now) k entries) (λ ss. done ++ map (zone_of zones) ss)
     (record { list = done ++ zone ∷ []; standing = standing_at (behind_entry tapes e now) })
@@ -127,5 +128,5 @@ folded tapes zones m front done (e ∷ entries) =
 pub zones_are_those_of_the_segments : (tapes : Tapes) (m : MachineView) (zones : ZonesView) (entries : List Entry)
     → zones_from tapes zones m (record { list = []; standing = standing_at m }) entries ≡ zones_of_history tapes m zones entries
 zones_are_those_of_the_segments tapes m zones entries =
-    ap (λ (s : StandingView). zones_from tapes zones m (record { list = []; standing = s }) entries) (begun tapes m)
+    ap (λ (s : Both SweptView). zones_from tapes zones m (record { list = []; standing = s }) entries) (begun tapes m)
     ∙ folded tapes zones m [] [] entries

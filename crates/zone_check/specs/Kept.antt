@@ -1,6 +1,9 @@
--- What is kept while the records of a history are done again: the zones of the segments that have ended, and of the one
--- that goes on the areas so far and where the paths stand.
+-- What is kept while the records of a history are done again: the zones of the segments that have
+-- ended, and of the one that goes on the areas so far and where the paths stand.
 use Rattle.std.specs.Prelude.{List, [], ◌∷◌, ◌++◌, if◌then◌else◌}
+use Rattle.nc_number.specs.Both.{both_of}
+use Rattle.nc_number.specs.Path.{is_same}
+use Rattle.nc_number.specs.declared.both.Both.{Both}
 use Rattle.nc_number.specs.declared.path.Path.{Path}
 use Rattle.nc_number.specs.declared.path.Path.TheVariants.{One, Two}
 use Rattle.nc_moves.specs.declared.motion.Move.{Move}
@@ -8,7 +11,7 @@ use Rattle.run_records.specs.Entries.{Entry}
 use Rattle.two_path.specs.declared.turn.Turn.{Turn}
 use Rattle.two_path.specs.Machine.{MachineView}
 use Rattle.two_path.specs.Turns.{Tapes}
-use Rattle.two_path.specs.Histories.{behind_entry, is_same}
+use Rattle.two_path.specs.Histories.{behind_entry}
 use Rattle.two_path.specs.Again.{turn_of_entry}
 use Rattle.two_path.specs.Made.{moves_of_turn}
 use Rattle.zone_area.specs.Area.{SweptView, swept_at, swept_along}
@@ -16,33 +19,29 @@ use Rattle.zone_cell.specs.declared.cell.Zone.{Zone}
 use Rattle.zone_cell.specs.Zones.{ZonesView, zone_of_areas}
 use Rattle.zone_check.specs.Segments.{is_meeting}
 
-pub record StandingView : Type 0 where
-  pub left : SweptView
-  pub right : SweptView
-
 -- where a segment begins
-abbrev pub standing_at : MachineView → StandingView
-standing_at m = record { left = swept_at m.first.path.position; right = swept_at m.second.path.position }
+abbrev pub standing_at : MachineView → Both SweptView
+standing_at m = record { one = swept_at m.first.path.position; two = swept_at m.second.path.position }
 
 -- of a turn of the path its moves, and of the other path's none
 abbrev pub moves_by : Path → Path → Turn → List Move
 moves_by path of turn = if is_same path of then moves_of_turn turn else []
 
 -- with a turn of this path
-abbrev pub standing_with : StandingView → Path → Turn → StandingView
+abbrev pub standing_with : Both SweptView → Path → Turn → Both SweptView
 standing_with s of turn = record {
-  left = swept_along s.left (moves_by One of turn);
-  right = swept_along s.right (moves_by Two of turn);
+  one = swept_along s.one (moves_by One of turn);
+  two = swept_along s.two (moves_by Two of turn);
 }
 
-abbrev pub standing_zone : ZonesView → StandingView → Zone
-standing_zone zones s = zone_of_areas zones s.left.area s.right.area
+abbrev pub standing_zone : ZonesView → Both SweptView → Zone
+standing_zone zones s = zone_of_areas zones (both_of (λ (swept : SweptView). swept.area) s)
 
 pub record KeptView : Type 0 where
   pub list : List Zone
-  pub standing : StandingView
+  pub standing : Both SweptView
 
--- behind a record that led to this machine by this turn
+-- after a record that led to this machine by this turn
 abbrev pub kept_with : ZonesView → Entry → Turn → MachineView → KeptView → KeptView
 kept_with zones e turn m k =
     if is_meeting e then record { list = k.list ++ standing_zone zones k.standing ∷ []; standing = standing_at m }

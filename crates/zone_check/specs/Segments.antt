@@ -55,8 +55,8 @@ is_meeting_kind (kind.Edited edit) = false
 abbrev pub is_meeting : Entry → Bool
 is_meeting entry = is_meeting_kind entry.kind
 
--- The segments of a history, of which the first began at this machine and has had these records so far. A meeting ends
--- a segment, and the next begins at the machine behind it.
+-- The segments of a history, of which the first began at this machine and has had these records so
+-- far. A meeting ends a segment, and the next begins at the machine behind it.
 abbrev pub segments_from : Tapes → MachineView → List Entry → List Entry → List Segment
 segments_from tapes m so_far [] = segment_of tapes m so_far ∷ []
 segments_from tapes m so_far (e ∷ entries) =
@@ -69,7 +69,8 @@ segments_of tapes m entries = segments_from tapes m [] entries
 
 -- the zone of a segment
 abbrev pub zone_of : ZonesView → Segment → Zone
-zone_of zones s = zone_of_areas zones (area_of s.left_at s.left) (area_of s.right_at s.right)
+zone_of zones s =
+    zone_of_areas zones (record { one = area_of s.left_at s.left; two = area_of s.right_at s.right })
 
 -- the zones of a history from a machine on
 abbrev pub zones_of_history : Tapes → MachineView → ZonesView → List Entry → List Zone

@@ -1,4 +1,5 @@
-//! What a zone says of its segment. Each law is the contract of a function that does nothing: who calls it has the law.
+//! What a zone says of its segment. Each law is the contract of a function that does nothing: who
+//! calls it has the law.
 ghost use Rattle.std.specs.Prelude.{◌≡◌, ◌≤◌, ℕ, List, true};
 ghost use Rattle.nc_number.specs.declared.point.Point.{Point};
 ghost use Rattle.zone_area.specs.Passing.{MayPassSome, IsInside, AreApart, point_in_cell};
@@ -14,28 +15,29 @@ ghost use Rattle.zone_check.specs.Segments.{Segment, path_moves, zone_of};
 
 use zone_area::{an_area_in_the_cell_holds_what_may_be_passed, clear_areas_keep_apart};
 
-/// Each point that a path may pass in a segment lies in its area, in the cell, however finely points are counted.
+/// Each point that a path may pass in a segment lies in its area, in the cell, however finely
+/// points are counted.
 pub fn a_zone_holds_what_may_be_passed()
     ensures left { (d : ℕ) (zones : ZonesView) (s : Segment) (p : Point) → MayPassSome d s.left_at s.left p
-        → IsInside d (zone_of zones s).left (point_in_cell d zones.left p) }
+        → IsInside d (zone_of zones s).areas.one (point_in_cell d zones.frames.one p) }
     ensures right { (d : ℕ) (zones : ZonesView) (s : Segment) (q : Point) → MayPassSome d s.right_at s.right q
-        → IsInside d (zone_of zones s).right (point_in_cell d zones.right q) }
+        → IsInside d (zone_of zones s).areas.two (point_in_cell d zones.frames.two q) }
 {
     an_area_in_the_cell_holds_what_may_be_passed();
 }
 
-/// In a clear zone any two points that the paths may pass differ by more than the gap in X or in Z, whatever the timing
-/// of their moves between these meetings.
+/// In a clear zone any two points that the paths may pass differ by more than the gap in X or in Z,
+/// whatever the timing of their moves between these meetings.
 pub fn clear_zones_keep_apart()
     ensures { (d : ℕ) (zones : ZonesView) (s : Segment) (p q : Point) → 1 ≤ d → (zone_of zones s).clear ≡ true
         → MayPassSome d s.left_at s.left p → MayPassSome d s.right_at s.right q
-        → AreApart d zones.gap (point_in_cell d zones.left p) (point_in_cell d zones.right q) }
+        → AreApart d zones.gap (point_in_cell d zones.frames.one p) (point_in_cell d zones.frames.two q) }
 {
     clear_areas_keep_apart();
 }
 
-/// A path stands where its moves led it: behind any records, at the end of the last of its moves that goes somewhere. So
-/// a segment begins where the moves of the one before it end.
+/// A path stands where its moves led it: behind any records, at the end of the last of its moves
+/// that goes somewhere. So a segment begins where the moves of the one before it end.
 pub fn moves_lead_to_positions()
     ensures { (left right : Flow) (m : MachineView) (path : Path) (entries : List Entry)
         → (own_first path (fold (tapes_of left right) m entries)).first.path.position

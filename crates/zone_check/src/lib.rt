@@ -1,9 +1,11 @@
-//! The zones of a run: for each stretch between two meetings the areas that both paths may pass, in one cell.
+//! The zones of a run: for each stretch between two meetings the areas that both paths may pass, in
+//! one cell.
 //!
-//! [`boxes`] does the records of a legal history again, once, and answers a zone for each segment. The layer above leans
-//! on this: the list is that of the history's segments, each of which begins where the machine stands at its meeting; an
-//! area holds each point that its path may pass in the segment, and is the least that does; where a zone is clear, any
-//! two points that the paths may pass there differ by more than the gap in X or in Z, whatever their timing.
+//! [`boxes`] does the records of a legal history again, once, and answers a zone for each segment.
+//! The layer above leans on this: the list is that of the history's segments, each of which begins
+//! where the machine stands at its meeting; an area holds each point that its path may pass in the
+//! segment, and is the least that does; where a zone is clear, any two points that the paths may
+//! pass there differ by more than the gap in X or in Z, whatever their timing.
 #![tactic(auto)]
 
 mod laws;

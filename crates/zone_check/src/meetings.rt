@@ -1,5 +1,6 @@
 //! The zones of a history, whose records are done again one by one.
 ghost use Rattle.std.specs.Prelude.{◌≡◌, ◌≤◌, [], length, IfOk};
+ghost use Rattle.nc_number.specs.declared.limits.TheConstants.{MOST_RECORDS};
 ghost use Rattle.two_path.specs.Turns.{tapes_of};
 ghost use Rattle.two_path.specs.Histories.{IsLegal};
 ghost use Rattle.zone_check.specs.Segments.{first_machine, zones_of_history};
@@ -26,7 +27,7 @@ fn kept_boxes(
 ) -> Result<Vec<Zone>, NoMemory>
     requires legal { IsLegal (tapes_of left.now right.now)
         (first_machine left.now right.now settings.now) entries.now.items }
-    requires few { length entries.now.items ≤ 4000000 }
+    requires few { length entries.now.items ≤ MOST_RECORDS }
     ensures { IfOk result (λ v. v.items ≡ zones_from (tapes_of left.now right.now) zones.now
         (first_machine left.now right.now settings.now)
         (record { list = []; standing = standing_at (first_machine left.now right.now settings.now) }) entries.now.items) }
@@ -43,8 +44,8 @@ fn kept_boxes(
     kept.into_list(zones)
 }
 
-/// The zones of a history of the pair: one for each segment, in order, the first before the first meeting. The records
-/// are done again once.
+/// The zones of a history of the pair: one for each segment, in order, the first before the first
+/// meeting. The records are done again once.
 ///
 /// It asks for a legal history of at most 4,000,000 records.
 pub fn boxes(
@@ -55,7 +56,7 @@ pub fn boxes(
 ) -> Result<Vec<Zone>, NoMemory>
     requires legal { IsLegal (tapes_of verified.now.left verified.now.right)
         (first_machine verified.now.left verified.now.right verified.now.settings) entries.now.items }
-    requires few { length entries.now.items ≤ 4000000 }
+    requires few { length entries.now.items ≤ MOST_RECORDS }
     ensures { IfOk result (λ v. v.items ≡ zones_of_history (tapes_of verified.now.left verified.now.right)
         (first_machine verified.now.left verified.now.right verified.now.settings) zones.now entries.now.items) }
 {

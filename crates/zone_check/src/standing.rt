@@ -8,7 +8,7 @@ ghost use Rattle.zone_check.specs.Segments.{is_meeting};
 ghost use Rattle.zone_check.specs.Kept.{moves_by, standing_at, standing_with, standing_zone, kept_with};
 
 use motion_track::LONGEST;
-use nc_number::{NoMemory, Path};
+use nc_number::{Both, NoMemory, Path};
 use run_records::{Entry, EntryKind};
 use std::alloc::Global;
 use std::marker::Model;
@@ -16,26 +16,12 @@ use two_path::{Machine, Turn};
 use zone_area::Swept;
 use zone_cell::{Zone, Zones};
 
-/// What both paths may have passed since they last met, and where they stand.
-#[derive(Debug, Drop)]
-struct Standing {
-    left: Swept,
-    right: Swept,
-}
-
-impl Model for Standing {
-    ghost use Rattle.zone_check.specs.Kept;
-
-    ghost Value = { Kept.StandingView };
-
-    ghost view = { λ s. record { left = s.left; right = s.right } };
-}
-
 /// The zones of the segments that have ended, and what is kept of the one that goes on.
 #[derive(Debug, Drop)]
 pub(crate) struct Kept {
     list: Vec<Zone>,
-    standing: Standing,
+    /// What each path may have passed since they last met, and where it stands.
+    standing: Both<Swept>,
 }
 
 impl Model for Kept {
@@ -58,34 +44,35 @@ fn add_turn(swept: &mut Swept, turn: &Turn)
     }
 }
 
-impl Standing {
-    /// Where the paths of the machine stand, before their next moves.
-    fn at(machine: &Machine) -> Standing
-        ensures { result ≡ standing_at machine.now.machine }
-    {
-        Standing {
-            left: Swept::from(machine.path(Path::One).position()),
-            right: Swept::from(machine.path(Path::Two).position()),
-        }
+/// Where the paths of the machine stand, before their next moves.
+fn standing_at(machine: &Machine) -> Both<Swept>
+    ensures { result ≡ standing_at machine.now.machine }
+{
+    Both {
+        one: Swept::from(machine.path(Path::One).position()),
+        two: Swept::from(machine.path(Path::Two).position()),
     }
+}
 
-    /// Adds a turn of this path.
-    fn add(&mut self, path: Path, turn: &Turn)
-        requires { AreMovesWithin LONGEST (moves_of_turn turn.now) }
-        ensures { self.new ≡ standing_with self.old path turn.now }
-    {
-        match path {
-            Path::One => add_turn(&mut self.left, turn),
-            Path::Two => add_turn(&mut self.right, turn),
-        }
+/// Adds a turn of this path.
+fn add_turn_of(standing: &mut Both<Swept>, path: Path, turn: &Turn)
+    requires { AreMovesWithin LONGEST (moves_of_turn turn.now) }
+    ensures { standing.new ≡ standing_with standing.old path turn.now }
+{
+    match path {
+        Path::One => add_turn(&mut standing.one, turn),
+        Path::Two => add_turn(&mut standing.two, turn),
     }
+}
 
-    /// The zone so far.
-    fn zone(&self, zones: &Zones) -> Zone
-        ensures { result ≡ standing_zone zones.now self.now }
-    {
-        zones.zone(&self.left.area(), &self.right.area())
-    }
+/// The zone so far.
+fn standing_zone(zones: &Zones, standing: &Both<Swept>) -> Zone
+    ensures { result ≡ standing_zone zones.now standing.now }
+{
+    zones.zone(&Both {
+        one: standing.one.area(),
+        two: standing.two.area(),
+    })
 }
 
 /// Whether both paths met by the record.
@@ -110,7 +97,7 @@ impl Kept {
     {
         Kept {
             list: Vec::new(alloc),
-            standing: Standing::at(machine),
+            standing: standing_at(machine),
         }
     }
 
@@ -126,11 +113,11 @@ impl Kept {
         ensures { OnOk result (self.new ≡ kept_with zones.now entry.now turn.now machine.now.machine self.old) }
     {
         if is_meeting(entry) {
-            self.list.push(self.standing.zone(zones))?;
-            self.standing = Standing::at(machine);
+            self.list.push(standing_zone(zones, &self.standing))?;
+            self.standing = standing_at(machine);
             return Ok(());
         }
-        self.standing.add(entry.path, turn);
+        add_turn_of(&mut self.standing, entry.path, turn);
         Ok(())
     }
 
@@ -139,7 +126,7 @@ impl Kept {
         ensures { IfOk result (λ v. v.items ≡ self.list ++ standing_zone zones.now self.standing ∷ []) }
     {
         let Kept { mut list, standing } = self;
-        list.push(standing.zone(zones))?;
+        list.push(standing_zone(zones, &standing))?;
         Ok(list)
     }
 }

@@ -1,18 +1,11 @@
 //! The text of a list of zones.
-ghost use Rattle.std.specs.Prelude.{◌≡◌, ◌++◌, length};
+ghost use Rattle.std.specs.Prelude.{◌≡◌, ◌++◌};
 ghost use Rattle.nc_verify.specs.Printed.{IsPut};
 ghost use Rattle.zone_cell.specs.Lines.{zone_text, zone_texts, head_text, end_text, hits_of, list_text};
 
-use move_text::Piece;
 use nc_outside::{PutFault, Sink};
+use nc_verify::put_piece;
 use zone_cell::{Zone, end_line, head_line, zone_line};
-
-/// Puts a piece.
-fn put_piece<K: Sink>(sink: &mut K, piece: &Piece) -> Result<(), PutFault>
-    ensures { IsPut (K.state sink.old) (K.state sink.new) piece.now result }
-{
-    sink.put(piece.as_slice())
-}
 
 /// Puts the line of a zone.
 fn put_zone<K: Sink>(sink: &mut K, number: u64, zone: &Zone) -> Result<(), PutFault>
@@ -28,7 +21,7 @@ fn put_head<K: Sink>(sink: &mut K, count: u64) -> Result<(), PutFault>
     put_piece(sink, &head_line(count))
 }
 
-/// Puts the line behind the zones.
+/// Puts the line after the zones.
 fn put_end<K: Sink>(sink: &mut K, hits: u64) -> Result<(), PutFault>
     ensures { IsPut (K.state sink.old) (K.state sink.new) (end_text hits) result }
 {
@@ -64,8 +57,9 @@ fn put_rest<K: Sink>(sink: &mut K, zones: &[Zone]) -> Result<(), PutFault>
     }
 }
 
-/// Writes a list of zones: how many there are; a line for each, with its number from 0, the edges of path 1's area and of
-/// path 2's, and `clear` or `hit`; and whether all are clear, or how many are hit.
+/// Writes a list of zones: how many there are; a line for each, with its number from 0, the edges
+/// of path 1's area and of path 2's, and `clear` or `hit`; and whether all are clear, or how many
+/// are hit.
 ///
 /// Errors: those of the sink, which then holds a part of the text, from its start.
 pub fn write_zones<K: Sink>(zones: &[Zone], sink: &mut K) -> Result<(), PutFault>

@@ -1,13 +1,15 @@
 use Rattle.std.proofs.Common.{◌+◌, ◌<◌, [], ◌∷◌, get_or, drop, arith}
 use Rattle.block_order.specs.declared.label.Label.TheVariants.{Off}
 use Rattle.label_list.specs.Lists.{at}
+use Rattle.loud_calls.specs.Known.{piece_known}
+use Rattle.loud_calls.proofs.Calls.{ready_by, short_some}
 use Rattle.label_list.specs.Pieces.{IsTooLong, FailsAt, FailsInCall, FailsLong}
-use Rattle.label_list.proofs.Pieces.{no_block, ready_by, short_some, short_left, so_far_start, so_far_at, so_far_past, so_far_next, piece_at, piece_off, fails_off, fails_at, fails_in_call, by_fault}
+use Rattle.label_list.proofs.Pieces.{no_block, short_left, so_far_start, so_far_at, so_far_past, so_far_next, piece_at, piece_off, fails_off, fails_at, fails_in_call, by_fault}
 use Rattle.label_list.proofs.listing.+calls.Goals as goal
 
 pub learn_call-returns-in_ok-keep-in-Ok-clause-ready : goal.learn_call-returns-in_ok-keep-in-Ok-clause-ready
 learn_call-returns-in_ok-keep-in-Ok-clause-ready t c =
-    ready_by c.args.order.now c.keep.new.self c.args.control.now c.in-Some.program c.in-Ok.piece
+    ready_by c.args.order.now (piece_known c.keep.new.self) c.args.control.now c.in-Some.program c.in-Ok.piece
     c.in-Some.ensures.some c.in_ok-keep-in-Ok.ensures.kept
 
 pub piece_of-loop-block-init : goal.piece_of-loop-block-init

@@ -1,7 +1,8 @@
 use Rattle.std.proofs.Common.{subst}
-use Rattle.label_list.specs.Pieces.{IsReady}
+use Rattle.loud_calls.specs.Calls.{IsReady}
+use Rattle.loud_calls.specs.Known.{piece_known}
 use Rattle.label_list.proofs.listing.take_block.Goals as goal
 
 pub take_call-requires-clause-ready : goal.take_call-requires-clause-ready
 take_call-requires-clause-ready c =
-    subst (λ k. IsReady c.args.order.now c.args.known.now k) c.in-Call.is c.requires.ready
+    subst (λ k. IsReady c.args.order.now (piece_known c.args.known.now) k) c.in-Call.is c.requires.ready

@@ -1,8 +1,10 @@
 use Rattle.std.proofs.Common.{◌≡◌, ◌<◌, true, Some, None, sym, ◌∙◌, rules, arith}
 use Rattle.block_order.specs.declared.control.Control.TheVariants.{Call}
 use Rattle.block_order.specs.Loud.{loud}
-use Rattle.label_list.specs.Pieces.{IsTooLong, FailsAt, copies, piece_known}
-use Rattle.label_list.proofs.Pieces.{by_fault, call_of}
+use Rattle.loud_calls.specs.Known.{piece_known}
+use Rattle.loud_calls.proofs.Calls.{call_of}
+use Rattle.label_list.specs.Pieces.{IsTooLong, FailsAt, copies}
+use Rattle.label_list.proofs.Pieces.{by_fault}
 use Rattle.label_list.proofs.Taken.{taken_call, fails_call}
 use Rattle.label_list.proofs.listing.take_call.Goals as goal
 

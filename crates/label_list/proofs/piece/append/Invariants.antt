@@ -1,10 +1,10 @@
 -- The labels so far and those that are left to add are those before and all that are added.
 use Rattle.std.proofs.Common.{◌≡◌, ◌≤◌, ◌++◌, drop, length}
-use Rattle.label_list.specs.Lists.{most_labels}
+use Rattle.nc_number.specs.declared.limits.TheConstants.{MOST_LABELS}
 use Rattle.label_list.proofs.piece.append.Given as goal
 
 abbrev pub invariant-loop-label : goal.invariant-loop-label
 invariant-loop-label l = record {
   are : l.labels.items ++ drop l.label-index l.more ≡ l.fn.labels.items ++ l.more;
-  few : length l.labels.items ≤ most_labels;
+  few : length l.labels.items ≤ MOST_LABELS;
 }

@@ -1,11 +1,11 @@
 -- The labels so far are those before and as many runs as were added.
 use Rattle.std.proofs.Common.{◌≡◌, ◌≤◌, ◌++◌, length}
-use Rattle.label_list.specs.Lists.{most_labels}
+use Rattle.nc_number.specs.declared.limits.TheConstants.{MOST_LABELS}
 use Rattle.label_list.specs.Pieces.{repeated}
 use Rattle.label_list.proofs.piece.append_times.Given as goal
 
 abbrev pub invariant-loop-time : goal.invariant-loop-time
 invariant-loop-time l = record {
   are : l.labels.items ≡ l.fn.labels.items ++ repeated l._time l.more;
-  few : length l.labels.items ≤ most_labels;
+  few : length l.labels.items ≤ MOST_LABELS;
 }

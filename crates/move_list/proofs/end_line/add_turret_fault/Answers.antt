@@ -1,6 +1,6 @@
 use Rattle.std.proofs.Common.{List, ℕ, ◌++◌, append_assoc, ap, ◌∙◌}
 use Rattle.std.specs.Prelude.{codes}
-use Rattle.move_text.specs.Pieces.{path_name}
+use Rattle.text_pieces.specs.Pieces.{path_name}
 use Rattle.move_list.specs.EndText.{turret_text}
 use Rattle.move_list.proofs.end_line.add_turret_fault.Goals as goal
 

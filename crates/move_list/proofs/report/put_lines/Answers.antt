@@ -1,6 +1,6 @@
 use Rattle.std.proofs.lemmas.Result.{err_from_is_err_and}
 use Rattle.move_list.specs.Report.{lined_text}
-use Rattle.move_list.proofs.InPieces.{put_nothing, put_on, put_breaks, each_more, each_parted, each_whole, put_same}
+use Rattle.nc_verify.proofs.InPieces.{put_nothing, put_on, put_breaks, each_more, each_parted, each_whole, put_same}
 use Rattle.move_list.proofs.report.put_lines.Goals as goal
 
 pub loop-made-init : goal.loop-made-init

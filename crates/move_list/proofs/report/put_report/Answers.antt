@@ -1,6 +1,6 @@
 use Rattle.two_path.specs.Turns.{tapes_of}
 use Rattle.move_list.specs.Report.{machine_at_start}
-use Rattle.move_list.proofs.InPieces.{none_put}
+use Rattle.nc_verify.proofs.InPieces.{none_put}
 use Rattle.move_list.proofs.ReportOfMoves.{report_put}
 use Rattle.move_list.proofs.report.put_report.Goals as goal
 

@@ -4,7 +4,7 @@ use Rattle.two_path.specs.Machine.{own_first}
 use Rattle.move_list.specs.Pieces.{each_from}
 use Rattle.move_list.specs.State.{first_of, count_of, line_of}
 use Rattle.move_list.proofs.EachFrom.{each_from_more, each_from_parted}
-use Rattle.move_list.proofs.InPieces.{put_nothing, put_on, put_breaks, put_same}
+use Rattle.nc_verify.proofs.InPieces.{put_nothing, put_on, put_breaks, put_same}
 use Rattle.move_list.proofs.state.put_listing.Goals as goal
 
 pub loop-i-init : goal.loop-i-init

@@ -1,7 +1,7 @@
 use Rattle.std.proofs.lemmas.Result.{err_from_is_err_and}
 use Rattle.two_path.specs.Machine.{own_first}
 use Rattle.move_list.specs.State.{listing_text, listings_text}
-use Rattle.move_list.proofs.InPieces.{put_nothing, put_on, put_breaks, each_more_at, each_parted_at, each_whole, put_same}
+use Rattle.nc_verify.proofs.InPieces.{put_nothing, put_on, put_breaks, each_more_at, each_parted_at, each_whole, put_same}
 use Rattle.move_list.proofs.state.put_listings.Goals as goal
 
 pub loop-listing-init : goal.loop-listing-init

@@ -1,4 +1,4 @@
-use Rattle.move_list.proofs.InPieces.{none_put}
+use Rattle.nc_verify.proofs.InPieces.{none_put}
 use Rattle.move_list.proofs.SummaryOfMoves.{summary_put}
 use Rattle.move_list.proofs.summary.put_summary.Goals as goal
 

@@ -23,8 +23,8 @@ loop-index-init c =
       no_reads = subst (λ (x : MachineView). without_reads x ≡ x) (sym at) refl;
       waits = subst (λ (x : MachineView). AreAtTheirWaits left.order right.order x) (sym at) (none_waits _ _ _ _);
       room = omega (arith, c.in_ok-reserve.ensures.room);
-      one = rw (c.empty-made.ensures.one, at) refl;
-      two = rw (c.empty-made.ensures.two, at) refl;
+      one = rw (c.no_moves-made.ensures.one, at) refl;
+      two = rw (c.no_moves-made.ensures.two, at) refl;
     }
 
 pub loop-index-preserved : goal.loop-index-preserved
@@ -46,8 +46,8 @@ loop-index-preserved c =
       no_reads = c.done_again-turn.ensures.no_reads;
       waits = c.done_again-turn.ensures.waits;
       room = omega (arith, c.done_again-turn.ensures.room, c.loop-index.invariant.room);
-      one = moves_on tapes One m _ c.loop-index.made.one.items _ _ (drop i entries) (drop (i + 1) entries) e c.done_again-turn.result from done.machine done.answer (c.in_ok-add.ensures.one ∙ ap (λ (x : Entry). c.loop-index.made.one.items ++ made_by One (record { path = x.path; turn = c.done_again-turn.result })) c.entry.view_is) c.loop-index.invariant.one;
-      two = moves_on tapes Two m _ c.loop-index.made.two.items _ _ (drop i entries) (drop (i + 1) entries) e c.done_again-turn.result from done.machine done.answer (c.in_ok-add.ensures.two ∙ ap (λ (x : Entry). c.loop-index.made.two.items ++ made_by Two (record { path = x.path; turn = c.done_again-turn.result })) c.entry.view_is) c.loop-index.invariant.two;
+      one = moves_on tapes One m _ c.loop-index.made.one.items _ _ (drop i entries) (drop (i + 1) entries) e c.done_again-turn.result from done.machine done.answer (c.in_ok-add_turn_of.ensures.one ∙ ap (λ (x : Entry). c.loop-index.made.one.items ++ made_by One (record { path = x.path; turn = c.done_again-turn.result })) c.entry.view_is) c.loop-index.invariant.one;
+      two = moves_on tapes Two m _ c.loop-index.made.two.items _ _ (drop i entries) (drop (i + 1) entries) e c.done_again-turn.result from done.machine done.answer (c.in_ok-add_turn_of.ensures.two ∙ ap (λ (x : Entry). c.loop-index.made.two.items ++ made_by Two (record { path = x.path; turn = c.done_again-turn.result })) c.entry.view_is) c.loop-index.invariant.two;
     }
 
 pub done_again-turn-requires-clause-legal : goal.done_again-turn-requires-clause-legal

@@ -1,31 +1,33 @@
 use Rattle.std.proofs.Common.{◌≡◌, ◌+◌, ◌≤◌, ◌<◌, suc, length, get_or, drop, ap, subst, ◌∙◌, arith, rules}
 use Rattle.block_order.specs.Loud.{loud}
+use Rattle.loud_calls.specs.Known.{piece_known}
+use Rattle.loud_calls.proofs.Calls.{ready_by, short_some}
 use Rattle.part_lines.specs.Lines.{seen_line}
 use Rattle.part_lines.specs.Pieces.{quiet_known, IsSeen, IsSoFar}
-use Rattle.part_lines.proofs.Ready.{no_block, on_ok, ready_by, short_some, so_far_at, so_far_past}
+use Rattle.part_lines.proofs.Ready.{no_block, on_ok, so_far_at, so_far_past}
 use Rattle.part_lines.proofs.Shown.{so_far_start, so_far_next, short_left, piece_at, piece_off}
 use Rattle.part_lines.proofs.listing.+calls.Goals as goal
 
 pub learn_call-returns-clause-ready : goal.learn_call-returns-clause-ready
 learn_call-returns-clause-ready g t c =
     on_ok _ _ c.keep.result
-    (λ kept. ready_by c.args.tape.now c.keep.new.self c.args.control.now c.in-Some.program c.in_ok-piece.piece c.in-Some.ensures.some kept)
+    (λ kept. ready_by c.args.order.now (piece_known c.keep.new.self) c.args.control.now c.in-Some.program c.in_ok-piece.piece c.in-Some.ensures.some kept)
     c.keep.ensures.kept
 
 pub piece_of-loop-place-init : goal.piece_of-loop-place-init
 piece_of-loop-place-init g t c = record {
   known = c.requires.known;
-  so_far = rw (c.blocks_of-blocks.ensures)
-      (so_far_start c.args.tape.now (g.L.BlockLines.line c.args.lines.now) (quiet_known c.args.quiet.now) c.args.number
+  so_far = rw (c.blocks-blocks.ensures)
+      (so_far_start c.args.order.now (g.L.BlockLines.line c.args.lines.now) (quiet_known c.args.quiet.now) c.args.number
       c.new-own.result c.new-own.ensures);
 }
 
 pub piece_of-learn_call-requires : goal.piece_of-learn_call-requires
 piece_of-learn_call-requires g t c κs lives =
-    let order = c.args.tape.now in
+    let order = c.args.order.now in
     let line = g.L.BlockLines.line c.args.lines.now in
     let quiet = quiet_known c.args.quiet.now in
-    let items = c.blocks_of-blocks.result.now in
+    let items = c.blocks-blocks.result.now in
     let i = c.loop-place.place in
     let own = c.loop-place.own in
     let pos : 0 < c.args.left = short_some order c.args.left c.args.number c.requires.short in
@@ -43,10 +45,10 @@ piece_of-learn_call-requires g t c κs lives =
 
 pub piece_of-returns-in-Some-clause-piece : goal.piece_of-returns-in-Some-clause-piece
 piece_of-returns-in-Some-clause-piece g t c =
-    let order = c.args.tape.now in
+    let order = c.args.order.now in
     let line = g.L.BlockLines.line c.args.lines.now in
     let quiet = quiet_known c.args.quiet.now in
-    let items = c.blocks_of-blocks.result.now in
+    let items = c.blocks-blocks.result.now in
     let i = c.loop-place.place in
     let own = c.loop-place.own in
     let b = get_or items i no_block in
@@ -59,10 +61,10 @@ piece_of-returns-in-Some-clause-piece g t c =
 
 pub piece_of-loop-place-preserved : goal.piece_of-loop-place-preserved
 piece_of-loop-place-preserved g t c =
-    let order = c.args.tape.now in
+    let order = c.args.order.now in
     let line = g.L.BlockLines.line c.args.lines.now in
     let quiet = quiet_known c.args.quiet.now in
-    let items = c.blocks_of-blocks.result.now in
+    let items = c.blocks-blocks.result.now in
     let i = c.loop-place.place in
     let own = c.loop-place.own in
     let b = get_or items i no_block in
@@ -80,10 +82,10 @@ piece_of-loop-place-preserved g t c =
 
 pub piece_of-returns-clause-piece : goal.piece_of-returns-clause-piece
 piece_of-returns-clause-piece g t c =
-    let order = c.args.tape.now in
+    let order = c.args.order.now in
     let line = g.L.BlockLines.line c.args.lines.now in
     let quiet = quiet_known c.args.quiet.now in
-    let items = c.blocks_of-blocks.result.now in
+    let items = c.blocks-blocks.result.now in
     let i = c.loop-place.place in
     let past : length items ≤ i = search rules in
     piece_off order line quiet c.args.number i c.loop-place.own

@@ -12,6 +12,6 @@ decreases-piece_of g l = 2 * l.left
 -- what is known stays so, and the lines so far are those of the blocks that are passed
 abbrev pub invariant-piece_of-loop-place : goal.invariant-piece_of-loop-place
 invariant-piece_of-loop-place g l = record {
-  known : AreKnown l.tape (g.L.BlockLines.line l.lines) (quiet_known l.quiet) l.known;
-  so_far : IsSoFar l.tape (g.L.BlockLines.line l.lines) (quiet_known l.quiet) l.number l.own l.place (drop l.place l.blocks);
+  known : AreKnown l.order (g.L.BlockLines.line l.lines) (quiet_known l.quiet) l.known;
+  so_far : IsSoFar l.order (g.L.BlockLines.line l.lines) (quiet_known l.quiet) l.number l.own l.place (drop l.place l.blocks);
 }

@@ -3,4 +3,4 @@ use Rattle.part_lines.specs.Pieces.{quiet_known, AreFound}
 use Rattle.part_lines.proofs.quiet.find_each.Given as goal
 
 abbrev pub invariant-loop-program : goal.invariant-loop-program
-invariant-loop-program g l = AreFound l.tape (g.L.BlockLines.line l.lines) (quiet_known l.found)
+invariant-loop-program g l = AreFound l.order (g.L.BlockLines.line l.lines) (quiet_known l.found)

@@ -5,9 +5,9 @@ use Rattle.part_lines.proofs.quiet.is_closed.Goals as goal
 
 pub returns : goal.returns
 returns g c is_true =
-    let order = c.args.tape.now in
-    let items = c.programs-program-items.result.now in
-    let same : items ≡ order = c.programs-program-items.ensures in
+    let order = c.args.order.now in
+    let items = c.as_slice-program-items.result.now in
+    let same : items ≡ order = c.as_slice-program-items.ensures.same in
     let past : length items ≤ c.loop-program.program-index = search rules in
     all_closed order (g.L.BlockLines.line c.args.lines.now) (quiet_known c.args.found.now)
     (λ j p at. let there = subst (λ xs. slice_get xs j ≡ Some p) (sym same) at in

@@ -7,4 +7,4 @@ use Rattle.part_lines.proofs.quiet.is_closed.Given as goal
 abbrev pub invariant-loop-program : goal.invariant-loop-program
 invariant-loop-program g l =
     (j : ℕ) (p : ControlProgram) → j < l.program-index → slice_get l.program-items j ≡ Some p
-    → IsClosedAt l.tape (g.L.BlockLines.line l.lines) (quiet_known l.found) p.number
+    → IsClosedAt l.order (g.L.BlockLines.line l.lines) (quiet_known l.found) p.number

@@ -8,9 +8,9 @@ use Rattle.part_lines.proofs.quiet.is_closed_at.Goals as goal
 
 pub loop-place-preserved : goal.loop-place-preserved
 loop-place-preserved g c =
-    let order = c.args.tape.now in
+    let order = c.args.order.now in
     let quiet = quiet_known c.args.found.now in
-    let items = c.blocks_of-blocks.result.now in
+    let items = c.blocks-blocks.result.now in
     let i = c.loop-place.place in
     let line = g.L.BlockLines.line c.args.lines.now c.args.program in
     let within : i < length items = search rules in
@@ -22,11 +22,11 @@ loop-place-preserved g c =
 
 pub returns : goal.returns
 returns g c is_true =
-    let order = c.args.tape.now in
+    let order = c.args.order.now in
     let quiet = quiet_known c.args.found.now in
-    let items = c.blocks_of-blocks.result.now in
+    let items = c.blocks-blocks.result.now in
     let i = c.loop-place.place in
     let line = g.L.BlockLines.line c.args.lines.now c.args.program in
     let past : length items ≤ i = search rules in
-    rw (sym c.get-least.ensures, sym c.blocks_of-blocks.ensures)
+    rw (sym c.get-least.ensures, sym c.blocks-blocks.ensures)
     (all_below c.get-least.result (λ b k. seen_line (loud order) quiet (line b) k) items i past c.loop-place.invariant)

@@ -10,4 +10,4 @@ use Rattle.part_lines.proofs.quiet.is_closed_at.Given as goal
 abbrev pub invariant-loop-place : goal.invariant-loop-place
 invariant-loop-place g l =
     (block : ℕ) (c : Control) → block < l.place → control_at l.blocks block ≡ Some c
-    → IsBelow l.least (seen_line (loud l.tape) (quiet_known l.found) (g.L.BlockLines.line l.lines l.program block) c)
+    → IsBelow l.least (seen_line (loud l.order) (quiet_known l.found) (g.L.BlockLines.line l.lines l.program block) c)

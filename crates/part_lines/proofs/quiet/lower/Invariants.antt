@@ -4,4 +4,4 @@ use Rattle.part_lines.specs.Lines.{LineFrom}
 use Rattle.part_lines.proofs.quiet.lower.Given as goal
 
 abbrev pub invariant-loop-place : goal.invariant-loop-place
-invariant-loop-place g l = (k : ℕ) → l.least ≡ Some k → LineFrom l.tape (g.L.BlockLines.line l.lines) l.program k
+invariant-loop-place g l = (k : ℕ) → l.least ≡ Some k → LineFrom l.order (g.L.BlockLines.line l.lines) l.program k

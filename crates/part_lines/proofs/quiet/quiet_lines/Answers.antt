@@ -6,5 +6,5 @@ use Rattle.part_lines.proofs.quiet.quiet_lines.Goals as goal
 pub returns-then-is_closed : goal.returns-then-is_closed
 returns-then-is_closed g c =
     let closed : IsTrue c.is_closed.result = search rules in
-    quiet_least c.args.tape.now (g.L.BlockLines.line c.args.lines.now) (quiet_known c.loop-program.found)
+    quiet_least c.args.order.now (g.L.BlockLines.line c.args.lines.now) (quiet_known c.loop-program.found)
     c.loop-program.invariant (c.is_closed.ensures closed)

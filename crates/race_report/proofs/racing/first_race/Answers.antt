@@ -7,7 +7,7 @@ pub loop-after-preserved : goal.loop-after-preserved
 loop-after-preserved c =
     let lines = c.args.lines.now in
     let after = c.loop-after.after in
-    let total = length lines.one_writes.items in
+    let total = length lines.one.writes.items in
     let less : after < total = search rules in
     let none : is_some (race_at lines c.args.variable after) ≡ false = search rules in
     left_next lines c.args.variable after total c.loop-after.invariant less none

@@ -4,4 +4,4 @@ use Rattle.race_report.proofs.FirstRaces.{IsLeft}
 use Rattle.race_report.proofs.racing.first_race.Given as goal
 
 abbrev pub invariant-loop-after : goal.invariant-loop-after
-invariant-loop-after l = IsLeft l.lines l.variable l.after (length l.lines.one_writes.items)
+invariant-loop-after l = IsLeft l.lines l.variable l.after (length l.lines.one.writes.items)

@@ -1,14 +1,16 @@
 use Rattle.std.proofs.Common.{List, ℕ, ◌++◌, append_assoc, ap, ◌∙◌}
 use Rattle.std.specs.Prelude.{codes}
-use Rattle.trace_list.specs.TraceText.{numbered, waits_text}
+use Rattle.text_pieces.specs.Pieces.{numbered}
+use Rattle.trace_list.specs.TraceText.{waits_text}
 use Rattle.trace_list.proofs.lines.add_waits.Goals as goal
 
 pub returns-clause-text : goal.returns-clause-text
 unfolding waits_text
 returns-clause-text c =
-    let one = numbered (codes " path 1 line ") c.args.one in
-    let two = numbered (codes " path 2 line ") c.args.two in
+    let one = numbered (codes " path 1 line ") c.args.lines.one in
+    let two = numbered (codes " path 2 line ") c.args.lines.two in
     c.add.ensures.text
     ∙ ap (λ (t : List ℕ). t ++ codes "\n")
-    (c.add_numbered-2.ensures.text ∙ ap (λ (t : List ℕ). t ++ two) c.add_numbered.ensures.text ∙ append_assoc c.args.piece.now one two)
+    ((rw c.from-2.ensures at c.add_numbered-2.ensures.text)
+    ∙ ap (λ (t : List ℕ). t ++ two) (rw c.from.ensures at c.add_numbered.ensures.text) ∙ append_assoc c.args.piece.now one two)
     ∙ append_assoc c.args.piece.now (one ++ two) (codes "\n")

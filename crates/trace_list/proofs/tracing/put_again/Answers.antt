@@ -2,7 +2,7 @@ use Rattle.std.proofs.Common.{subst}
 use Rattle.nc_verify.specs.Printed.{IsPut}
 use Rattle.two_path.specs.Machine.{MachineView}
 use Rattle.two_path.specs.Turns.{tapes_of}
-use Rattle.move_list.proofs.InPieces.{none_put}
+use Rattle.nc_verify.proofs.InPieces.{none_put}
 use Rattle.trace_list.specs.Trace.{lines_of}
 use Rattle.trace_list.specs.TraceText.{lines_text}
 use Rattle.trace_list.proofs.tracing.put_again.Goals as goal

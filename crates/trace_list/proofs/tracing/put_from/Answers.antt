@@ -19,8 +19,8 @@ returns-in_err-put_start g c =
     let p = err_from_is_err_and c.from_residual.result c.from_residual.ensures.1 in
     rw (p.1, p.2)
     (has_broken _ _ _ _ _ _ _ _
-    (start_parts c.args.left.now c.args.right.now c.args.settings.now c.args.machine.machine c.home_of-one.result c.home_of-two.result
-    c.args.entries.now.items c.args.reason.now c.requires.begins c.home_of-one.ensures c.home_of-two.ensures)
+    (start_parts c.args.left.now c.args.right.now c.args.settings.now c.args.machine.machine c.homes_of-homes.result.one c.homes_of-homes.result.two
+    c.args.entries.now.items c.args.reason.now c.requires.begins c.homes_of-homes.ensures.one c.homes_of-homes.ensures.two)
     (has_begun _ _ _ refl) c.in_err-put_start.ensures)
 
 pub loop-index-init : goal.loop-index-init
@@ -35,8 +35,8 @@ loop-index-init g c =
       waits = subst (λ (x : MachineView). AreAtTheirWaits left.order right.order x) (sym at) (none_waits _ _ _ _);
       met = omega arith;
       put = has_more _ _ _ _ _ _ _
-          (start_parts left right c.args.settings.now c.args.machine.machine c.home_of-one.result c.home_of-two.result
-          c.args.entries.now.items c.args.reason.now at c.home_of-one.ensures c.home_of-two.ensures)
+          (start_parts left right c.args.settings.now c.args.machine.machine c.homes_of-homes.result.one c.homes_of-homes.result.two
+          c.args.entries.now.items c.args.reason.now at c.homes_of-homes.ensures.one c.homes_of-homes.ensures.two)
           (has_begun _ _ _ refl) c.in_ok-put_start.ensures;
     }
 

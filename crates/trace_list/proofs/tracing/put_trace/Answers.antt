@@ -1,4 +1,4 @@
-use Rattle.move_list.proofs.InPieces.{none_put}
+use Rattle.nc_verify.proofs.InPieces.{none_put}
 use Rattle.trace_list.proofs.tracing.put_trace.Goals as goal
 
 pub returns-in-Err : goal.returns-in-Err

@@ -8,7 +8,7 @@ unfolding waits_text
 returns c =
     let left = c.as_slice-left.ensures.same in
     let right = c.as_slice.ensures.same in
-    three c.push_trust.result c.args.text.now.items (head_text c.args.pair.now.left)
-    (meetings_text c.args.pair.now.left c.args.pair.now.right) (trust_text (seen c.args.pair.now.trust))
+    three c.push_trust.result c.args.text.now.items (head_text c.args.pair.now.labels.one)
+    (meetings_text c.args.pair.now.labels.one c.args.pair.now.labels.two) (trust_text (seen c.args.pair.now.trust))
     c.push_head.new.text.items c.push_meetings.new.text.items c.push_trust.new.text.items
     (rw left at c.in_ok-push_head.ensures) (rw (left, right) at c.in_ok-push_meetings.ensures) c.push_trust.ensures

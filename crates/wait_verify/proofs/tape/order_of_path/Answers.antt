@@ -8,8 +8,8 @@ use Rattle.wait_verify.proofs.tape.order_of_path.Goals as goal
 pub returns-in-Err-Fault-clause-refused : goal.returns-in-Err-Fault-clause-refused
 returns-in-Err-Fault-clause-refused c = λ skips text reads.
     let error = c.in-Err-Fault.field-0 in
-    order_refused c.args.premises skips c.args.path text c.args.tape.now error c.in-Err-Fault.fault c.of_tape.result
+    order_refused c.args.premises skips c.args.path text c.args.tape.now error c.in-Err-Fault.fault c.at_line.result
     c.in-Err-Fault.field-0-is reads
     (subst (λ programs. IfFault error (λ fault. IsRefused c.args.premises programs fault.line fault.number)) c.as_slice.ensures.value
     c.in-Err-Fault.ensures.refused)
-    (rw c.in-Err-Fault.fault-is at c.of_tape.ensures)
+    (rw c.in-Err-Fault.fault-is at c.at_line.ensures)

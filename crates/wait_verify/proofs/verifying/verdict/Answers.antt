@@ -51,7 +51,7 @@ returns-in-Ok-tell-clause-told c =
     let premises : IsPremises all judged.cell c.premises_of-premises.result =
     record { dialect = c.premises_of-premises.ensures.dialect; outside = c.premises_of-premises.ensures.outside } in (
       judged,
-      pair_told all judged c.premises_of-premises.result c.in-Ok-tell.pair.left c.in-Ok-tell.pair.right (seen c.in-Ok-tell.pair.trust)
+      pair_told all judged c.premises_of-premises.result c.in-Ok-tell.pair.labels.one c.in-Ok-tell.pair.labels.two (seen c.in-Ok-tell.pair.trust)
           (orders_are all judged c.premises_of-premises.result c.skips_of-first.result c.skips_of-second.result c.in-Ok.ensures.settings
           premises c.skips_of-first.ensures c.skips_of-second.ensures c.in-Ok-ordered_tape.ensures.ordered
           c.in-Ok-ordered_tape-2.ensures.ordered)

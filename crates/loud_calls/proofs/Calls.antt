@@ -1,0 +1,24 @@
+-- Calls of loud programs, and what is known of them.
+use Rattle.std.proofs.Common.{◌≡◌, ℕ, zero, suc, ◌<◌, true, List, Option, Some, refl, sym, subst, ◌∙◌, arith}
+use Rattle.block_order.specs.declared.control.Control.{Control}
+use Rattle.block_order.specs.declared.control.Control.TheVariants.{Call}
+use Rattle.block_order.specs.declared.program.ControlProgram.{ControlProgram}
+use Rattle.block_order.specs.Loud.{loud}
+use Rattle.loud_calls.specs.Calls.{IsShort, IsCallOf, IsReady}
+
+-- a block calls one program
+pub one_call : (tape : List ControlProgram) (control : Control) (p q : ℕ) → IsCallOf tape control p → IsCallOf tape control q → p ≡ q
+one_call tape control p q a b = let e : Call p a.repeats ≡ Call q b.repeats = sym a.is ∙ b.is in cc
+
+pub call_of : (tape : List ControlProgram) (q r : ℕ) → loud tape q ≡ true → 0 < r → IsCallOf tape (Call q r) q
+call_of tape q r noisy some = record { repeats = r; is = refl; some = some; is_loud = noisy }
+
+pub ready_by : {P : Type 0} (tape : List ControlProgram) (known : ℕ → Option P) (control : Control) (p : ℕ) (piece : P)
+    → IsCallOf tape control p → known p ≡ Some piece → IsReady tape known control
+ready_by tape known control p piece call is = λ q other.
+    (piece, subst (λ k. known k ≡ Some piece) (one_call tape control p q call other) is)
+
+-- a program in which no call may follow has no short chains
+pub short_some : (tape : List ControlProgram) (n p : ℕ) → IsShort tape n p → 0 < n
+short_some tape zero p short = absurd (short tt)
+short_some tape (suc n) p short = omega arith

@@ -1,0 +1,4 @@
+use Rattle.loud_calls.proofs.unforked.runs_have_one_list.Goals as goal
+
+pub returns : goal.returns
+returns c = c.a_tape_without_faults_is_unforked.ensures c.args.order.now c.as_slice-programs.ensures.sound.waits

@@ -1,0 +1,14 @@
+//! Calls of loud programs, in which a path comes to waits and ends.
+//!
+//! A reader of a whole path unfolds these calls, and makes its piece of each program once:
+//! [`KnownPrograms`] keeps what was made, and [`unknown_call`] tells what is still to be made
+//! before a block can be read.
+#![tactic(auto)]
+
+mod calling;
+mod known;
+mod unforked;
+
+pub use calling::{loud_call, unknown_call};
+pub use known::KnownPrograms;
+pub use unforked::runs_have_one_list;

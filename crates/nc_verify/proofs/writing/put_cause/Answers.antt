@@ -1,8 +1,0 @@
-use Rattle.nc_verify.proofs.Put.{put_then, put_stops}
-use Rattle.nc_verify.proofs.writing.put_cause.Goals as goal
-
-pub returns-in-Ok : goal.returns-in-Ok
-returns-in-Ok g c = put_then _ _ _ _ _ _ c.in-Ok.ensures c.put_word.ensures
-
-pub returns-in-Err : goal.returns-in-Err
-returns-in-Err g c = put_stops _ _ _ _ _ c.in-Err.ensures

@@ -1,4 +1,0 @@
-use Rattle.wait_verify.proofs.verifying.is_unforked.Goals as goal
-
-pub returns : goal.returns
-returns c = c.a_tape_without_faults_is_unforked.ensures c.args.order.now c.as_slice-programs.ensures.sound.waits
