@@ -8,7 +8,8 @@ use Rattle.nc_outside.specs.Received.{TurretState, Adds, Settles}
 use Rattle.drive_line.specs.declared.phase.Phase.{Phase}
 use Rattle.drive_line.specs.declared.phase.Phase.TheVariants.{Moving, Still, Failed, Halted}
 
--- A turret as its drive has it: its state, how many moves it took, how many it missed since it failed, and how it stands.
+-- A turret as its drive has it: its state, how many moves it took, how many it missed since it
+-- failed, and how it stands.
 pub record DrivenState : Type 0 where
   pub state : TurretState
   pub taken : ℕ
@@ -25,7 +26,8 @@ has_failed Still = false
 has_failed Failed = true
 has_failed Halted = true
 
--- the turret took so many moves and stands still behind them, or it failed and the run was halted for that
+-- the turret took so many moves and stands still behind them, or it failed and the run was halted
+-- for that
 abbrev pub IsAtRest : DrivenState → ℕ → Type 0
 IsAtRest driven n = ((driven.phase ≡ Still) × (driven.taken ≡ n)) ⊎ (driven.phase ≡ Halted)
 
@@ -33,7 +35,8 @@ IsAtRest driven n = ((driven.phase ≡ Still) × (driven.taken ≡ n)) ⊎ (driv
 abbrev pub HasMoved : Phase → Type 0
 HasMoved phase = (phase ≡ Moving) ⊎ (phase ≡ Failed)
 
--- what a settle does to the turret: one that may be on its way is called once, and one that stands still or has failed is not
+-- what a settle does to the turret: one that may be on its way is called once, and one that stands
+-- still or has failed is not
 abbrev pub SettlesFrom : Phase → TurretState → TurretState → Type 0
 SettlesFrom Moving old new = Settles old new
 SettlesFrom Still old new = new ≡ old
@@ -45,8 +48,9 @@ abbrev pub most : Bool → ℕ
 most true = 1
 most false = 0
 
--- A turret that was to get these moves took the first of them, in order and a call each, and missed the others: none, unless it
--- failed, at a call for the next move or at a settle. One that stands still was told to settle.
+-- A turret that was to get these moves took the first of them, in order and a call each, and missed
+-- the others: none, unless it failed, at a call for the next move or at a settle. One that stands
+-- still was told to settle.
 pub record Serves (moves : List LinedMove) (old : TurretState) (driven : DrivenState) : Type 0 where
   pub all : driven.taken + driven.missed ≡ length moves
   pub none : has_failed driven.phase ≡ false → driven.missed ≡ 0

@@ -16,8 +16,8 @@ pub record Sending : Type 0 where
   pub items : List Item
   pub received : List ℕ
 
--- The end of the drive: the items that it took, and whether the last of them is a mark that was not answered yet. It answered each
--- other mark among them, as `mark_counts` says.
+-- The end of the drive: the items that it took, and whether the last of them is a mark that was not
+-- answered yet. It answered each other mark among them, as `mark_counts` says.
 pub record Taking : Type 0 where
   pub line : LineId
   pub items : List Item
@@ -56,7 +56,8 @@ EndIsLast (Move what ∷ items) = EndIsLast items
 EndIsLast (Mark ∷ items) = EndIsLast items
 EndIsLast (End ∷ items) = items ≡ []
 
--- What the end of the worker keeps, which counts n moves: nothing stands behind the end, and each mark was answered.
+-- What the end of the worker keeps, which counts n moves: nothing stands behind the end, and each
+-- mark was answered.
 pub record IsSending (n : ℕ) (items : List Item) (received : List ℕ) : Type 0 where
   pub counted : n ≡ length (moves_among items)
   pub last : EndIsLast items
@@ -66,8 +67,8 @@ pub record IsSending (n : ℕ) (items : List Item) (received : List ℕ) : Type 
 abbrev pub owed : Bool → ℕ → List ℕ
 owed asked n = if asked then n ∷ [] else []
 
--- What the end of the drive keeps, which counts n moves and knows whether it took the end and whether it owes an answer: it gave the
--- others.
+-- What the end of the drive keeps, which counts n moves and knows whether it took the end and
+-- whether it owes an answer: it gave the others.
 pub record IsTaking (n : ℕ) (is_ended asked : Bool) (items : List Item) (given : List ℕ) : Type 0 where
   pub counted : n ≡ length (moves_among items)
   pub ended : is_ended ≡ has_end items

@@ -12,8 +12,9 @@ use Rattle.drive_line.specs.declared.wire.Log.{Log}
 abbrev pub log : {T : Type 0} → Bool → Bool → List T → List T → Log T
 log sends takes sent taken = record { sends = sends; takes = takes; sent = sent; taken = taken }
 
--- What a wire keeps: what was sent is what was taken, and then what the channel holds. One pass alone may send, and has
--- the list of what was sent; one alone may take, and has the list of what was taken.
+-- What a wire keeps: what was sent is what was taken, and then what the channel holds. One pass
+-- alone may send, and has the list of what was sent; one alone may take, and has the list of what
+-- was taken.
 pub record IsInOrder {T : Type 0} (held : List T) (logs : List (Log T)) : Type 0 where
   pub sender : ℕ  -- the pass that may send
   pub taker : ℕ  -- the pass that may take

@@ -15,8 +15,8 @@ use nc_outside::{Halt, LinedMove, Stepper, Turret};
 use std::marker::Model;
 use std::sync::Wait;
 
-/// A turret, how many moves it took and how many it missed since it failed, and how it stands. It means these, with the turret's
-/// state. A turret that failed is called no more.
+/// A turret, how many moves it took and how many it missed since it failed, and how it stands. It
+/// means these, with the turret's state. A turret that failed is called no more.
 #[derive(Drop)]
 pub struct Driven<T: Turret> {
     turret: T,
@@ -84,8 +84,8 @@ impl<T: Turret> Driven<T> {
         }
     }
 
-    /// Hands it a move in one call. Where it failed before, the move is missed, and so is the one at which it fails. Past
-    /// 2^64 - 1 moves it does not return.
+    /// Hands it a move in one call. Where it failed before, the move is missed, and so is the one
+    /// at which it fails. Past 2^64 - 1 moves it does not return.
     pub fn hand<R: Wait>(&mut self, rt: &R, what: &LinedMove)
         ensures serves { (moves : List Lined) (start : TurretState)
             → Serves moves start self.old → Serves (moves ++ what.now ∷ []) start self.new }

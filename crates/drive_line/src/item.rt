@@ -6,7 +6,8 @@ use nc_outside::LinedMove;
 pub enum Item {
     /// A move for the turret.
     Move(LinedMove),
-    /// The drive is to answer how many moves it has taken, once its turret stands still behind them.
+    /// The drive is to answer how many moves it has taken, once its turret stands still behind
+    /// them.
     Mark,
     /// Nothing comes behind it.
     End,

@@ -10,7 +10,8 @@ use nc_number::NoMemory;
 use nc_outside::Turret;
 use std::alloc::Global;
 
-/// A line from a worker to the drive of a turret. There is no value of it: it is made of its two ends.
+/// A line from a worker to the drive of a turret. There is no value of it: it is made of its two
+/// ends.
 pub struct Line;
 
 impl Line {
@@ -34,12 +35,14 @@ impl Line {
     }
 }
 
-/// Puts the two ends of a line together, and answers whether the end was taken. What was taken is a beginning of what was
-/// sent, the answers received are a beginning of those given, and what was sent before a drain that returned was taken.
+/// Puts the two ends of a line together, and answers whether the end was taken. What was taken is a
+/// beginning of what was sent, the answers received are a beginning of those given, and what was
+/// sent before a drain that returned was taken.
 pub fn close_line<R, T: Turret>(sending: LineIn<'_, R>, taking: LineOut<'_, R, T>) -> bool
     requires { sending.line ≡ taking.line }
     ensures items { (rest : List Sent) × (sending.entry.items ≡ taking.entry.items ++ rest) }
-    ensures moves { (rest : List LinedMove) × (moves_among sending.entry.items ≡ moves_among taking.entry.items ++ rest) }
+    ensures moves { (rest : List LinedMove)
+        × (moves_among sending.entry.items ≡ moves_among taking.entry.items ++ rest) }
     ensures received { (rest : List ℕ) × (mark_counts 0 taking.entry.items ≡ sending.entry.received ++ rest) }
     ensures drained { All (AreTaken sending.entry.items taking.entry.items) (mark_counts 0 sending.entry.items) }
     ensures ended { result ≡ has_end taking.entry.items }

@@ -9,7 +9,8 @@ use nc_outside::{Drain, LinedMove};
 use std::marker::Model;
 use std::sync::Wait;
 
-/// A line was drained behind so many moves. Only `LineIn::drain` makes one, and nothing makes a second of it.
+/// A line was drained behind so many moves. Only `LineIn::drain` makes one, and nothing makes a
+/// second of it.
 #[derive(Debug, Drop)]
 pub struct Drained {
     count: u64,
@@ -23,8 +24,8 @@ impl Drain for Drained {
     }
 }
 
-/// The end at which a worker sends. It means its line, the items that it sent and the answers that it received. Nothing is
-/// sent behind the end, and each mark that was sent has been answered.
+/// The end at which a worker sends. It means its line, the items that it sent and the answers that
+/// it received. Nothing is sent behind the end, and each mark that was sent has been answered.
 #[derive(Drop)]
 pub struct LineIn<'r, R> {
     rt: &'r R,
@@ -77,7 +78,8 @@ impl<'r, R> LineIn<'r, R> {
 }
 
 impl<'r, R: Wait> LineIn<'r, R> {
-    /// Sends a move behind those that were sent. Where the line is full it waits, and past 2^64 - 1 moves for ever.
+    /// Sends a move behind those that were sent. Where the line is full it waits, and past 2^64 - 1
+    /// moves for ever.
     pub fn send(&mut self, what: LinedMove)
         requires { has_end self.old.items ≡ false }
         ensures line { self.new.line ≡ self.old.line }
@@ -111,7 +113,7 @@ impl<'r, R: Wait> LineIn<'r, R> {
     }
 }
 
-// Takes answers until one is this number.
+/// Takes answers until one is this number.
 fn await_answer<R: Wait>(rt: &R, back: &mut WireOut<u64>, count: u64)
     ensures wire { back.new.wire ≡ back.old.wire }
     ensures items { (others : List ℕ) × (back.new.items ≡ back.old.items ++ (others ++ count ∷ [])) }

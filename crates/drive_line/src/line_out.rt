@@ -10,8 +10,9 @@ use nc_outside::Turret;
 use std::marker::{Model, PhantomData};
 use std::sync::Wait;
 
-/// The end at which the drive of a turret takes. It means its line, the items that it took, and whether it owes an answer to the
-/// last, a mark. It answered each other mark with the number of the moves that it took before.
+/// The end at which the drive of a turret takes. It means its line, the items that it took, and
+/// whether it owes an answer to the last, a mark. It answered each other mark with the number of
+/// the moves that it took before.
 #[derive(Drop)]
 pub struct LineOut<'r, R, T: Turret> {
     rt: &'r R,
@@ -58,7 +59,8 @@ impl<'r, R, T: Turret> LineOut<'r, R, T> {
         }
     }
 
-    /// The wires that it was made of: that of its items, and that of the answers, and whether it took the end.
+    /// The wires that it was made of: that of its items, and that of the answers, and whether it
+    /// took the end.
     pub(crate) fn into_wires(self) -> (WireOut<Item>, WireIn<u64>, bool)
         ensures line { self.entry.line ≡ record { forth = result.0.wire; back = result.1.wire } }
         ensures items { result.0.items ≡ self.entry.items }
@@ -70,8 +72,8 @@ impl<'r, R, T: Turret> LineOut<'r, R, T> {
 }
 
 impl<'r, R: Wait, T: Turret> LineOut<'r, R, T> {
-    /// The next item, and the end again behind the end. Where the line is empty it waits. A mark is to be answered before the
-    /// next is taken.
+    /// The next item, and the end again behind the end. Where the line is empty it waits. A mark is
+    /// to be answered before the next is taken.
     pub fn take(&mut self) -> Item
         requires { self.old.asked ≡ false }
         ensures line { self.new.line ≡ self.old.line }
@@ -90,8 +92,8 @@ impl<'r, R: Wait, T: Turret> LineOut<'r, R, T> {
         item
     }
 
-    /// Answers a mark with the number of the moves that were taken. Its turret took all of them and stands still behind them,
-    /// or it failed and the run was halted for that.
+    /// Answers a mark with the number of the moves that were taken. Its turret took all of them and
+    /// stands still behind them, or it failed and the run was halted for that.
     pub fn answer(&mut self, driven: &Driven<T>)
         requires asked { self.old.asked ≡ true }
         requires rest { IsAtRest driven.now (length (moves_among self.old.items)) }

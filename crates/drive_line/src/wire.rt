@@ -12,7 +12,7 @@ use std::marker::Model;
 use std::sync::Wait;
 use std::thread;
 
-// What a pass of the channel may do, and what it has sent and taken. No value of it is made.
+/// What a pass of the channel may do, and what it has sent and taken. No value of it is made.
 pub struct Log<T> {
     pub sends: bool,
     pub takes: bool,
@@ -20,7 +20,7 @@ pub struct Log<T> {
     pub taken: LinkedList<T>,
 }
 
-// The rule of the channel.
+/// The rule of the channel.
 pub struct FirstOut;
 
 impl<T> Protocol<T, Log<T>> for FirstOut {
@@ -32,7 +32,7 @@ impl<T> Protocol<T, Log<T>> for FirstOut {
     ghost first = { log true true [] [] };
 }
 
-// The two ends, cut apart and put together.
+/// The two ends, cut apart and put together.
 struct Ends;
 
 impl<T> Split<Log<T>> for Ends {
@@ -53,7 +53,7 @@ impl<T> Join<Log<T>> for Ends {
     ghost spent = { log false false [] [] };
 }
 
-// An item was sent.
+/// An item was sent.
 struct Sent;
 
 impl<T> Outcome<T, Log<T>> for Sent {
@@ -64,7 +64,7 @@ impl<T> Lesson<T, Log<T>> for Sent {
     ghost fact = { λ v items. Unit {0} };
 }
 
-// An item was taken.
+/// An item was taken.
 struct Taken;
 
 impl<T> Outcome<T, Log<T>> for Taken {
@@ -75,7 +75,7 @@ impl<T> Lesson<T, Log<T>> for Taken {
     ghost fact = { λ v items. Unit {0} };
 }
 
-// What was sent is what was taken, and then what the channel holds.
+/// What was sent is what was taken, and then what the channel holds.
 struct Whole;
 
 impl<T> Lesson<T, Log<T>> for Whole {
@@ -86,7 +86,7 @@ type Sender<T> = RuledSender<T, Log<T>, FirstOut>;
 
 type Receiver<T> = RuledReceiver<T, Log<T>, FirstOut>;
 
-// Sends the item. In a full channel it sleeps; a channel whose other end is gone is tried again.
+/// Sends the item. In a full channel it sleeps; a channel whose other end is gone is tried again.
 fn send_on<T: Drop, R: Wait>(rt: &R, sender: &Sender<T>, pass: &mut Pass<T, Log<T>>, item: T)
     requires { IsSeatAt (sends_on sender.now) pass.old × ((view pass.old).sends ≡ true) }
     ensures channel { IsSeatAt (sends_on sender.now) pass.new }
@@ -104,11 +104,11 @@ fn send_on<T: Drop, R: Wait>(rt: &R, sender: &Sender<T>, pass: &mut Pass<T, Log<
     unreachable!()
 }
 
-// How often a taker looks for an item before it sleeps until one is sent. The moves of a run whose disk does not make it wait
-// follow one another faster than a sleeper wakes.
+/// How often a taker looks for an item before it sleeps until one is sent. The moves of a run whose
+/// disk does not make it wait follow one another faster than a sleeper wakes.
 const LOOKS: u32 = 64;
 
-// An item, if one is seen in so many looks. Between two of them other threads may run.
+/// An item, if one is seen in so many looks. Between two of them other threads may run.
 fn look_on<T: Drop, R: Wait>(
     rt: &R,
     receiver: &Receiver<T>,
@@ -129,7 +129,7 @@ fn look_on<T: Drop, R: Wait>(
     None
 }
 
-// Takes an item. At an empty channel it sleeps; a channel whose other end is gone is tried again.
+/// Takes an item. At an empty channel it sleeps; a channel whose other end is gone is tried again.
 fn await_on<T: Drop, R: Wait>(rt: &R, receiver: &Receiver<T>, pass: &mut Pass<T, Log<T>>) -> T
     requires { IsSeatAt (receives_on receiver.now) pass.old × ((view pass.old).takes ≡ true) }
     ensures channel { IsSeatAt (receives_on receiver.now) pass.new }
@@ -145,7 +145,7 @@ fn await_on<T: Drop, R: Wait>(rt: &R, receiver: &Receiver<T>, pass: &mut Pass<T,
     unreachable!()
 }
 
-// Takes an item: looks a while at an empty channel, and then sleeps until there is one.
+/// Takes an item: looks a while at an empty channel, and then sleeps until there is one.
 fn take_on<T: Drop, R: Wait>(rt: &R, receiver: &Receiver<T>, pass: &mut Pass<T, Log<T>>) -> T
     requires { IsSeatAt (receives_on receiver.now) pass.old × ((view pass.old).takes ≡ true) }
     ensures channel { IsSeatAt (receives_on receiver.now) pass.new }

@@ -1,5 +1,6 @@
 -- An image stands for one thing, where the pair and its machine count too.
 use Rattle.std.proofs.Common.{◌≡◌, ◌⊎◌, inl, inr, ℕ, zero, suc, ◌≤◌, ◌<◌, List, [], ◌∷◌, ◌++◌, length, map, drop, get_or, refl, sym, ap, subst, ◌∙◌, arith, length-append}
+use Rattle.std.proofs.lemmas.Bool.{cases_order}
 use Rattle.gate_file.specs.Chain.{Spells}
 use Rattle.run_records.specs.declared.bad_record.BadRecord.{BadRecord}
 use Rattle.run_records.specs.Entries.{Entry}
@@ -88,23 +89,12 @@ one_cause pair before e _ _ (beyond next full) (beyond next' full') = refl
 
 one_place : (pair : Verified) (entries : List Entry) (index other : ℕ) (cause cause' : BadRecord) → IsOutOfPlaceAt pair entries index cause
     → IsOutOfPlaceAt pair entries other cause' → (index ≡ other) × (cause ≡ cause')
-one_place pair entries index other cause cause' is also = go (order index other)
+one_place pair entries index other cause cause' is also = go (cases_order index other)
   where
-    order : (a b : ℕ) → (a < b) ⊎ ((b < a) ⊎ (a ≡ b))
-    order zero zero = inr (inr refl)
-    order zero (suc b) = inl (omega arith)
-    order (suc a) zero = inr (inl (omega arith))
-    order (suc a) (suc b) = later (order a b)
-      where
-        later : (a < b) ⊎ ((b < a) ⊎ (a ≡ b)) → (suc a < suc b) ⊎ ((suc b < suc a) ⊎ (suc a ≡ suc b))
-        later (inl l) = inl (omega (arith, l))
-        later (inr (inl l)) = inr (inl (omega (arith, l)))
-        later (inr (inr e)) = inr (inr (ap suc e))
-
-    go : (index < other) ⊎ ((other < index) ⊎ (index ≡ other)) → (index ≡ other) × (cause ≡ cause')
-    go (inl less) = absurd (earlier pair entries index other cause cause' is also less)
-    go (inr (inl less)) = absurd (earlier pair entries other index cause' cause also is less)
-    go (inr (inr e)) =
+    go : (index ≡ other) ⊎ ((index < other) ⊎ (other < index)) → (index ≡ other) × (cause ≡ cause')
+    go (inr (inl less)) = absurd (earlier pair entries index other cause cause' is also less)
+    go (inr (inr less)) = absurd (earlier pair entries other index cause' cause also is less)
+    go (inl e) =
         let size : length is.before ≡ length also.before = omega (arith, is.index_is, also.index_is, e) in
         let parts = parted_alike is.before also.before (is.entry ∷ is.after) (also.entry ∷ also.after) (sym is.are ∙ also.are) size in
         let first = first_alike is.entry also.entry is.after also.after parts.1 in

@@ -4,18 +4,18 @@ use Rattle.run_records.specs.declared.version.Version.{Version}
 use Rattle.run_records.specs.declared.version.Version.TheVariants.{Two}
 use Rattle.run_journal.specs.Batches.{Piece, a_batch, the_mark, batch_bytes, raising_mark, piece_bytes, records_of, ArePieces}
 
-same_first : {X : Type 0} (x y : X) (xs ys : List X) → x ∷ xs ≡ y ∷ ys → x ≡ y
-same_first x y xs ys same = ap (λ l. get_or l 0 x) same
+pub first_alike : {X : Type 0} (x y : X) (xs ys : List X) → x ∷ xs ≡ y ∷ ys → x ≡ y
+first_alike x y xs ys same = ap (λ l. get_or l 0 x) same
 
 -- what is parted at an earlier place has the rest in between
 pub parted_before : {X : Type 0} (before other after rest : List X) (x y : X) → before ++ x ∷ after ≡ other ++ y ∷ rest
     → length before < length other → (between : List X) × (other ≡ before ++ x ∷ between)
 parted_before before [] after rest x y same less = absurd (omega (arith, less))
 parted_before [] (z ∷ other) after rest x y same less =
-    (other, ap (λ w. w ∷ other) (sym (same_first x z after (other ++ y ∷ rest) same)))
+    (other, ap (λ w. w ∷ other) (sym (first_alike x z after (other ++ y ∷ rest) same)))
 parted_before (w ∷ before) (z ∷ other) after rest x y same less =
     let later = parted_before before other after rest x y (ap (drop 1) same) (omega (arith, less)) in
-    (later.0, λ i. sym (same_first w z (before ++ x ∷ after) (other ++ y ∷ rest) same) i ∷ later.1 i)
+    (later.0, λ i. sym (first_alike w z (before ++ x ∷ after) (other ++ y ∷ rest) same) i ∷ later.1 i)
 
 -- what is parted at the same place has the same parts
 pub parted_alike : {X : Type 0} (before other after rest : List X) → before ++ after ≡ other ++ rest → length before ≡ length other
@@ -25,10 +25,7 @@ parted_alike [] (z ∷ other) after rest same size = absurd (omega (arith, size)
 parted_alike (w ∷ before) [] after rest same size = absurd (omega (arith, size))
 parted_alike (w ∷ before) (z ∷ other) after rest same size =
     let later = parted_alike before other after rest (ap (drop 1) same) (omega (arith, size)) in
-    ((λ i. same_first w z (before ++ after) (other ++ rest) same i ∷ later.0 i), later.1)
-
-pub first_alike : {X : Type 0} (x y : X) (xs ys : List X) → x ∷ xs ≡ y ∷ ys → x ≡ y
-first_alike x y xs ys same = same_first x y xs ys same
+    ((λ i. first_alike w z (before ++ after) (other ++ rest) same i ∷ later.0 i), later.1)
 
 -- pieces with the same bytes and the same records: the count of a batch is no mark
 pub pieces_alike : (version other : Version) (pieces others : List Piece) → ArePieces version pieces → ArePieces other others
@@ -37,17 +34,17 @@ pieces_alike version other [] [] are also bytes records = refl
 pieces_alike version other [] (q ∷ others) are also bytes records = absurd (omega (arith, ap length bytes))
 pieces_alike version other (p ∷ pieces) [] are also bytes records = absurd (omega (arith, ap length bytes))
 pieces_alike version other (a_batch batch ∷ pieces) (a_batch more ∷ others) are also bytes records =
-    let head : batch_bytes batch ≡ batch_bytes more = same_first (batch_bytes batch) (batch_bytes more) (map piece_bytes pieces) (map piece_bytes others) bytes in
+    let head : batch_bytes batch ≡ batch_bytes more = first_alike (batch_bytes batch) (batch_bytes more) (map piece_bytes pieces) (map piece_bytes others) bytes in
     let count : length batch ≡ length more = ap (λ l. get_or l 0 0) head in
     let parts = parted_alike batch more (records_of pieces) (records_of others) records count in
     let later = pieces_alike version other pieces others are.1 also.1 (ap (drop 1) bytes) parts.1 in
     λ i. a_batch (parts.0 i) ∷ later i
 pieces_alike version other (a_batch batch ∷ pieces) (the_mark ∷ others) are also bytes records =
-    let head : batch_bytes batch ≡ raising_mark = same_first (batch_bytes batch) raising_mark (map piece_bytes pieces) (map piece_bytes others) bytes in
+    let head : batch_bytes batch ≡ raising_mark = first_alike (batch_bytes batch) raising_mark (map piece_bytes pieces) (map piece_bytes others) bytes in
     let count : length batch ≡ 255 = ap (λ l. get_or l 0 0) head in
     absurd (omega (arith, count, are.0.few))
 pieces_alike version other (the_mark ∷ pieces) (a_batch more ∷ others) are also bytes records =
-    let head : raising_mark ≡ batch_bytes more = same_first raising_mark (batch_bytes more) (map piece_bytes pieces) (map piece_bytes others) bytes in
+    let head : raising_mark ≡ batch_bytes more = first_alike raising_mark (batch_bytes more) (map piece_bytes pieces) (map piece_bytes others) bytes in
     let count : 255 ≡ length more = ap (λ l. get_or l 0 0) head in
     absurd (omega (arith, count, also.0.few))
 pieces_alike version other (the_mark ∷ pieces) (the_mark ∷ others) are also bytes records =

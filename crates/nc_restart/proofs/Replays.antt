@@ -2,6 +2,7 @@
 use Rattle.std.proofs.Common.{◌≡◌, ℕ, suc, ◌+◌, ◌≤◌, ◌<◌, List, [], ◌∷◌, ◌++◌, length, take, drop, get_or, refl, sym, ap, subst, ◌∙◌, arith, length-append}
 use Rattle.std.proofs.lemmas.List.{take_more, take_all, length-take-le, take-append-drop}
 use Rattle.std.proofs.Math.Seq.{drop-cons}
+use Rattle.nc_number.specs.declared.limits.TheConstants.{MOST_RECORDS}
 use Rattle.run_records.specs.declared.bad_record.BadRecord.{BadRecord}
 use Rattle.run_records.specs.declared.bad_record.BadRecord.TheVariants.{NotLegal, TooManyRecords}
 use Rattle.run_records.specs.Entries.{Entry}
@@ -12,19 +13,11 @@ use Rattle.two_path.specs.Histories.{behind_entry, fold, IsLegal, IsNext, Counts
 use Rattle.two_path.specs.Joined.{RoomyMachine, AreAtTheirWaits}
 use Rattle.two_path.specs.Again.{IsDoneAgain, IsRefused}
 use Rattle.two_path.proofs.Edited.{entry_bare}
+use Rattle.two_path.proofs.Folds.{fold_push, legal_push}
 use Rattle.nc_verify.specs.declared.verified.Verified.{Verified}
 use Rattle.nc_restart.specs.Pair.{tapes_in, opening_of, machine_behind}
 use Rattle.nc_restart.specs.History.{IsBehind, IsOutOfPlace, illegal, beyond, IsOutOfPlaceAt}
 use Rattle.nc_restart.specs.Reading.{AreDone}
-
-fold_push : (tapes : Tapes) (m : MachineView) (entries : List Entry) (e : Entry) → fold tapes m (entries ++ e ∷ []) ≡ behind_entry tapes e (fold tapes m entries)
-fold_push tapes m [] e = refl
-fold_push tapes m (r ∷ entries) e = fold_push tapes (behind_entry tapes r m) entries e
-
-legal_push : (tapes : Tapes) (m : MachineView) (entries : List Entry) (e : Entry) → IsLegal tapes m entries → IsNext tapes (fold tapes m entries) e
-    → IsLegal tapes m (entries ++ e ∷ [])
-legal_push tapes m [] e legal next = (next, tt)
-legal_push tapes m (r ∷ entries) e legal next = (legal.0, legal_push tapes (behind_entry tapes r m) entries e legal.1 next)
 
 module _ (pair : Verified) (before : List Entry) (e : Entry) (m n : MachineView) (is : IsBehind pair before m) where
   pub next_illegal : IsRefused (tapes_in pair) e m n → IsOutOfPlace pair before e NotLegal
@@ -68,7 +61,7 @@ none_done pair entries now opens room = record {
 pub room_there : (pair : Verified) (entries : List Entry) (done : ℕ) (now : RoomyMachine) → AreDone pair entries done now → done < length entries → 0 < now.room
 room_there pair entries done now are within = omega (arith, are.room, within)
 
-pub few_done : (pair : Verified) (entries : List Entry) (done : ℕ) (now : RoomyMachine) → AreDone pair entries done now → now.machine.count ≤ 4000000
+pub few_done : (pair : Verified) (entries : List Entry) (done : ℕ) (now : RoomyMachine) → AreDone pair entries done now → now.machine.count ≤ MOST_RECORDS
 few_done pair entries done now are = omega (arith, are.behind.counts, are.behind.history.few, pair.settings.most_records)
 
 module _ (pair : Verified) (entries : List Entry) (done : ℕ) (e : Entry) (now : RoomyMachine) (are : AreDone pair entries done now)

@@ -17,6 +17,7 @@ use Rattle.path_state.specs.Opening.{with_presets, point_of}
 use Rattle.two_path.specs.Machine.{opening}
 use Rattle.nc_verify.specs.declared.verified.Verified.{Verified}
 use Rattle.nc_verify.specs.Verdict.{Texts, IsFlowOf, AreAccepted, dialect_in}
+use Rattle.nc_verify.proofs.NotBoth.{one_flow}
 use Rattle.nc_restart.specs.Pair.{IsPairOf, IsSamePair}
 use Rattle.nc_restart.proofs.Forms.{blocks_by, blocks_same}
 
@@ -33,15 +34,6 @@ opening_by order cell path = record {
   fixed = record { home = point_of path cell.home; shared100 = cell.shared100; shared500 = cell.shared500 };
 }
 
-one_tape : (cell : Cell) (path : Path) (text : List ℕ) (programs others : List ProgramForm) → IsFlowOf cell path text programs
-    → IsFlowOf cell path text others → programs ≡ others
-one_tape cell path text programs others is also =
-    let both : Ok is.tape ≡ Ok also.tape = sym is.reads ∙ also.reads in
-    let tape : is.tape ≡ also.tape = cc in
-    let read : programs_read (dialect_in cell) also.tape ≡ Ok programs = subst (λ t. programs_read (dialect_in cell) t ≡ Ok programs) tape is.accepted.reads in
-    let twice : Ok programs ≡ Ok others = sym read ∙ also.accepted.reads in
-    cc
-
 -- the cell and what the tapes say are those of the texts
 one_reading : (texts : Texts) (cell other : Cell) (left right left' right' : List ProgramForm) → AreAccepted texts cell left right
     → AreAccepted texts other left' right' → (cell ≡ other) × (left ≡ left') × (right ≡ right')
@@ -50,7 +42,7 @@ one_reading texts cell other left right left' right' is also =
     let same : cell ≡ other = cc in
     let one : IsFlowOf other One texts.left left = subst (λ c. IsFlowOf c One texts.left left) same is.flows.left_is in
     let two : IsFlowOf other Two texts.right right = subst (λ c. IsFlowOf c Two texts.right right) same is.flows.right_is in
-    (same, one_tape other One texts.left left left' one also.flows.left_is, one_tape other Two texts.right right right' two also.flows.right_is)
+    (same, one_flow other One texts.left left left' one also.flows.left_is, one_flow other Two texts.right right right' two also.flows.right_is)
 
 pub same_pair : (texts : Texts) (pair other : Verified) → IsPairOf texts pair → IsPairOf texts other → IsSamePair pair other
 same_pair texts pair other is also =

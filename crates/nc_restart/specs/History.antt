@@ -1,4 +1,5 @@
--- Which lists of records are a history of a pair, and which record is the first that may not stand where it stands.
+-- Which lists of records are a history of a pair, and which record is the first that may not stand
+-- where it stands.
 use Rattle.std.specs.Prelude.{◌≡◌, ℕ, ◌≤◌, List, ◌∷◌, ◌++◌, length}
 use Rattle.run_records.specs.declared.bad_record.BadRecord.{BadRecord}
 use Rattle.run_records.specs.declared.bad_record.BadRecord.TheVariants.{NotLegal, TooManyRecords}
@@ -14,8 +15,8 @@ pub record IsHistory (pair : Verified) (entries : List Entry) : Type 0 where
   pub legal : IsLegal (tapes_in pair) (opening_of pair) entries
   pub few : length entries ≤ pair.settings.records
 
--- The records are a history of the pair, and the machine is their fold. It counts them, no block has read anything, and a path that
--- waits stands on a wait.
+-- The records are a history of the pair, and the machine is their fold. It counts them, no block
+-- has read anything, and a path that waits stands on a wait.
 pub record IsBehind (pair : Verified) (entries : List Entry) (machine : MachineView) : Type 0 where
   pub history : IsHistory pair entries
   pub folds : machine ≡ machine_behind pair entries
@@ -27,7 +28,8 @@ pub record IsBehind (pair : Verified) (entries : List Entry) (machine : MachineV
 abbrev pub MayFollow : Verified → List Entry → Entry → Type 0
 MayFollow pair before entry = IsNext (tapes_in pair) (machine_behind pair before) entry
 
--- Why a record may not stand behind these: it is not the machine's step; or it is, and the run has all its records.
+-- Why a record may not stand behind these: it is not the machine's step; or it is, and the run has
+-- all its records.
 pub data IsOutOfPlace (pair : Verified) (before : List Entry) (entry : Entry) : BadRecord → Type 0 where
   illegal : (MayFollow pair before entry → ⊥) → IsOutOfPlace pair before entry NotLegal
   beyond : MayFollow pair before entry → length before ≡ pair.settings.records → IsOutOfPlace pair before entry TooManyRecords

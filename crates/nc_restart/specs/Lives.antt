@@ -9,8 +9,8 @@ use Rattle.nc_verify.specs.declared.verified.Verified.{Verified}
 use Rattle.nc_restart.specs.Pair.{texts_of, IsPairOf, tapes_in, machine_behind}
 use Rattle.nc_restart.specs.Meaning.{StandsForRun}
 
--- From a restart to a stop: the machine is made anew of the records that were found, any events happen, and of all records the first
--- so many are left, among them those that were found.
+-- From a restart to a stop: the machine is made anew of the records that were found, any events
+-- happen, and of all records the first so many are left, among them those that were found.
 pub record IsLife (header : Header) (found left : List Entry) : Type 0 where
   pub pair : Verified
   pub accepted : IsPairOf (texts_of header) pair
@@ -20,7 +20,8 @@ pub record IsLife (header : Header) (found left : List Entry) : Type 0 where
   pub are : left ≡ take kept (found ++ history (tapes_in pair) (machine_behind pair found) events)
   pub few : length left ≤ pair.settings.records
 
--- a life that begins with the one image ends with the other; in a restart that is stopped no events happen
+-- a life that begins with the one image ends with the other; in a restart that is stopped no events
+-- happen
 pub record Leaves (before after : List ℕ) : Type 0 where
   pub header : Header
   pub found : List Entry

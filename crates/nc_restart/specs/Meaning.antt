@@ -27,14 +27,15 @@ pub record HasHistory (header : Header) (entries : List Entry) : Type 0 where
 abbrev pub places_in : Header → List Piece → List ℕ
 places_in header pieces = places (5 + length (header_bytes header)) pieces
 
--- Records of a header that were read are no run all the same: its texts are refused, or one of the records may not stand where it
--- stands. The places are those where the records begin.
+-- Records of a header that were read are no run all the same: its texts are refused, or one of the
+-- records may not stand where it stands. The places are those where the records begin.
 pub data IsBadReading (header : Header) (entries : List Entry) (begins : List ℕ) : ℕ → BadRecord → Type 0 where
   refused : (refusal : Refusal) → IsRefusalOf (texts_of header) refusal → IsBadReading header entries begins 5 RefusedTapes
   out_of_place : (pair : Verified) (index : ℕ) (cause : BadRecord) → IsPairOf (texts_of header) pair
       → IsOutOfPlaceAt pair entries index cause → IsBadReading header entries begins (get_or begins index 0) cause
 
--- The image stands for no run, for this cause at this offset: what it spells is no header and pieces, or it is, and they are bad.
+-- The image stands for no run, for this cause at this offset: what it spells is no header and
+-- pieces, or it is, and they are bad.
 pub data IsBadRunAt (offset : ℕ) (cause : BadRecord) (image : List ℕ) : Type 0 where
   unread : IsBadAt offset cause image → IsBadRunAt offset cause image
   misread : (header : Header) (pieces : List Piece) (entries : List Entry) → IsRun header pieces entries

@@ -19,9 +19,10 @@ use Rattle.nc_restart.specs.Pair.{texts_of, IsPairOf}
 use Rattle.nc_restart.specs.History.{IsBehind}
 use Rattle.nc_restart.specs.Meaning.{StandsForRun}
 
--- The parts of one recovery: the texts of the header are accepted, and this is their pair; the machine stands behind the records, which
--- are a history of it; the journal may be written, has as many records, and none of them is to be written; and where the disk tells
--- its content, it holds them all, in a journal of the version that it has by now.
+-- The parts of one recovery: the texts of the header are accepted, and this is their pair; the
+-- machine stands behind the records, which are a history of it; the journal may be written, has as
+-- many records, and none of them is to be written; and where the disk tells its content, it holds
+-- them all, in a journal of the version that it has by now.
 pub record IsRecovered {D : Type 0} (state : D → DiskState) (header : Header) (pair : Verified) (machine : MachineView) (entries : List Entry) (log : Log D) : Type 0 where
   pub accepted : IsPairOf (texts_of header) pair
   pub behind : IsBehind pair entries machine
@@ -54,7 +55,8 @@ pub record FoundRun : Type 0 where
   pub header : Header
   pub entries : List Entry
 
--- The file stands for what was found. It is read body by body: the header, the records, and the mark where the journal was raised.
+-- The file stands for what was found. It is read body by body: the header, the records, and the
+-- mark where the journal was raised.
 pub record IsFoundRun (old new : DiskState) (found : FoundRun) : Type 0 where
   pub means : (bytes : List ℕ) → Reads old bytes → StandsForRun (a_run found.header found.entries) bytes
   pub uses : Uses (4 * length found.entries + 16) 0 old new

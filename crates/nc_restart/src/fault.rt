@@ -19,8 +19,8 @@ pub enum RestartFault {
     /// file.
     #[error("cut short at {0}")]
     Cut(u64),
-    /// The file is bad at this offset, for this cause. Bytes that can't be read come before texts that
-    /// are refused, and these before a record that may not stand where it stands.
+    /// The file is bad at this offset, for this cause. Bytes that can't be read come before texts
+    /// that are refused, and these before a record that may not stand where it stands.
     #[error("bad record at {offset}: {cause}")]
     BadRecord { offset: u64, cause: BadRecord },
     /// There is no memory left.

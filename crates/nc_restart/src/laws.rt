@@ -27,8 +27,9 @@ pub fn a_machine_hangs_on_its_texts()
         → IsSamePair pair other }
 {}
 
-/// An image stands for one thing, where the pair and its machine count too: no run, or an entry that is
-/// cut short at one offset, or for one cause at one offset no run either, or one header and one history.
+/// An image stands for one thing, where the pair and its machine count too: no run, or an entry
+/// that is cut short at one offset, or for one cause at one offset no run either, or one header and
+/// one history.
 pub fn an_image_stands_for_one_run()
     ensures { (image : List ℕ) (a b : Meaning) → StandsForRun a image → StandsForRun b image → a ≡ b }
 {
@@ -37,7 +38,8 @@ pub fn an_image_stands_for_one_run()
     a_file_stands_for_one_thing();
 }
 
-/// An image that a run left stands for the first so many records of its history. So it is never bad.
+/// An image that a run left stands for the first so many records of its history. So it is never
+/// bad.
 pub fn an_image_of_a_run_is_never_bad()
     ensures { (header : Header) (history : List Entry) (kept : ℕ) (image : List ℕ) → HasHistory header history
         → Stands header (take kept history) image → StandsForRun (a_run header (take kept history)) image }
@@ -45,8 +47,9 @@ pub fn an_image_of_a_run_is_never_bad()
     histories_are_runs();
 }
 
-/// Over any restarts and stops, restarts that are stopped among them, the records are one history of one
-/// pair: each image stands for a history that begins with all that the restart before it found.
+/// Over any restarts and stops, restarts that are stopped among them, the records are one history
+/// of one pair: each image stands for a history that begins with all that the restart before it
+/// found.
 pub fn restarts_make_one_history()
     ensures { (header : Header) (found : List Entry) (image : List ℕ) (images : List (List ℕ))
         → StandsForRun (a_run header found) image → LeaveEach image images → AreOneHistory header found images }
@@ -58,11 +61,12 @@ pub fn restarts_make_one_history()
     histories_are_runs();
 }
 
-/// No order of turns of an accepted pair leads to paths that can't go on, no wait meets another, and no
-/// alarm says that waits differ: not from the machine with which a run of the pair begins, nor from any
-/// two paths at the starts of their tapes.
+/// No order of turns of an accepted pair leads to paths that can't go on, no wait meets another,
+/// and no alarm says that waits differ: not from the machine with which a run of the pair begins,
+/// nor from any two paths at the starts of their tapes.
 ///
-/// That the texts are accepted is all that is asked. [`nc_verify::verdict`] answers a pair only then.
+/// That the texts are accepted is all that is asked. [`nc_verify::verdict`] answers a pair only
+/// then.
 pub fn no_accepted_pair_is_stuck()
     ensures begun { (texts : Texts) (pair : Verified) (events : List Event) → IsPairOf texts pair
         → IsFree (tapes_in pair) (run (tapes_in pair) (opening_of pair) events) }
@@ -72,8 +76,8 @@ pub fn no_accepted_pair_is_stuck()
     no_pair_is_stuck();
 }
 
-/// No history of an accepted pair leads to paths that can't go on, whoever made it and wherever it was
-/// cut off, and no wait meets another.
+/// No history of an accepted pair leads to paths that can't go on, whoever made it and wherever it
+/// was cut off, and no wait meets another.
 pub fn no_history_is_stuck()
     ensures { (texts : Texts) (pair : Verified) (entries : List Entry) → IsPairOf texts pair → IsHistory pair entries
         → IsFree (tapes_in pair) (machine_behind pair entries) }

@@ -30,15 +30,16 @@ pub struct Recovered<D: Disk> {
 
 /// Recovers the run of which this disk has the journal. It writes nothing.
 ///
-/// The journal is opened first, and refused as `open_journal` refuses it. Then the texts of its header
-/// are judged: where they are refused the answer is `BadRecord` at offset 5, for `RefusedTapes`. Then
-/// the records are done again: the first that can't follow those before it is `NotLegal` at its offset,
-/// and one that can, but for which the settings leave no room, is `TooManyRecords`. An error gives the
-/// disk back.
+/// The journal is opened first, and refused as `open_journal` refuses it. Then the texts of its
+/// header are judged: where they are refused the answer is `BadRecord` at offset 5, for
+/// `RefusedTapes`. Then the records are done again: the first that can't follow those before it is
+/// `NotLegal` at its offset, and one that can, but for which the settings leave no room, is
+/// `TooManyRecords`. An error gives the disk back.
 pub fn recover<D: Disk>(alloc: Global, disk: D) -> Result<Recovered<D>, (D, RestartFault)>
     ensures recovers { Recovers (D.state disk) (D.state (disk_recovered result)) (run_found result) }
     ensures short { IfOk result (λ run. IsShort run.header) }
-    ensures run { IfOk result (λ run. IsRecovered D.state run.header run.verified run.machine.machine run.entries.items run.journal) }
+    ensures run { IfOk result (λ run. IsRecovered D.state run.header run.verified
+        run.machine.machine run.entries.items run.journal) }
 {
     match open_journal(alloc, disk) {
         Err((disk, fault)) => Err((disk, fault_of(fault))),

@@ -1,5 +1,6 @@
 //! How the records of a run are done again.
 ghost use Rattle.std.specs.Prelude.{◌≡◌, ◌≤◌, ◌<◌, ◌+◌, ◌++◌, [], ◌∷◌, List, length, OnOk, IfErr};
+ghost use Rattle.nc_number.specs.declared.limits.TheConstants.{MOST_RECORDS};
 ghost use Rattle.run_records.specs.Entries.{Entry};
 ghost use Rattle.two_path.specs.Joined.{AreAtTheirWaits};
 ghost use Rattle.two_path.specs.Machine.{without_reads};
@@ -21,7 +22,7 @@ pub(crate) struct OutOfPlace {
 /// allow one record more.
 fn redo(machine: &mut Machine, pair: &Verified, entry: &Entry) -> Result<(), BadRecord>
     requires room { 0 < machine.old.room }
-    requires few { machine.old.machine.count ≤ 4000000 }
+    requires few { machine.old.machine.count ≤ MOST_RECORDS }
     requires no_reads { without_reads machine.old.machine ≡ machine.old.machine }
     requires waits { AreAtTheirWaits pair.now.left.order pair.now.right.order machine.old.machine }
     ensures done { OnOk result ((before : List Entry) → IsBehind pair.now before machine.old.machine

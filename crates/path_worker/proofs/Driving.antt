@@ -1,4 +1,5 @@
--- Invariant of a drive: its turret served the items that were taken, and a fault has halted the run.
+-- Invariant of a drive: its turret served the items that were taken, and a fault has halted the
+-- run.
 use Rattle.std.proofs.Common.{arith, ◌≡◌, ◌⊎◌, ◌+◌, true, false, true≢false, List, [], ◌∷◌, ◌++◌, length, refl, ap, sym, ◌∙◌, subst, append-nil, inl, inr, ⊎_elim, Option, Some, None, MatchBool}
 use Rattle.nc_number.specs.declared.path.Path.{Path}
 use Rattle.nc_outside.specs.Calls.{IsCalled}
@@ -41,7 +42,8 @@ halted_once Still is e = ap once_halted e ∙ sym e
 halted_once Failed is e = ap once_halted e ∙ sym e
 halted_once Halted is e = ap once_halted e ∙ sym e
 
--- The steps of a drive at an item: how the turret stood, how it stands when it has served the item, and how behind the halt.
+-- The steps of a drive at an item: how the turret stood, how it stands when it has served the item,
+-- and how behind the halt.
 module _ (first then last : Phase) (steady : once_halted first ≡ first) (halted : last ≡ once_halted then)
     (failed : has_failed first ≡ true → then ≡ first) where
   settled : (then ≡ Still) ⊎ (then ≡ Failed) → HasSettled last
@@ -88,7 +90,8 @@ calm_on path a b c Still last h n p q = subst (λ x. IsCalled a c (halts_at path
 calm_on path a b c Failed last h n p q = subst (λ x. IsCalled a c (halts_at path (has_failed x))) (sym h) (called_more a b c [] (Halt (Turret path) ∷ []) p q)
 calm_on path a b c Halted last h n p q = absurd (n refl)
 
--- the calls of the halter: how the turret stood, how it stands when it has served the item, and how behind the halt
+-- the calls of the halter: how the turret stood, how it stands when it has served the item, and how
+-- behind the halt
 pub halts_on : (path : Path) (item : Item) (a b c : Option (List Call)) (first then last : Phase) → once_halted first ≡ first → last ≡ once_halted then
     → (has_failed first ≡ true → then ≡ first) → (has_failed first ≡ false → StandsAt item then)
     → IsCalled a b (halts_at path (has_failed first)) → IsCalled b c (halts_for path then) → IsCalled a c (halts_at path (has_failed last))

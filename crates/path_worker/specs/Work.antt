@@ -25,13 +25,15 @@ abbrev pub drained_at : Path → ℕ → Next → List Call
 drained_at path n Drain = Drained path n ∷ []
 drained_at path n _ = []
 
--- the calls that got these answers, of a worker whose line had n moves: a step each, and at Drain that it was drained
+-- the calls that got these answers, of a worker whose line had n moves: a step each, and at Drain
+-- that it was drained
 abbrev pub calls_made : Path → ℕ → List Next → List Call
 calls_made path n [] = []
 calls_made path n (answer ∷ answers) =
     Step path answer ∷ (drained_at path n answer ++ calls_made path (n + length (moves_of answer)) answers)
 
--- A worker of the path got these answers: its calls, one list before and one after, and the items of its line.
+-- A worker of the path got these answers: its calls, one list before and one after, and the items
+-- of its line.
 pub record Works (path : Path) (before after : Option (List Call)) (old new : List Item) (answers : List Next) : Type 0 where
   pub calls : IsCalled before after (calls_made path (length (moves_among old)) answers)
   pub items : new ≡ old ++ flat_map items_at answers
@@ -47,6 +49,7 @@ abbrev pub IsAnswerOf : Next → Why → Type 0
 IsAnswerOf answer Why.Finished = answer ≡ Finished
 IsAnswerOf answer (Why.Halted why) = answer ≡ Halted why
 
--- the answers of a whole run of a worker: the path goes on behind each but the last, by which it ended
+-- the answers of a whole run of a worker: the path goes on behind each but the last, by which it
+-- ended
 abbrev pub IsWhole : List Next → Why → Type 0
 IsWhole answers why = (before : List Next) × (last : Next) × (answers ≡ before ++ last ∷ []) × All GoesOn before × IsAnswerOf last why

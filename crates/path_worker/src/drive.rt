@@ -13,7 +13,8 @@ use nc_number::Path;
 use nc_outside::{Stepper, Turret};
 use std::sync::Wait;
 
-// Serves an item: hands a move to the turret, and waits until it stands still at a mark and at the end.
+/// Serves an item: hands a move to the turret, and waits until it stands still at a mark and at the
+/// end.
 fn serve<R: Wait, T: Turret>(rt: &R, item: &Item, driven: &mut Driven<T>)
     ensures serves { (items : List Sent) (start : TurretState) → Serves (moves_among items) start driven.old
         → Serves (moves_among (items ++ item.now ∷ [])) start driven.new }
@@ -27,7 +28,7 @@ fn serve<R: Wait, T: Turret>(rt: &R, item: &Item, driven: &mut Driven<T>)
     }
 }
 
-// Halts the run, where the turret has failed.
+/// Halts the run, where the turret has failed.
 fn halt_at_fault<H: Stepper, T: Turret>(path: Path, halter: &mut H, driven: &mut Driven<T>)
     ensures serves { (moves : List LinedMove) (start : TurretState)
         → Serves moves start driven.old → Serves moves start driven.new }
@@ -43,9 +44,10 @@ fn halt_at_fault<H: Stepper, T: Turret>(path: Path, halter: &mut H, driven: &mut
     }
 }
 
-/// Takes the items of the line until the end, and hands each move to the turret. A mark is answered once the turret stands still
-/// behind every move before it, and at the end it stands still too. Where the turret fails the run of the path is halted, and it is
-/// handed no more; marks are answered then all the same.
+/// Takes the items of the line until the end, and hands each move to the turret. A mark is answered
+/// once the turret stands still behind every move before it, and at the end it stands still too.
+/// Where the turret fails the run of the path is halted, and it is handed no more; marks are
+/// answered then all the same.
 pub fn run_drive<R: Wait, H: Stepper, T: Turret>(
     rt: &R,
     path: Path,

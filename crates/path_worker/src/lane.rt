@@ -23,7 +23,8 @@ pub struct Lane<S: Drop, H: Drop, T: Turret> {
     pub driven: Driven<T>,
 }
 
-/// What is left of a path: why its worker ended, and its turret, with how many moves it took and missed.
+/// What is left of a path: why its worker ended, and its turret, with how many moves it took and
+/// missed.
 #[derive(Drop)]
 pub struct LaneEnd<S: Drop, H: Drop, T: Turret> {
     pub why: Why,
@@ -32,7 +33,7 @@ pub struct LaneEnd<S: Drop, H: Drop, T: Turret> {
     pub driven: Driven<T>,
 }
 
-// What the worker's thread gives back.
+/// What the worker's thread gives back.
 #[derive(Drop)]
 struct Worked<'r, S: Drop, R> {
     why: Why,
@@ -40,7 +41,7 @@ struct Worked<'r, S: Drop, R> {
     line: LineIn<'r, R>,
 }
 
-// What the drive's thread gives back.
+/// What the drive's thread gives back.
 #[derive(Drop)]
 struct Drove<'r, H: Drop, T: Turret, R> {
     halter: H,
@@ -48,7 +49,7 @@ struct Drove<'r, H: Drop, T: Turret, R> {
     line: LineOut<'r, R, T>,
 }
 
-// The worker's thread.
+/// The worker's thread.
 fn work<'r, R: Wait, S: Stepper + Drainable<Drained> + Drop>(
     rt: &R,
     path: Path,
@@ -68,7 +69,7 @@ fn work<'r, R: Wait, S: Stepper + Drainable<Drained> + Drop>(
     Worked { why, stepper, line }
 }
 
-// The drive's thread.
+/// The drive's thread.
 fn drive<'r, R: Wait, H: Stepper + Drop, T: Turret>(
     rt: &R,
     path: Path,
@@ -81,7 +82,8 @@ fn drive<'r, R: Wait, H: Stepper + Drop, T: Turret>(
     ensures line { (result.line.line ≡ line.entry.line) × (has_end result.line.items ≡ true) }
     ensures serves { Serves (moves_among result.line.items) driven.state result.driven }
     ensures rest { IsAtRest result.driven (length (moves_among result.line.items)) }
-    ensures halted { IsCalled (H.calls halter) (H.calls result.halter) (halts_at path (has_failed result.driven.phase)) }
+    ensures halted { IsCalled (H.calls halter) (H.calls result.halter)
+        (halts_at path (has_failed result.driven.phase)) }
     ensures origin { H.origin result.halter ≡ H.origin halter }
 {
     let mut halter = halter;
@@ -95,8 +97,8 @@ fn drive<'r, R: Wait, H: Stepper + Drop, T: Turret>(
     }
 }
 
-/// Runs the worker and the drive of a path in a thread each, over the two ends of a new line. Where no second thread can be
-/// made it does not return.
+/// Runs the worker and the drive of a path in a thread each, over the two ends of a new line. Where
+/// no second thread can be made it does not return.
 pub fn run_lane<R, S, H, T>(
     rt: &R,
     path: Path,
@@ -115,8 +117,10 @@ where
         × IsWhole answers result.why
         × Serves (moves_answered (calls_made path 0 answers)) lane.driven.state result.driven }
     ensures rest { HasSettled result.driven.phase }
-    ensures halted { IsCalled (H.calls lane.halter) (H.calls result.halter) (halts_at path (has_failed result.driven.phase)) }
-    ensures origins { (S.origin result.stepper ≡ S.origin lane.stepper) × (H.origin result.halter ≡ H.origin lane.halter) }
+    ensures halted { IsCalled (H.calls lane.halter) (H.calls result.halter)
+        (halts_at path (has_failed result.driven.phase)) }
+    ensures origins { (S.origin result.stepper ≡ S.origin lane.stepper)
+        × (H.origin result.halter ≡ H.origin lane.halter) }
 {
     let Lane {
         stepper,
@@ -139,7 +143,8 @@ where
             ensures line { (result.line.line ≡ line_out.entry.line) × (has_end result.line.items ≡ true) }
             ensures serves { Serves (moves_among result.line.items) driven.state result.driven }
             ensures rest { IsAtRest result.driven (length (moves_among result.line.items)) }
-            ensures halted { IsCalled (H.calls halter) (H.calls result.halter) (halts_at path (has_failed result.driven.phase)) }
+            ensures halted { IsCalled (H.calls halter) (H.calls result.halter)
+                (halts_at path (has_failed result.driven.phase)) }
             ensures origin { H.origin result.halter ≡ H.origin halter }
         { drive(rt, path, halter, driven, line_out) },
     );

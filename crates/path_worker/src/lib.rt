@@ -1,10 +1,12 @@
-//! The two threads of a path: the worker, which sends the moves that its steps answer along a drive line, and the drive,
-//! which hands them to the turret. So a slow turret does not hold up its path's blocks.
+//! The two threads of a path: the worker, which sends the moves that its steps answer along a drive
+//! line, and the drive, which hands them to the turret. So a slow turret does not hold up its
+//! path's blocks.
 //!
-//! A worker (`run_path`) sends each step's moves once the step has answered, and where a step asks for that it drains the
-//! line and tells the stepper of it. A drive (`run_drive`) answers the mark of a drain once its turret stands still behind
-//! every move before it, so that a wait is recorded only then; where the turret failed it halts the run first. `run_lane` runs
-//! both: the turret got the moves that the stepper answered, all of them, or a beginning of them if it failed, and it is
+//! A worker (`run_path`) sends each step's moves once the step has answered, and where a step asks
+//! for that it drains the line and tells the stepper of it. A drive (`run_drive`) answers the mark
+//! of a drain once its turret stands still behind every move before it, so that a wait is recorded
+//! only then; where the turret failed it halts the run first. `run_lane` runs both: the turret got
+//! the moves that the stepper answered, all of them, or a beginning of them if it failed, and it is
 //! told how many it missed.
 #![tactic(auto)]
 
@@ -12,6 +14,9 @@ mod drive;
 mod lane;
 mod worker;
 
-pub use drive::run_drive;
 pub use lane::{Lane, LaneEnd, run_lane};
-pub use worker::{Why, run_path};
+pub use worker::Why;
+
+// For users of the library: each of the two threads by itself.
+pub use drive::run_drive;
+pub use worker::run_path;

@@ -21,7 +21,7 @@ pub enum Why {
     Halted(Halt),
 }
 
-// Sends the moves of a block, in order.
+/// Sends the moves of a block, in order.
 fn send_all<R: Wait>(line: &mut LineIn<'_, R>, moves: &Moves)
     requires { has_end line.old.items ≡ false }
     ensures line { line.new.line ≡ line.old.line }
@@ -36,7 +36,7 @@ fn send_all<R: Wait>(line: &mut LineIn<'_, R>, moves: &Moves)
     }
 }
 
-// One step of the path, and what follows its answer. It says why the worker ends, where it does.
+/// One step of the path, and what follows its answer. It says why the worker ends, where it does.
 fn work_once<R: Wait, S: Stepper + Drainable<Drained>>(
     path: Path,
     stepper: &mut S,
@@ -72,8 +72,9 @@ fn work_once<R: Wait, S: Stepper + Drainable<Drained>>(
     }
 }
 
-/// Works a path until its stepper answers that it has ended or stopped, and answers which. It sends the moves of each step
-/// in order, and at the end the end; where a step answers Drain it drains the line and tells the stepper.
+/// Works a path until its stepper answers that it has ended or stopped, and answers which. It sends
+/// the moves of each step in order, and at the end the end; where a step answers Drain it drains
+/// the line and tells the stepper.
 pub fn run_path<R: Wait, S: Stepper + Drainable<Drained>>(
     rt: &R,
     path: Path,

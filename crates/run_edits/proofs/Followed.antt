@@ -11,6 +11,7 @@ use Rattle.two_path.specs.Edits.{behind_edit_of}
 use Rattle.two_path.specs.Histories.{IsLegal, behind_entry, fold}
 use Rattle.two_path.specs.Machine.{MachineView}
 use Rattle.two_path.specs.Turns.{Tapes}
+use Rattle.two_path.proofs.Folds.{legal_join}
 use Rattle.nc_restart.specs.History.{IsHistory}
 use Rattle.nc_restart.specs.Pair.{machine_behind, opening_of, tapes_in}
 use Rattle.run_edits.specs.Made.{record_of, records_of}
@@ -26,15 +27,10 @@ all_follow tapes m (what ∷ edits) calm = (
   all_follow tapes (behind_entry tapes (record_of what) m) edits (alarm_stays what.path what.edit m ∙ calm),
 )
 
-legal_behind : (tapes : Tapes) (m : MachineView) (entries more : List Entry) → IsLegal tapes m entries → IsLegal tapes (fold tapes m entries) more
-    → IsLegal tapes m (entries ++ more)
-legal_behind tapes m [] more legal next = next
-legal_behind tapes m (entry ∷ entries) more legal next = (legal.0, legal_behind tapes (behind_entry tapes entry m) entries more legal.1 next)
-
 pub followed : (pair : Verified) (found : List Entry) (edits : List PathEdit) → IsHistory pair found → (machine_behind pair found).alarm ≡ None
     → length found + length edits ≤ pair.settings.records → IsHistory pair (found ++ records_of edits)
 followed pair found edits history calm few = record {
-  legal = legal_behind (tapes_in pair) (opening_of pair) found (records_of edits) history.legal
+  legal = legal_join (tapes_in pair) (opening_of pair) found (records_of edits) history.legal
       (all_follow (tapes_in pair) (machine_behind pair found) edits calm);
   few = omega (arith, few, length-append found (records_of edits), length-map edits record_of);
 }

@@ -21,7 +21,8 @@ record_of what = edit_entry what.path what.edit
 abbrev pub records_of : List PathEdit → List Entry
 records_of edits = map record_of edits
 
--- no write of edits ends past this: twenty-eight bytes, the header, and of each record its bytes and six more
+-- no write of edits ends past this: twenty-eight bytes, the header, and of each record its bytes
+-- and six more
 abbrev pub edits_end : Header → List Entry → ℕ
 edits_end header history = 28 + length (header_bytes header) + length (records_bytes history) + 6 * length history
 
@@ -30,12 +31,14 @@ abbrev pub FailsFor : {D : Type 0} → (D → DiskState) → D → D → Failing
 FailsFor state before after (Fault fault) = Rose (state before).faults (state after).faults
 FailsFor state before after NoMemory = after ≡ before
 
--- What came of edits that make these records, over the disk of a journal that holds what was found, if the disk tells its content.
+-- What came of edits that make these records, over the disk of a journal that holds what was found,
+-- if the disk tells its content.
 pub record MakesEdits {D : Type 0} (state : D → DiskState) (header : Header) (found made : List Entry) (before after : D)
     (result : Result (Unit {0}) (Failing DiskFault)) : Type 0 where
   -- where there are none the disk was not called
   pub none : made ≡ [] → (after ≡ before) × IsOk result
-  -- after an Ok whatever a crash may leave stands for what was found, and the records of all edits behind it
+  -- after an Ok whatever a crash may leave stands for what was found, and the records of all edits
+  -- behind it
   pub whole : OnOk result ((bytes : List ℕ) → Reads (state before) bytes → (c : List ℕ) → (state after).image c
       → Stands header (found ++ made) c)
   -- a crash at any moment of the call leaves what was found, or that and all of them

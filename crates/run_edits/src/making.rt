@@ -2,6 +2,7 @@
 ghost use Rattle.std.specs.Prelude.{◌≡◌, ℕ, ◌+◌, ◌≤◌, ◌++◌, List, length, nat_le, is_ok, None, OnOk};
 ghost use Rattle.disk_model.specs.Device.{HasCause, Reads};
 ghost use Rattle.disk_model.specs.Moments.{LeavesOnly, Uses};
+ghost use Rattle.nc_number.specs.declared.limits.TheConstants.{MOST_PENDING};
 ghost use Rattle.run_records.specs.Entries.{Entry};
 ghost use Rattle.run_records.specs.declared.header.Header.{Header};
 ghost use Rattle.run_records.specs.declared.version.Version.{Version};
@@ -30,21 +31,23 @@ pub struct Made<D: Disk> {
 
 /// Whether the settings of a run allow a record more for each of the edits.
 pub fn has_room<D: Disk>(run: &Recovered<D>, edits: &EditList) -> bool
-    requires { IsRecovered D.state run.now.header run.now.verified run.now.machine.machine run.now.entries.items run.now.journal }
+    requires { IsRecovered D.state run.now.header run.now.verified
+        run.now.machine.machine run.now.entries.items run.now.journal }
     ensures { result ≡ nat_le (length run.now.entries.items + length edits.now) run.now.verified.settings.records }
 {
     run.entries.len() + edits.as_slice().len() <= run.verified.settings().records as usize
 }
 
-/// Makes edits in a run behind which no alarm stands, and gives the disk back. Without edits it makes no call of the disk. Where
-/// there is no memory it makes none either.
+/// Makes edits in a run behind which no alarm stands, and gives the disk back. Without edits it
+/// makes no call of the disk. Where there is no memory it makes none either.
 pub fn make_edits<D: Disk>(run: Recovered<D>, edits: &EditList) -> Made<D>
     requires run { IsRecovered D.state run.header run.verified run.machine.machine run.entries.items run.journal }
     requires calm { run.machine.machine.alarm ≡ None }
     requires room { length run.entries.items + length edits.now ≤ run.verified.settings.records }
     // The records of the edits may follow those of the run.
     ensures history { IsHistory run.verified (run.entries.items ++ records_of edits.now) }
-    ensures made { MakesEdits D.state run.header run.entries.items (records_of edits.now) run.journal.file.disk result.disk result.result }
+    ensures made { MakesEdits D.state run.header run.entries.items (records_of edits.now)
+        run.journal.file.disk result.disk result.result }
 {
     let Recovered {
         header: _,
@@ -70,7 +73,7 @@ fn make_all<D: Disk>(
 ) -> Result<(), Failing<DiskFault>>
     requires journal { MayTake (length edits.now) journal.old }
     requires machine { IsCalm (length edits.now) machine.old.machine }
-    requires few { length edits.now ≤ 64 }
+    requires few { length edits.now ≤ MOST_PENDING }
     ensures { (header : Header) (found : List Entry)
         → ((bytes : List ℕ) → Reads (D.state journal.old.file.disk) bytes
         → Holds header journal.old.version found (D.state journal.old.file.disk) journal.old.file.end)
@@ -98,10 +101,11 @@ fn write_edits<D: Disk>(
 ) -> Result<(), DiskFault>
     requires journal { MayTake (length edits.now) journal.old }
     requires machine { MayMake (length edits.now) machine.old }
-    requires few { length edits.now ≤ 64 }
+    requires few { length edits.now ≤ MOST_PENDING }
     ensures any_moment { (header : Header) (entries : List Entry)
         → Holds header journal.old.version entries (D.state journal.old.file.disk) journal.old.file.end
-        → LeavesOnly (StandsEither header entries (records_of edits.now)) (D.state journal.old.file.disk) (D.state journal.new.file.disk) }
+        → LeavesOnly (StandsEither header entries (records_of edits.now))
+        (D.state journal.old.file.disk) (D.state journal.new.file.disk) }
     ensures whole { OnOk result ((header : Header) (entries : List Entry)
         → Holds header journal.old.version entries (D.state journal.old.file.disk) journal.old.file.end
         → (c : List ℕ) → (D.state journal.new.file.disk).image c → Stands header (entries ++ records_of edits.now) c) }
@@ -146,7 +150,7 @@ fn note_edits<D: Disk>(machine: &mut Machine, journal: &mut Journal<D>, edits: &
     requires journal { MayTake (length edits.now) journal.old }
     requires raised { journal.old.version ≡ Version.Two }
     requires machine { MayMake (length edits.now) machine.old }
-    requires few { length edits.now ≤ 64 }
+    requires few { length edits.now ≤ MOST_PENDING }
     ensures pends { Pends Version.Two (records_of edits.now) journal.new.batch }
     ensures file { journal.new.file ≡ journal.old.file }
     ensures version { journal.new.version ≡ Version.Two }

@@ -1,5 +1,6 @@
--- A step of a table asks for a drain exactly where the path is to be drained, and it is to be drained still behind that.
-use Rattle.std.proofs.Common.{◌≡◌, ◌≢◌, arith, ℕ, ◌+◌, ◌==◌, ◌&&◌, Bool, true, false, [], ◌++◌, length, refl, sym, ◌∙◌, ap, subst, append-nil, Option, Some, None, is_none}
+-- A step of a table asks for a drain exactly where the path is to be drained, and it is to be
+-- drained still behind that.
+use Rattle.std.proofs.Common.{◌≡◌, ◌≢◌, arith, ◌==◌, ◌&&◌, Bool, true, false, length, refl, sym, ◌∙◌, ap, subst, append-nil, Option, Some, None, is_none}
 use Rattle.std.specs.Prelude.{nat_lt, if◌then◌else◌}
 use Rattle.disk_model.specs.Device.{DiskState}
 use Rattle.nc_number.specs.declared.path.Path.{Path}
@@ -14,26 +15,24 @@ use Rattle.two_path.specs.Histories.{list_of}
 use Rattle.seat_table.specs.Turning.{AsksDrain}
 use Rattle.run_table.specs.declared.answer.TableStep.{TableStep}
 use Rattle.run_table.specs.declared.answer.TableStep.TheVariants.{Turned, Drain, DiskFault, Halted}
-use Rattle.run_table.specs.declared.draining.Owed.{Owed}
-use Rattle.run_table.specs.Draining.{owes, with_owed, is_wait, owed_behind}
+use Rattle.nc_number.specs.declared.both.Both.{Both}
+use Rattle.nc_number.proofs.Bools.{and_false}
+use Rattle.nc_number.specs.Both.{of_path}
+use Rattle.run_table.specs.Draining.{with_owed, is_wait, owed_behind}
 use Rattle.run_table.specs.Kept.{TableView, tapes_in}
 use Rattle.run_table.specs.Stepping.{is_due, bound_by, bound_of, drains, step_by, step_of, Answers, reason_behind, IsStep}
 use Rattle.run_table.specs.Stepping.Answers.{at_once, flushed, failed}
-use Rattle.run_table.specs.Holding.{held_of, handed, drains_at, next_of_turn, next_of}
+use Rattle.run_table.specs.Holding.{held_of, drains_at, next_of_turn, next_of}
 
-owes_none : (path : Path) (owed : Owed) → owes path (with_owed path false owed) ≡ false
+owes_none : (path : Path) (owed : Both Bool) → of_path (with_owed path false owed) path ≡ false
 owes_none One owed = refl
 owes_none Two owed = refl
-
-never : (b : Bool) → (b && false) ≡ false
-never true = refl
-never false = refl
 
 -- a path that was drained is not to be drained
 pub drained_already : {D : Type 0} (t : TableView D) (path : Path) (shown : Bool) → drains_at (held_of (record t { owed = with_owed path false t.owed }) shown) path ≡ false
 drained_already t path shown =
     let stopped = is_none t.halt && is_none (bound_of t) in
-    ap (λ (b : Bool). stopped && (b && is_wait (turn_of (tapes_in t.verified) path t.machine).turn)) (owes_none path t.owed) ∙ never stopped
+    ap (λ (b : Bool). stopped && (b && is_wait (turn_of (tapes_in t.verified) path t.machine).turn)) (owes_none path t.owed) ∙ and_false stopped false refl
 
 handed_asks : (b : Bool) (moves : Moves) → Some (if b then next.Silent else next.Moves moves) ≢ Some next.Drain
 handed_asks true moves e = let clash : Some next.Silent ≡ Some next.Drain = e in cc
@@ -89,7 +88,7 @@ module _ {D : Type 0} (state : D → DiskState) (path : Path) (t t' : TableView 
       let budget : t'.budget ≡ t.budget = omega (arith, left) in
       let owes_on : t'.owed ≡ t.owed = owed ∙ ap (λ (r : TableStep). owed_behind path r t.owed) is in
       λ i. (is_none (halt i) && is_none (bound_by (count i) (s.verified i).settings.records (budget i)))
-      && (owes path (owes_on i) && is_wait (turn_of (tapes_in (s.verified i)) path (s.machine i)).turn)
+      && (of_path (owes_on i) path && is_wait (turn_of (tapes_in (s.verified i)) path (s.machine i)).turn)
 
   drain_told : IsStep state (step_by t path None None true) t t' result → t.halt ≡ None → asked ≡ true → Answers state false Drain t.recording t'.recording result → Told result
   drain_told s halts due (at_once now same file even) =

@@ -15,7 +15,8 @@ use Rattle.two_path.specs.Histories.{IsKept}
 use Rattle.run_records.specs.Entries.{Entry}
 use Rattle.run_table.specs.declared.running.RunEnd.{RunEnd}
 use Rattle.run_table.specs.declared.running.RunEnd.TheVariants as run
-use Rattle.run_table.specs.declared.draining.Owed.{Owed}
+use Rattle.nc_number.specs.declared.both.Both.{Both}
+use Rattle.nc_number.proofs.Counts.{equal, some_is}
 use Rattle.run_table.specs.Recording.{RecordingView, Records}
 use Rattle.run_table.specs.Kept.{TableView, tapes_in, opening_of, HasReason, IsTable}
 use Rattle.run_table.specs.Since.{Since}
@@ -68,7 +69,7 @@ some_pend old new within settled live dead = go (nat_lt old.flushed (length old.
         absurd (let clash : IsTrue false = subst IsTrue dead still in cc)
 
 -- a table whose records are flushed, or whose disk failed in that
-pub flushed_table : {D : Type 0} (state : D → DiskState) (v : Verified) (m : RoomyMachine) (r r' : RecordingView D) (why why' : Option Halt) (budget : ℕ) (owed : Owed)
+pub flushed_table : {D : Type 0} (state : D → DiskState) (v : Verified) (m : RoomyMachine) (r r' : RecordingView D) (why why' : Option Halt) (budget : ℕ) (owed : Both Bool)
     → IsTable state (table_of v m r why budget owed) → Records state [] r r' → HasReason m.machine r' why' → IsTable state (table_of v m r' why' budget owed)
 flushed_table state v m r r' why why' budget owed table records reason =
     let history : r'.history ≡ r.history = records.follows.history ∙ append-nil r.history in
@@ -86,12 +87,6 @@ pub disk_dead : {D : Type 0} (m : MachineView) (r : RecordingView D) (why : Opti
 disk_dead m r why reason is = subst (HasReason m r) is reason
 
 -- the end by all causes, and by each
-the_end : (a b : RunEnd) → Some a ≡ Some b → a ≡ b
-the_end a b is = cc
-
-numbers_same : (a b : ℕ) → (a == b) ≡ true → a ≡ b
-numbers_same a b is = grind arith
-
 numbers_differ : (a b : ℕ) → (a == b) ≡ false → a ≢ b
 numbers_differ a b is same = absurd (grind arith)
 
@@ -102,10 +97,10 @@ module _ {D : Type 0} (h : HeldView D) (live : IsTrue h.file.live) (all : h.flus
   by_parts : (alarm : Option Alarm) (both full spent : Bool) (end : RunEnd) → end_of h.machine ≡ end_by alarm both
       → (length h.history == h.verified.settings.records) ≡ full → (h.budget == 0) ≡ spent
       → end_by_all (end_by alarm both) (if full then Some halt.Full else if spent then Some halt.Budget else None) ≡ Some end → HasEnded h end
-  by_parts (Some alarm) both full spent end is f s same = subst (HasEnded h) (the_end (run.Alarm alarm) end same) (at_end (Some (run.Alarm alarm)) is)
-  by_parts None true full spent end is f s same = subst (HasEnded h) (the_end run.Done end same) (at_end (Some run.Done) is)
-  by_parts None false true spent end is f s same = subst (HasEnded h) (the_end run.Full end same) (at_end None is, numbers_same (length h.history) h.verified.settings.records f)
-  by_parts None false false true end is f s same = subst (HasEnded h) (the_end run.Stopped end same) (at_end None is, numbers_differ (length h.history) h.verified.settings.records f, numbers_same h.budget 0 s)
+  by_parts (Some alarm) both full spent end is f s same = subst (HasEnded h) (some_is same) (at_end (Some (run.Alarm alarm)) is)
+  by_parts None true full spent end is f s same = subst (HasEnded h) (some_is same) (at_end (Some run.Done) is)
+  by_parts None false true spent end is f s same = subst (HasEnded h) (some_is same) (at_end None is, equal (length h.history) h.verified.settings.records f)
+  by_parts None false false true end is f s same = subst (HasEnded h) (some_is same) (at_end None is, numbers_differ (length h.history) h.verified.settings.records f, equal h.budget 0 s)
   by_parts None false false false end is f s same = absurd cc
 
   pub has_ended : (end : RunEnd)

@@ -1,12 +1,13 @@
 -- What a held table has answered is on the disk: an invariant of each step.
 use Rattle.std.proofs.Common.{◌≡◌, ◌≢◌, inl, inr, ℕ, ◌≤◌, ◌==◌, Bool, true, false, List, [], ◌∷◌, ◌++◌, length, take, drop, refl, sym, ◌∙◌, ap, subst, arith, append-nil, append_assoc, length-append, Option, Some, None}
-use Rattle.std.specs.Prelude.{MatchOption, not, ◌&&◌, ◌||◌}
+use Rattle.std.specs.Prelude.{MatchOption, not, ◌&&◌}
 use Rattle.std.proofs.Math.Seq.{take-length, take-append_seam, drop-length, drop-append_seam}
 use Rattle.std.proofs.Math.ListN.{drop_of_length-le}
 use Rattle.std.proofs.lemmas.List.{take-append-le, length-take}
 use Rattle.disk_model.specs.Device.{DiskState, IsCoherent}
 use Rattle.nc_number.specs.declared.path.Path.{Path}
 use Rattle.nc_number.specs.declared.path.Path.TheVariants.{One, Two}
+use Rattle.nc_number.proofs.Bools.{neither}
 use Rattle.nc_outside.specs.declared.halt.Halt.{Halt}
 use Rattle.nc_outside.specs.declared.halt.Halt.TheVariants as halt
 use Rattle.nc_outside.specs.declared.lined_move.LinedMove.{LinedMove}
@@ -118,7 +119,8 @@ shows_none t = λ path.
 pub opens_itself : {D : Type 0} (state : D → DiskState) (t : TableView D) → ((disk : D) → IsCoherent (state disk)) → MayHold state (Some t) t
 opens_itself state t coherent = record { of = since_none state t coherent; shows = shows_none t }
 
--- which tables have not stopped for a fault of the disk, by whether the moves of the last record were answered
+-- which tables have not stopped for a fault of the disk, by whether the moves of the last record
+-- were answered
 pub shown_unless : {D : Type 0} (t : TableView D) (shown : Bool) → (shown ≡ false → t.halt ≡ Some halt.Disk) → t.halt ≢ Some halt.Disk → shown ≡ true
 shown_unless t true lost free = refl
 shown_unless t false lost free = absurd (free (lost refl))
@@ -190,10 +192,6 @@ module _ {D : Type 0} (state : D → DiskState) (path : Path) (start t t' : Tabl
   by_answer due answer fine calm (flushed now same live every) none = all (calm now) (λ is. fine (sym same ∙ is)) every
   by_answer due answer fine calm (failed now same dead even rose) none = fault even same
 
-  first_false : (a b : Bool) → (a || b) ≡ false → a ≡ false
-  first_false true b is = absurd cc
-  first_false false b is = refl
-
   pub shows_on : ShowsFlushed (Some start) (held_of t' shown') t'
   shows_on = go t.halt (bound_of t) (drains t path) refl step
     where
@@ -203,4 +201,4 @@ module _ {D : Type 0} (state : D → DiskState) (path : Path) (start t t' : Tabl
       go None None true is s = by_answer false Drain (λ clash. cc) (λ clash. absurd cc) s.answer (λ even same quiet. drain even same)
       go None None false is s =
           let u = (turn_of (tapes_in t.verified) path t.machine).turn in
-          by_answer _ (Turned u) (λ clash. cc) (λ due. is) s.answer (λ even same quiet. quiet_one even u same (first_false (is_shown u) _ quiet))
+          by_answer _ (Turned u) (λ clash. cc) (λ due. is) s.answer (λ even same quiet. quiet_one even u same (neither (is_shown u) _ quiet).0)

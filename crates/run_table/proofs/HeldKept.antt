@@ -9,7 +9,7 @@ use Rattle.nc_outside.specs.declared.halt.Next.TheVariants as next
 use Rattle.nc_outside.specs.Calls.{IsOfTurret}
 use Rattle.seat_table.specs.Turning.{Answers as Adds, first_reason}
 use Rattle.run_table.specs.declared.answer.TableStep.{TableStep}
-use Rattle.run_table.specs.declared.draining.Owed.{Owed}
+use Rattle.nc_number.specs.declared.both.Both.{Both}
 use Rattle.run_table.specs.Draining.{owed_behind}
 use Rattle.run_table.specs.Kept.{TableView, IsTable}
 use Rattle.run_table.specs.Since.{Since}
@@ -68,7 +68,7 @@ module _ {D : Type 0} (state : D → DiskState) (opened : Option (TableView D)) 
       go (Some start) of = halted_told state path start t t' result shown shown' table of held.lost step owed shown_is
 
 -- what is no record changes nothing of it
-pub of_owed : {D : Type 0} (state : D → DiskState) (opened : Option (TableView D)) (t : TableView D) (owed : Owed) → IsOf state opened t → IsOf state opened (record t { owed = owed })
+pub of_owed : {D : Type 0} (state : D → DiskState) (opened : Option (TableView D)) (t : TableView D) (owed : Both Bool) → IsOf state opened t → IsOf state opened (record t { owed = owed })
 of_owed state None t owed of = absurd of
 of_owed state (Some start) t owed of =
     record { verified = of.verified; made = of.made; recording = of.recording; budget = of.budget; cause = of.cause }
@@ -99,7 +99,7 @@ pub disk_first : (kept : Option Halt) (why : Halt) → kept ≡ Some halt.Disk �
 disk_first kept why is = ap (λ (k : Option Halt). first_reason k why) is
 
 -- what it showed does not hang on the reason, nor on who has to be drained
-pub shows_owed : {D : Type 0} (opened : Option (TableView D)) (t : TableView D) (shown : Bool) (owed : Owed) → ShowsFlushed opened (held_of t shown) t
+pub shows_owed : {D : Type 0} (opened : Option (TableView D)) (t : TableView D) (shown : Bool) (owed : Both Bool) → ShowsFlushed opened (held_of t shown) t
     → ShowsFlushed opened (held_of (record t { owed = owed }) shown) (record t { owed = owed })
 shows_owed None t shown owed is = is
 shows_owed (Some start) t shown owed is = is

@@ -4,6 +4,8 @@ use Rattle.std.specs.Prelude.{nat_lt, not, MatchOption}
 use Rattle.std.proofs.Math.Seq.{drop-append_seam}
 use Rattle.disk_model.specs.Device.{DiskState}
 use Rattle.nc_number.specs.declared.path.Path.{Path}
+use Rattle.nc_number.proofs.Bools.{and_false, not_false}
+use Rattle.nc_number.specs.declared.limits.TheConstants.{MOST_PENDING}
 use Rattle.nc_outside.specs.declared.halt.Halt.{Halt}
 use Rattle.nc_outside.specs.declared.halt.Halt.TheVariants as halt
 use Rattle.nc_outside.specs.declared.halt.Next.TheVariants as next
@@ -27,9 +29,10 @@ use Rattle.run_table.specs.Since.{Since}
 use Rattle.run_table.specs.Stepping.{is_due, bound_of, drains, step_by, step_of, Answers, reason_behind, IsStep}
 use Rattle.run_table.specs.Stepping.Answers.{at_once, flushed, failed}
 use Rattle.two_path.specs.Made.{made_in}
+use Rattle.two_path.proofs.Folds.{fold_parts}
 use Rattle.run_table.specs.Holding.{HeldView, held_of, answered_from, records_since, next_of, is_lost}
 use Rattle.run_table.proofs.OtherGoesOn.{waits_still}
-use Rattle.run_table.proofs.ListsGrow.{GrowsBy, fold_parts, shown_grows, lost_grows, turn_adds, turn_stays}
+use Rattle.run_table.proofs.ListsGrow.{GrowsBy, shown_grows, lost_grows, turn_adds, turn_stays}
 use Rattle.run_table.proofs.Redone.{redone}
 
 -- no record is lost where none was made
@@ -42,16 +45,12 @@ none_lost (Halted why) n n' same = refl
 one_lost : (n n' : ℕ) → n' ≡ n + 1 → is_lost DiskFault n n' ≡ true
 one_lost n n' more = let is : (n == n') ≡ false = grind arith in ap not is
 
-pub not_full : (written n m : ℕ) → m ≡ n → n < written + 64 → (written + 64 == m) ≡ false
+pub not_full : (written n m : ℕ) → m ≡ n → n < written + MOST_PENDING → (written + MOST_PENDING == m) ≡ false
 not_full written n m same few = grind arith
 
 still : (b : Bool) → (b && true) ≡ b
 still true = refl
 still false = refl
-
-lost_now : (b : Bool) → (b && false) ≡ false
-lost_now true = refl
-lost_now false = refl
 
 module _ {D : Type 0} (state : D → DiskState) (path : Path) (start t t' : TableView D) (result : TableStep) (shown shown' : Bool)
     (table : IsTable state t) (since : Since state start t) (lost : shown ≡ false → t.halt ≡ Some halt.Disk)
@@ -144,7 +143,7 @@ module _ {D : Type 0} (state : D → DiskState) (path : Path) (start t t' : Tabl
 
       pub lost_grown : (is_lost result (length t.recording.history) (length t'.recording.history) ≡ true) → GrowsBy path [] before after
       lost_grown lost_it =
-          let now : shown' ≡ false = shown_is ∙ ap (λ (b : Bool). shown && not b) lost_it ∙ lost_now shown in
+          let now : shown' ≡ false = shown_is ∙ ap (λ (b : Bool). shown && not b) lost_it ∙ and_false shown false refl in
           subst (λ (b : Bool). GrowsBy path [] (λ p. answered_from tapes first p b (drop (length start.recording.history) t.recording.history)) after) (sym shown_before)
           (subst (λ (b : Bool). GrowsBy path [] (λ p. answered_from tapes first p true (drop (length start.recording.history) t.recording.history))
           (λ p. answered_from tapes first p b (drop (length start.recording.history) t'.recording.history))) (sym now)
@@ -262,10 +261,6 @@ module _ {D : Type 0} (state : D → DiskState) (path : Path) (start t t' : Tabl
       only_fault DiskFault same = refl
       only_fault (Halted why) clash = absurd cc
 
-      opposite : (b : Bool) → not b ≡ false → b ≡ true
-      opposite true e = refl
-      opposite false e = absurd cc
-
       idle : (why : Halt) → Answers state false (Halted why) t.recording t'.recording result → result ≡ DiskFault → ⊥
       idle why (at_once now same file even) fault = let clash : Halted why ≡ DiskFault = sym same ∙ fault in cc
       idle why (flushed was same live all) fault = let clash : false ≡ true = was in cc
@@ -281,4 +276,4 @@ module _ {D : Type 0} (state : D → DiskState) (path : Path) (start t t' : Tabl
       before_it true was =
           let same : not (is_lost result (length t.recording.history) (length t'.recording.history)) ≡ false =
           sym (ap (λ (b : Bool). b && not (is_lost result (length t.recording.history) (length t'.recording.history))) was) ∙ sym shown_is ∙ is in
-          by_halt t.halt refl (only_fault result (opposite (is_lost result (length t.recording.history) (length t'.recording.history)) same))
+          by_halt t.halt refl (only_fault result (not_false (is_lost result (length t.recording.history) (length t'.recording.history)) same))

@@ -2,6 +2,7 @@
 use Rattle.std.proofs.Common.{◌≡◌, ◌≢◌, inl, inr, ℕ, ◌==◌, Bool, true, false, List, [], ◌∷◌, ◌++◌, length, map, refl, sym, ◌∙◌, ap, arith, append-nil, append_assoc, Some, None}
 use Rattle.std.specs.Prelude.{if◌then◌else◌, MatchOption}
 use Rattle.std.proofs.lemmas.List.{nil_from_length}
+use Rattle.nc_number.specs.Path.{is_same}
 use Rattle.nc_number.specs.declared.path.Path.{Path}
 use Rattle.nc_number.specs.declared.path.Path.TheVariants.{One, Two}
 use Rattle.nc_outside.specs.declared.halt.Next.TheVariants as next
@@ -15,7 +16,7 @@ use Rattle.two_path.specs.declared.turn.Turn.{Turn}
 use Rattle.two_path.specs.declared.turn.Turn.TheVariants as turn
 use Rattle.two_path.specs.Machine.{MachineView}
 use Rattle.two_path.specs.Turns.{Tapes, kind_of}
-use Rattle.two_path.specs.Histories.{is_same, behind_entry, fold}
+use Rattle.two_path.specs.Histories.{behind_entry, fold}
 use Rattle.two_path.specs.Again.{turn_of_entry}
 use Rattle.seat_table.specs.Turning.{Answers as Adds}
 use Rattle.two_path.specs.Made.{made_in}
@@ -41,10 +42,6 @@ lost_more tapes m path (f ∷ g ∷ entries) e =
     ∙ sym (append_assoc (if_of path f (made_in (turn_of_entry tapes f m))) (shown_from tapes (behind_entry tapes f m) path (g ∷ entries)) (if_of path e []))
 
 -- the machine behind a history in two parts
-pub fold_parts : (tapes : Tapes) (m : MachineView) (first second : List Entry) → fold tapes m (first ++ second) ≡ fold tapes (fold tapes m first) second
-fold_parts tapes m [] second = refl
-fold_parts tapes m (e ∷ first) second = fold_parts tapes (behind_entry tapes e m) first second
-
 mine : (path : Path) (e : Entry) (moves : List LinedMove) → e.path ≡ path → if_of path e moves ≡ moves ∷ []
 mine path e moves is = ap (λ (p : Path). if is_same path p then moves ∷ [] else []) is ∙ own path
   where

@@ -2,6 +2,7 @@
 use Rattle.std.proofs.Common.{◌≡◌, ℕ, ◌*◌, ◌-◌, ◌≤◌, ◌==◌, Bool, true, false, List, [], ◌∷◌, ◌++◌, length, map, take, drop, refl, arith, length-append, Option, Some, None, Result, Ok, Err, ℤ}
 use Rattle.std.specs.Prelude.{if◌then◌else◌}
 use Rattle.std.proofs.lemmas.List.{length-take, length-drop, length-map}
+use Rattle.nc_number.specs.Path.{is_same}
 use Rattle.nc_number.specs.declared.cause.Cause.{Cause}
 use Rattle.nc_number.specs.declared.cause.Cause.TheVariants.{FeedZero}
 use Rattle.nc_number.specs.declared.path.Path.{Path}
@@ -61,7 +62,7 @@ use Rattle.run_records.specs.declared.edit.Edit.{Edit}
 use Rattle.seat_table.specs.Turning.{moves_in}
 use Rattle.two_path.specs.Machine.{MachineView, own_first}
 use Rattle.two_path.specs.Turns.{TurnResult, blocks_of, tapes_of, tape_of, result_at_wait, result_by, unless_idle, block_turn, own_turn}
-use Rattle.two_path.specs.Histories.{is_same, with_reads, behind_entry, fold}
+use Rattle.two_path.specs.Histories.{with_reads, behind_entry, fold}
 use Rattle.two_path.specs.Again.{turn_by, turn_of_entry}
 use Rattle.run_table.specs.Kept.{tapes_in, opening_of}
 use Rattle.two_path.specs.Made.{made_in}

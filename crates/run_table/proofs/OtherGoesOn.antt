@@ -3,6 +3,7 @@ use Rattle.std.proofs.Common.{◌≡◌, inl, inr, ℕ, ◌==◌, ◌||◌, Bool
 use Rattle.nc_number.specs.declared.path.Path.{Path}
 use Rattle.nc_number.specs.declared.path.Path.TheVariants.{One, Two}
 use Rattle.nc_number.specs.Path.{other_of}
+use Rattle.nc_number.proofs.Bools.{only_false}
 use Rattle.nc_moves.specs.declared.alarm.Alarm.{Alarm}
 use Rattle.path_state.specs.Effect.{Effect, Need, Done, AtWait, AtEnd}
 use Rattle.path_state.specs.Effect as effect
@@ -67,20 +68,16 @@ own_goes blocks path m calm awake =
     awake_goes m m.alarm m.first.finished m.first.waiting (block_turn blocks path m) calm awake (block_goes blocks path m)
 
 -- not idle, since both would be
-awake : (b : Bool) → (b ≡ true → ⊥) → b ≡ false
-awake true never = absurd (never refl)
-awake false never = refl
-
 pub other_goes_on : (tapes : Tapes) (m : MachineView) → (IsStuck (without_reads m) → ⊥) → (path : Path) (code : ℕ)
     → (turn_of tapes path m).turn ≡ turn.Waiting code → GoesOn tapes (other_of path) m
 other_goes_on tapes m free One code is =
     let w = own_waits tapes.first One m code is in
-    let not_idle = awake (is_idle m.second) (λ idle. free (record { calm = w.calm; unfinished = inl w.unfinished; first = w.idle; second = idle })) in
+    let not_idle = only_false (is_idle m.second) (λ idle. free (record { calm = w.calm; unfinished = inl w.unfinished; first = w.idle; second = idle })) in
     let goes = own_goes tapes.second Two (own_first Two m) w.calm not_idle in
     record { waits = goes.waits; ended = goes.ended }
 other_goes_on tapes m free Two code is =
     let w = own_waits tapes.second Two (own_first Two m) code is in
-    let not_idle = awake (is_idle m.first) (λ idle. free (record { calm = w.calm; unfinished = inr w.unfinished; first = idle; second = w.idle })) in
+    let not_idle = only_false (is_idle m.first) (λ idle. free (record { calm = w.calm; unfinished = inr w.unfinished; first = idle; second = w.idle })) in
     let goes = own_goes tapes.first One m w.calm not_idle in
     record { waits = goes.waits; ended = goes.ended }
 

@@ -1,5 +1,5 @@
 -- Records that are added, and a flush behind them, as one call.
-use Rattle.std.proofs.Common.{rules, ◌≡◌, ℕ, ◌+◌, ◌≤◌, ◌<◌, Bool, true, false, List, [], ◌++◌, length, drop, refl, sym, ◌∙◌, ap, subst, arith, length-append, append-nil, ◌==◌, ◌||◌, Option, Some, None}
+use Rattle.std.proofs.Common.{rules, ◌≡◌, ℕ, ◌+◌, ◌≤◌, ◌<◌, Bool, true, false, List, [], ◌++◌, length, drop, refl, sym, ◌∙◌, ap, subst, arith, length-append, append-nil, ◌==◌, Option, Some, None}
 use Rattle.std.specs.Prelude.{IsTrue, nat_lt}
 use Rattle.disk_model.specs.Device.{DiskState, IsCoherent, Reads, Rose}
 use Rattle.disk_model.specs.Moments.{LeavesOnly, Uses}
@@ -8,6 +8,8 @@ use Rattle.gate_file.specs.Gate.{Gate}
 use Rattle.run_records.specs.Entries.{Entry}
 use Rattle.run_journal.specs.Batches.{batch_bytes}
 use Rattle.nc_number.specs.declared.path.Path.{Path}
+use Rattle.nc_number.proofs.Bools.{or_right}
+use Rattle.nc_number.specs.declared.limits.TheConstants.{MOST_PENDING}
 use Rattle.nc_outside.specs.declared.halt.Halt.{Halt}
 use Rattle.two_path.specs.declared.turn.Turn.{Turn}
 use Rattle.run_table.specs.declared.answer.TableStep.{TableStep}
@@ -110,7 +112,7 @@ some_pends state made old mid noted one =
     let less : mid.flushed < length mid.history = omega (arith, within, one, noted.flushed, ap length noted.history, length-append old.history made) in
     grind arith
 
-pub many_pend : {D : Type 0} (mid : RecordingView D) (pending : ℕ) → mid.flushed + pending ≡ length mid.history → pending ≡ 64
+pub many_pend : {D : Type 0} (mid : RecordingView D) (pending : ℕ) → mid.flushed + pending ≡ length mid.history → pending ≡ MOST_PENDING
     → nat_lt mid.flushed (length mid.history) ≡ true
 many_pend mid pending sum full =
     let less : mid.flushed < length mid.history = omega (arith, sum, full) in
@@ -120,15 +122,11 @@ many_pend mid pending sum full =
 pub due_shown : {D : Type 0} (made : List Entry) (t : Turn) (old : RecordingView D) → is_shown t ≡ true → is_due old made t ≡ true
 due_shown made t old shown = rw shown refl
 
-second_true : (a b : Bool) → b ≡ true → (a || b) ≡ true
-second_true true b is = refl
-second_true false b is = is
-
 pub due_is : {D : Type 0} (state : D → DiskState) (made : List Entry) (t : Turn) (old mid : RecordingView D) (pending : ℕ) → IsNoted state made old mid
-    → pending ≡ 64 → mid.flushed + pending ≡ length mid.history → is_due old made t ≡ true
+    → pending ≡ MOST_PENDING → mid.flushed + pending ≡ length mid.history → is_due old made t ≡ true
 due_is state made t old mid pending noted full sum =
-    let long : old.flushed + 64 ≡ length (old.history ++ made) = omega (arith, noted.flushed, full, sum, ap length noted.history) in
-    second_true (is_shown t) (old.flushed + 64 == length (old.history ++ made)) (grind arith)
+    let long : old.flushed + MOST_PENDING ≡ length (old.history ++ made) = omega (arith, noted.flushed, full, sum, ap length noted.history) in
+    or_right (is_shown t) (old.flushed + MOST_PENDING == length (old.history ++ made)) (grind arith)
 
 -- nothing stopped the table, so it stays as it is
 pub kept_step : {D : Type 0} (state : D → DiskState) (t : TableView D) (path : Path) (why : Halt) → t.halt ≡ Some why → ((disk : D) → IsCoherent (state disk))

@@ -1,5 +1,5 @@
 -- A table that begins, anew or behind a recovery, is a table.
-use Rattle.std.proofs.Common.{◌≡◌, ℕ, ◌+◌, ◌≤◌, ◌<◌, List, [], ◌∷◌, ◌++◌, length, take, refl, sym, subst, arith, append_assoc, append-nil, Option, Some, None, Ok, Err, inl}
+use Rattle.std.proofs.Common.{◌≡◌, ℕ, ◌+◌, ◌≤◌, ◌<◌, List, [], ◌∷◌, ◌++◌, length, take, refl, sym, subst, arith, append_assoc, append-nil, Option, Some, None, Ok, Err, inl, Bool}
 use Rattle.std.specs.Prelude.{IsTrue}
 use Rattle.std.proofs.lemmas.List.{take_all}
 use Rattle.disk_model.specs.Device.{DiskState, IsCoherent}
@@ -8,7 +8,6 @@ use Rattle.gate_file.specs.declared.fault.GateFault.{GateFault}
 use Rattle.gate_file.specs.declared.fault.GateFault.TheVariants.{NoMemory}
 use Rattle.nc_moves.specs.declared.alarm.Alarm.{Alarm}
 use Rattle.nc_verify.specs.declared.verified.Verified.{Verified}
-use Rattle.block_order.specs.declared.program.ControlProgram.{ControlProgram}
 use Rattle.run_records.specs.Entries.{Entry}
 use Rattle.run_records.specs.declared.header.Header.{Header}
 use Rattle.run_records.specs.declared.version.Version.{Version}
@@ -17,15 +16,16 @@ use Rattle.run_records.specs.Headers.{header_bytes}
 use Rattle.run_journal.specs.Beginning.{BeginsRun, IsRunBeginning}
 use Rattle.run_journal.specs.Kept.{Log, IsFresh}
 use Rattle.run_journal.specs.Stands.{Stands, Holds}
-use Rattle.path_state.specs.View.{PathView}
-use Rattle.two_path.specs.Machine.{MachineView, without_reads, opening}
+use Rattle.two_path.specs.Machine.{MachineView, without_reads}
 use Rattle.two_path.specs.Turns.{Tapes}
 use Rattle.two_path.specs.Joined.{RoomyMachine, AreAtTheirWaits}
 use Rattle.two_path.specs.Histories.{behind_entry, IsNext, IsLegal, IsKept, Keeps, fold}
 use Rattle.two_path.proofs.Edited.{entry_bare}
+use Rattle.two_path.proofs.Replays.{none_waits}
 use Rattle.run_table.specs.Recording.{RecordingView, IsJournaled}
 use Rattle.run_table.specs.Kept.{TableView, tapes_in, opening_of, IsVerdictOf, HasReason, IsTable}
-use Rattle.run_table.specs.declared.draining.Owed.{Owed}
+use Rattle.nc_number.specs.declared.both.Both.{Both}
+use Rattle.nc_number.specs.declared.limits.TheConstants.{MOST_PENDING}
 use Rattle.run_table.specs.Draining.{none_owed}
 use Rattle.nc_outside.specs.declared.halt.Halt.{Halt}
 use Rattle.run_table.specs.Begun.{reason_in, recovered_table}
@@ -43,7 +43,7 @@ legal_kept tapes start keeps (e ∷ after) before now k bare legal =
     (legal_kept tapes start keeps after (before ++ e ∷ []) (behind_entry tapes e now) then (entry_bare tapes e now) legal.1)
 
 -- a table of these parts is that of the recovery
-pub recovered_parts : {D : Type 0} (verified : Verified) (m : RoomyMachine) (entries : Entries) (log : Log D) (r : RecordingView D) (h : Option Halt) (o : Owed)
+pub recovered_parts : {D : Type 0} (verified : Verified) (m : RoomyMachine) (entries : Entries) (log : Log D) (r : RecordingView D) (h : Option Halt) (o : Both Bool)
     → r ≡ record { history = entries.items; room = entries.room; flushed = length entries.items; log = log }
     → h ≡ reason_in m.machine.alarm → o ≡ none_owed
     → ◌≡◌ {A = TableView D} (record { verified = verified; machine = m.machine; turns = m.room; recording = r; halt = h; budget = 0; owed = o })
@@ -69,7 +69,7 @@ all_held state header entries room log law holds =
 
 -- the reason of an alarm
 alarm_reason : {D : Type 0} (m : MachineView) (r : RecordingView D) (alarm : Option Alarm) → m.alarm ≡ alarm → IsTrue r.log.file.live
-    → length r.history < r.flushed + 64 → HasReason m r (reason_in alarm)
+    → length r.history < r.flushed + MOST_PENDING → HasReason m r (reason_in alarm)
 alarm_reason m r None is live few = record { calm = is; live = live; few = few }
 alarm_reason m r (Some alarm) is live few = (is, live)
 
@@ -99,9 +99,6 @@ recovered_is state v m entries log keeps law found =
     (found.stands.0, found.stands.1, all_held state found.stands.0 entries.items entries.room log law found.stands.2)
 
 -- no path of a machine that has not begun waits
-opening_waits : (left right : List ControlProgram) (first second : PathView) → AreAtTheirWaits left right (opening first second)
-opening_waits left right first second = record { first = λ code is. absurd cc; second = λ code is. absurd cc }
-
 -- a new journal is what a recovery of no record finds
 pub nothing_found : {D : Type 0} (state : D → DiskState) (v : Verified) (machine : MachineView) (entries : List Entry) (log : Log D) (header : Header)
     → machine ≡ opening_of v → entries ≡ [] → IsFresh 0 log → IsVerdictOf header v → HoldsAll state header [] log
@@ -111,7 +108,7 @@ nothing_found state v machine entries log header machine_is empty fresh verdict 
       legal = tt;
       few = omega arith;
       machine_is = machine_is;
-      waits = subst (λ (x : MachineView). AreAtTheirWaits v.left.order v.right.order x) (sym machine_is) (opening_waits v.left.order v.right.order _ _);
+      waits = subst (λ (x : MachineView). AreAtTheirWaits v.left.order v.right.order x) (sym machine_is) (none_waits v.left.order v.right.order _ _);
       fresh = fresh;
       stands = (header, verdict, holds);
     } in

@@ -1,5 +1,5 @@
 -- A table stays one over each part of a step, and the part is the step.
-use Rattle.std.proofs.Common.{◌≡◌, ℕ, ◌+◌, ◌≤◌, ◌<◌, ◌==◌, ◌||◌, Bool, true, false, List, ◌++◌, length, refl, sym, ◌∙◌, ap, subst, arith, length-append, Option, Some, None}
+use Rattle.std.proofs.Common.{◌≡◌, ℕ, ◌+◌, ◌≤◌, ◌<◌, ◌==◌, Bool, true, false, List, ◌++◌, length, refl, sym, ◌∙◌, ap, subst, arith, length-append, Option, Some, None}
 use Rattle.std.specs.Prelude.{IsTrue, nat_lt, if◌then◌else◌}
 use Rattle.disk_model.specs.Device.{DiskState}
 use Rattle.gate_file.specs.Gate.{Gate}
@@ -18,7 +18,9 @@ use Rattle.two_path.specs.Histories.{list_of, IsLegal, IsKept, Keeps, Counts, Tu
 use Rattle.run_table.specs.declared.answer.TableStep.{TableStep}
 use Rattle.run_table.specs.declared.answer.TableStep.TheVariants.{Turned, DiskFault}
 use Rattle.run_table.specs.Recording.{RecordingView, IsJournaled, Records, MayNote}
-use Rattle.run_table.specs.declared.draining.Owed.{Owed}
+use Rattle.nc_number.specs.declared.both.Both.{Both}
+use Rattle.nc_number.proofs.Bools.{neither}
+use Rattle.nc_number.specs.declared.limits.TheConstants.{MOST_PENDING, MOST_RECORDS}
 use Rattle.run_table.specs.Kept.{TableView, tapes_in, opening_of, MayGoOn, HasReason, IsTable}
 use Rattle.run_table.specs.Stepping.{is_shown, is_due, bound_of, drains, drained_by, step_by, step_of, Answers, reason_of, IsStep}
 use Rattle.run_table.specs.Stepping.Answers.{at_once, flushed, failed}
@@ -29,13 +31,9 @@ few_made : (entry : Option Entry) → length (list_of entry) ≤ 1
 few_made None = omega arith
 few_made (Some entry) = omega arith
 
-second_false : (a b : Bool) → (a || b) ≡ false → b ≡ false
-second_false true b is = absurd cc
-second_false false b is = is
-
 -- no alarm before
 turned_reason : {D : Type 0} (m : MachineView) (r : RecordingView D) (t : Turn) → m.alarm ≡ alarm_behind None t → IsTrue r.log.file.live
-    → length r.history < r.flushed + 64 → HasReason m r (reason_of (Turned t))
+    → length r.history < r.flushed + MOST_PENDING → HasReason m r (reason_of (Turned t))
 turned_reason m r (turn.Read variable stamp) is live few = record { calm = is; live = live; few = few }
 turned_reason m r (turn.Did moves) is live few = record { calm = is; live = live; few = few }
 turned_reason m r (turn.Arrived code) is live few = record { calm = is; live = live; few = few }
@@ -49,13 +47,13 @@ turned_reason m r turn.Edited is live few = record { calm = is; live = live; few
 
 -- the answer to a turn
 reason_kept : {D : Type 0} (state : D → DiskState) (m : MachineView) (r r' : RecordingView D) (made : List Entry) (t : Turn) (answer : TableStep)
-    → m.alarm ≡ alarm_behind None t → IsTrue r.log.file.live → length r.history < r.flushed + 64 → r'.history ≡ r.history ++ made → length made ≤ 1
+    → m.alarm ≡ alarm_behind None t → IsTrue r.log.file.live → length r.history < r.flushed + MOST_PENDING → r'.history ≡ r.history ++ made → length made ≤ 1
     → Answers state (is_due r made t) (Turned t) r r' answer → HasReason m r' (reason_of answer)
 reason_kept state m r r' made t answer is live few history one (at_once not_due same file stays) =
-    let not_full = second_false (is_shown t) (r.flushed + 64 == length (r.history ++ made)) not_due in
+    let not_full = (neither (is_shown t) (r.flushed + MOST_PENDING == length (r.history ++ made)) not_due).1 in
     let long : length r'.history ≡ length (r.history ++ made) = ap length history in
     let sum : length (r.history ++ made) ≡ length r.history + length made = length-append r.history made in
-    let less : length r'.history < r'.flushed + 64 = grind arith in
+    let less : length r'.history < r'.flushed + MOST_PENDING = grind arith in
     subst (λ (a : TableStep). HasReason m r' (reason_of a)) (sym same)
     (turned_reason m r' t is (subst (λ (f : Gate _). IsTrue f.live) (sym file) live) less)
 reason_kept state m r r' made t answer is live few history one (flushed was_due same still all) =
@@ -85,10 +83,10 @@ turn_comes t = go (length t.recording.history == t.verified.settings.records) (t
     go false false full spent none = (λ same. absurd (grind arith), grind arith)
 
 -- the table that these are
-abbrev pub table_of : {D : Type 0} → Verified → RoomyMachine → RecordingView D → Option Halt → ℕ → Owed → TableView D
+abbrev pub table_of : {D : Type 0} → Verified → RoomyMachine → RecordingView D → Option Halt → ℕ → Both Bool → TableView D
 table_of v m r why budget owed = record { verified = v; machine = m.machine; turns = m.room; recording = r; halt = why; budget = budget; owed = owed }
 
-module _ {D : Type 0} (state : D → DiskState) (v : Verified) (m m' : RoomyMachine) (r r' : RecordingView D) (budget budget' : ℕ) (owed owed' : Owed) (path : Path)
+module _ {D : Type 0} (state : D → DiskState) (v : Verified) (m m' : RoomyMachine) (r r' : RecordingView D) (budget budget' : ℕ) (owed owed' : Both Bool) (path : Path)
     (before : Option Halt) (none : before ≡ None) (table : IsTable state (table_of v m r before budget owed)) where
   may : MayGoOn m.machine r
   may = subst (HasReason m.machine r) none table.reason
@@ -167,7 +165,7 @@ journaled_room : {D : Type 0} (state : D → DiskState) (header : Header) (r : R
 journaled_room state header r room j = record { held = j.held; left = j.left }
 
 -- room is made
-pub room_made : {D : Type 0} (state : D → DiskState) (v : Verified) (m m' : RoomyMachine) (r r' : RecordingView D) (why : Option Halt) (budget budget' : ℕ) (owed : Owed)
+pub room_made : {D : Type 0} (state : D → DiskState) (v : Verified) (m m' : RoomyMachine) (r r' : RecordingView D) (why : Option Halt) (budget budget' : ℕ) (owed : Both Bool)
     → IsTable state (table_of v m r why budget owed) → m'.machine ≡ m.machine → r'.history ≡ r.history → r'.flushed ≡ r.flushed → r'.log ≡ r.log
     → budget' ≤ m'.room → (1 ≤ budget' → length r'.history + budget' ≤ r'.room) → IsTable state (table_of v m' r' why budget' owed)
 room_made state v m m' r r' why budget budget' owed table machine history count log turns room =
@@ -199,17 +197,17 @@ less_by a b le differ = go (nat_lt a b) refl
         absurd (differ same)
 
 -- a turn has its number of records
-pub few_turns : {D : Type 0} (state : D → DiskState) (v : Verified) (m : RoomyMachine) (r : RecordingView D) (why : Option Halt) (budget : ℕ) (owed : Owed)
+pub few_turns : {D : Type 0} (state : D → DiskState) (v : Verified) (m : RoomyMachine) (r : RecordingView D) (why : Option Halt) (budget : ℕ) (owed : Both Bool)
     → IsTable state (table_of v m r why budget owed)
     → ((entries : List Entry) → IsLegal (tapes_in v) (opening_of v) entries → Counts (tapes_in v) (opening_of v) entries)
-    → (length r.history ≡ v.settings.records → ⊥) → (m.machine.count < 4000000) × (length r.history < v.settings.records)
+    → (length r.history ≡ v.settings.records → ⊥) → (m.machine.count < MOST_RECORDS) × (length r.history < v.settings.records)
 few_turns state v m r why budget owed table counted differ =
     let count : m.machine.count ≡ length r.history = ap (λ (x : MachineView). x.count) (sym table.kept.folds) ∙ (counted r.history table.kept.legal).count in
     let less = less_by (length r.history) v.settings.records table.few differ in
     (omega (arith, count, less, v.settings.most_records), less)
 
 -- a turn may have its record
-pub may_note : {D : Type 0} (state : D → DiskState) (v : Verified) (m : RoomyMachine) (r : RecordingView D) (why : Option Halt) (budget : ℕ) (owed : Owed)
+pub may_note : {D : Type 0} (state : D → DiskState) (v : Verified) (m : RoomyMachine) (r : RecordingView D) (why : Option Halt) (budget : ℕ) (owed : Both Bool)
     → IsTable state (table_of v m r why budget owed) → why ≡ None → bound_of (table_of v m r why budget owed) ≡ None → MayNote r
 may_note state v m r why budget owed table none bound =
     let may : MayGoOn m.machine r = subst (HasReason m.machine r) none table.reason in

@@ -1,4 +1,5 @@
--- A path's turn brings it to a wait exactly where it stands on one, and the other path does not wait at another.
+-- A path's turn brings it to a wait exactly where it stands on one, and the other path does not
+-- wait at another.
 use Rattle.std.proofs.Common.{◌≡◌, ℕ, ◌==◌, Bool, true, false, refl, sym, ◌∙◌, ap, subst, Option, Some, None}
 use Rattle.std.specs.Prelude.{slice_get}
 use Rattle.nc_number.specs.declared.path.Path.{Path}

@@ -4,6 +4,8 @@ use Rattle.std.specs.Prelude.{nat_lt, not, MatchOption}
 use Rattle.disk_model.specs.Device.{DiskState}
 use Rattle.nc_number.specs.declared.path.Path.{Path}
 use Rattle.nc_number.specs.declared.path.Path.TheVariants.{One, Two}
+use Rattle.nc_number.proofs.Bools.{both}
+use Rattle.nc_number.specs.Both.{of_path}
 use Rattle.nc_outside.specs.declared.halt.Halt.{Halt}
 use Rattle.nc_moves.specs.declared.alarm.Alarm.{Alarm}
 use Rattle.run_records.specs.Entries.{Entry}
@@ -15,7 +17,7 @@ use Rattle.two_path.specs.Turns.{Tapes, TurnResult, unless_idle, block_turn, tap
 use Rattle.two_path.specs.Histories.{list_of}
 use Rattle.run_table.specs.declared.answer.TableStep.{TableStep}
 use Rattle.run_table.specs.declared.answer.TableStep.TheVariants.{Turned, Drain, Halted}
-use Rattle.run_table.specs.Draining.{owes, is_wait}
+use Rattle.run_table.specs.Draining.{is_wait}
 use Rattle.run_table.specs.Kept.{TableView, tapes_in, MayGoOn, HasReason, IsTable}
 use Rattle.run_table.specs.Stepping.{is_due, bound_of, is_waiting, drains, step_by, step_of, Answers, IsStep}
 use Rattle.run_table.specs.Stepping.Answers.{at_once, flushed, failed}
@@ -86,10 +88,6 @@ other_tells (turn.Alarm alarm) Q R waits tells = tells
 other_tells (turn.Halted alarm) Q R waits tells = tells
 other_tells turn.Edited Q R waits tells = tells
 
-and_right : (a b : Bool) → (a && b) ≡ true → b ≡ true
-and_right true b is = is
-and_right false b is = absurd (let clash : false ≡ true = is in cc)
-
 module _ {D : Type 0} (state : D → DiskState) (path : Path) (t t' : TableView D) (result : TableStep) (shown : Bool) (table : IsTable state t)
     (step : IsStep state (step_of t path) t t' result) where
   abbrev waits : Bool
@@ -144,5 +142,5 @@ module _ {D : Type 0} (state : D → DiskState) (path : Path) (t t' : TableView 
       go (Some why) bound drain halts bounds drained s = halted_tells why false (waits_is (Some why) bound halts bounds) s.answer
       go None (Some why) drain halts bounds drained s = halted_tells why (nat_lt t.recording.flushed (length t.recording.history)) (waits_is None (Some why) halts bounds) s.answer
       go None None true halts bounds drained s =
-          drain_tells (come_tells the_turn (waits ≡ true) (waits ≡ false) (and_right (owes path t.owed) (is_wait the_turn) drained) (tells halts bounds)) s.answer
+          drain_tells (come_tells the_turn (waits ≡ true) (waits ≡ false) (both (of_path t.owed path) (is_wait the_turn) drained).1 (tells halts bounds)) s.answer
       go None None false halts bounds drained s = turned_tells halts bounds s.answer

@@ -43,7 +43,8 @@ recovered_table verified m entries log = record {
   owed = none_owed;
 }
 
--- The room for so many records more, and leave to make them. Where there is no memory for it there is no leave for more than before.
+-- The room for so many records more, and leave to make them. Where there is no memory for it there
+-- is no leave for more than before.
 pub record IsPrepared {D T E : Type 0} (n : ℕ) (old new : TableView D) (result : Result T E) : Type 0 where
   pub budget : OnOk result (new.budget ≡ n)
   pub stays : OnErr result (new.budget ≡ old.budget)

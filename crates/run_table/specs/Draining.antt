@@ -1,4 +1,5 @@
--- When a path has to be drained: it comes to a wait, and moves were answered to it that its turret may not have.
+-- When a path has to be drained: it comes to a wait, and moves were answered to it that its turret
+-- may not have.
 use Rattle.std.specs.Prelude.{ℕ, ◌==◌, not, Bool, true, false, length, Option, Some, None}
 use Rattle.nc_number.specs.declared.path.Path.{Path}
 use Rattle.nc_number.specs.declared.path.Path.TheVariants.{One, Two}
@@ -9,19 +10,16 @@ use Rattle.tape_flow.specs.declared.flow.Flow.{Flow}
 use Rattle.nc_verify.specs.declared.verified.Verified.{Verified}
 use Rattle.two_path.specs.declared.turn.Turn.{Turn}
 use Rattle.two_path.specs.declared.turn.Turn.TheVariants as turn
-use Rattle.run_table.specs.declared.draining.Owed.{Owed}
+use Rattle.nc_number.specs.declared.both.Both.{Both}
 use Rattle.run_table.specs.declared.answer.TableStep.{TableStep}
 use Rattle.run_table.specs.declared.answer.TableStep.TheVariants.{Turned}
 
 -- no path has to be drained
-abbrev pub none_owed : Owed
+abbrev pub none_owed : Both Bool
 none_owed = record { one = false; two = false }
 
-abbrev pub owes : Path → Owed → Bool
-owes One owed = owed.one
-owes Two owed = owed.two
-
-abbrev pub with_owed : Path → Bool → Owed → Owed
+-- the same, but for this path
+abbrev pub with_owed : Path → Bool → Both Bool → Both Bool
 with_owed One is owed = record owed { one = is }
 with_owed Two is owed = record owed { two = is }
 
@@ -43,11 +41,11 @@ answers_moves (Turned turn) = has_moves turn
 answers_moves other = false
 
 -- behind a step of the path
-abbrev pub owed_by : Bool → Path → Owed → Owed
+abbrev pub owed_by : Bool → Path → Both Bool → Both Bool
 owed_by true path owed = with_owed path true owed
 owed_by false path owed = owed
 
-abbrev pub owed_behind : Path → TableStep → Owed → Owed
+abbrev pub owed_behind : Path → TableStep → Both Bool → Both Bool
 owed_behind path step owed = owed_by (answers_moves step) path owed
 
 -- the flow of the path's tape
@@ -64,7 +62,8 @@ abbrev pub comes_to : Option Label → Option ℕ → Bool
 comes_to (Some (label.Wait code)) there = may_come code there
 comes_to other there = false
 
--- a path comes to a wait that is not stopped, has not ended and does not wait, and stands on that label
+-- a path comes to a wait that is not stopped, has not ended and does not wait, and stands on that
+-- label
 abbrev pub comes_by : Option Alarm → Bool → Option ℕ → Option Label → Option ℕ → Bool
 comes_by None false None here there = comes_to here there
 comes_by alarm finished waiting here there = false

@@ -19,8 +19,9 @@ end_by_all None None = None
 abbrev pub end_ahead : {D : Type 0} → TableView D → Option RunEnd
 end_ahead t = end_by_all (end_of t.machine) (bound_of t)
 
--- What asking for the end of a run does. Nothing is done where the disk has failed, or the run has not ended. Else the records that
--- pend are written, or the disk fails in that, and this is the end.
+-- What asking for the end of a run does. Nothing is done where the disk has failed, or the run has
+-- not ended. Else the records that pend are written, or the disk fails in that, and this is the
+-- end.
 pub data Asks {D : Type 0} (old new : TableView D) (result : Option RunEnd) : Type 0 where
   kept : old.halt ≡ Some halt.Disk → result ≡ Some run.DiskFault → new ≡ old → Asks old new result
   idle : old.halt ≢ Some halt.Disk → end_ahead old ≡ None → result ≡ None → new ≡ old → Asks old new result
@@ -56,8 +57,9 @@ pub record HasNotEnded {D : Type 0} (h : HeldView D) : Type 0 where
   pub room : length h.history ≢ h.verified.settings.records
   pub leave : h.budget ≢ 0
 
--- What is left as it was where the end of a run is asked for: all but what is on the disk. The disk is used only where the run has
--- ended and records pend, and a reason to stop comes only as it fails.
+-- What is left as it was where the end of a run is asked for: all but what is on the disk. The disk
+-- is used only where the run has ended and records pend, and a reason to stop comes only as it
+-- fails.
 pub record KeepsRest {D : Type 0} (old new : HeldView D) (result : Option RunEnd) : Type 0 where
   pub rest : new ≡ record old { flushed = new.flushed; file = new.file; halt = new.halt }
   pub halt : result ≢ Some run.DiskFault → new.halt ≡ old.halt

@@ -20,8 +20,9 @@ use Rattle.two_path.specs.Histories.{behind_entry, fold}
 use Rattle.two_path.specs.Again.{turn_of_entry}
 use Rattle.run_table.specs.declared.answer.TableStep.{TableStep}
 use Rattle.run_table.specs.declared.answer.TableStep.TheVariants as step
-use Rattle.run_table.specs.declared.draining.Owed.{Owed}
-use Rattle.run_table.specs.Draining.{owes, is_wait}
+use Rattle.nc_number.specs.declared.both.Both.{Both}
+use Rattle.nc_number.specs.Both.{of_path}
+use Rattle.run_table.specs.Draining.{is_wait}
 use Rattle.run_table.specs.Kept.{TableView, tapes_in, opening_of}
 use Rattle.two_path.specs.Made.{made_in}
 use Rattle.run_table.specs.Made.{if_of, shown_from, moves_made}
@@ -37,7 +38,7 @@ pub record HeldView (D : Type 0) : Type 0 where
   pub file : Gate D
   pub halt : Option Halt
   pub budget : ℕ
-  pub owed : Owed
+  pub owed : Both Bool
   pub shown : Bool
 
 abbrev pub held_of : {D : Type 0} → TableView D → Bool → HeldView D
@@ -64,7 +65,7 @@ waits_at h path = (is_none h.halt && is_none (bound_at h)) && is_waiting path h.
 -- the path is to be drained, and nothing has stopped the table
 abbrev pub drains_at : {D : Type 0} → HeldView D → Path → Bool
 drains_at h path =
-    (is_none h.halt && is_none (bound_at h)) && (owes path h.owed && is_wait (turn_of (tapes_in h.verified) path h.machine).turn)
+    (is_none h.halt && is_none (bound_at h)) && (of_path h.owed path && is_wait (turn_of (tapes_in h.verified) path h.machine).turn)
 
 -- the table is what has come of this one
 abbrev pub IsOf : {D : Type 0} → (D → DiskState) → Option (TableView D) → TableView D → Type 0
@@ -89,19 +90,21 @@ records_since (Some start) h path =
     answered_from (tapes_in start.verified) (fold (tapes_in start.verified) (opening_of start.verified) start.recording.history)
     path h.shown (drop (length start.recording.history) h.history)
 
--- The moves that were answered since the opening are those of the records that the disk has: a record that pends, or that was lost,
--- shows none.
+-- The moves that were answered since the opening are those of the records that the disk has: a
+-- record that pends, or that was lost, shows none.
 abbrev pub ShowsFlushed : {D : Type 0} → Option (TableView D) → HeldView D → TableView D → Type 0
 ShowsFlushed None h t = ⊥
 ShowsFlushed (Some start) h t = (path : Path) → moves_in (records_since (Some start) h path)
     ≡ moves_made t.verified path (length start.recording.history) t.recording.flushed t.recording.history
 
--- A table that may be held under the opening: it is of the opening, and what it showed since is on the disk.
+-- A table that may be held under the opening: it is of the opening, and what it showed since is on
+-- the disk.
 pub record MayHold {D : Type 0} (state : D → DiskState) (opened : Option (TableView D)) (t : TableView D) : Type 0 where
   pub of : IsOf state opened t
   pub shows : ShowsFlushed opened (held_of t true) t
 
--- What is true of a held table. Only a record that did not get to the disk stands without its moves.
+-- What is true of a held table. Only a record that did not get to the disk stands without its
+-- moves.
 pub record IsHeld {D : Type 0} (state : D → DiskState) (opened : Option (TableView D)) (t : TableView D) (shown : Bool) : Type 0 where
   pub of : IsOf state opened t
   pub lost : shown ≡ false → t.halt ≡ Some halt.Disk

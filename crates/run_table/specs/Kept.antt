@@ -1,5 +1,5 @@
 -- What callers see of a table, and what is true of it.
-use Rattle.std.specs.Prelude.{◌≡◌, ℕ, ◌+◌, ◌≤◌, ◌<◌, false, length, map, Option, Some, None, IsTrue}
+use Rattle.std.specs.Prelude.{◌≡◌, ℕ, ◌+◌, ◌≤◌, ◌<◌, false, length, map, Option, Some, None, IsTrue, Bool}
 use Rattle.disk_model.specs.Device.{DiskState}
 use Rattle.nc_number.specs.declared.path.Path.TheVariants.{One, Two}
 use Rattle.nc_outside.specs.declared.halt.Halt.{Halt}
@@ -14,7 +14,8 @@ use Rattle.two_path.specs.Machine.{MachineView, opening}
 use Rattle.two_path.specs.Turns.{Tapes, tapes_of}
 use Rattle.two_path.specs.Joined.{AreAtTheirWaits}
 use Rattle.two_path.specs.Histories.{IsKept}
-use Rattle.run_table.specs.declared.draining.Owed.{Owed}
+use Rattle.nc_number.specs.declared.both.Both.{Both}
+use Rattle.nc_number.specs.declared.limits.TheConstants.{MOST_PENDING}
 use Rattle.run_table.specs.Recording.{RecordingView, IsJournaled}
 
 pub record TableView (D : Type 0) : Type 0 where
@@ -24,7 +25,7 @@ pub record TableView (D : Type 0) : Type 0 where
   pub recording : RecordingView D
   pub halt : Option Halt  -- why the table has stopped
   pub budget : ℕ  -- how many records it may still make
-  pub owed : Owed  -- which paths have to be drained before they come to a wait
+  pub owed : Both Bool  -- which paths have to be drained before they come to a wait
 
 abbrev pub tapes_in : Verified → Tapes
 tapes_in verified = tapes_of verified.left verified.right
@@ -40,14 +41,15 @@ IsVerdictOf header verified =
     AreAccepted (record { left = header.left; right = header.right; settings = header.settings }) (view verified.settings)
     (map program_form verified.left.programs) (map program_form verified.right.programs)
 
--- a table that has not stopped: no path has raised an alarm, the journal may be written, and the batch is not full
+-- a table that has not stopped: no path has raised an alarm, the journal may be written, and the
+-- batch is not full
 pub record MayGoOn {D : Type 0} (machine : MachineView) (r : RecordingView D) : Type 0 where
   pub calm : machine.alarm ≡ None
   pub live : IsTrue r.log.file.live
-  pub few : length r.history < r.flushed + 64
+  pub few : length r.history < r.flushed + MOST_PENDING
 
--- Why a table has stopped: for an alarm of the machine, for a fault of the disk, or as a turret was said to fail. A full journal
--- and a spent budget are no reasons that a table keeps.
+-- Why a table has stopped: for an alarm of the machine, for a fault of the disk, or as a turret was
+-- said to fail. A full journal and a spent budget are no reasons that a table keeps.
 abbrev pub HasReason : {D : Type 0} → MachineView → RecordingView D → Option Halt → Type 0
 HasReason machine r None = MayGoOn machine r
 HasReason machine r (Some (Alarm alarm)) = (machine.alarm ≡ Some alarm) × IsTrue r.log.file.live
@@ -56,8 +58,9 @@ HasReason machine r (Some (Turret path)) = MayGoOn machine r
 HasReason machine r (Some Full) = ⊥
 HasReason machine r (Some Budget) = ⊥
 
--- What is true of every table. Its machine is the fold of the legal history, with lawful block reads. There is room for what it
--- may still record. The journal is that of some header whose texts are the pair's.
+-- What is true of every table. Its machine is the fold of the legal history, with lawful block
+-- reads. There is room for what it may still record. The journal is that of some header whose texts
+-- are the pair's.
 pub record IsTable {D : Type 0} (state : D → DiskState) (t : TableView D) : Type 0 where
   pub kept : IsKept (tapes_in t.verified) (opening_of t.verified) t.recording.history t.machine
   pub waits : AreAtTheirWaits t.verified.left.order t.verified.right.order t.machine

@@ -9,3 +9,4 @@ pub mod Recovered
 pub mod Running
 pub mod Since
 pub mod Stepping
+pub mod Apart

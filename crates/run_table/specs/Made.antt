@@ -1,5 +1,6 @@
 -- The moves of the records of a history.
 use Rattle.std.specs.Prelude.{ℕ, List, [], ◌∷◌, ◌++◌, take, drop, if◌then◌else◌}
+use Rattle.nc_number.specs.Path.{is_same}
 use Rattle.nc_number.specs.declared.path.Path.{Path}
 use Rattle.nc_outside.specs.declared.lined_move.LinedMove.{LinedMove}
 use Rattle.nc_verify.specs.declared.verified.Verified.{Verified}
@@ -7,7 +8,7 @@ use Rattle.run_records.specs.Entries.{Entry}
 use Rattle.seat_table.specs.Turning.{moves_in}
 use Rattle.two_path.specs.Machine.{MachineView}
 use Rattle.two_path.specs.Turns.{Tapes}
-use Rattle.two_path.specs.Histories.{behind_entry, fold, is_same}
+use Rattle.two_path.specs.Histories.{behind_entry, fold}
 use Rattle.two_path.specs.Again.{turn_of_entry}
 use Rattle.two_path.specs.Made.{made_in}
 use Rattle.run_table.specs.Kept.{tapes_in, opening_of}
@@ -22,7 +23,8 @@ shown_from tapes m path [] = []
 shown_from tapes m path (e ∷ entries) =
     if_of path e (made_in (turn_of_entry tapes e m)) ++ shown_from tapes (behind_entry tapes e m) path entries
 
--- the moves of the path's records of a history of the pair, from one number of records on up to another
+-- the moves of the path's records of a history of the pair, from one number of records on up to
+-- another
 abbrev pub moves_made : Verified → Path → ℕ → ℕ → List Entry → List LinedMove
 moves_made pair path from upto history =
     moves_in (shown_from (tapes_in pair) (fold (tapes_in pair) (opening_of pair) (take from history)) path

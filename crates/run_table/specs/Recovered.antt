@@ -11,15 +11,17 @@ use Rattle.two_path.specs.Joined.{AreAtTheirWaits}
 use Rattle.two_path.specs.Histories.{IsLegal, fold}
 use Rattle.run_table.specs.Kept.{tapes_in, opening_of, IsVerdictOf}
 
--- where the disk tells its content it holds this header and these records, which the journal has written in the version that it has
+-- where the disk tells its content it holds this header and these records, which the journal has
+-- written in the version that it has
 abbrev pub HoldsAll : {D : Type 0} → (D → DiskState) → Header → List Entry → Log D → Type 0
 HoldsAll state header entries log =
     (bytes : List ℕ) → Reads (state log.file.disk) bytes
     → Holds header log.version entries (state log.file.disk) log.file.end
 
--- The parts of one recovery: the records are a legal history of the pair, of as many records as the pair allows at most. The
--- machine is its fold, without block reads. The journal may be written, has just as many records and none that pends, and stands
--- for the history and for a header whose texts are the pair's.
+-- The parts of one recovery: the records are a legal history of the pair, of as many records as the
+-- pair allows at most. The machine is its fold, without block reads. The journal may be written,
+-- has just as many records and none that pends, and stands for the history and for a header whose
+-- texts are the pair's.
 pub record IsRecovered {D : Type 0} (state : D → DiskState) (verified : Verified) (machine : MachineView) (entries : List Entry) (log : Log D) : Type 0 where
   pub legal : IsLegal (tapes_in verified) (opening_of verified) entries
   pub few : length entries ≤ verified.settings.records

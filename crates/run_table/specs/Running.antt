@@ -43,8 +43,8 @@ pub record IsEnd {D : Type 0} (t : TableView D) (machine_end : Option RunEnd) : 
   pub may : MayRun t
   pub machine : end_of t.machine ≡ machine_end
 
--- Why a run ended: the disk failed, or else an alarm came, or else both paths ended, or else there are as many records as there
--- may be, or else no budget is left.
+-- Why a run ended: the disk failed, or else an alarm came, or else both paths ended, or else there
+-- are as many records as there may be, or else no budget is left.
 abbrev pub EndsBy : {D : Type 0} → (D → DiskState) → TableView D → TableView D → RunEnd → Type 0
 EndsBy state old new (run.Alarm alarm) = IsEnd new (Some (run.Alarm alarm))
 EndsBy state old new run.Done = IsEnd new (Some run.Done)

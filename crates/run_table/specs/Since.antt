@@ -6,8 +6,8 @@ use Rattle.run_records.specs.Entries.{Entry}
 use Rattle.run_table.specs.Recording.{Follows}
 use Rattle.run_table.specs.Kept.{TableView}
 
--- What has come of a table since it was the old one: records of the same pair, each within its budget. Where it keeps that the disk
--- failed, and did not before, a call has failed.
+-- What has come of a table since it was the old one: records of the same pair, each within its
+-- budget. Where it keeps that the disk failed, and did not before, a call has failed.
 pub record Since {D : Type 0} (state : D → DiskState) (old new : TableView D) : Type 0 where
   pub verified : new.verified ≡ old.verified
   pub made : List Entry

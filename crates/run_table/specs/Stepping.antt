@@ -2,6 +2,8 @@
 use Rattle.std.specs.Prelude.{◌≡◌, ℕ, ◌+◌, ◌==◌, ◌||◌, ◌&&◌, not, nat_lt, is_some, is_none, Bool, true, false, List, [], ◌++◌, length, Option, Some, None, IsTrue, if◌then◌else◌}
 use Rattle.disk_model.specs.Device.{DiskState, Rose}
 use Rattle.nc_number.specs.declared.path.Path.{Path}
+use Rattle.nc_number.specs.Both.{of_path}
+use Rattle.nc_number.specs.declared.limits.TheConstants.{MOST_PENDING}
 use Rattle.nc_outside.specs.declared.halt.Halt.{Halt}
 use Rattle.nc_outside.specs.declared.halt.Halt.TheVariants as halt
 use Rattle.run_records.specs.Entries.{Entry}
@@ -13,10 +15,11 @@ use Rattle.two_path.specs.Histories.{list_of}
 use Rattle.run_table.specs.declared.answer.TableStep.{TableStep}
 use Rattle.run_table.specs.declared.answer.TableStep.TheVariants.{Turned, Drain, DiskFault, Halted}
 use Rattle.run_table.specs.Recording.{RecordingView, Records}
-use Rattle.run_table.specs.Draining.{owes, is_wait}
+use Rattle.run_table.specs.Draining.{is_wait}
 use Rattle.run_table.specs.Kept.{TableView, tapes_in}
 
--- what a turn shows: moves, that a path waits, goes on or has ended, or an alarm; a block without moves shows nothing
+-- what a turn shows: moves, that a path waits, goes on or has ended, or an alarm; a block without
+-- moves shows nothing
 abbrev pub is_shown : Turn → Bool
 is_shown (turn.Read variable stamp) = false
 is_shown (turn.Did moves) = not (length moves.list == 0)
@@ -29,7 +32,8 @@ is_shown (turn.Alarm alarm) = true
 is_shown (turn.Halted alarm) = false
 is_shown turn.Edited = false
 
--- why no turn comes though nothing stopped the table: it has as many records as it may have, or no budget is left
+-- why no turn comes though nothing stopped the table: it has as many records as it may have, or no
+-- budget is left
 abbrev pub bound_by : ℕ → ℕ → ℕ → Option Halt
 bound_by count most budget = if count == most then Some halt.Full else if budget == 0 then Some halt.Budget else None
 
@@ -44,8 +48,8 @@ is_waiting path m = (is_none m.alarm && not (own_first path m).first.finished) &
 abbrev pub waits_in : {D : Type 0} → TableView D → Path → Bool
 waits_in t path = (is_none t.halt && is_none (bound_of t)) && is_waiting path t.machine
 
--- what a step comes to where the disk does not fail: its answer, the machine and the records that it makes, and whether all
--- records are to be on the disk before the answer
+-- what a step comes to where the disk does not fail: its answer, the machine and the records that
+-- it makes, and whether all records are to be on the disk before the answer
 pub record StepResult : Type 0 where
   pub answer : TableStep
   pub machine : MachineView
@@ -54,7 +58,7 @@ pub record StepResult : Type 0 where
 
 -- all records are to be on the disk before an answer that shows something, and at 64 that pend
 abbrev pub is_due : {D : Type 0} → RecordingView D → List Entry → Turn → Bool
-is_due r made turn = is_shown turn || r.flushed + 64 == length (r.history ++ made)
+is_due r made turn = is_shown turn || r.flushed + MOST_PENDING == length (r.history ++ made)
 
 abbrev pub turn_step : {D : Type 0} → TableView D → TurnResult → List Entry → StepResult
 turn_step t result made = record {
@@ -66,7 +70,7 @@ turn_step t result made = record {
 
 -- the path comes to a wait, and has to be drained first
 abbrev pub drains : {D : Type 0} → TableView D → Path → Bool
-drains t path = owes path t.owed && is_wait (turn_of (tapes_in t.verified) path t.machine).turn
+drains t path = of_path t.owed path && is_wait (turn_of (tapes_in t.verified) path t.machine).turn
 
 -- nothing is done, as the table keeps a reason, or as the path has to be drained
 abbrev pub idle_step : {D : Type 0} → TableView D → TableStep → StepResult
@@ -86,7 +90,8 @@ abbrev pub turn_by : {D : Type 0} → TableView D → Path → StepResult
 turn_by t path =
     turn_step t (turn_of (tapes_in t.verified) path t.machine) (list_of (entry_of (tapes_in t.verified) path t.machine))
 
--- a reason that is kept goes before a full journal, that before a spent budget, and each of them before a turn
+-- a reason that is kept goes before a full journal, that before a spent budget, and each of them
+-- before a turn
 abbrev pub drained_by : {D : Type 0} → TableView D → Path → Option Halt → Option Halt → StepResult
 drained_by t path (Some why) bound = idle_step t (Halted why)
 drained_by t path None (Some why) = bound_step t why
@@ -100,8 +105,8 @@ step_by t path why bound drain = drained_by t path why bound
 abbrev pub step_of : {D : Type 0} → TableView D → Path → StepResult
 step_of t path = step_by t path t.halt (bound_of t) (drains t path)
 
--- The answer that comes where the disk does not fail, with all records flushed before it where that is due, or a fault of the disk,
--- which failed in that.
+-- The answer that comes where the disk does not fail, with all records flushed before it where that
+-- is due, or a fault of the disk, which failed in that.
 pub data Answers {D : Type 0} (state : D → DiskState) (due : Bool) (answer : TableStep) (old new : RecordingView D) (result : TableStep) : Type 0 where
   at_once : due ≡ false → result ≡ answer → new.log.file ≡ old.log.file → new.flushed ≡ old.flushed
       → Answers state due answer old new result
@@ -122,7 +127,8 @@ abbrev pub reason_behind : Option Halt → TableStep → Option Halt
 reason_behind (Some why) answer = Some why
 reason_behind None answer = reason_of answer
 
--- What a step does to the table. Where the disk failed the records that it made are among those that pend.
+-- What a step does to the table. Where the disk failed the records that it made are among those
+-- that pend.
 pub record IsStep {D : Type 0} (state : D → DiskState) (step : StepResult) (old new : TableView D) (result : TableStep) : Type 0 where
   pub answer : Answers state step.due step.answer old.recording new.recording result
   pub records : Records state step.made old.recording new.recording

@@ -1,22 +1,53 @@
 //! What a step of a table answers, and what is left of a table.
+ghost use Rattle.std.specs.Prelude.{◌≡◌};
+ghost use Rattle.run_table.specs.Apart.{step_with};
+
 use disk_model::Disk;
+use nc_moves::MoveList;
 use nc_outside::Halt;
 use nc_verify::Verified;
 use run_records::EntryList;
-use two_path::{Machine, Turn};
+use two_path::{Machine, Turn, TurnAnswer};
 
 /// What one step of a table came to.
 #[derive(Debug, Drop)]
 pub enum TableStep {
     /// A turn of the path. What it shows is on the disk.
     Turned(Turn),
-    /// The path comes to a wait, and its turret may not have yet all moves that were answered to it.
-    /// There was no turn.
+    /// The path comes to a wait, and its turret may not have yet all moves that were answered to
+    /// it. There was no turn.
     Drain,
     /// The disk failed. What the path did is not shown.
     DiskFault,
     /// The run has stopped, or must stop here. There was no turn.
     Halted(Halt),
+}
+
+/// What one step of a table came to, its moves apart: a list that is lent has them.
+#[derive(Debug, Drop)]
+pub enum StepAnswer {
+    /// A turn of the path. What it shows is on the disk.
+    Turned(TurnAnswer),
+    /// The path is to be drained, and there was no turn.
+    Drain,
+    /// The disk failed. What the path did is not shown.
+    DiskFault,
+    /// The run has stopped, or must stop here. There was no turn.
+    Halted(Halt),
+}
+
+impl TableStep {
+    /// The step with its moves in it. A step that has none leaves them.
+    pub(crate) fn of(answer: StepAnswer, moves: MoveList) -> TableStep
+        ensures { result ≡ step_with answer moves }
+    {
+        match answer {
+            StepAnswer::Turned(answer) => TableStep::Turned(Turn::of(answer, moves)),
+            StepAnswer::Drain => TableStep::Drain,
+            StepAnswer::DiskFault => TableStep::DiskFault,
+            StepAnswer::Halted(why) => TableStep::Halted(why),
+        }
+    }
 }
 
 /// What a table is made of.

@@ -3,81 +3,70 @@ ghost use Rattle.std.specs.Prelude.{◌≡◌};
 ghost use Rattle.nc_number.specs.Path.{other_of};
 ghost use Rattle.tape_flow.specs.Places.{label_at};
 ghost use Rattle.two_path.specs.Machine.{own_first};
-ghost use Rattle.run_table.specs.Draining.{none_owed, owes, with_owed, has_moves, answers_moves, owed_behind, flow_for, may_come, comes_by};
+ghost use Rattle.two_path.specs.Made.{turn_with};
+ghost use Rattle.run_table.specs.Apart.{step_with};
+ghost use Rattle.run_table.specs.Draining.{none_owed, with_owed, has_moves, answers_moves, owed_behind, flow_for, may_come, comes_by};
 
-use crate::answer::TableStep;
+use crate::answer::StepAnswer;
 use block_order::Label;
-use nc_number::Path;
+use nc_moves::MoveList;
+use nc_number::{Both, Path};
 use nc_verify::Verified;
 use tape_flow::Flow;
-use two_path::{Machine, Turn};
+use two_path::{Machine, TurnAnswer};
 
-/// Whether moves were answered to each path that its turret may not have yet.
-#[derive(Clone, Copy, Debug, PartialEq, Eq)]
-pub struct Owed {
-    pub one: bool,
-    pub two: bool,
+/// To neither path moves were answered that its turret may not have yet: none has to be drained.
+pub(crate) fn none_owed() -> Both<bool>
+    ensures { result ≡ none_owed }
+{
+    Both {
+        one: false,
+        two: false,
+    }
 }
 
-impl Owed {
-    /// No path has to be drained.
-    pub(crate) fn none() -> Owed
-        ensures { result ≡ none_owed }
-    {
-        Owed {
-            one: false,
-            two: false,
-        }
+/// The same, but for this path.
+pub(crate) fn with_owed(owed: Both<bool>, path: Path, is: bool) -> Both<bool>
+    ensures { result ≡ with_owed path is owed }
+{
+    match path {
+        Path::One => Both { one: is, ..owed },
+        Path::Two => Both { two: is, ..owed },
     }
+}
 
-    /// Whether the path has to be drained before it comes to a wait.
-    pub(crate) fn has(self, path: Path) -> bool
-        ensures { result ≡ owes path self }
-    {
-        match path {
-            Path::One => self.one,
-            Path::Two => self.two,
-        }
+/// Behind a step of the path, whose moves are these.
+pub(crate) fn owed_behind(
+    owed: Both<bool>,
+    path: Path,
+    step: &StepAnswer,
+    moves: &MoveList,
+) -> Both<bool>
+    ensures { result ≡ owed_behind path (step_with step.now moves.now) owed }
+{
+    if answers_moves(step, moves) {
+        return with_owed(owed, path, true);
     }
-
-    /// The same, but for this path.
-    pub(crate) fn with(self, path: Path, is: bool) -> Owed
-        ensures { result ≡ with_owed path is self }
-    {
-        match path {
-            Path::One => Owed { one: is, ..self },
-            Path::Two => Owed { two: is, ..self },
-        }
-    }
-
-    /// Behind a step of the path.
-    pub(crate) fn behind(self, path: Path, step: &TableStep) -> Owed
-        ensures { result ≡ owed_behind path step.now self }
-    {
-        if answers_moves(step) {
-            return self.with(path, true);
-        }
-        self
-    }
+    owed
 }
 
 /// Whether the turn has moves.
-fn has_moves(turn: &Turn) -> bool
-    ensures { result ≡ has_moves turn.now }
+fn has_moves(answer: &TurnAnswer, moves: &MoveList) -> bool
+    ensures { result ≡ has_moves (turn_with answer.now moves.now) }
 {
-    match turn {
-        Turn::Did { moves } | Turn::Ended { moves } => !moves.list.as_slice().is_empty(),
+    match answer {
+        TurnAnswer::Did { .. } | TurnAnswer::Ended { .. } => !moves.as_slice().is_empty(),
         _ => false,
     }
 }
 
 /// Whether the step answered moves.
-fn answers_moves(step: &TableStep) -> bool
-    ensures { result ≡ answers_moves step.now }
+fn answers_moves(step: &StepAnswer, moves: &MoveList) -> bool
+    ensures { result ≡ answers_moves (step_with step.now moves.now) }
 {
     match step {
-        TableStep::Turned(turn) => has_moves(turn),
-        TableStep::Drain | TableStep::DiskFault | TableStep::Halted(_) => false,
+        StepAnswer::Turned(answer) => has_moves(answer, moves),
+        StepAnswer::Drain | StepAnswer::DiskFault | StepAnswer::Halted(_) => false,
     }
 }
 

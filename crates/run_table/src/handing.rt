@@ -1,65 +1,69 @@
 //! A step of a table, as it is handed on to the worker of its path.
-ghost use Rattle.std.specs.Prelude.{◌≡◌, ◌&&◌, not};
+ghost use Rattle.std.specs.Prelude.{◌≡◌, ◌&&◌, not, List};
+ghost use Rattle.nc_moves.specs.declared.motion.Move.{Move};
+ghost use Rattle.two_path.specs.Made.{turn_with};
+ghost use Rattle.run_table.specs.Apart.{step_with};
 ghost use Rattle.run_table.specs.Holding.{handed, next_of_turn, next_of, is_lost};
 
-use crate::answer::TableStep;
-use nc_moves::Moves;
+use crate::answer::StepAnswer;
+use nc_moves::{MoveList, Moves};
 use nc_outside::{Halt, Next};
-use two_path::Turn;
+use two_path::TurnAnswer;
 
-/// Moves are handed on, and a block without any is silent.
-fn handed(moves: Moves) -> Next
-    ensures { result ≡ handed moves }
+/// Moves of a block are handed on, and a block without any is silent.
+fn handed(line: u32, list: MoveList) -> Next
+    ensures { result ≡ handed (record { line = line; list = list }) }
 {
-    if moves.list.as_slice().is_empty() {
+    if list.as_slice().is_empty() {
         return Next::Silent;
     }
-    Next::Moves(moves)
+    Next::Moves(Moves { line, list })
 }
 
-fn next_of_turn(turn: Turn) -> Option<Next>
-    ensures { result ≡ next_of_turn turn }
+/// What a turn comes to for the worker of its path. None where the path waits.
+fn next_of_turn(answer: TurnAnswer, moves: MoveList) -> Option<Next>
+    ensures { result ≡ next_of_turn (turn_with answer moves) }
 {
-    match turn {
-        Turn::Did { moves } => Some(handed(moves)),
-        Turn::Ended { moves } => Some(handed(moves)),
-        Turn::Read { .. } => Some(Next::Silent),
-        Turn::Arrived { .. } => Some(Next::Silent),
-        Turn::Met { .. } => Some(Next::Silent),
-        Turn::Waiting { .. } => None,
-        Turn::Finished => Some(Next::Finished),
-        Turn::Alarm { alarm } => Some(Next::Halted(Halt::Alarm(alarm))),
-        Turn::Halted { alarm } => Some(Next::Halted(Halt::Alarm(alarm))),
-        Turn::Edited => Some(Next::Silent),
+    match answer {
+        TurnAnswer::Did { line } => Some(handed(line, moves)),
+        TurnAnswer::Ended { line } => Some(handed(line, moves)),
+        TurnAnswer::Read { .. } => Some(Next::Silent),
+        TurnAnswer::Arrived { .. } => Some(Next::Silent),
+        TurnAnswer::Met { .. } => Some(Next::Silent),
+        TurnAnswer::Waiting { .. } => None,
+        TurnAnswer::Finished => Some(Next::Finished),
+        TurnAnswer::Alarm { alarm } => Some(Next::Halted(Halt::Alarm(alarm))),
+        TurnAnswer::Halted { alarm } => Some(Next::Halted(Halt::Alarm(alarm))),
+        TurnAnswer::Edited => Some(Next::Silent),
     }
 }
 
 /// What a step comes to for the worker of its path. None where the path waits.
-pub(crate) fn next_of(step: TableStep) -> Option<Next>
-    ensures { result ≡ next_of step }
+pub(crate) fn next_of(step: StepAnswer, moves: MoveList) -> Option<Next>
+    ensures { result ≡ next_of (step_with step moves) }
 {
     match step {
-        TableStep::Turned(turn) => next_of_turn(turn),
-        TableStep::Drain => Some(Next::Drain),
-        TableStep::DiskFault => Some(Next::Halted(Halt::Disk)),
-        TableStep::Halted(why) => Some(Next::Halted(why)),
+        StepAnswer::Turned(answer) => next_of_turn(answer, moves),
+        StepAnswer::Drain => Some(Next::Drain),
+        StepAnswer::DiskFault => Some(Next::Halted(Halt::Disk)),
+        StepAnswer::Halted(why) => Some(Next::Halted(why)),
     }
 }
 
 /// Whether the step made a record that did not get to the disk, by the numbers of records before it
 /// and behind it.
-fn is_lost(step: &TableStep, before: usize, after: usize) -> bool
-    ensures { result ≡ is_lost step.now before after }
+fn is_lost(step: &StepAnswer, before: usize, after: usize) -> bool
+    ensures { (moves : List Move) → result ≡ is_lost (step_with step.now moves) before after }
 {
     match step {
-        TableStep::DiskFault => before != after,
-        TableStep::Turned(_) | TableStep::Drain | TableStep::Halted(_) => false,
+        StepAnswer::DiskFault => before != after,
+        StepAnswer::Turned(_) | StepAnswer::Drain | StepAnswer::Halted(_) => false,
     }
 }
 
 /// Whether behind the step the moves of the last record were answered.
-pub(crate) fn is_still_shown(shown: bool, step: &TableStep, before: usize, after: usize) -> bool
-    ensures { result ≡ (shown && not (is_lost step.now before after)) }
+pub(crate) fn is_still_shown(shown: bool, step: &StepAnswer, before: usize, after: usize) -> bool
+    ensures { (moves : List Move) → result ≡ (shown && not (is_lost (step_with step.now moves) before after)) }
 {
     shown && !is_lost(step, before, after)
 }

@@ -13,6 +13,7 @@ use crate::handing::{is_still_shown, next_of};
 use crate::running::RunEnd;
 use crate::table::Table;
 use disk_model::Disk;
+use nc_moves::MoveList;
 use nc_number::Path;
 use nc_outside::{Halt, Next};
 use seat_table::Turns;
@@ -56,8 +57,8 @@ impl<D: Disk, O: Opening<D>> Model for Held<D, O> {
 }
 
 impl<D: Disk, O: Opening<D>> Held<D, O> {
-    /// The table, which is of this opening, and of which all moves that were answered since are on the
-    /// disk.
+    /// The table, which is of this opening, and of which all moves that were answered since are on
+    /// the disk.
     pub fn new(table: Table<D>) -> Held<D, O>
         requires { MayHold D.state O.opened table }
         ensures { result ≡ held_of table true }
@@ -71,9 +72,9 @@ impl<D: Disk, O: Opening<D>> Held<D, O> {
 
     /// Why the run has ended, with all its records on the disk. None where a path can go on.
     ///
-    /// Of several causes it is the first of: a fault of the disk, an alarm, the ends of both paths, a
-    /// full journal, a spent budget. A turret that failed is none of them. The records that pend are
-    /// written before the answer, and where the disk fails in that, this is the end.
+    /// Of several causes it is the first of: a fault of the disk, an alarm, the ends of both paths,
+    /// a full journal, a spent budget. A turret that failed is none of them. The records that pend
+    /// are written before the answer, and where the disk fails in that, this is the end.
     pub fn end(&mut self) -> Option<RunEnd>
         ensures ends { IfSome result (λ end. HasEnded self.new end) }
         ensures goes_on { IfNone result (HasNotEnded self.new) }
@@ -83,8 +84,8 @@ impl<D: Disk, O: Opening<D>> Held<D, O> {
         self.table.ended()
     }
 
-    /// The table, which is of this opening. That a turret failed it keeps no longer. Unless its disk
-    /// has failed it may be held again.
+    /// The table, which is of this opening. That a turret failed it keeps no longer. Unless its
+    /// disk has failed it may be held again.
     pub fn into_table(self) -> Table<D>
         ensures of { IsOf D.state O.opened result }
         ensures taken { IsTaken self result }
@@ -131,11 +132,12 @@ impl<D: Disk, O: Opening<D>> Turns for Held<D, O> {
             × ((p : Path) → records_since O.opened self.new p ≡ records_since O.opened self.old p) }
     {
         let before = self.table.count();
-        let step = self.table.step(path);
+        let mut moves = MoveList::empty();
+        let step = self.table.step_into(path, &mut moves);
         let after = self.table.count();
         let shown = is_still_shown(self.shown, &step, before, after);
         self.shown = shown;
-        next_of(step)
+        next_of(step, moves)
     }
 
     fn drained(&mut self, path: Path)

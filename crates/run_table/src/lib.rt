@@ -17,8 +17,7 @@ mod running;
 mod stepping;
 mod table;
 
-pub use answer::{Parts, TableStep};
-pub use draining::Owed;
+pub use answer::{Parts, StepAnswer, TableStep};
 pub use held::{Held, Opening};
 pub use laws::{
     a_record_makes_seven_moves_at_most, a_table_opens_itself, a_taken_table_ended_so,

@@ -1,6 +1,7 @@
 //! The history of a run, and the journal that holds a beginning of it.
 ghost use Rattle.std.specs.Prelude.{◌≡◌, ◌+◌, ◌≤◌, [], ◌∷◌, length, None, IsTrue, IsErr, OnOk};
 ghost use Rattle.disk_model.specs.Device.{Rose};
+ghost use Rattle.nc_number.specs.declared.limits.TheConstants.{MOST_PENDING};
 ghost use Rattle.run_records.specs.Entries.{edit_of};
 ghost use Rattle.run_journal.specs.Kept.{IsFresh};
 ghost use Rattle.run_table.specs.Recording.{MayNote, IsNoted, Records, IsFlush};
@@ -12,11 +13,8 @@ use run_journal::{Journal, a_held_journal_leaves_its_records};
 use run_records::{Entry, EntryList};
 use std::marker::Model;
 
-/// The most records that pend.
-pub(crate) const MOST_PENDING: usize = 64;
-
-/// The records of a run, and the journal, which has written the first of them. The others pend, 64
-/// at most.
+/// The records of a run, and the journal, which has written the first of them. The others pend, at
+/// most as many as one batch may have.
 #[derive(Drop)]
 pub(crate) struct Recording<D: Disk> {
     history: EntryList,
@@ -85,7 +83,7 @@ impl<D: Disk> Recording<D> {
     /// How many records pend.
     pub(crate) fn pending(&self) -> usize
         ensures count { self.now.flushed + result ≡ length self.now.history }
-        ensures few { result ≤ 64 }
+        ensures few { result ≤ MOST_PENDING }
     {
         self.history.len() - self.flushed
     }

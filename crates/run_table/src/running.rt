@@ -5,8 +5,8 @@ ghost use Rattle.run_table.specs.Running.{end_at};
 use nc_moves::Alarm;
 use nc_outside::Halt;
 
-/// Why a run ended. Of several causes it is the first of: a fault of the disk, an alarm, the ends of
-/// both paths, a full journal, a spent budget.
+/// Why a run ended. Of several causes it is the first of: a fault of the disk, an alarm, the ends
+/// of both paths, a full journal, a spent budget.
 #[derive(Clone, Copy, Debug, PartialEq, Eq)]
 pub enum RunEnd {
     /// Both paths have ended.

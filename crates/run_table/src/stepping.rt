@@ -2,27 +2,32 @@
 ghost use Rattle.std.specs.Prelude.{◌≡◌, ◌+◌, ◌<◌, [], true, length, nat_lt, None, IsTrue, IfSome};
 ghost use Rattle.run_records.specs.Entries.{edit_of};
 ghost use Rattle.two_path.specs.Histories.{list_of};
+ghost use Rattle.two_path.specs.Made.{turn_with};
+ghost use Rattle.run_table.specs.Apart.{step_with};
 ghost use Rattle.run_table.specs.declared.answer.TableStep.TheVariants.{Turned as Shown};
 ghost use Rattle.run_table.specs.Recording.{MayNote, IsNoted, Records};
 ghost use Rattle.run_table.specs.Stepping.{is_shown, is_waiting, is_due, Answers, reason_of};
 
-use crate::answer::TableStep;
-use crate::recording::{MOST_PENDING, Recording};
+use crate::answer::StepAnswer;
+use crate::recording::Recording;
 use disk_model::Disk;
-use nc_number::Path;
+use nc_moves::MoveList;
+use nc_number::{MOST_PENDING, Path};
 use nc_outside::Halt;
 use run_records::Entry;
-use two_path::{Machine, Turn, Turned};
+use two_path::{Answered, Machine, TurnAnswer};
 
-/// Whether a turn shows something to the outside. A block without moves shows nothing.
-pub(crate) fn is_shown(turn: &Turn) -> bool
-    ensures { result ≡ is_shown turn.now }
+/// Whether a turn with these moves shows something to the outside. A block without moves shows
+/// nothing.
+pub(crate) fn is_shown(answer: &TurnAnswer, moves: &MoveList) -> bool
+    ensures { result ≡ is_shown (turn_with answer.now moves.now) }
 {
-    match turn {
-        Turn::Did { moves } => !moves.list.as_slice().is_empty(),
-        Turn::Arrived { .. } | Turn::Met { .. } | Turn::Ended { .. } | Turn::Alarm { .. } => true,
-        Turn::Read { .. } | Turn::Waiting { .. } | Turn::Finished | Turn::Halted { .. } => false,
-        Turn::Edited => false,
+    match answer {
+        TurnAnswer::Did { .. } => !moves.as_slice().is_empty(),
+        TurnAnswer::Arrived { .. } | TurnAnswer::Met { .. } => true,
+        TurnAnswer::Ended { .. } | TurnAnswer::Alarm { .. } => true,
+        TurnAnswer::Read { .. } | TurnAnswer::Waiting { .. } | TurnAnswer::Finished => false,
+        TurnAnswer::Halted { .. } | TurnAnswer::Edited => false,
     }
 }
 
@@ -33,14 +38,15 @@ pub(crate) fn is_waiting(machine: &Machine, path: Path) -> bool
     machine.alarm().is_none() && !machine.finished(path) && machine.waiting(path).is_some()
 }
 
-/// The reason that a table keeps of an answer.
-pub(crate) fn reason_of(answer: &TableStep) -> Option<Halt>
-    ensures { result ≡ reason_of answer.now }
+/// The reason that a table keeps of an answer with these moves.
+pub(crate) fn reason_of(answer: &StepAnswer, moves: &MoveList) -> Option<Halt>
+    ensures { result ≡ reason_of (step_with answer.now moves.now) }
 {
+    let _ = moves;
     match answer {
-        TableStep::Turned(Turn::Alarm { alarm }) => Some(Halt::Alarm(*alarm)),
-        TableStep::Turned(_) | TableStep::Drain | TableStep::Halted(_) => None,
-        TableStep::DiskFault => Some(Halt::Disk),
+        StepAnswer::Turned(TurnAnswer::Alarm { alarm }) => Some(Halt::Alarm(*alarm)),
+        StepAnswer::Turned(_) | StepAnswer::Drain | StepAnswer::Halted(_) => None,
+        StepAnswer::DiskFault => Some(Halt::Disk),
     }
 }
 
@@ -58,39 +64,45 @@ pub(crate) fn note<D: Disk>(recording: &mut Recording<D>, budget: &mut u32, entr
     }
 }
 
-/// Writes all records that pend, before an answer.
-pub(crate) fn flush_before<D: Disk>(recording: &mut Recording<D>, answer: TableStep) -> TableStep
+/// Writes all records that pend, before an answer with these moves.
+pub(crate) fn flush_before<D: Disk>(
+    recording: &mut Recording<D>,
+    answer: StepAnswer,
+    moves: &MoveList,
+) -> StepAnswer
     requires { IsTrue recording.old.log.file.live }
-    ensures answer { Answers D.state (nat_lt recording.old.flushed (length recording.old.history)) answer
-        recording.old recording.new result }
+    ensures answer { Answers D.state (nat_lt recording.old.flushed (length recording.old.history))
+        (step_with answer moves.now) recording.old recording.new (step_with result moves.now) }
     ensures records { Records D.state [] recording.old recording.new }
 {
+    let _ = moves;
     match recording.flush() {
         Ok(()) => answer,
-        Err(_) => TableStep::DiskFault,
+        Err(_) => StepAnswer::DiskFault,
     }
 }
 
-/// Takes a turn of the machine: its record joins the history, and all records are written before an
-/// answer that shows something, and at 64 that pend.
+/// Takes a turn of the machine, whose moves are these: its record joins the history, and all
+/// records are written before an answer that shows something, and at 64 that pend.
 pub(crate) fn take<D: Disk>(
     recording: &mut Recording<D>,
     budget: &mut u32,
-    turned: Turned,
-) -> TableStep
+    turned: Answered,
+    moves: &MoveList,
+) -> StepAnswer
     requires note { MayNote recording.old }
     requires step { IfSome turned.entry (λ e. edit_of e.kind ≡ None) }
     requires budget { 0 < budget.old }
-    requires made { is_shown turned.turn ≡ true → length (list_of turned.entry) ≡ 1 }
-    ensures answer { Answers D.state (is_due recording.old (list_of turned.entry) turned.turn) (Shown turned.turn)
-        recording.old recording.new result }
+    requires made { is_shown (turn_with turned.answer moves.now) ≡ true → length (list_of turned.entry) ≡ 1 }
+    ensures answer { Answers D.state (is_due recording.old (list_of turned.entry) (turn_with turned.answer moves.now))
+        (Shown (turn_with turned.answer moves.now)) recording.old recording.new (step_with result moves.now) }
     ensures records { Records D.state (list_of turned.entry) recording.old recording.new }
     ensures budget { budget.new + length (list_of turned.entry) ≡ budget.old }
 {
-    let Turned { turn, entry } = turned;
+    let Answered { answer, entry } = turned;
     note(recording, budget, entry);
-    if is_shown(&turn) || recording.pending() == MOST_PENDING {
-        return flush_before(recording, TableStep::Turned(turn));
+    if is_shown(&answer, moves) || recording.pending() == MOST_PENDING {
+        return flush_before(recording, StepAnswer::Turned(answer), moves);
     }
-    TableStep::Turned(turn)
+    StepAnswer::Turned(answer)
 }

@@ -1,6 +1,7 @@
 //! The table of a run.
 ghost use Rattle.std.specs.Prelude.{◌≡◌, ℕ, ◌+◌, ◌≤◌, false, length, IfOk};
 ghost use Rattle.gate_file.specs.Creation.{without_disk};
+ghost use Rattle.nc_number.specs.declared.limits.TheConstants.{MOST_PENDING};
 ghost use Rattle.nc_number.specs.declared.path.Path.{Path};
 ghost use Rattle.nc_number.specs.Path.{other_of};
 ghost use Rattle.nc_outside.specs.declared.halt.Halt.TheVariants as halt;
@@ -12,6 +13,7 @@ ghost use Rattle.two_path.specs.declared.turn.Turn.TheVariants as turn;
 ghost use Rattle.two_path.specs.Histories.{IsKept};
 ghost use Rattle.two_path.specs.Machine.{own_first};
 ghost use Rattle.run_table.specs.declared.answer.TableStep.TheVariants as step;
+ghost use Rattle.run_table.specs.Apart.{step_with};
 ghost use Rattle.run_table.specs.Recording.{IsJournaled};
 ghost use Rattle.run_table.specs.Kept.{tapes_in, opening_of, IsVerdictOf, IsTable};
 ghost use Rattle.run_table.specs.Stepping.{bound_of, waits_in, drains, step_of, IsStep, GoesOn};
@@ -23,15 +25,16 @@ ghost use Rattle.run_table.specs.Holding.{without_turret};
 ghost use Rattle.run_table.specs.Running.{end_of};
 ghost use Rattle.run_table.specs.Since.{Since};
 
-use crate::answer::{Parts, TableStep};
-use crate::draining::{Owed, comes_to_wait, flow_of};
+use crate::answer::{Parts, StepAnswer, TableStep};
+use crate::draining::{comes_to_wait, flow_of, none_owed, owed_behind, with_owed};
 use crate::laws::who_is_waited_for_goes_on;
 use crate::recording::Recording;
 use crate::running::{RunEnd, end_at};
 use crate::stepping::{flush_before, is_waiting, reason_of, take};
 use disk_model::Disk;
 use gate_file::GateFault;
-use nc_number::{NoMemory, Path, Point};
+use nc_moves::MoveList;
+use nc_number::{Both, NoMemory, Path, Point};
 use nc_outside::Halt;
 use nc_verify::Verified;
 use path_state::{control_goes_as_the_flow_orders, waits_and_ends_stop_a_path};
@@ -53,7 +56,8 @@ pub struct Table<D: Disk> {
     recording: Recording<D>,
     halt: Option<Halt>,
     budget: u32,
-    owed: Owed,
+    /// Whether moves were answered to each path that its turret may not have yet.
+    owed: Both<bool>,
 }
 
 impl<D: Disk> Model for Table<D> {
@@ -88,8 +92,9 @@ impl<D: Disk> Model for Table<D> {
 
 impl<D: Disk> Table<D> {
     /// Begins a run of the pair on the disk, by a new journal with this header, whose three texts
-    /// were accepted. `RunThere` comes exactly where the disk has a run already, which stays as it is, also
-    /// where the disk fails. An error gives the disk back, and unless it is `DiskFault` nothing was written.
+    /// were accepted. `RunThere` comes exactly where the disk has a run already, which stays as it
+    /// is, also where the disk fails. An error gives the disk back, and unless it is `DiskFault`
+    /// nothing was written.
     pub fn begin(
         alloc: Global,
         verified: Verified,
@@ -146,7 +151,7 @@ impl<D: Disk> Table<D> {
             recording: Recording::over(entries, journal),
             halt,
             budget: 0,
-            owed: Owed::none(),
+            owed: none_owed(),
         }
     }
 
@@ -181,11 +186,11 @@ impl<D: Disk> Table<D> {
     {
         control_goes_as_the_flow_orders();
         waits_and_ends_stop_a_path();
-        self.owed.has(path) && comes_to_wait(&self.machine, flow_of(&self.verified, path), path)
+        *self.owed.of(path) && comes_to_wait(&self.machine, flow_of(&self.verified, path), path)
     }
 
-    /// Whether the path waits, and nothing has stopped the table: it has no reason, its journal is not
-    /// full, and there is budget left.
+    /// Whether the path waits, and nothing has stopped the table: it has no reason, its journal is
+    /// not full, and there is budget left.
     pub fn waits(&self, path: Path) -> bool
         ensures { result ≡ waits_in self.now path }
     {
@@ -193,15 +198,49 @@ impl<D: Disk> Table<D> {
     }
 
     /// One turn of the path, unless the table has stopped, its journal is full, or its budget
-    /// spent. It takes no memory.
+    /// spent. Its moves are put into the list, which is cleared first; a step that is no turn may
+    /// leave it as it was. It takes no memory.
     ///
     /// Its record joins the history. A block without moves shows nothing, so its record may pend.
     /// All that pends is on the disk before an answer that shows more, before `Full` and `Budget`,
     /// and at 64 that pend. Where the disk failed in that, the answer is `DiskFault`, and
     /// `Halted(Disk)` from then on.
     ///
-    /// The answer is `Drain`, and nothing is done, where the turn would bring the path to a wait, and
-    /// moves were answered to it since it was last drained.
+    /// The answer is `Drain`, and nothing is done, where the turn would bring the path to a wait,
+    /// and moves were answered to it since it was last drained.
+    pub fn step_into(&mut self, path: Path, moves: &mut MoveList) -> StepAnswer
+        ensures step { IsStep D.state (step_of self.old path) self.old self.new (step_with result moves.new) }
+        ensures since { Since D.state self.old self.new }
+        ensures owed { self.new.owed ≡ owed_behind path (step_with result moves.new) self.old.owed }
+        // Where the path waits, the other one has a turn of a block.
+        ensures goes_on { (code : ℕ) → step_with result moves.new ≡ step.Turned (turn.Waiting code)
+            → GoesOn (tapes_in self.new.verified) (other_of path) self.new.machine }
+    {
+        each_event_keeps_the_history();
+        histories_are_runs();
+        who_is_waited_for_goes_on();
+        if let Some(why) = self.halt {
+            return StepAnswer::Halted(why);
+        }
+        if let Some(why) = self.bound() {
+            let answer = flush_before(&mut self.recording, StepAnswer::Halted(why), moves);
+            self.halt = reason_of(&answer, moves);
+            return answer;
+        }
+        if self.drains(path) {
+            return StepAnswer::Drain;
+        }
+        let turned = self
+            .machine
+            .turn_into(self.verified.left(), self.verified.right(), path, moves);
+        let answer = take(&mut self.recording, &mut self.budget, turned, moves);
+        self.halt = reason_of(&answer, moves);
+        self.owed = owed_behind(self.owed, path, &answer, moves);
+        answer
+    }
+
+    /// One turn of the path, as [`step_into`](Table::step_into) makes it, with its moves in the
+    /// answer.
     pub fn step(&mut self, path: Path) -> TableStep
         ensures step { IsStep D.state (step_of self.old path) self.old self.new result }
         ensures since { Since D.state self.old self.new }
@@ -210,34 +249,16 @@ impl<D: Disk> Table<D> {
         ensures goes_on { (code : ℕ) → result ≡ step.Turned (turn.Waiting code)
             → GoesOn (tapes_in self.new.verified) (other_of path) self.new.machine }
     {
-        each_event_keeps_the_history();
-        histories_are_runs();
-        who_is_waited_for_goes_on();
-        if let Some(why) = self.halt {
-            return TableStep::Halted(why);
-        }
-        if let Some(why) = self.bound() {
-            let answer = flush_before(&mut self.recording, TableStep::Halted(why));
-            self.halt = reason_of(&answer);
-            return answer;
-        }
-        if self.drains(path) {
-            return TableStep::Drain;
-        }
-        let turned = self
-            .machine
-            .turn(self.verified.left(), self.verified.right(), path);
-        let answer = take(&mut self.recording, &mut self.budget, turned);
-        self.halt = reason_of(&answer);
-        self.owed = self.owed.behind(path, &answer);
-        answer
+        let mut moves = MoveList::empty();
+        let answer = self.step_into(path, &mut moves);
+        TableStep::of(answer, moves)
     }
 
     /// The path's turret has all moves that were answered to the path.
     pub fn drained(&mut self, path: Path)
         ensures { self.new ≡ record self.old { owed = with_owed path false self.old.owed } }
     {
-        self.owed = self.owed.with(path, false);
+        self.owed = with_owed(self.owed, path, false);
     }
 
     /// The end of a run that an alarm or the ends of both paths have ended.
@@ -253,8 +274,8 @@ impl<D: Disk> Table<D> {
         None
     }
 
-    /// The end of a run whose disk has not failed, and of which records may pend: an alarm, the ends of
-    /// both paths, a full journal, or a spent budget.
+    /// The end of a run whose disk has not failed, and of which records may pend: an alarm, the
+    /// ends of both paths, a full journal, or a spent budget.
     fn end_ahead(&self) -> Option<RunEnd>
         ensures { result ≡ end_ahead self.now }
     {
@@ -327,7 +348,7 @@ impl<D: Disk> Table<D> {
         ensures parts { IsLeft self result.verified result.machine result.entries result.halt result.disk }
         ensures kept { IsKept (tapes_in self.verified) (opening_of self.verified) self.recording.history self.machine }
         ensures few { length self.recording.history ≤ self.verified.settings.records }
-        ensures pending { length self.recording.history ≤ self.recording.flushed + 64 }
+        ensures pending { length self.recording.history ≤ self.recording.flushed + MOST_PENDING }
     {
         let Table {
             verified,

@@ -9,14 +9,15 @@ use Rattle.atomic_table.specs.Table.{State, Me, step, Act, keeps, takes, gives, 
 use Rattle.atomic_table.proofs.Lists.{at_set, set_here, set_else, set_again, at_longer, exchanged}
 use Rattle.nc_number.specs.declared.path.Path.{Path}
 use Rattle.nc_number.specs.declared.path.Path.TheVariants.{One, Two}
+use Rattle.nc_number.specs.Both.{of_path}
+use Rattle.nc_number.proofs.Bools.{either as one_of, both as both_hold}
 use Rattle.nc_outside.specs.declared.halt.Halt.{Halt}
 use Rattle.nc_outside.specs.declared.stepper.Call.{Call}
 use Rattle.seat_table.specs.Turning.{Records}
-use Rattle.seat_table.specs.declared.knowing.Lists.{Lists}
 use Rattle.seat_table.specs.declared.knowing.Rights.{Rights}
 use Rattle.seat_table.specs.declared.knowing.Knows.{Knows}
 use Rattle.seat_table.specs.declared.knowing.Stop.{Stop}
-use Rattle.seat_table.specs.Knowing.{Right, steps, halts, has, list_of, Fits, Kept, no_lists, idle, opened, lists_of, stop_by, stop_of, AreStops, listed, first_stop, holding, took, gave, plus, minus, without, only, joined, picked, spent, called, no_rights, right_of}
+use Rattle.seat_table.specs.Knowing.{Lists, Right, steps, halts, has, Fits, Kept, no_lists, idle, opened, lists_of, stop_by, stop_of, AreStops, listed, first_stop, holding, took, gave, plus, minus, without, only, joined, picked, spent, called, no_rights, right_of}
 use Rattle.seat_table.specs.Passes.{HasStopped, IsStill}
 
 at_bound : {A : Type 0} (l : List A) (i : ℕ) (a : A) → get_elem? l i ≡ some a → i < length l
@@ -70,7 +71,7 @@ module _ {C : Type 0} (records : C → Path → Records) (reason : C → Option 
   Rule = Kept records reason
 
   abbrev Home : List (maybe.Option (Option C)) → Lists → Option Stop → Type 0
-  Home homes now stop = (c : C) × (get_elem? homes 0 ≡ some (some (Some c))) × ((p : Path) → records c p ≡ list_of p now) × (stop_of records reason c ≡ stop)
+  Home homes now stop = (c : C) × (get_elem? homes 0 ≡ some (some (Some c))) × ((p : Path) → records c p ≡ of_path now p) × (stop_of records reason c ≡ stop)
 
   abbrev Away : List Knows → ℕ → Type 0
   Away views holder = (v : Knows) × (get_elem? views holder ≡ some v) × (v.busy ≡ true)
@@ -89,12 +90,12 @@ module _ {C : Type 0} (records : C → Path → Records) (reason : C → Option 
     away = λ z. away (subst (λ (k : ℕ). 0 < k) e z);
   }
 
-  list_is : (c : C) (p : Path) → list_of p (lists_of records c) ≡ records c p
+  list_is : (c : C) (p : Path) → of_path (lists_of records c) p ≡ records c p
   list_is c One = refl
   list_is c Two = refl
 
-  same_lists : (c : C) (now : Lists) → ((p : Path) → records c p ≡ list_of p now) → lists_of records c ≡ now
-  same_lists c now e = λ i. record { first = e One i; second = e Two i }
+  same_lists : (c : C) (now : Lists) → ((p : Path) → records c p ≡ of_path now p) → lists_of records c ≡ now
+  same_lists c now e = λ i. record { one = e One i; two = e Two i }
 
   pub takes_turn : (slots id : ℕ) (m : Sat) → m.0.busy ≡ false → (r : Right) → has r m.0.rights ≡ true
       → Allows Rule slots id m 0 (λ n. either (eqb n 0) 1 n) (took records reason (step slots 0 0 1 maybe.none) m)
@@ -129,7 +130,7 @@ module _ {C : Type 0} (records : C → Path → Records) (reason : C → Option 
         ((λ e. absurd (ne e)), λ _. refl),
       )
 
-  pub gives_turn : (slots id : ℕ) (m : Sat) (v : Knows) (c : C) → m ≡ (v, (0, Some c) ∷ []) → v.busy ≡ true → ((p : Path) → has (steps p) v.rights ≡ false → records c p ≡ list_of p v.found)
+  pub gives_turn : (slots id : ℕ) (m : Sat) (v : Knows) (c : C) → m ≡ (v, (0, Some c) ∷ []) → v.busy ≡ true → ((p : Path) → has (steps p) v.rights ≡ false → records c p ≡ of_path v.found p)
       → ((s : Stop) → v.found_stop ≡ Some s → stop_of records reason c ≡ Some s) → Allows Rule slots id m 0 (λ _. 0) (gave records reason (step slots 0 0 0 maybe.none) m)
   gives_turn slots id m v c is busy others on = subst (λ (x : Sat). Allows Rule slots id x 0 (λ _. 0) (gave records reason (step slots 0 0 0 maybe.none) x)) (sym is) gives_here
     where
@@ -140,7 +141,7 @@ module _ {C : Type 0} (records : C → Path → Records) (reason : C → Option 
             owns = f.owns;
             lists = λ p h. f.lists p h ∙ (bool_cases (has (steps p) v.rights)
                 (λ both. absurd (other (f.owns (steps p) h ∙ sym (mine.owns (steps p) both))))
-                (λ not_mine. sym (ap (list_of p) had.1) ∙ (sym (others p not_mine) ∙ sym (list_is c p))));
+                (λ not_mine. sym (ap (λ (l : Lists). of_path l p) had.1) ∙ (sym (others p not_mine) ∙ sym (list_is c p))));
             stops = stops_on k.stop stop (λ x e. on x (mine.busy_stop busy ∙ e)) u.stops f.stops;
             busy = λ z. absurd (other ((f.busy z).0 ∙ sym had.0));
             busy_stop = λ z. absurd (other ((f.busy z).0 ∙ sym had.0));
@@ -164,7 +165,7 @@ module _ {C : Type 0} (records : C → Path → Records) (reason : C → Option 
       let new_owner : (r : Right) → has r right.rights ≡ true → owner r ≡ length s.views = λ r e. ap (λ (b : Bool). either b (length s.views) (k.owner r)) e in
       let fits_left : Fits k.now k.stop owner k.holder word id left = record {
         owns = λ r h. mine.owns r (lhas r h) ∙ sym (kept_owner r (bool_cases (has r right.rights) (λ z. absurd (true≢false (sym h ∙ (rhas r z).1))) (λ z. z)));
-        lists = λ p h. ap (list_of p) llists ∙ mine.lists p (lhas (steps p) h);
+        lists = λ p h. ap (λ (l : Lists). of_path l p) llists ∙ mine.lists p (lhas (steps p) h);
         stops = subst (AreStops k.stop) (sym lstops) mine.stops;
         busy = λ z. absurd (true≢false (sym z ∙ lrests));
         busy_stop = λ z. absurd (true≢false (sym z ∙ lrests));
@@ -178,7 +179,7 @@ module _ {C : Type 0} (records : C → Path → Records) (reason : C → Option 
       } in
       let fits_right : Fits k.now k.stop owner k.holder word (length s.views) right = record {
         owns = λ r h. sym (new_owner r h);
-        lists = λ p h. ap (list_of p) rlists ∙ mine.lists p (rhas (steps p) h).0;
+        lists = λ p h. ap (λ (l : Lists). of_path l p) rlists ∙ mine.lists p (rhas (steps p) h).0;
         stops = subst (AreStops k.stop) (sym rstops) tt;
         busy = λ z. absurd (true≢false (sym z ∙ rrests));
         busy_stop = λ z. absurd (true≢false (sym z ∙ rrests));
@@ -203,7 +204,7 @@ module _ {C : Type 0} (records : C → Path → Records) (reason : C → Option 
 
   pub joins : (id : ℕ) (v : Knows) (other : ℕ) (w both spent : Knows) → v.busy ≡ false → w.busy ≡ false → both.busy ≡ false → spent.busy ≡ false
       → ((r : Right) → has r spent.rights ≡ false) → ((r : Right) → has r both.rights ≡ true → (has r v.rights ≡ true) ⊎ (has r w.rights ≡ true))
-      → ((p : Path) → has (steps p) both.rights ≡ true → ((has (steps p) v.rights ≡ true) × (list_of p both.lists ≡ list_of p v.lists)) ⊎ ((has (steps p) w.rights ≡ true) × (list_of p both.lists ≡ list_of p w.lists)))
+      → ((p : Path) → has (steps p) both.rights ≡ true → ((has (steps p) v.rights ≡ true) × (of_path both.lists p ≡ of_path v.lists p)) ⊎ ((has (steps p) w.rights ≡ true) × (of_path both.lists p ≡ of_path w.lists p)))
       → both.stops ≡ v.stops ++ w.stops → spent.stops ≡ [] → Joins Rule id v other w both spent
   joins id v other w both spent rests wrests brests srests nothing which lists bstops sstops s k at apart there = let word : ℕ = get_or s.words 0 0 in let mine = k.each id v at in
       let at_w : get_elem? s.views other ≡ some w = sym (set_else s.views id other both apart) ∙ there in let its = k.each other w at_w in
@@ -213,8 +214,8 @@ module _ {C : Type 0} (records : C → Path → Records) (reason : C → Option 
       let fits_both : Fits k.now k.stop owner k.holder word id both = record {
         owns = λ r h. bool_cases (has r w.rights) (λ z. sym (new_owner r z))
             (λ z. ⊎_elim (λ (x : has r v.rights ≡ true). mine.owns r x ∙ sym (kept_owner r z)) (λ (x : has r w.rights ≡ true). absurd (true≢false (sym x ∙ z))) (which r h));
-        lists = λ p h. ⊎_elim (λ (x : (has (steps p) v.rights ≡ true) × (list_of p both.lists ≡ list_of p v.lists)). x.1 ∙ mine.lists p x.0)
-            (λ (x : (has (steps p) w.rights ≡ true) × (list_of p both.lists ≡ list_of p w.lists)). x.1 ∙ its.lists p x.0) (lists p h);
+        lists = λ p h. ⊎_elim (λ (x : (has (steps p) v.rights ≡ true) × (of_path both.lists p ≡ of_path v.lists p)). x.1 ∙ mine.lists p x.0)
+            (λ (x : (has (steps p) w.rights ≡ true) × (of_path both.lists p ≡ of_path w.lists p)). x.1 ∙ its.lists p x.0) (lists p h);
         stops = subst (AreStops k.stop) (sym bstops) (stops_both k.stop v.stops w.stops mine.stops its.stops);
         busy = λ z. absurd (true≢false (sym z ∙ brests));
         busy_stop = λ z. absurd (true≢false (sym z ∙ brests));
@@ -261,7 +262,7 @@ module _ {C : Type 0} (records : C → Path → Records) (reason : C → Option 
     away = λ z. absurd (omega arith);
   }
     where
-      no_list : (p : Path) → [] ≡ list_of p no_lists
+      no_list : (p : Path) → [] ≡ of_path no_lists p
       no_list One = refl
       no_list Two = refl
 
@@ -332,7 +333,7 @@ module _ {C : Type 0} (records : C → Path → Records) (reason : C → Option 
 
   -- at the end, in a state with a seat that has every right
   pub ends : (id : ℕ) (v : Knows) (ws : List ℕ) (xs : List (Option C)) → v.busy ≡ false → ((r : Right) → has r v.rights ≡ true) → Final (Seen Rule id v) ws xs
-      → (c : C) × (get_elem? xs 0 ≡ some (Some c)) × ((p : Path) → records c p ≡ list_of p v.lists) × AreStops (stop_of records reason c) v.stops
+      → (c : C) × (get_elem? xs 0 ≡ some (Some c)) × ((p : Path) → records c p ≡ of_path v.lists p) × AreStops (stop_of records reason c) v.stops
   ends id v ws xs rests all end = let s : St = end.0 in let k = end.1.0 in let at = end.1.1 in let mine = k.each id v at in
       let quiet : get_or s.words 0 0 ≡ 0 = nobody s k at (get_or s.words 0 0) refl in let h = k.home quiet in
       (h.0, end.4 0 (Some h.0) h.1, (λ p. h.2 p ∙ sym (mine.lists p (all (steps p)))), subst (λ (o : Option Stop). AreStops o v.stops) (sym h.3) mine.stops)
@@ -343,36 +344,28 @@ module _ {C : Type 0} (records : C → Path → Records) (reason : C → Option 
           let same : k.holder ≡ id = f.owns b.3 b.4 ∙ sym (mine.owns b.3 (all b.3)) in
           absurd (true≢false (sym a.2 ∙ (ap (λ (x : Knows). x.busy) (same_view s.views id a.0 v (subst (λ (i : ℕ). get_elem? s.views i ≡ some a.0) same a.1) at) ∙ rests)))
 
-or_cases : (a b : Bool) → (a || b) ≡ true → (a ≡ true) ⊎ (b ≡ true)
-or_cases true b e = inl refl
-or_cases false b e = inr e
-
-and_left : (a b : Bool) → (a && b) ≡ true → a ≡ true
-and_left true b e = refl
-and_left false b e = absurd (true≢false (sym e))
-
 not_both : (a b : Bool) → b ≡ true → (a && not b) ≡ false
 not_both true true e = refl
 not_both false true e = refl
 not_both a false e = absurd (true≢false (sym e))
 
 has_plus : (r : Right) (a b : Rights) → has r (plus a b) ≡ true → (has r a ≡ true) ⊎ (has r b ≡ true)
-has_plus (steps One) a b e = or_cases a.first_steps b.first_steps e
-has_plus (steps Two) a b e = or_cases a.second_steps b.second_steps e
-has_plus (halts One) a b e = or_cases a.first_halts b.first_halts e
-has_plus (halts Two) a b e = or_cases a.second_halts b.second_halts e
+has_plus (steps One) a b e = one_of a.steps.one b.steps.one e
+has_plus (steps Two) a b e = one_of a.steps.two b.steps.two e
+has_plus (halts One) a b e = one_of a.halts.one b.halts.one e
+has_plus (halts Two) a b e = one_of a.halts.two b.halts.two e
 
 has_minus : (r : Right) (a m : Rights) → has r (minus a m) ≡ true → has r a ≡ true
-has_minus (steps One) a m e = and_left a.first_steps (not m.first_steps) e
-has_minus (steps Two) a m e = and_left a.second_steps (not m.second_steps) e
-has_minus (halts One) a m e = and_left a.first_halts (not m.first_halts) e
-has_minus (halts Two) a m e = and_left a.second_halts (not m.second_halts) e
+has_minus (steps One) a m e = (both_hold a.steps.one (not m.steps.one) e).0
+has_minus (steps Two) a m e = (both_hold a.steps.two (not m.steps.two) e).0
+has_minus (halts One) a m e = (both_hold a.halts.one (not m.halts.one) e).0
+has_minus (halts Two) a m e = (both_hold a.halts.two (not m.halts.two) e).0
 
 minus_lacks : (r : Right) (a m : Rights) → has r m ≡ true → has r (minus a m) ≡ false
-minus_lacks (steps One) a m e = not_both a.first_steps m.first_steps e
-minus_lacks (steps Two) a m e = not_both a.second_steps m.second_steps e
-minus_lacks (halts One) a m e = not_both a.first_halts m.first_halts e
-minus_lacks (halts Two) a m e = not_both a.second_halts m.second_halts e
+minus_lacks (steps One) a m e = not_both a.steps.one m.steps.one e
+minus_lacks (steps Two) a m e = not_both a.steps.two m.steps.two e
+minus_lacks (halts One) a m e = not_both a.halts.one m.halts.one e
+minus_lacks (halts Two) a m e = not_both a.halts.two m.halts.two e
 
 own_right : (r : Right) → has r (right_of r) ≡ true
 own_right (steps One) = refl
@@ -399,9 +392,9 @@ module _ {C : Type 0} (records : C → Path → Records) (reason : C → Option 
   glues id v other w rests wrests = joins records reason id v other w (joined v w) spent rests wrests refl refl lacks_all (λ r. has_plus r v.rights w.rights) lists refl refl
     where
       lists : (p : Path) → has (steps p) (plus v.rights w.rights) ≡ true
-          → ((has (steps p) v.rights ≡ true) × (list_of p (picked v w) ≡ list_of p v.lists)) ⊎ ((has (steps p) w.rights ≡ true) × (list_of p (picked v w) ≡ list_of p w.lists))
-      lists One e = of_either v.rights.first_steps w.rights.first_steps v.lists.first w.lists.first e
-      lists Two e = of_either v.rights.second_steps w.rights.second_steps v.lists.second w.lists.second e
+          → ((has (steps p) v.rights ≡ true) × (of_path (picked v w) p ≡ of_path v.lists p)) ⊎ ((has (steps p) w.rights ≡ true) × (of_path (picked v w) p ≡ of_path w.lists p))
+      lists One e = of_either v.rights.steps.one w.rights.steps.one v.lists.one w.lists.one e
+      lists Two e = of_either v.rights.steps.two w.rights.steps.two v.lists.two w.lists.two e
 
   pub cuts : (id : ℕ) (u v : Knows) (m : Rights) → u ≡ v → v.busy ≡ false → ((r : Right) → has r m ≡ true → has r v.rights ≡ true) → Splits (Kept records reason) id u (without m u) (only m u)
   cuts id u v m e rests had = subst (λ (x : Knows). Splits (Kept records reason) id x (without m x) (only m x)) (sym e)
@@ -410,7 +403,7 @@ module _ {C : Type 0} (records : C → Path → Records) (reason : C → Option 
   -- the seat that took in all others
   pub ends_joined : (id : ℕ) (u a b c d : Knows) (ws : List ℕ) (xs : List (Option C)) → u ≡ joined (joined (joined a b) c) d → a.rights ≡ right_of (steps One) → b.rights ≡ right_of (steps Two)
       → c.rights ≡ right_of (halts One) → d.rights ≡ right_of (halts Two) → Final (Seen (Kept records reason) id u) ws xs
-      → (t : C) × (get_elem? xs 0 ≡ some (Some t)) × (records t One ≡ a.lists.first) × (records t Two ≡ b.lists.second)
+      → (t : C) × (get_elem? xs 0 ≡ some (Some t)) × (records t One ≡ a.lists.one) × (records t Two ≡ b.lists.two)
       × AreStops (stop_of records reason t) (((a.stops ++ b.stops) ++ c.stops) ++ d.stops)
   ends_joined id u a b c d ws xs is ea eb ec ed end = let v : Knows = joined (joined (joined a b) c) d in
       let t = ends records reason id v ws xs refl all (subst (λ (x : Knows). Final (Seen (Kept records reason) id x) ws xs) is end) in
@@ -422,11 +415,11 @@ module _ {C : Type 0} (records : C → Path → Records) (reason : C → Option 
       all (halts One) = λ i. has (halts One) (plus (plus (plus (ea i) (eb i)) (ec i)) (ed i))
       all (halts Two) = λ i. has (halts Two) (plus (plus (plus (ea i) (eb i)) (ec i)) (ed i))
 
-      first_is : (joined (joined (joined a b) c) d).lists.first ≡ a.lists.first
-      first_is = subst (λ (x : Rights). (joined (joined (joined (record a { rights = x }) b) c) d).lists.first ≡ a.lists.first) (sym ea) refl
+      first_is : (joined (joined (joined a b) c) d).lists.one ≡ a.lists.one
+      first_is = subst (λ (x : Rights). (joined (joined (joined (record a { rights = x }) b) c) d).lists.one ≡ a.lists.one) (sym ea) refl
 
-      second_is : (joined (joined (joined a b) c) d).lists.second ≡ b.lists.second
-      second_is = subst (λ (x : Rights × Rights). (joined (joined (joined (record a { rights = x.0 }) (record b { rights = x.1 })) c) d).lists.second ≡ b.lists.second) (λ i. (sym ea i, sym eb i)) refl
+      second_is : (joined (joined (joined a b) c) d).lists.two ≡ b.lists.two
+      second_is = subst (λ (x : Rights × Rights). (joined (joined (joined (record a { rights = x.0 }) (record b { rights = x.1 })) c) d).lists.two ≡ b.lists.two) (λ i. (sym ea i, sym eb i)) refl
 
   pub cuts_two : (id : ℕ) (u : Knows) → u ≡ opened → Splits (Kept records reason) id u (without (right_of (steps Two)) u) (only (right_of (steps Two)) u)
   cuts_two id u e = cuts id u opened (right_of (steps Two)) e refl all_had
@@ -478,16 +471,16 @@ module _ {C : Type 0} (records : C → Path → Records) (reason : C → Option 
   stop_stays c c' stays s is =
       let r = reason_of_stop (reason c) (lists_of records c) s is in
       let t = stays s.why r.0 in
-      let same : lists_of records c' ≡ lists_of records c = λ i. record { first = t.1 One i; second = t.1 Two i } in
+      let same : lists_of records c' ≡ lists_of records c = λ i. record { one = t.1 One i; two = t.1 Two i } in
       (λ i. stop_by (t.0 i) (lists_of records c')) ∙ ap (λ (l : Lists). stop_by (Some s.why) l) (same ∙ r.1)
 
   -- what a stop says of the table
   has_stopped : (c : C) (s : Stop) → stop_of records reason c ≡ Some s → HasStopped records reason c s
   has_stopped c s is =
       let r = reason_of_stop (reason c) (lists_of records c) s is in
-      record { why = r.0; records_are = λ p. sym (list_is c p) ∙ ap (list_of p) r.1 }
+      record { why = r.0; records_are = λ p. sym (list_is c p) ∙ ap (λ (l : Lists). of_path l p) r.1 }
     where
-      list_is : (c : C) (p : Path) → list_of p (lists_of records c) ≡ records c p
+      list_is : (c : C) (p : Path) → of_path (lists_of records c) p ≡ records c p
       list_is c One = refl
       list_is c Two = refl
 

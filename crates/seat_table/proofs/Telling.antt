@@ -1,4 +1,5 @@
--- The moves that a stepper's calls answered are those of the records that its seat lists: each call keeps that.
+-- The moves that a stepper's calls answered are those of the records that its seat lists: each call
+-- keeps that.
 use Rattle.std.proofs.Common.{◌≡◌, ◌⊎◌, inl, inr, ℕ, List, [], ◌∷◌, ◌++◌, refl, ap, sym, ◌∙◌, ⊎_elim, append_assoc, append-nil, subst, Option}
 use Rattle.std.specs.Prelude.{IsTrue, is_some}
 use Rattle.nc_number.specs.declared.path.Path.{Path}
@@ -56,7 +57,8 @@ halt_behind (Step path answer ∷ calls) call is = halt_behind calls call is
 halt_behind (Drained path count ∷ calls) call is = halt_behind calls call is
 halt_behind (Halt why ∷ calls) call is = inl refl
 
--- behind a call of a stepper that halts: where a halt is among its calls, its pass knows that the table has halted
+-- behind a call of a stepper that halts: where a halt is among its calls, its pass knows that the
+-- table has halted
 pub call_told : (old new : Halter) (call : Call) → new ≡ record old { calls = old.calls ++ call ∷ [] }
     → (IsTrue (has_halt old.calls) → IsTrue (is_some old.stop)) → (IsTrue (has_halt (call ∷ [])) → IsTrue (is_some old.stop))
     → IsTrue (has_halt new.calls) → IsTrue (is_some new.stop)

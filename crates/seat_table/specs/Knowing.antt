@@ -5,12 +5,13 @@ use mathlib.Core.Option.{some}
 use lib.ListN.{get_elem?}
 use Rattle.atomic_table.specs.Table.{State, Me, Step}
 use Rattle.atomic_table.specs.Seated.{TableId}
+use Rattle.nc_number.specs.declared.both.Both.{Both}
 use Rattle.nc_number.specs.declared.path.Path.{Path}
 use Rattle.nc_number.specs.declared.path.Path.TheVariants.{One, Two}
+use Rattle.nc_number.specs.Both.{of_path}
 use Rattle.nc_outside.specs.declared.halt.Halt.{Halt}
 use Rattle.nc_outside.specs.declared.stepper.Call.{Call}
 use Rattle.seat_table.specs.Turning.{Records}
-use Rattle.seat_table.specs.declared.knowing.Lists.{Lists}
 use Rattle.seat_table.specs.declared.knowing.Rights.{Rights}
 use Rattle.seat_table.specs.declared.knowing.Stop.{Stop}
 use Rattle.seat_table.specs.declared.knowing.Knows.{Knows}
@@ -22,19 +23,15 @@ pub data Right : Type 0 where
 
 -- whether the right is one of these
 abbrev pub has : Right → Rights → Bool
-has (steps One) r = r.first_steps
-has (steps Two) r = r.second_steps
-has (halts One) r = r.first_halts
-has (halts Two) r = r.second_halts
-
--- the records of a path
-abbrev pub list_of : Path → Lists → Records
-list_of One l = l.first
-list_of Two l = l.second
+has (steps path) r = of_path r.steps path
+has (halts path) r = of_path r.halts path
 
 -- the records of both paths
+abbrev pub Lists : Type 0
+Lists = Both Records
+
 abbrev pub lists_of : {C : Type 0} → (C → Path → Records) → C → Lists
-lists_of records c = record { first = records c One; second = records c Two }
+lists_of records c = record { one = records c One; two = records c Two }
 
 -- that a table with these records has halted, where it has a reason
 abbrev pub stop_by : Option Halt → Lists → Option Stop
@@ -58,17 +55,17 @@ first_stop [] = None
 first_stop (stop ∷ stops) = Some stop
 
 module _ (now : Lists) (stop : Option Stop) (owner : Right → ℕ) (holder word : ℕ) (id : ℕ) where
-  -- A right is that of one seat. Who may step a path has its records, and who has the turn has found all of them. Who knows that the
-  -- table has halted knows its records.
+  -- A right is that of one seat. Who may step a path has its records, and who has the turn has
+  -- found all of them. Who knows that the table has halted knows its records.
   pub record Fits (v : Knows) : Type 0 where
     pub owns : (r : Right) → has r v.rights ≡ true → id ≡ owner r
-    pub lists : (p : Path) → has (steps p) v.rights ≡ true → list_of p v.lists ≡ list_of p now
+    pub lists : (p : Path) → has (steps p) v.rights ≡ true → of_path v.lists p ≡ of_path now p
     pub stops : AreStops stop v.stops
     pub busy : v.busy ≡ true → (id ≡ holder) × (v.found ≡ now) × (0 < word) × (r : Right) × (has r v.rights ≡ true)
     pub busy_stop : v.busy ≡ true → v.found_stop ≡ stop
 
--- The rule. While nobody has the turn, the table is in its place, with these records, and has halted or not. While it is taken, one
--- seat has it.
+-- The rule. While nobody has the turn, the table is in its place, with these records, and has
+-- halted or not. While it is taken, one seat has it.
 pub record Kept {C : Type 0} (records : C → Path → Records) (reason : C → Option Halt) (s : State (Option C) Knows) : Type 0 where
   pub now : Lists
   pub stop : Option Stop
@@ -79,11 +76,11 @@ pub record Kept {C : Type 0} (records : C → Path → Records) (reason : C → 
   pub each : (id : ℕ) (v : Knows) → get_elem? s.views id ≡ some v
       → Fits now stop owner holder (slice_index s.words 0) id v
   pub home : slice_index s.words 0 ≡ 0 → (c : C) × (get_elem? s.homes 0 ≡ some (some (Some c)))
-      × ((p : Path) → records c p ≡ list_of p now) × (stop_of records reason c ≡ stop)
+      × ((p : Path) → records c p ≡ of_path now p) × (stop_of records reason c ≡ stop)
   pub away : 0 < slice_index s.words 0 → (v : Knows) × (get_elem? s.views holder ≡ some v) × (v.busy ≡ true)
 
 abbrev pub no_lists : Lists
-no_lists = record { first = []; second = [] }
+no_lists = record { one = []; two = [] }
 
 -- what a seat knows that has not the turn
 abbrev pub idle : Rights → Lists → List Stop → List Call → Knows
@@ -97,18 +94,27 @@ idle r l stops calls = record {
   calls = calls;
 }
 
+-- for neither path, for one of them, for both
+abbrev pub for_none : Both Bool
+for_none = record { one = false; two = false }
+
+abbrev pub for_one : Path → Both Bool
+for_one One = record { one = true; two = false }
+for_one Two = record { one = false; two = true }
+
+abbrev pub for_both : Both Bool
+for_both = record { one = true; two = true }
+
 abbrev pub all_rights : Rights
-all_rights = record { first_steps = true; second_steps = true; first_halts = true; second_halts = true }
+all_rights = record { steps = for_both; halts = for_both }
 
 abbrev pub no_rights : Rights
-no_rights = record { first_steps = false; second_steps = false; first_halts = false; second_halts = false }
+no_rights = record { steps = for_none; halts = for_none }
 
 -- the one right alone
 abbrev pub right_of : Right → Rights
-right_of (steps One) = record { first_steps = true; second_steps = false; first_halts = false; second_halts = false }
-right_of (steps Two) = record { first_steps = false; second_steps = true; first_halts = false; second_halts = false }
-right_of (halts One) = record { first_steps = false; second_steps = false; first_halts = true; second_halts = false }
-right_of (halts Two) = record { first_steps = false; second_steps = false; first_halts = false; second_halts = true }
+right_of (steps path) = record { steps = for_one path; halts = for_none }
+right_of (halts path) = record { steps = for_none; halts = for_one path }
 
 abbrev pub opened : Knows
 opened = idle all_rights no_lists [] []
@@ -116,21 +122,19 @@ opened = idle all_rights no_lists [] []
 abbrev pub spent : Knows
 spent = idle no_rights no_lists [] []
 
+-- the rights without these
+abbrev pub rest_of : Both Bool → Both Bool → Both Bool
+rest_of r m = record { one = r.one && not m.one; two = r.two && not m.two }
+
 abbrev pub minus : Rights → Rights → Rights
-minus r m = record {
-  first_steps = r.first_steps && not m.first_steps;
-  second_steps = r.second_steps && not m.second_steps;
-  first_halts = r.first_halts && not m.first_halts;
-  second_halts = r.second_halts && not m.second_halts;
-}
+minus r m = record { steps = rest_of r.steps m.steps; halts = rest_of r.halts m.halts }
+
+-- the rights of both
+abbrev pub joint_of : Both Bool → Both Bool → Both Bool
+joint_of r m = record { one = r.one || m.one; two = r.two || m.two }
 
 abbrev pub plus : Rights → Rights → Rights
-plus r m = record {
-  first_steps = r.first_steps || m.first_steps;
-  second_steps = r.second_steps || m.second_steps;
-  first_halts = r.first_halts || m.first_halts;
-  second_halts = r.second_halts || m.second_halts;
-}
+plus r m = record { steps = joint_of r.steps m.steps; halts = joint_of r.halts m.halts }
 
 -- a seat is cut in two: one with these rights alone, and one without them
 abbrev pub only : Rights → Knows → Knows
@@ -142,8 +146,8 @@ without m v = idle (minus v.rights m) v.lists v.stops v.calls
 -- of each path the records that the one has which may step it
 abbrev pub picked : Knows → Knows → Lists
 picked v w = record {
-  first = if v.rights.first_steps then v.lists.first else w.lists.first;
-  second = if v.rights.second_steps then v.lists.second else w.lists.second;
+  one = if v.rights.steps.one then v.lists.one else w.lists.one;
+  two = if v.rights.steps.two then v.lists.two else w.lists.two;
 }
 
 abbrev pub joined : Knows → Knows → Knows
@@ -174,7 +178,7 @@ module _ {C : Type 0} (records : C → Path → Records) (reason : C → Option 
     pub table : C
     pub view : m'.0 ≡ holding m.0 (lists_of records table) (stop_of records reason table)
     pub slot : m'.1 ≡ (0, Some table) ∷ m.1
-    pub lists : (p : Path) → has (steps p) m.0.rights ≡ true → list_of p m.0.lists ≡ records table p
+    pub lists : (p : Path) → has (steps p) m.0.rights ≡ true → of_path m.0.lists p ≡ records table p
     pub stops : AreStops (stop_of records reason table) m.0.stops
 
   abbrev pub took : Step (Option C) → Sat → ℕ → Sat → Type 0
@@ -208,12 +212,12 @@ pub record Took {C : Type 0} (records : C → Path → Records) (reason : C → 
     (m' : Me (Option C) Knows) : Type 0 where
   pub view : m'.0 ≡ holding m.0 (lists_of records table) (stop_of records reason table)
   pub slot : m'.1 ≡ (0, None) ∷ []
-  pub lists : (p : Path) → has (steps p) m.0.rights ≡ true → list_of p m.0.lists ≡ records table p
+  pub lists : (p : Path) → has (steps p) m.0.rights ≡ true → of_path m.0.lists p ≡ records table p
   pub stops : AreStops (stop_of records reason table) m.0.stops
 
 -- the records of a path that a seat lists
 abbrev pub list_at : {C : Type 0} → Path → Me (Option C) Knows → Records
-list_at p m = list_of p m.0.lists
+list_at p m = of_path m.0.lists p
 
 -- that the table has halted, as the seat knows
 abbrev pub stop_at : {C : Type 0} → Me (Option C) Knows → Option Stop

@@ -3,14 +3,14 @@ use Rattle.std.specs.Prelude.{◌≡◌, Bool, true, false, List, [], ◌∷◌,
 use Rattle.atomic_table.specs.Seated.{TableId}
 use Rattle.atomic_table.specs.declared.badge.Badge.{Badge}
 use Rattle.nc_number.specs.declared.path.Path.{Path}
+use Rattle.nc_number.specs.Both.{of_path}
 use Rattle.nc_outside.specs.declared.halt.Halt.{Halt}
 use Rattle.nc_outside.specs.declared.stepper.Call.{Call}
 use Rattle.seat_table.specs.Turning.{Records}
-use Rattle.seat_table.specs.Knowing.{list_of}
 use Rattle.seat_table.specs.declared.knowing.Stop.{Stop}
 
--- The pass of a path: its table, its path, the records that it lists, that the table has halted, where it had when the pass gave
--- the turn back last, and the calls that a stepper over it had.
+-- The pass of a path: its table, its path, the records that it lists, that the table has halted,
+-- where it had when the pass gave the turn back last, and the calls that a stepper over it had.
 pub record Pass : Type 0 where
   pub table : TableId
   pub path : Path
@@ -36,7 +36,7 @@ fresh_halter table path = record { table = table; path = path; stop = None; call
 -- The table has halted for this reason, with these records.
 pub record HasStopped {C : Type 0} (records : C → Path → Records) (reason : C → Option Halt) (c : C) (stop : Stop) : Type 0 where
   pub why : reason c ≡ Some stop.why
-  pub records_are : (p : Path) → records c p ≡ list_of p stop.records
+  pub records_are : (p : Path) → records c p ≡ of_path stop.records p
 
 -- where a pass knows that the table has halted, the table is what it was then
 abbrev pub IsStill : {C : Type 0} → (C → Path → Records) → (C → Option Halt) → C → Option Stop → Type 0

@@ -1,5 +1,5 @@
--- What a step of a path adds to the records of the path, and why a table has halted. Of a record there are the moves that its step
--- answered, each with the line of its block.
+-- What a step of a path adds to the records of the path, and why a table has halted. Of a record
+-- there are the moves that its step answered, each with the line of its block.
 use Rattle.std.specs.Prelude.{◌≡◌, ◌≢◌, ◌⊎◌, Bool, true, false, List, [], ◌∷◌, ◌++◌, Option, Some, None}
 use Rattle.nc_outside.specs.declared.lined_move.LinedMove.{LinedMove}
 use Rattle.nc_outside.specs.Lined.{lined}
@@ -28,7 +28,8 @@ Answers before Drain after = after ≡ before
 Answers before Finished after = after ≡ before
 Answers before (Halted why) after = MayRecord before after
 
--- a path that is to be drained is asked for that, and has no turn until it is; no other path is asked
+-- a path that is to be drained is asked for that, and has no turn until it is; no other path is
+-- asked
 abbrev pub AsksDrain : Bool → Option Next → Bool → Type 0
 AsksDrain true answer after = (answer ≡ Some Drain) × (after ≡ true)
 AsksDrain false answer after = answer ≢ Some Drain

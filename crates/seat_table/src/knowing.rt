@@ -6,46 +6,43 @@ ghost use Rattle.seat_table.specs.Knowing.{Kept, steps, halts, right_of, opened,
 
 use crate::turning::Turns;
 use atomic_table::{Join, Play, Split, TableRule};
+use nc_number::Both;
 use nc_outside::{Call, Halt, LinedMove};
 use std::collections::LinkedList;
 use std::marker::{Brand, PhantomData};
 
-/// The records of both paths: of each its moves, with the line of their block.
-pub struct Lists {
-    pub first: LinkedList<LinkedList<LinedMove>>,
-    pub second: LinkedList<LinkedList<LinedMove>>,
-}
+/// The records of a path: of each its moves, with the line of their block.
+pub type Records = LinkedList<LinkedList<LinedMove>>;
 
 /// That the table has halted: why, and its records.
 pub struct Stop {
     pub why: Halt,
-    pub records: Lists,
+    pub records: Both<Records>,
 }
 
-/// What a seat may do: step path 1, step path 2, halt for the turret of path 1, halt for that of path 2.
+/// What a seat may do: step a path, and halt for the turret of a path.
 pub struct Rights {
-    pub first_steps: bool,
-    pub second_steps: bool,
-    pub first_halts: bool,
-    pub second_halts: bool,
+    pub steps: Both<bool>,
+    pub halts: Both<bool>,
 }
 
 /// What a seat knows. No value of it is made.
 pub struct Knows {
     pub rights: Rights,
-    pub lists: Lists,
-    /// That the table has halted, as it was when it gave the turn back. Who took others in has theirs too.
+    pub lists: Both<Records>,
+    /// That the table has halted, as it was when it gave the turn back. Who took others in has
+    /// theirs too.
     pub stops: LinkedList<Stop>,
     /// It has the turn, and found these records, and that the table has halted, where it has.
     pub busy: bool,
-    pub found: Lists,
+    pub found: Both<Records>,
     pub found_stop: Option<Stop>,
     /// The calls that a stepper over it had.
     pub calls: LinkedList<Call>,
 }
 
-/// The rule: while nobody has the turn, each seat that may step a path lists that path's records of the table. Where a seat
-/// knows that the table has halted, the table is what it was then.
+/// The rule: while nobody has the turn, each seat that may step a path lists that path's records of
+/// the table. Where a seat knows that the table has halted, the table is what it was then.
 pub struct Law;
 
 impl<C: Turns> TableRule<Option<C>, Knows, ()> for Law {

@@ -1,10 +1,11 @@
 //! The seats of two paths at one table, without a lock.
 //!
-//! A path steps in its turn: its seat takes the table out of its place, lets it do one step, and puts it back. A path
-//! that waits sleeps until the table has changed. Each seat lists what its steps came to, and the layer above leans on
-//! this: the list of a path's seat is at any time that of the table's records of the path, each with the moves that
-//! its step answered, and `close` gives the table back with both lists. A step takes no memory. A stepper over a seat
-//! tells its calls too, and the moves that they answered are those of the listed records.
+//! A path steps in its turn: its seat takes the table out of its place, lets it do one step, and
+//! puts it back. A path that waits sleeps until the table has changed. Each seat lists what its
+//! steps came to, and the layer above leans on this: the list of a path's seat is at any time that
+//! of the table's records of the path, each with the moves that its step answered, and `close`
+//! gives the table back with both lists. A step takes no memory. A stepper over a seat tells its
+//! calls too, and the moves that they answered are those of the listed records.
 #![tactic(auto)]
 
 mod knowing;
@@ -15,5 +16,7 @@ mod taking;
 mod turning;
 
 pub use seats::{HaltPass, SeatPass, SeatTable, Seated};
-pub use stepper::{HaltStepper, SeatStepper};
 pub use turning::Turns;
+
+// For users of the library: the names of what `stepper` and `halter` give.
+pub use stepper::{HaltStepper, SeatStepper};

@@ -3,6 +3,7 @@ ghost use Rattle.std.specs.Prelude.{◌≡◌, ◌++◌, [], ◌∷◌, IfOk, If
 ghost use Rattle.nc_number.specs.declared.path.Path.TheVariants.{One, Two};
 ghost use Rattle.nc_outside.specs.Calls.{IsOfTurret};
 ghost use Rattle.nc_outside.specs.declared.halt.Next.TheVariants.{Halted};
+ghost use Rattle.nc_outside.specs.declared.stepper.Call.TheVariants.{Step};
 ghost use Rattle.seat_table.specs.Knowing.{KeepsStop};
 ghost use Rattle.seat_table.specs.Passes.{fresh, fresh_halter, IsStill};
 ghost use Rattle.seat_table.specs.Turning.{Answers};
@@ -35,8 +36,8 @@ impl<C: Turns> Model for SeatTable<C> {
     ghost invariant = { λ t. (t.table.shared.table_id.words ≡ 3) × (t.table.shared.table_id.slots ≡ 1) };
 }
 
-/// The right to step a path. It lists the records of the path that its steps made, and has what the table was
-/// where it found it halted.
+/// The right to step a path. It lists the records of the path that its steps made, and has what the
+/// table was where it found it halted.
 #[derive(Drop)]
 pub struct SeatPass<C> {
     place: Place<Box<C>>,
@@ -102,8 +103,8 @@ impl<C> SeatPass<C> {
 }
 
 impl<C: Turns> SeatTable<C> {
-    /// A table that has made no record since it was opened, with the passes of its paths and of their drives.
-    /// Where memory is wanting the table comes back.
+    /// A table that has made no record since it was opened, with the passes of its paths and of
+    /// their drives. Where memory is wanting the table comes back.
     pub fn new(alloc: Global, table: C) -> Result<Seated<C>, C>
         requires { (p : Path) → C.records table p ≡ [] }
         ensures passes { IfOk result (λ s. (s.first ≡ fresh s.table One) × (s.second ≡ fresh s.table Two)) }
@@ -117,7 +118,7 @@ impl<C: Turns> SeatTable<C> {
         }
     }
 
-    // The same of a table on the heap.
+    /// The same of a table on the heap.
     fn over(alloc: Global, table: Box<C>) -> Result<Seated<C>, Box<C>>
         requires { (p : Path) → C.records table.value p ≡ [] }
         ensures passes { IfOk result (λ s. (s.first ≡ fresh s.table One) × (s.second ≡ fresh s.table Two)) }
@@ -158,8 +159,9 @@ impl<C: Turns> SeatTable<C> {
         }
     }
 
-    /// One step of the path of the pass, once it has the turn and the path does not wait. A path that waits
-    /// sleeps until its wait is over. Once the pass has found the table halted each step answers why.
+    /// One step of the path of the pass, once it has the turn and the path does not wait. A path
+    /// that waits sleeps until its wait is over. Once the pass has found the table halted each step
+    /// answers why.
     pub fn step<R: Wait>(&self, rt: &R, pass: &mut SeatPass<C>) -> Next
         requires { pass.old.table ≡ self.now }
         ensures same { pass.new ≡ record pass.old { records = pass.new.records; stop = pass.new.stop } }
@@ -170,8 +172,8 @@ impl<C: Turns> SeatTable<C> {
         step_until(rt, &self.table.shared, &mut pass.place, pass.path)
     }
 
-    /// The line of the path was drained behind the last moves that were answered to it. It tells the table once
-    /// it has the turn.
+    /// The line of the path was drained behind the last moves that were answered to it. It tells
+    /// the table once it has the turn.
     pub fn drained<R: Wait, P: Drain>(&self, rt: &R, pass: &mut SeatPass<C>, proof: &P)
         requires { pass.old.table ≡ self.now }
         ensures same { pass.new ≡ record pass.old { stop = pass.new.stop } }
@@ -182,7 +184,8 @@ impl<C: Turns> SeatTable<C> {
         tell_until(rt, &self.table.shared, &mut pass.place, notice);
     }
 
-    /// Halts the run by the pass of a path, once it has the turn. From then on the table makes no record.
+    /// Halts the run by the pass of a path, once it has the turn. From then on the table makes no
+    /// record.
     pub fn halt_path<R: Wait>(&self, rt: &R, pass: &mut SeatPass<C>, why: Halt)
         requires { (pass.old.table ≡ self.now) × IsOfTurret why }
         ensures same { pass.new ≡ record pass.old { stop = pass.new.stop } }
@@ -192,7 +195,8 @@ impl<C: Turns> SeatTable<C> {
         tell_until(rt, &self.table.shared, &mut pass.place, Notice::Halt(why));
     }
 
-    /// Halts the run for the turret of a path, once it has the turn. From then on the table makes no record.
+    /// Halts the run for the turret of a path, once it has the turn. From then on the table makes
+    /// no record.
     pub fn halt<R: Wait>(&self, rt: &R, pass: &mut HaltPass<C>, why: Halt)
         requires { (pass.old.table ≡ self.now) × IsOfTurret why }
         ensures same { pass.new ≡ record pass.old { stop = pass.new.stop } }
@@ -203,25 +207,37 @@ impl<C: Turns> SeatTable<C> {
         tell_until(rt, &self.table.shared, &mut pass.place, notice);
     }
 
-    // Notes a call that a stepper over the pass had.
+    /// Notes a step that a stepper over the pass had, whose answer is only looked at.
+    pub(crate) fn note_step<N: Noted>(&self, pass: &mut SeatPass<C>, path: Path, answer: &Next)
+        requires { (pass.old.table ≡ self.now) × (N.calls ≡ Step path answer.now ∷ []) }
+        ensures { pass.new ≡ record pass.old { calls = pass.old.calls ++ Step path answer.now ∷ [] } }
+    {
+        let _ = path;
+        let _ = answer;
+        note::<Box<C>, N>(&self.table.shared, &mut pass.place);
+    }
+
+    /// Notes another call that a stepper over the pass had.
     pub(crate) fn note<N: Noted>(&self, pass: &mut SeatPass<C>, call: Call)
         requires { (pass.old.table ≡ self.now) × (N.calls ≡ call ∷ []) }
         ensures { pass.new ≡ record pass.old { calls = pass.old.calls ++ call ∷ [] } }
     {
-        note::<Box<C>, N>(&self.table.shared, &mut pass.place, call);
+        let _ = call;
+        note::<Box<C>, N>(&self.table.shared, &mut pass.place);
     }
 
-    // The same of a stepper over the pass of a drive.
+    /// The same of a stepper over the pass of a drive.
     pub(crate) fn note_halter<N: Noted>(&self, pass: &mut HaltPass<C>, call: Call)
         requires { (pass.old.table ≡ self.now) × (N.calls ≡ call ∷ []) }
         ensures { pass.new ≡ record pass.old { calls = pass.old.calls ++ call ∷ [] } }
     {
-        note::<Box<C>, N>(&self.table.shared, &mut pass.place, call);
+        let _ = call;
+        note::<Box<C>, N>(&self.table.shared, &mut pass.place);
     }
 
-    /// The table, whose records of each path are just those that the pass of the path lists. Where a pass found
-    /// it halted, or halted it, it is halted for that reason, and its records are those that it had then. It
-    /// takes no turn, and waits for nobody.
+    /// The table, whose records of each path are just those that the pass of the path lists. Where
+    /// a pass found it halted, or halted it, it is halted for that reason, and its records are
+    /// those that it had then. It takes no turn, and waits for nobody.
     pub fn close(
         self,
         first: SeatPass<C>,

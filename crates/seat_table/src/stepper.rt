@@ -1,4 +1,5 @@
-//! Steppers over the passes of a table: one for the worker of a path, and one for the drive of its turret.
+//! Steppers over the passes of a table: one for the worker of a path, and one for the drive of its
+//! turret.
 ghost use Rattle.std.specs.Prelude.{◌≡◌, [], ◌∷◌, ◌++◌, IsTrue, is_some};
 ghost use Rattle.nc_outside.specs.Calls.{moves_answered, IsOfTurret};
 ghost use Rattle.nc_outside.specs.declared.halt.Next.TheVariants.{Silent};
@@ -14,8 +15,8 @@ use nc_outside::{Call, Drain, Drainable, Halt, Next, Stepper};
 use std::marker::{Brand, Model};
 use std::sync::Wait;
 
-/// A stepper over the pass of a path. It tells its calls, and the moves that its steps answered are those of
-/// the records that the pass lists. Each step is one of the path of the pass.
+/// A stepper over the pass of a path. It tells its calls, and the moves that its steps answered are
+/// those of the records that the pass lists. Each step is one of the path of the pass.
 #[derive(Drop)]
 pub struct SeatStepper<'a, C: Turns, R> {
     table: &'a SeatTable<C>,
@@ -36,8 +37,8 @@ impl<'a, C: Turns, R> Model for SeatStepper<'a, C, R> {
     ghost invariant = { λ s. (s.pass.table ≡ s.table.now) × (moves_answered s.pass.calls ≡ moves_in s.pass.records) };
 }
 
-/// A stepper over the pass of a drive, which is for halts alone: its steps are silent, and make no turn. It tells
-/// its calls, and where a halt is among them the pass has what the table was then.
+/// A stepper over the pass of a drive, which is for halts alone: its steps are silent, and make no
+/// turn. It tells its calls, and where a halt is among them the pass has what the table was then.
 #[derive(Drop)]
 pub struct HaltStepper<'a, C: Turns, R> {
     table: &'a SeatTable<C>,
@@ -86,7 +87,8 @@ impl<C: Turns> SeatTable<C> {
 }
 
 impl<'a, C: Turns, R> SeatStepper<'a, C, R> {
-    /// The pass. The moves that the stepper's steps answered are those of the records that it lists.
+    /// The pass. The moves that the stepper's steps answered are those of the records that it
+    /// lists.
     pub fn into_pass(self) -> SeatPass<C>
         ensures pass { result ≡ self.entry }
         ensures told { moves_answered result.calls ≡ moves_in result.records }
@@ -97,7 +99,8 @@ impl<'a, C: Turns, R> SeatStepper<'a, C, R> {
 }
 
 impl<'a, C: Turns, R> HaltStepper<'a, C, R> {
-    /// The pass. Where the stepper had a halt the table has halted, and the pass has what it was then.
+    /// The pass. Where the stepper had a halt the table has halted, and the pass has what it was
+    /// then.
     pub fn into_pass(self) -> HaltPass<C>
         ensures pass { result ≡ self.entry }
         ensures told { IsTrue (has_halt result.calls) → IsTrue (is_some result.stop) }
@@ -107,7 +110,7 @@ impl<'a, C: Turns, R> HaltStepper<'a, C, R> {
     }
 }
 
-// A step, which the pass notes.
+/// A step, which the pass notes.
 #[tactic(auto, using(crate::proofs::Telling::step_told))]
 fn step_noted<C: Turns, R: Wait>(
     table: &SeatTable<C>,
@@ -122,13 +125,11 @@ fn step_noted<C: Turns, R: Wait>(
     ensures told { moves_answered pass.new.calls ≡ moves_in pass.new.records }
 {
     let next = table.step(rt, pass);
-    let answer = next.copy();
-    let call = Call::Step { path, answer };
-    table.note::<Brand>(pass, call);
+    table.note_step::<Brand>(pass, path, &next);
     next
 }
 
-// A drain, which the pass notes.
+/// A drain, which the pass notes.
 #[tactic(auto, using(crate::proofs::Telling::drain_told))]
 fn drained_noted<C: Turns, R: Wait, P: Drain>(
     table: &SeatTable<C>,
@@ -149,7 +150,7 @@ fn drained_noted<C: Turns, R: Wait, P: Drain>(
     table.note::<Brand>(pass, call);
 }
 
-// A halt, which the pass notes.
+/// A halt, which the pass notes.
 #[tactic(auto, using(crate::proofs::Telling::halt_told))]
 fn halt_noted<C: Turns, R: Wait>(table: &SeatTable<C>, rt: &R, pass: &mut SeatPass<C>, why: &Halt)
     requires table { (pass.old.table ≡ table.now) × IsOfTurret why.now }
@@ -163,7 +164,7 @@ fn halt_noted<C: Turns, R: Wait>(table: &SeatTable<C>, rt: &R, pass: &mut SeatPa
     table.note::<Brand>(pass, call);
 }
 
-// A call of a stepper over the pass of a drive, which the pass notes.
+/// A call of a stepper over the pass of a drive, which the pass notes.
 fn call_noted<C: Turns>(table: &SeatTable<C>, pass: &mut HaltPass<C>, call: Call)
     requires table { pass.old.table ≡ table.now }
     requires told { IsTrue (has_halt pass.old.calls) → IsTrue (is_some pass.old.stop) }
@@ -174,7 +175,7 @@ fn call_noted<C: Turns>(table: &SeatTable<C>, pass: &mut HaltPass<C>, call: Call
     table.note_halter::<Brand>(pass, call);
 }
 
-// A halt by a stepper over the pass of a drive, which the pass notes.
+/// A halt by a stepper over the pass of a drive, which the pass notes.
 fn halter_noted<C: Turns, R: Wait>(table: &SeatTable<C>, rt: &R, pass: &mut HaltPass<C>, why: &Halt)
     requires table { (pass.old.table ≡ table.now) × IsOfTurret why.now }
     ensures same { (pass.new.table ≡ pass.old.table) × (pass.new.path ≡ pass.old.path) }

@@ -5,13 +5,14 @@ ghost use Rattle.nc_outside.specs.declared.halt.Next.TheVariants.{Halted};
 ghost use Rattle.seat_table.specs.Passes.{IsStill};
 ghost use Rattle.seat_table.specs.Taking.{Tries, AnswersWhy, IsGiven, IsHalt};
 ghost use Rattle.seat_table.specs.Turning.{Answers};
-ghost use Rattle.seat_table.specs.Knowing.{Right, steps, halts, has, list_of, lists_of, stop_of, listed, idle, called, Idle, IsAt, IsOf, Took, Keeps, KeepsStop, list_at, stop_at};
+ghost use Rattle.nc_number.specs.Both.{of_path};
+ghost use Rattle.seat_table.specs.Knowing.{Right, steps, halts, has, lists_of, stop_of, listed, idle, called, Idle, IsAt, IsOf, Took, Keeps, KeepsStop, list_at, stop_at};
 ghost use Rattle.seat_table.specs.declared.knowing.Stop.{Stop};
 
 use crate::knowing::{Ask, Count, Give, Glue, Knows, Law, Note, Noted, Take};
 use crate::turning::Turns;
 use atomic_table::{Seat, Shared, Table};
-use nc_number::Path;
+use nc_number::{Both, Path};
 use nc_outside::{Call, Halt, Next};
 use std::alloc::Global;
 use std::sync::Wait;
@@ -39,12 +40,12 @@ pub enum Notice {
     Halt(Halt),
 }
 
-// How often a seat looks for the turn before it sleeps until the turn is given back. A step in memory is done by then, and
-// one that waits for a disk is not.
+/// How often a seat looks for the turn before it sleeps until the turn is given back. A step in
+/// memory is done by then, and one that waits for a disk is not.
 const LOOKS: u32 = 64;
 
-// Takes the turn if nobody has it, and the table with it. The word of the turn is 0 where nobody has it, 1 where a seat has
-// it, and 2 where another seat sleeps until it is given back.
+/// Takes the turn if nobody has it, and the table with it. The word of the turn is 0 where nobody
+/// has it, 1 where a seat has it, and 2 where another seat sleeps until it is given back.
 fn take<C: Turns>(shared: &Shared<Option<C>, Knows, (), Law>, place: &mut Place<C>) -> Option<C>
     requires table { IsAt place.old.table_id shared.now.table_id }
     requires idle { Idle place.old.me }
@@ -62,12 +63,12 @@ fn take<C: Turns>(shared: &Shared<Option<C>, Knows, (), Law>, place: &mut Place<
     Some(table)
 }
 
-// Puts the table back, and gives the turn back. It wakes those that sleep until then.
+/// Puts the table back, and gives the turn back. It wakes those that sleep until then.
 fn give<C: Turns>(shared: &Shared<Option<C>, Knows, (), Law>, place: &mut Place<C>, table: C)
     requires table { IsAt place.old.table_id shared.now.table_id }
     requires busy { (place.old.me.0.busy ≡ true) × (place.old.me.1 ≡ (0, None) ∷ []) }
     requires others { (p : Path) → has (steps p) place.old.me.0.rights ≡ false
-        → C.records table p ≡ list_of p place.old.me.0.found }
+        → C.records table p ≡ of_path place.old.me.0.found p }
     requires stop { KeepsStop place.old.me.0.found_stop (stop_of C.records C.reason table) }
     ensures same { (place.new.table_id ≡ place.old.table_id) × (place.new.id ≡ place.old.id) }
     ensures gave { place.new.me ≡ (
@@ -83,7 +84,8 @@ fn give<C: Turns>(shared: &Shared<Option<C>, Knows, (), Law>, place: &mut Place<
     }
 }
 
-// Lets the seat that has the turn go on: yields, and after many looks sleeps until the turn is given back.
+/// Lets the seat that has the turn go on: yields, and after many looks sleeps until the turn is
+/// given back.
 fn stand_by<C: Turns, R: Wait>(
     rt: &R,
     shared: &Shared<Option<C>, Knows, (), Law>,
@@ -101,8 +103,8 @@ fn stand_by<C: Turns, R: Wait>(
     }
 }
 
-// Counts that a wait is over, and wakes those that sleep until then. Most often nobody does, and a wake is a call of the
-// system.
+/// Counts that a wait is over, and wakes those that sleep until then. Most often nobody does, and a
+/// wake is a call of the system.
 fn count_change<C: Turns>(shared: &Shared<Option<C>, Knows, (), Law>, place: &mut Place<C>)
     requires { IsAt place.old.table_id shared.now.table_id }
     ensures { (place.new.table_id ≡ place.old.table_id) × (place.new.id ≡ place.old.id)
@@ -114,9 +116,9 @@ fn count_change<C: Turns>(shared: &Shared<Option<C>, Knows, (), Law>, place: &mu
     }
 }
 
-// Sleeps until a wait is over, unless the count of those is another already than before the turn in which the path waited.
-// Who counts one looks behind that for sleepers, and a sleeper is counted before it looks at the count: so one of the two
-// sees the other.
+/// Sleeps until a wait is over, unless the count of those is another already than before the turn
+/// in which the path waited. Who counts one looks behind that for sleepers, and a sleeper is
+/// counted before it looks at the count: so one of the two sees the other.
 fn await_change<C: Turns, R: Wait>(
     rt: &R,
     shared: &Shared<Option<C>, Knows, (), Law>,
@@ -132,36 +134,30 @@ fn await_change<C: Turns, R: Wait>(
     shared.fetch_sub::<Count>(place, 2, 1);
 }
 
-// Which paths wait.
-#[derive(Clone, Copy)]
-struct Waiting {
-    first: bool,
-    second: bool,
-}
-
-fn who_waits<C: Turns>(table: &C) -> Waiting
-    ensures { (result.first ≡ C.waits table.now One) × (result.second ≡ C.waits table.now Two) }
+/// Whether each path waits.
+fn who_waits<C: Turns>(table: &C) -> Both<bool>
+    ensures { (result.one ≡ C.waits table.now One) × (result.two ≡ C.waits table.now Two) }
 {
-    Waiting {
-        first: table.waits(Path::One),
-        second: table.waits(Path::Two),
+    Both {
+        one: table.waits(Path::One),
+        two: table.waits(Path::Two),
     }
 }
 
-// Whether a path that waited before does not wait any more.
-fn is_freed(before: Waiting, after: Waiting) -> bool
-    ensures { result ≡ ((before.first && not after.first) || (before.second && not after.second)) }
+/// Whether a path that waited before does not wait any more.
+fn is_freed(before: Both<bool>, after: Both<bool>) -> bool
+    ensures { result ≡ ((before.one && not after.one) || (before.two && not after.two)) }
 {
-    (before.first && !after.first) || (before.second && !after.second)
+    (before.one && !after.one) || (before.two && !after.two)
 }
 
-// Counts a change where a path that waited does not wait any more. A path sleeps only behind a turn in which it waited, and
-// nothing but the end of that wait is worth its while.
+/// Counts a change where a path that waited does not wait any more. A path sleeps only behind a
+/// turn in which it waited, and nothing but the end of that wait is worth its while.
 fn count_freed<C: Turns>(
     shared: &Shared<Option<C>, Knows, (), Law>,
     place: &mut Place<C>,
-    before: Waiting,
-    after: Waiting,
+    before: Both<bool>,
+    after: Both<bool>,
 )
     requires { IsAt place.old.table_id shared.now.table_id }
     ensures { (place.new.table_id ≡ place.old.table_id) × (place.new.id ≡ place.old.id)
@@ -172,23 +168,20 @@ fn count_freed<C: Turns>(
     }
 }
 
-/// Notes a call that a stepper over the seat had.
+/// Notes calls that a stepper over the seat had.
 pub(crate) fn note<C: Turns, N: Noted>(
     shared: &Shared<Option<C>, Knows, (), Law>,
     place: &mut Place<C>,
-    call: Call,
 )
     requires table { IsAt place.old.table_id shared.now.table_id }
     requires idle { Idle place.old.me }
-    requires noted { N.calls ≡ call ∷ [] }
     ensures same { (place.new.table_id ≡ place.old.table_id) × (place.new.id ≡ place.old.id) }
-    ensures noted { place.new.me ≡ (called (call ∷ []) place.old.me.0, place.old.me.1) }
+    ensures noted { place.new.me ≡ (called N.calls place.old.me.0, place.old.me.1) }
 {
-    let _ = call;
     shared.load::<Note<N>>(place, 1);
 }
 
-// One try to step the path.
+/// One try to step the path.
 fn turn<C: Turns>(
     shared: &Shared<Option<C>, Knows, (), Law>,
     place: &mut Place<C>,
@@ -217,7 +210,7 @@ fn turn<C: Turns>(
     Tried::Stepped(next)
 }
 
-// Tells the table.
+/// Tells the table.
 fn tell<C: Turns>(table: &mut C, notice: &Notice)
     requires { IsGiven notice.now }
     ensures records { (p : Path) → C.records table.new p ≡ C.records table.old p }
@@ -230,7 +223,7 @@ fn tell<C: Turns>(table: &mut C, notice: &Notice)
     }
 }
 
-// One try to tell the table: false where another seat has the turn.
+/// One try to tell the table: false where another seat has the turn.
 fn tell_turn<C: Turns>(
     shared: &Shared<Option<C>, Knows, (), Law>,
     place: &mut Place<C>,
@@ -257,8 +250,8 @@ fn tell_turn<C: Turns>(
     true
 }
 
-/// A step of the path, once the seat has the turn and the path does not wait. A path that waits sleeps until
-/// its wait is over.
+/// A step of the path, once the seat has the turn and the path does not wait. A path that waits
+/// sleeps until its wait is over.
 pub(crate) fn step_until<C: Turns, R: Wait>(
     rt: &R,
     shared: &Shared<Option<C>, Knows, (), Law>,
@@ -314,7 +307,8 @@ pub(crate) fn tell_until<C: Turns, R: Wait>(
     unreachable!()
 }
 
-/// Puts the four seats together and takes the table out, whose records are those that the seats list.
+/// Puts the four seats together and takes the table out, whose records are those that the seats
+/// list.
 pub(crate) fn close_all<C: Turns>(
     table: Table<Option<C>, Knows, (), Law, Global>,
     first: Place<C>,

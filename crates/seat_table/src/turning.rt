@@ -15,8 +15,9 @@ pub trait Turns {
     ghost use Rattle.nc_outside.specs.declared.lined_move.LinedMove.{LinedMove};
     ghost use Rattle.nc_outside.specs.declared.halt.Halt.{Halt};
 
-    /// For each path its records since the table was opened: of each the moves that its step answered, with the
-    /// line of their block. A record that did not get to the disk stands there without a move.
+    /// For each path its records since the table was opened: of each the moves that its step
+    /// answered, with the line of their block. A record that did not get to the disk stands there
+    /// without a move.
     ghost records: { Self → Path → List (List LinedMove) };
 
     /// Why the table has halted, where it has. It makes no record then.
@@ -32,8 +33,9 @@ pub trait Turns {
     fn waits(&self, path: Path) -> bool
         ensures { result ≡ waits self.now path };
 
-    /// One step of the path. None comes exactly where the path waits, and changes nothing. Drain comes exactly where the
-    /// path is to be drained. A table that has halted answers why, and makes no record.
+    /// One step of the path. None comes exactly where the path waits, and changes nothing. Drain
+    /// comes exactly where the path is to be drained. A table that has halted answers why, and
+    /// makes no record.
     fn turn_step(&mut self, path: Path) -> Option<Next>
         ensures answer { MatchOption result (self.new ≡ self.old)
             (λ next. Answers (records self.old path) next (records self.new path)) }
@@ -43,7 +45,8 @@ pub trait Turns {
         ensures halted { (why : Reason) → reason self.old ≡ Some why → (result ≡ Some (Halted why))
             × (reason self.new ≡ Some why) × ((p : Path) → records self.new p ≡ records self.old p) };
 
-    /// The turret of the path has made what was answered to it before, and stands still, so that the path may come to a wait.
+    /// The turret of the path has made what was answered to it before, and stands still, so that
+    /// the path may come to a wait.
     fn drained(&mut self, path: Path)
         ensures drained { drains self.new path ≡ false }
         ensures records { (p : Path) → records self.new p ≡ records self.old p }

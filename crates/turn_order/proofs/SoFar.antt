@@ -15,7 +15,8 @@ use Rattle.turn_order.specs.declared.ending.TurnsEnd.TheVariants as ends
 use Rattle.turn_order.specs.Ending.{bound_by, end_at, end_before, end_by, end_of, end_or_bound, end_told}
 use Rattle.turn_order.specs.InTurn.{IsInTurn, in_turn}
 
--- After some turns the run has these records, stands at this machine, and this path is next: so it is with all its further turns.
+-- After some turns the run has these records, stands at this machine, and this path is next: so it
+-- is with all its further turns.
 pub record IsSoFar (tapes : Tapes) (start : MachineView) (path : Path) (m : MachineView) (entries : List Entry) : Type 0 where
   pub turns : ℕ
   pub records : (more : ℕ) → history tapes start (in_turn One (turns + more)) ≡ entries ++ history tapes m (in_turn path more)

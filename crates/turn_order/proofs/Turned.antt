@@ -1,11 +1,13 @@
--- A turn of a path makes a record, or reads, or is passed over; and a path is passed over only while the other goes on. So there
--- are only so many turns.
+-- A turn of a path makes a record, or reads, or is passed over; and a path is passed over only
+-- while the other goes on. So there are only so many turns.
 use Rattle.std.proofs.Common.{◌≡◌, ◌⊎◌, inl, inr, ℕ, ◌+◌, ◌-◌, ◌*◌, ◌≤◌, ◌<◌, ◌==◌, ◌||◌, ◌&&◌, Bool, true, false, List, [], ◌∷◌, ◌++◌, length, refl, ◌∙◌, ap, subst, arith, length-append, Option, Some, None, is_some}
 use Rattle.std.specs.Prelude.{if◌then◌else◌}
 use Rattle.nc_number.specs.declared.path.Path.{Path}
 use Rattle.nc_number.specs.declared.path.Path.TheVariants.{One, Two}
 use Rattle.nc_number.specs.declared.value.Var.{Var}
 use Rattle.nc_number.specs.Path.{other_of}
+use Rattle.nc_number.proofs.Bools.{only_false}
+use Rattle.nc_number.specs.declared.limits.TheConstants.{MOST_READS}
 use Rattle.nc_moves.specs.declared.alarm.Alarm.{Alarm}
 use Rattle.path_state.specs.View.{PathView}
 use Rattle.path_state.specs.Effect.{Effect, Need, Done, AtWait, AtEnd, effect_of}
@@ -24,18 +26,18 @@ use Rattle.two_path.specs.Stuck.{IsStuck}
 abbrev pub reads_of : MachineView → ℕ
 reads_of m = length m.first.stamps + length m.second.stamps
 
--- So many turns come at most, the next one for this path: each makes a record, or one of 32 reads of its block, or is passed over,
--- and of two turns one at most is.
+-- So many turns come at most, the next one for this path: each makes a record, or one of 32 reads
+-- of its block, or is passed over, and of two turns one at most is.
 abbrev pub turns_left : ℕ → Path → MachineView → ℕ
 turns_left limit path m =
     2 * (65 * ((limit - m.count) + 1) - reads_of m) + (if is_idle (own_first path m).first then 1 else 0)
 
 -- a block makes 32 reads at most
 abbrev AsksFew : Blocks → Type 0
-AsksFew blocks = (path : PathView) (reads : List Var) (variable : ℕ) → blocks.effect path reads ≡ Need variable → length reads < 32
+AsksFew blocks = (path : PathView) (reads : List Var) (variable : ℕ) → blocks.effect path reads ≡ Need variable → length reads < MOST_READS
 
 asks_few : (blocks : Blocks) → AsksFew blocks → (path : PathView) (writes : _) (values : List Var) (stamps : List ℕ)
-    → AsksFrom blocks path writes values stamps → length values ≤ 32 → length values + length stamps ≤ 32
+    → AsksFrom blocks path writes values stamps → length values ≤ MOST_READS → length values + length stamps ≤ MOST_READS
 asks_few blocks most path writes values [] asks few = omega (arith, few)
 asks_few blocks most path writes values (stamp ∷ stamps) asks few =
     let less = most path values asks.0.0 asks.0.1 in
@@ -43,7 +45,7 @@ asks_few blocks most path writes values (stamp ∷ stamps) asks few =
     let rest = asks_few blocks most path writes (and_next blocks path writes stamp values) stamps asks.1 (omega (arith, less, one)) in
     omega (arith, one, rest)
 
-lawful_few : (blocks : Blocks) (m : MachineView) → AsksFew blocks → IsLawful blocks m → length m.first.stamps ≤ 32
+lawful_few : (blocks : Blocks) (m : MachineView) → AsksFew blocks → IsLawful blocks m → length m.first.stamps ≤ MOST_READS
 lawful_few blocks m most lawful = omega (arith, asks_few blocks most m.first.path m.writes [] m.first.stamps lawful.may.asks (omega arith))
 
 flow_asks_few : ((flow : Flow) (path : PathView) (reads : List Var) → AsksForShared path reads (effect_of flow path reads)) → (flow : Flow) → AsksFew (blocks_of flow)
@@ -117,10 +119,6 @@ gave tapes One m calm = one_gave tapes m (own_went tapes.first One m calm)
 gave tapes Two m calm = two_gave tapes m (own_went tapes.second Two (own_first Two m) calm)
 
 -- the other path goes on
-awake : (b : Bool) → (b ≡ true → ⊥) → b ≡ false
-awake true never = absurd (never refl)
-awake false never = refl
-
 unfinished : (first second : Bool) → (first && second) ≡ false → (first ≡ false) ⊎ (second ≡ false)
 unfinished true second is = inr is
 unfinished false second is = inl refl
@@ -128,9 +126,9 @@ unfinished false second is = inl refl
 other_awake : (path : Path) (m : MachineView) → (IsStuck (without_reads m) → ⊥) → m.alarm ≡ None → (m.first.finished && m.second.finished) ≡ false
     → is_idle (own_first path m).first ≡ true → is_idle (own_first (other_of path) m).first ≡ false
 other_awake One m free calm some idle =
-    awake (is_idle m.second) (λ both. free (record { calm = calm; unfinished = unfinished m.first.finished m.second.finished some; first = idle; second = both }))
+    only_false (is_idle m.second) (λ both. free (record { calm = calm; unfinished = unfinished m.first.finished m.second.finished some; first = idle; second = both }))
 other_awake Two m free calm some idle =
-    awake (is_idle m.first) (λ both. free (record { calm = calm; unfinished = unfinished m.first.finished m.second.finished some; first = both; second = idle }))
+    only_false (is_idle m.first) (λ both. free (record { calm = calm; unfinished = unfinished m.first.finished m.second.finished some; first = both; second = idle }))
 
 -- how many turns are left
 abbrev left : ℕ → ℕ → ℕ → ℕ

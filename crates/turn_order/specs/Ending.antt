@@ -17,7 +17,8 @@ end_by None false = None
 abbrev pub end_of : MachineView → Option TurnsEnd
 end_of m = end_by m.alarm (m.first.finished && m.second.finished)
 
--- the end of a run of so many records, of which it may have no more: the settings allow no more, or no more were asked for
+-- the end of a run of so many records, of which it may have no more: the settings allow no more, or
+-- no more were asked for
 abbrev pub end_at : ℕ → ℕ → TurnsEnd
 end_at count most = if count == most then ends.Full else ends.Stopped
 

@@ -24,7 +24,8 @@ abbrev pub in_turn : Path → ℕ → List Event
 in_turn path zero = []
 in_turn path (suc n) = TurnOf path ∷ in_turn (other_of path) n
 
--- The records of a run whose paths take turns, from path 1 on: it has no more than so many, and only a run that has ended has fewer.
+-- The records of a run whose paths take turns, from path 1 on: it has no more than so many, and
+-- only a run that has ended has fewer.
 pub record IsInTurn (tapes : Tapes) (start : MachineView) (limit : ℕ) (entries : List Entry) : Type 0 where
   pub turns : ℕ
   pub records : history tapes start (in_turn One turns) ≡ entries

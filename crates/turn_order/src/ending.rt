@@ -6,8 +6,8 @@ use nc_moves::Alarm;
 use nc_number::Path;
 use two_path::Machine;
 
-/// Why a run in turn ended. Of several causes it is the first of these: an alarm, the ends of both paths, as many
-/// records as a journal may have, as many as were asked for.
+/// Why a run in turn ended. Of several causes it is the first of these: an alarm, the ends of both
+/// paths, as many records as a journal may have, as many as were asked for.
 #[derive(Clone, Copy, Debug, PartialEq, Eq)]
 pub enum TurnsEnd {
     /// Both paths have ended.
@@ -34,7 +34,8 @@ fn end_of(machine: &Machine) -> Option<TurnsEnd>
     }
 }
 
-/// The end of a run of so many records, of which it may have `limit`, and the settings allow `most`.
+/// The end of a run of so many records, of which it may have `limit`, and the settings allow
+/// `most`.
 fn bound_by(count: u32, limit: u32, most: u32) -> Option<TurnsEnd>
     ensures { result ≡ bound_by count limit most }
 {

@@ -1,5 +1,5 @@
-//! What holds of every run whose paths take turns. Each law is the contract of a function that does nothing: who
-//! calls it has the law.
+//! What holds of every run whose paths take turns. Each law is the contract of a function that does
+//! nothing: who calls it has the law.
 ghost use Rattle.std.specs.Prelude.{◌≡◌, ℕ, List};
 ghost use Rattle.nc_verify.specs.declared.verified.Verified.{Verified};
 ghost use Rattle.path_state.specs.View.{PathView};
@@ -30,11 +30,12 @@ pub fn runs_in_turn_are_legal()
     histories_are_runs();
 }
 
-/// Two tapes, the settings and a number of records have one run whose paths take turns: two lists that are the
-/// records of such a run are equal.
+/// Two tapes, the settings and a number of records have one run whose paths take turns: two lists
+/// that are the records of such a run are equal.
 pub fn one_run_in_turn()
     ensures { (tapes : Tapes) (first second : PathView) (limit : ℕ) (one two : List Entry)
-        → IsInTurn tapes (opening first second) limit one → IsInTurn tapes (opening first second) limit two → one ≡ two }
+        → IsInTurn tapes (opening first second) limit one
+        → IsInTurn tapes (opening first second) limit two → one ≡ two }
 {
     histories_are_runs();
 }

@@ -1,5 +1,6 @@
 //! Turns of both paths, one after the other, until the run ends.
 ghost use Rattle.std.specs.Prelude.{◌≡◌, ◌<◌, ◌≤◌, ◌++◌, [], length, min, IfOk, OnOk};
+ghost use Rattle.nc_number.specs.declared.limits.TheConstants.{MOST_RECORDS};
 ghost use Rattle.two_path.specs.Turns.{tapes_of, turn_of, entry_of};
 ghost use Rattle.two_path.specs.Histories.{IsLegal, list_of};
 ghost use Rattle.two_path.specs.Joined.{AreAtTheirWaits};
@@ -33,7 +34,7 @@ fn give_turn(
     right: &Flow,
     path: Path,
 ) -> Result<(), NoMemory>
-    requires few { machine.old.machine.count < 4000000 }
+    requires few { machine.old.machine.count < MOST_RECORDS }
     requires waits { AreAtTheirWaits left.now.order right.now.order machine.old.machine }
     ensures machine { OnOk result (machine.new.machine
         ≡ (turn_of (tapes_of left.now right.now) path machine.old.machine).machine) }
@@ -57,10 +58,10 @@ fn limit_of(most: u32, full: u32) -> u32
     if most < full { most } else { full }
 }
 
-/// The records of a run of the pair whose paths take turns: path 1 and path 2, a turn each, from path 1 on. A path
-/// that waits or has ended is passed over. The run ends with an alarm, with the ends of both paths, or as soon as it
-/// has `most` records or as many as the settings allow. Each turn is one block, one read of a shared variable, or
-/// nothing.
+/// The records of a run of the pair whose paths take turns: path 1 and path 2, a turn each, from
+/// path 1 on. A path that waits or has ended is passed over. The run ends with an alarm, with the
+/// ends of both paths, or as soon as it has `most` records or as many as the settings allow. Each
+/// turn is one block, one read of a shared variable, or nothing.
 ///
 /// Room for records is asked for as they come. Errors: out of memory.
 pub fn records_in_turn(alloc: Global, verified: &Verified, most: u32) -> Result<InTurn, NoMemory>
@@ -69,7 +70,7 @@ pub fn records_in_turn(alloc: Global, verified: &Verified, most: u32) -> Result<
     ensures end { IfOk result (λ run. run.end ≡ end_told (tapes_in verified.now) (start_of verified.now)
         verified.now.settings.records run.entries.items) }
     ensures legal { IfOk result (λ run. IsLegal (tapes_in verified.now) (start_of verified.now) run.entries.items) }
-    ensures few { IfOk result (λ run. length run.entries.items ≤ 4000000) }
+    ensures few { IfOk result (λ run. length run.entries.items ≤ MOST_RECORDS) }
 {
     histories_are_runs();
     each_event_keeps_the_history();

@@ -1,3 +1,4 @@
+mod ServedOn
 mod TablesCross
 mod TurretsGet
 mod TurretsRun

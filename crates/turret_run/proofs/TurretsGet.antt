@@ -49,7 +49,8 @@ not_placed at a b got later rose = (
   },
 )
 
--- What comes of a turret that was placed and served these moves: it got the first of what is due, and missed so many.
+-- What comes of a turret that was placed and served these moves: it got the first of what is due,
+-- and missed so many.
 abbrev pub GotBy : Bool → ℕ → List Got → TurretState → TurretState → Type 0
 GotBy failed missed what a c = (n : ℕ) × (n + missed ≡ length what) × (failed ≡ false → missed ≡ 0) × GetsFirst what n failed a c
 

@@ -4,8 +4,10 @@ use Rattle.std.specs.Prelude.{IsTrue}
 use Rattle.std.proofs.lemmas.List.{drop_all}
 use Rattle.disk_model.specs.Device.{DiskState, Rose}
 use Rattle.gate_file.specs.Gate.{Gate}
+use Rattle.nc_number.specs.declared.both.Both.{Both}
 use Rattle.nc_number.specs.declared.path.Path.{Path}
 use Rattle.nc_number.specs.declared.path.Path.TheVariants.{One, Two}
+use Rattle.nc_number.specs.Both.{of_path}
 use Rattle.nc_number.specs.Path.{other_of}
 use Rattle.nc_outside.specs.declared.halt.Halt.{Halt}
 use Rattle.nc_outside.specs.declared.halt.Halt.TheVariants as halt
@@ -31,8 +33,8 @@ use Rattle.run_table.specs.Since.{Since}
 use Rattle.turret_run.specs.declared.ending.TurretEnd.{TurretEnd}
 use Rattle.turret_run.specs.declared.ending.TurretEnd.TheVariants.{Ended, TurretFault, NoMemory}
 use Rattle.turret_run.specs.Served.{told, GetsAll, GetsPart, FailsAmong, GetsSome, Misses}
-use Rattle.turret_run.specs.Runs.{Turrets, turret_for, place_of, due, GetsAt, GetsBeside, StandsBeside, Missed, missed_by, none_missed, Stays, IsNotPlaced, RunsWith}
-use Rattle.turret_run.specs.Rests.{ArePlaced, FailsAtPlace, first_failed, HasCause}
+use Rattle.turret_run.specs.Runs.{place_of, due, GetsAt, GetsBeside, StandsBeside, none_missed, Stays, IsNotPlaced, RunsWith}
+use Rattle.turret_run.specs.Rests.{ArePlaced, FailsAtPlace, first_by, first_failed, HasCause}
 use Rattle.turret_run.proofs.TurretsGet.{GotBy, served, all_of, fails_of, some_of, misses_of, either_of}
 
 -- a recording with these records, so many of which are flushed, and with this file of this version
@@ -56,7 +58,8 @@ follows_with state made a b new p = record {
   calm = p.calm;
 }
 
--- What comes of a recording follows any other with the same records, as many of them flushed, and the same file of the same version.
+-- What comes of a recording follows any other with the same records, as many of them flushed, and
+-- the same file of the same version.
 follows_as : {D : Type 0} (state : D → DiskState) (made : List Entry) (a b new : RecordingView D) → b.history ≡ a.history → b.flushed ≡ a.flushed
     → b.log.file ≡ a.log.file → b.log.version ≡ a.log.version → Follows state made b new → Follows state made a new
 follows_as state made a b new history flushed file version p = follows_with state made a b new
@@ -106,40 +109,49 @@ module _ {D : Type 0} (state : D → DiskState) (limit : ℕ) (old ready : Table
   stands_ready Two other a b place = subst (λ (m : MachineView). GetsAll (told (place_of other m) []) a b) stays.machine place
 
   -- the run of a table that was made ready is one of the table before
-  pub runs_ready : (new : TableView D) (before after : Turrets) (missed : Missed) (end : TurretEnd) → RunsWith state ready.budget ready new before after missed end
+  pub runs_ready : (new : TableView D) (before after : Both TurretState) (missed : Both ℕ) (end : TurretEnd) → RunsWith state ready.budget ready new before after missed end
       → RunsWith state limit old new before after missed end
   runs_ready new before after missed (Ended end) r = record {
     since = since_ready new r.since;
     ends = ends_ready new end r.ends;
-    turrets = λ path. subst (λ what. GetsAt end what (turret_for path before) (turret_for path after)) (due_ready path new) (r.turrets path);
-    misses = λ path. subst (λ what. Misses what (missed_by path missed) (turret_for path before) (turret_for path after)) (due_ready path new) (r.misses path);
+    turrets = λ path. subst (λ what. GetsAt end what (of_path before path) (of_path after path)) (due_ready path new) (r.turrets path);
+    misses = λ path. subst (λ what. Misses what (of_path missed path) (of_path before path) (of_path after path)) (due_ready path new) (r.misses path);
   }
   runs_ready new before after missed (TurretFault path) (inl r) = inl (record {
     since = since_ready new r.since;
     disk = r.disk;
     calm = r.calm ∙ ap (λ (file : Gate D). (state file.disk).faults) stays.file;
-    failed = subst (λ what. FailsAmong what (turret_for path before) (turret_for path after)) (due_ready path new) r.failed;
-    other = subst (λ what. GetsBeside path what (turret_for (other_of path) before) (turret_for (other_of path) after)) (due_ready (other_of path) new) r.other;
-    misses = λ p. subst (λ what. Misses what (missed_by p missed) (turret_for p before) (turret_for p after)) (due_ready p new) (r.misses p);
+    failed = subst (λ what. FailsAmong what (of_path before path) (of_path after path)) (due_ready path new) r.failed;
+    other = subst (λ what. GetsBeside path what (of_path before (other_of path)) (of_path after (other_of path))) (due_ready (other_of path) new) r.other;
+    misses = λ p. subst (λ what. Misses what (of_path missed p) (of_path before p) (of_path after p)) (due_ready p new) (r.misses p);
   })
   runs_ready new before after missed (TurretFault path) (inr r) = inr (record {
     since = since_ready new r.since;
     same = stays_ready new r.same;
     disk = r.disk;
-    failed = subst (λ (m : MachineView). FailsAmong (told (place_of path m) []) (turret_for path before) (turret_for path after)) stays.machine r.failed;
-    other = stands_ready path (other_of path) (turret_for (other_of path) before) (turret_for (other_of path) after) r.other;
+    failed = subst (λ (m : MachineView). FailsAmong (told (place_of path m) []) (of_path before path) (of_path after path)) stays.machine r.failed;
+    other = stands_ready path (other_of path) (of_path before (other_of path)) (of_path after (other_of path)) r.other;
     none = r.none;
   })
   runs_ready new before after missed NoMemory r = record {
     same = stays_ready new r.same;
-    turrets = λ path. subst (λ (m : MachineView). GetsPart (told (place_of path m) []) (turret_for path before) (turret_for path after)) stays.machine (r.turrets path);
+    turrets = λ path. subst (λ (m : MachineView). GetsPart (told (place_of path m) []) (of_path before path) (of_path after path)) stays.machine (r.turrets path);
     none = r.none;
   }
 
-none_failed : (left right : Bool) → first_failed left right ≡ None → (left ≡ false) × (right ≡ false)
-none_failed true right is = absurd cc
-none_failed false true is = absurd cc
-none_failed false false is = (refl, refl)
+-- what holds of path 1 and of path 2 holds of each
+pub for_each : (P : Path → Type 0) → P One → P Two → (path : Path) → P path
+for_each P one two One = one
+for_each P one two Two = two
+
+none_by : (one two : Bool) → first_by one two ≡ None → (one ≡ false) × (two ≡ false)
+none_by true two is = absurd cc
+none_by false true is = absurd cc
+none_by false false is = (refl, refl)
+
+none_failed : (failed : Both Bool) → first_failed failed ≡ None → (path : Path) → of_path failed path ≡ false
+none_failed failed is One = (none_by failed.one failed.two is).0
+none_failed failed is Two = (none_by failed.one failed.two is).1
 
 -- a turret that is let go hides no fault of the disk
 not_disk : (why : Option Halt) → why ≢ Some halt.Disk → without_turret why ≢ Some halt.Disk
@@ -186,77 +198,72 @@ module _ {D : Type 0} (state : D → DiskState) (opened : Option (TableView D)) 
       served (place_of path start.machine) moves before now d place (subst (λ ms. Serves ms now d) told_of at)
 
 -- each turret got no more than its place
-pub placed_only : (m : MachineView) (before now after : Turrets) → ArePlaced m before now → now.left ≡ after.left → now.right ≡ after.right
-    → (path : Path) → GetsPart (told (place_of path m) []) (turret_for path before) (turret_for path after)
-placed_only m before now after placed left right One = (1, subst (λ s. GetsAll (told (place_of One m) []) before.left s) left (placed One))
-placed_only m before now after placed left right Two = (1, subst (λ s. GetsAll (told (place_of Two m) []) before.right s) right (placed Two))
+pub placed_only : (m : MachineView) (before now : Both TurretState) → ArePlaced m before now → (path : Path) → GetsPart (told (place_of path m) []) (of_path before path) (of_path now path)
+placed_only m before now placed path = (1, placed path)
 
 -- a turret failed at its place, and nothing else was done
 module _ {D : Type 0} (state : D → DiskState) (limit : ℕ) (old ready : TableView D) (stays : Stays old ready) (leave : ready.budget ≡ limit)
-    (itself : Since state ready ready) (may : IsNoneOrAlarm old.halt) (before after : Turrets) where
+    (itself : Since state ready ready) (may : IsNoneOrAlarm old.halt) (before after : Both TurretState) where
   pub place_failed : (path : Path) → FailsAtPlace ready.machine before after path → IsNotPlaced state limit old ready before after none_missed path
   place_failed path f = record {
     since = since_ready state limit old ready stays leave ready itself;
     same = stays;
     disk = subst (λ h. h ≢ Some halt.Disk) (sym stays.halt) (calm_is_no_disk old.halt may);
-    failed = subst (λ (m : MachineView). FailsAmong (told (place_of path m) []) (turret_for path before) (turret_for path after)) stays.machine f.0;
-    other = stands_ready state limit old ready stays leave path (other_of path) (turret_for (other_of path) before) (turret_for (other_of path) after) f.1;
+    failed = subst (λ (m : MachineView). FailsAmong (told (place_of path m) []) (of_path before path) (of_path after path)) stays.machine f.0;
+    other = stands_ready state limit old ready stays leave path (other_of path) (of_path before (other_of path)) (of_path after (other_of path)) f.1;
     none = refl;
   }
 
 -- The end of a run: the turns that were left found this cause.
-module _ {D : Type 0} (state : D → DiskState) (start taken : TableView D) (since : Since state start taken) (held : HeldView D) (before after : Turrets) (left right : Bool) (missed : Missed)
+module _ {D : Type 0} (state : D → DiskState) (start taken : TableView D) (since : Since state start taken) (held : HeldView D) (before after : Both TurretState) (failed : Both Bool) (missed : Both ℕ)
     (ends : (end : RunEnd) → Ends held end → EndsBy state start taken end) (halt_is : taken.halt ≡ without_turret held.halt) (file_is : taken.recording.log.file ≡ held.file)
-    (first : GotBy left missed.left (due One start taken) before.left after.left) (second : GotBy right missed.right (due Two start taken) before.right after.right) where
-  misses : (path : Path) → Misses (due path start taken) (missed_by path missed) (turret_for path before) (turret_for path after)
-  misses One = misses_of left missed.left (due One start taken) before.left after.left first
-  misses Two = misses_of right missed.right (due Two start taken) before.right after.right second
+    (gots : (path : Path) → GotBy (of_path failed path) (of_path missed path) (due path start taken) (of_path before path) (of_path after path)) where
+  misses : (path : Path) → Misses (due path start taken) (of_path missed path) (of_path before path) (of_path after path)
+  misses path = misses_of (of_path failed path) (of_path missed path) (due path start taken) (of_path before path) (of_path after path) (gots path)
 
-  ended_all : (first_failed left right ≡ None) → (path : Path) → GetsAll (due path start taken) (turret_for path before) (turret_for path after)
-  ended_all none One = all_of left missed.left (due One start taken) before.left after.left first (none_failed left right none).0
-  ended_all none Two = all_of right missed.right (due Two start taken) before.right after.right second (none_failed left right none).1
+  gets_all : (path : Path) → of_path failed path ≡ false → GetsAll (due path start taken) (of_path before path) (of_path after path)
+  gets_all path none = all_of (of_path failed path) (of_path missed path) (due path start taken) (of_path before path) (of_path after path) (gots path) none
 
-  ended_at : (end : RunEnd) → (end ≢ run.DiskFault → first_failed left right ≡ None) → (path : Path) → GetsAt end (due path start taken) (turret_for path before) (turret_for path after)
-  ended_at (run.Alarm alarm) none path = ended_all (none (λ is. absurd cc)) path
-  ended_at run.Done none path = ended_all (none (λ is. absurd cc)) path
-  ended_at run.Full none path = ended_all (none (λ is. absurd cc)) path
-  ended_at run.Stopped none path = ended_all (none (λ is. absurd cc)) path
-  ended_at run.DiskFault none One = some_of left missed.left (due One start taken) before.left after.left first
-  ended_at run.DiskFault none Two = some_of right missed.right (due Two start taken) before.right after.right second
+  ended_at : (end : RunEnd) → (end ≢ run.DiskFault → first_failed failed ≡ None) → (path : Path) → GetsAt end (due path start taken) (of_path before path) (of_path after path)
+  ended_at (run.Alarm alarm) none path = gets_all path (none_failed failed (none (λ is. absurd cc)) path)
+  ended_at run.Done none path = gets_all path (none_failed failed (none (λ is. absurd cc)) path)
+  ended_at run.Full none path = gets_all path (none_failed failed (none (λ is. absurd cc)) path)
+  ended_at run.Stopped none path = gets_all path (none_failed failed (none (λ is. absurd cc)) path)
+  ended_at run.DiskFault none path = some_of (of_path failed path) (of_path missed path) (due path start taken) (of_path before path) (of_path after path) (gots path)
 
-  failed_at : (path : Path) → first_failed left right ≡ Some path → FailsAmong (due path start taken) (turret_for path before) (turret_for path after)
-      × GetsBeside path (due (other_of path) start taken) (turret_for (other_of path) before) (turret_for (other_of path) after)
+  failed_at : (path : Path) → first_failed failed ≡ Some path → FailsAmong (due path start taken) (of_path before path) (of_path after path)
+      × GetsBeside path (due (other_of path) start taken) (of_path before (other_of path)) (of_path after (other_of path))
   failed_at One is = (
-    fails_of left missed.left (due One start taken) before.left after.left first (one_failed left right is),
-    either_of right missed.right (due Two start taken) before.right after.right second,
+    fails_of failed.one missed.one (due One start taken) before.one after.one (gots One) (one_failed failed.one failed.two is),
+    either_of failed.two missed.two (due Two start taken) before.two after.two (gots Two),
   )
     where
-      one_failed : (l r : Bool) → first_failed l r ≡ Some One → l ≡ true
+      one_failed : (l r : Bool) → first_by l r ≡ Some One → l ≡ true
       one_failed true r e = refl
       one_failed false true e = absurd cc
       one_failed false false e = absurd cc
   failed_at Two is =
-      let b = two_failed left right is in (
-        fails_of right missed.right (due Two start taken) before.right after.right second b.1,
-        all_of left missed.left (due One start taken) before.left after.left first b.0,
+      let b = two_failed failed.one failed.two is in (
+        fails_of failed.two missed.two (due Two start taken) before.two after.two (gots Two) b.1,
+        gets_all One b.0,
       )
     where
-      two_failed : (l r : Bool) → first_failed l r ≡ Some Two → (l ≡ false) × (r ≡ true)
+      two_failed : (l r : Bool) → first_by l r ≡ Some Two → (l ≡ false) × (r ≡ true)
       two_failed true r e = absurd cc
       two_failed false true e = (refl, refl)
       two_failed false false e = absurd cc
 
-  pub run_ends : (end : TurretEnd) → HasCause held (first_failed left right) end → RunsWith state start.budget start taken before after missed end
+  pub run_ends : (end : TurretEnd) → HasCause held (first_failed failed) end → RunsWith state start.budget start taken before after missed end
   run_ends (Ended end) cause = record { since = since; ends = ends end cause.0; turrets = ended_at end cause.1; misses = misses }
   run_ends (TurretFault path) cause =
-      let failed = failed_at path cause.2 in
+      let fails = failed_at path cause.2 in
       let live = subst (λ (file : Gate D). IsTrue file.live) (sym file_is) cause.1 in
       inl (record {
         since = since;
         disk = subst (λ h. h ≢ Some halt.Disk) (sym halt_is) (not_disk held.halt cause.0);
         calm = since.recording.calm live;
-        failed = failed.0;
-        other = failed.1;
+        failed = fails.0;
+        other = fails.1;
         misses = misses;
       })
   run_ends NoMemory cause = absurd cause

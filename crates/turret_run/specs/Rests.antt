@@ -1,7 +1,9 @@
 -- How both turrets are placed, and how the turns that are left behind the threads are given.
 use Rattle.std.specs.Prelude.{◌≡◌, ◌≢◌, ◌⊎◌, Bool, true, false, IsTrue, [], Option, Some, None}
+use Rattle.nc_number.specs.declared.both.Both.{Both}
 use Rattle.nc_number.specs.declared.path.Path.{Path}
 use Rattle.nc_number.specs.declared.path.Path.TheVariants.{One, Two}
+use Rattle.nc_number.specs.Both.{both_of, of_path}
 use Rattle.nc_number.specs.Path.{other_of}
 use Rattle.nc_outside.specs.declared.halt.Halt.TheVariants.{Disk}
 use Rattle.nc_outside.specs.Received.{TurretState}
@@ -16,17 +18,17 @@ use Rattle.run_table.specs.Holding.{HeldView}
 use Rattle.turret_run.specs.declared.ending.TurretEnd.{TurretEnd}
 use Rattle.turret_run.specs.declared.ending.TurretEnd.TheVariants.{Ended, TurretFault, NoMemory}
 use Rattle.turret_run.specs.Served.{told, GetsAll, FailsAmong}
-use Rattle.turret_run.specs.Runs.{Turrets, turret_for, place_of, StandsBeside}
+use Rattle.turret_run.specs.Runs.{place_of, StandsBeside}
 
 -- each turret got its place
-abbrev pub ArePlaced : MachineView → Turrets → Turrets → Type 0
-ArePlaced m before after = (path : Path) → GetsAll (told (place_of path m) []) (turret_for path before) (turret_for path after)
+abbrev pub ArePlaced : MachineView → Both TurretState → Both TurretState → Type 0
+ArePlaced m before after = (path : Path) → GetsAll (told (place_of path m) []) (of_path before path) (of_path after path)
 
 -- the turret of this path failed at its place, and that of path 1 was placed before that of path 2
-abbrev pub FailsAtPlace : MachineView → Turrets → Turrets → Path → Type 0
+abbrev pub FailsAtPlace : MachineView → Both TurretState → Both TurretState → Path → Type 0
 FailsAtPlace m before after path =
-    FailsAmong (told (place_of path m) []) (turret_for path before) (turret_for path after)
-    × StandsBeside path (told (place_of (other_of path) m) []) (turret_for (other_of path) before) (turret_for (other_of path) after)
+    FailsAmong (told (place_of path m) []) (of_path before path) (of_path after path)
+    × StandsBeside path (told (place_of (other_of path) m) []) (of_path before (other_of path)) (of_path after (other_of path))
 
 -- a turret that had served the old records serves the new ones
 abbrev pub ServesOn : Records → DrivenState → Records → DrivenState → Type 0
@@ -36,13 +38,21 @@ ServesOn old was new is = (start : TurretState) → Serves (moves_in old) start 
 abbrev pub IsStillOrFailed : Phase → Type 0
 IsStillOrFailed phase = (phase ≡ Still) ⊎ (has_failed phase ≡ true)
 
--- the path whose turret failed, that of path 1 first
-abbrev pub first_failed : Bool → Bool → Option Path
-first_failed true right = Some One
-first_failed false true = Some Two
-first_failed false false = None
+-- which turrets have failed
+abbrev pub who_failed : Both DrivenState → Both Bool
+who_failed turrets = both_of (λ d. has_failed d.phase) turrets
 
--- Why no turn is given any more: a fault of the disk, the turret that failed, or another end of the run.
+-- the path whose turret failed, that of path 1 first
+abbrev pub first_by : Bool → Bool → Option Path
+first_by true two = Some One
+first_by false true = Some Two
+first_by false false = None
+
+abbrev pub first_failed : Both Bool → Option Path
+first_failed failed = first_by failed.one failed.two
+
+-- Why no turn is given any more: a fault of the disk, the turret that failed, or another end of the
+-- run.
 abbrev pub HasCause : {D : Type 0} → HeldView D → Option Path → TurretEnd → Type 0
 HasCause held failed (Ended end) = HasEnded held end × (end ≢ run.DiskFault → failed ≡ None)
 HasCause held failed (TurretFault path) = (held.halt ≢ Some Disk) × IsTrue held.file.live × (failed ≡ Some path)

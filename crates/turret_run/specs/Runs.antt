@@ -1,9 +1,11 @@
 -- A run with turrets, and how it ends.
 use Rattle.std.specs.Prelude.{◌≡◌, ◌≢◌, ◌⊎◌, ℕ, List, [], length, Some}
 use Rattle.disk_model.specs.Device.{DiskState}
+use Rattle.nc_number.specs.declared.both.Both.{Both}
 use Rattle.nc_number.specs.declared.path.Path.{Path}
 use Rattle.nc_number.specs.declared.path.Path.TheVariants.{One, Two}
 use Rattle.nc_number.specs.declared.point.Point.{Point}
+use Rattle.nc_number.specs.Both.{of_path}
 use Rattle.nc_number.specs.Path.{other_of}
 use Rattle.nc_outside.specs.declared.halt.Halt.TheVariants.{Disk}
 use Rattle.nc_outside.specs.declared.got.Got.{Got}
@@ -19,21 +21,12 @@ use Rattle.turret_run.specs.declared.ending.TurretEnd.{TurretEnd}
 use Rattle.turret_run.specs.declared.ending.TurretEnd.TheVariants.{Ended, TurretFault, NoMemory}
 use Rattle.turret_run.specs.Served.{told, GetsAll, GetsPart, GetsSome, FailsAmong, Misses}
 
--- The turrets of both paths at one moment.
-pub record Turrets : Type 0 where
-  pub left : TurretState
-  pub right : TurretState
-
-abbrev pub turret_for : Path → Turrets → TurretState
-turret_for One turrets = turrets.left
-turret_for Two turrets = turrets.right
-
 -- where the turret of a path stands
 abbrev pub place_of : Path → MachineView → Point
 place_of path m = (own_first path m).first.path.position
 
--- What is due to the turret of a path: its place at the beginning, and the moves of the path's records since then that are on the
--- disk at the end.
+-- What is due to the turret of a path: its place at the beginning, and the moves of the path's
+-- records since then that are on the disk at the end.
 abbrev pub due : {D : Type 0} → Path → TableView D → TableView D → List Got
 due path old new = told (place_of path old.machine)
     (moves_made new.verified path (length old.recording.history) new.recording.flushed new.recording.history)
@@ -46,28 +39,21 @@ GetsAt run.Full what old new = GetsAll what old new
 GetsAt run.Stopped what old new = GetsAll what old new
 GetsAt run.DiskFault what old new = GetsSome what old new
 
--- beside the turret that is named as failed the other one got all that is due, or it failed too; that of path 1 did not, else it were named
+-- beside the turret that is named as failed the other one got all that is due, or it failed too;
+-- that of path 1 did not, else it were named
 abbrev pub GetsBeside : Path → List Got → TurretState → TurretState → Type 0
 GetsBeside One what old new = GetsAll what old new ⊎ FailsAmong what old new
 GetsBeside Two what old new = GetsAll what old new
 
--- beside the turret that failed at its place that of path 2 was not called, and that of path 1 had got its place
+-- beside the turret that failed at its place that of path 2 was not called, and that of path 1 had
+-- got its place
 abbrev pub StandsBeside : Path → List Got → TurretState → TurretState → Type 0
 StandsBeside One place old new = new ≡ old
 StandsBeside Two place old new = GetsAll place old new
 
--- How many moves of records that are on the disk the turret of each path did not get.
-pub record Missed : Type 0 where
-  pub left : ℕ
-  pub right : ℕ
-
-abbrev pub missed_by : Path → Missed → ℕ
-missed_by One missed = missed.left
-missed_by Two missed = missed.right
-
 -- no turret missed a move
-abbrev pub none_missed : Missed
-none_missed = record { left = 0; right = 0 }
+abbrev pub none_missed : Both ℕ
+none_missed = record { one = 0; two = 0 }
 
 -- The table is as it was, but for the room for records and the leave to make them.
 pub record Stays {D : Type 0} (old new : TableView D) : Type 0 where
@@ -79,36 +65,41 @@ pub record Stays {D : Type 0} (old new : TableView D) : Type 0 where
   pub version : new.recording.log.version ≡ old.recording.log.version
   pub halt : new.halt ≡ old.halt
 
-module _ {D : Type 0} (state : D → DiskState) (limit : ℕ) (old new : TableView D) (before after : Turrets) (missed : Missed) where
+module _ {D : Type 0} (state : D → DiskState) (limit : ℕ) (old new : TableView D) (before after : Both TurretState) (missed : Both ℕ) where
+  -- Before and after are the turrets, and missed is how many moves of records that are on the disk
+  -- each of them did not get.
+
   -- The run ended: the table is one that has come of the old one with so many records at most.
   pub record HasEnded (end : RunEnd) : Type 0 where
     pub since : Since state (record old { budget = limit }) new
     pub ends : EndsBy state old new end
-    pub turrets : (path : Path) → GetsAt end (due path old new) (turret_for path before) (turret_for path after)
-    pub misses : (path : Path) → Misses (due path old new) (missed_by path missed) (turret_for path before) (turret_for path after)
+    pub turrets : (path : Path) → GetsAt end (due path old new) (of_path before path) (of_path after path)
+    pub misses : (path : Path) → Misses (due path old new) (of_path missed path) (of_path before path) (of_path after path)
 
   -- A turret failed behind its place, and no call of the disk failed.
   pub record HasFailed (path : Path) : Type 0 where
     pub since : Since state (record old { budget = limit }) new
     pub disk : new.halt ≢ Some Disk
     pub calm : (state new.recording.log.file.disk).faults ≡ (state old.recording.log.file.disk).faults
-    pub failed : FailsAmong (due path old new) (turret_for path before) (turret_for path after)
-    pub other : GetsBeside path (due (other_of path) old new) (turret_for (other_of path) before) (turret_for (other_of path) after)
-    pub misses : (p : Path) → Misses (due p old new) (missed_by p missed) (turret_for p before) (turret_for p after)
+    pub failed : FailsAmong (due path old new) (of_path before path) (of_path after path)
+    pub other : GetsBeside path (due (other_of path) old new) (of_path before (other_of path)) (of_path after (other_of path))
+    pub misses : (p : Path) → Misses (due p old new) (of_path missed p) (of_path before p) (of_path after p)
 
-  -- A turret failed at its place: the table is as it was, no turret got a move, and the other one got no more than its place.
+  -- A turret failed at its place: the table is as it was, no turret got a move, and the other one
+  -- got no more than its place.
   pub record IsNotPlaced (path : Path) : Type 0 where
     pub since : Since state (record old { budget = limit }) new
     pub same : Stays old new
     pub disk : new.halt ≢ Some Disk
-    pub failed : FailsAmong (told (place_of path old.machine) []) (turret_for path before) (turret_for path after)
-    pub other : StandsBeside path (told (place_of (other_of path) old.machine) []) (turret_for (other_of path) before) (turret_for (other_of path) after)
+    pub failed : FailsAmong (told (place_of path old.machine) []) (of_path before path) (of_path after path)
+    pub other : StandsBeside path (told (place_of (other_of path) old.machine) []) (of_path before (other_of path)) (of_path after (other_of path))
     pub none : missed ≡ none_missed
 
-  -- Memory was wanting before the first step, or a thread was refused: no record was made, and no turret got more than its place.
+  -- Memory was wanting before the first step, or a thread was refused: no record was made, and no
+  -- turret got more than its place.
   pub record HasNotBegun : Type 0 where
     pub same : Stays old new
-    pub turrets : (path : Path) → GetsPart (told (place_of path old.machine) []) (turret_for path before) (turret_for path after)
+    pub turrets : (path : Path) → GetsPart (told (place_of path old.machine) []) (of_path before path) (of_path after path)
     pub none : missed ≡ none_missed
 
   -- What a run with turrets comes to, for at most so many records.

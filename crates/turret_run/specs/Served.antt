@@ -12,8 +12,8 @@ use Rattle.drive_line.specs.Driving.{most}
 abbrev pub told : Point → List LinedMove → List Got
 told at moves = Placed at ∷ map Moved moves
 
--- A turret got the first n of these, a call each. Where it failed, that was at one call more, for the next of them, or at a settle. Only
--- then its count of faults rose.
+-- A turret got the first n of these, a call each. Where it failed, that was at one call more, for
+-- the next of them, or at a settle. Only then its count of faults rose.
 pub record GetsFirst (what : List Got) (n : ℕ) (failed : Bool) (old new : TurretState) : Type 0 where
   pub at_call : ℕ  -- how many calls failed
   pub settles : ℕ

@@ -1,12 +1,14 @@
-//! A held table may go to another thread. Each law stands on the ones before it, which keeps each proof short.
+//! A held table may go to another thread. Each law stands on the ones before it, which keeps each
+//! proof short.
 ghost use denote.Param.Send.{IsSend};
 ghost use Rattle.cell_settings.specs.contracts.settings.Settings.{the_row as settings_row};
+ghost use Rattle.nc_number.specs.contracts.list_of.ListOf.{the_row as list_row};
 ghost use Rattle.nc_verify.specs.contracts.verified.Verified.{the_row as pair_row};
 ghost use Rattle.run_records.specs.contracts.lists.EntryList.{the_row as entries_row};
 ghost use Rattle.run_table.specs.contracts.held.Held.{the_row as held_row};
 ghost use Rattle.run_table.specs.contracts.table.Table.{the_row as table_row};
 ghost use Rattle.tape_flow.specs.contracts.flow.Flow.{the_row as flow_row};
-ghost use Rattle.tape_flow.specs.contracts.program.FlowProgramList.{the_row as programs_row};
+ghost use Rattle.tape_flow.specs.contracts.program.FlowProgram.{the_row as program_row};
 ghost use Rattle.two_path.specs.contracts.machine.Machine.{the_row as machine_row};
 
 use cell_settings::Settings;
@@ -16,19 +18,21 @@ use run_table::Opening;
 use tape_flow::{Flow, FlowBlockList, FlowProgram, FlowProgramList};
 use two_path::Machine;
 
-// What may go to another thread does.
+/// What may go to another thread does.
 fn crosses<T: Send>()
     ensures { IsSend T.row }
 {}
 
+/// The programs of a tape may go to another thread.
 fn programs_cross()
-    ensures { IsSend programs_row }
+    ensures { IsSend (list_row program_row) }
 {
     crosses::<FlowBlockList>();
     crosses::<FlowProgram>();
     crosses::<FlowProgramList>();
 }
 
+/// So may a tape.
 fn flow_crosses()
     ensures { IsSend flow_row }
 {
@@ -36,12 +40,14 @@ fn flow_crosses()
     crosses::<Flow>();
 }
 
+/// So may settings.
 fn settings_cross()
     ensures { IsSend settings_row }
 {
     crosses::<Settings>();
 }
 
+/// So may an accepted pair.
 fn pair_crosses()
     ensures { IsSend pair_row }
 {
@@ -49,18 +55,21 @@ fn pair_crosses()
     settings_cross();
 }
 
+/// So may a machine.
 fn machine_crosses()
     ensures { IsSend machine_row }
 {
     crosses::<Machine>();
 }
 
+/// So may the records of a run.
 fn entries_cross()
     ensures { IsSend entries_row }
 {
     crosses::<EntryList>();
 }
 
+/// So may a table, where its disk may.
 fn table_crosses<D: Disk + Send>()
     ensures { IsSend (table_row D.row D.Disk) }
 {

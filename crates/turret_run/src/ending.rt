@@ -1,11 +1,11 @@
 //! How a run with turrets ends.
 use disk_model::Disk;
-use nc_number::Path;
+use nc_number::{Both, Path};
 use nc_outside::Turret;
 use run_table::{RunEnd, Table};
 
-/// How a run with turrets ended. Of several causes it is the first of: a fault of the disk, a fault of a turret, that of
-/// path 1 before that of path 2, and then the other ends of a run.
+/// How a run with turrets ended. Of several causes it is the first of: a fault of the disk, a fault
+/// of a turret, that of path 1 before that of path 2, and then the other ends of a run.
 #[derive(Clone, Copy, Debug, PartialEq, Eq)]
 pub enum TurretEnd {
     /// The run ended, and no turret failed before, or the disk did.
@@ -20,11 +20,8 @@ pub enum TurretEnd {
 #[derive(Drop)]
 pub struct TurretRun<D: Disk, T: Turret> {
     pub table: Table<D>,
-    pub left: T,
-    pub right: T,
+    pub turrets: Both<T>,
     pub end: TurretEnd,
-    /// How many moves of records that are on the disk the turret of path 1 did not get.
-    pub left_missed: u64,
-    /// The same of path 2.
-    pub right_missed: u64,
+    /// How many moves of records that are on the disk each turret did not get.
+    pub missed: Both<u64>,
 }

@@ -1,17 +1,30 @@
-//! A run with its turrets: both paths of an opened table at once, in four threads, each turret with its place first.
+//! A run with its turrets: both paths of an opened table at once, in four threads, each turret with
+//! its place first.
 //!
-//! Each turret gets its place and then, in order and a call each, just the moves of its path's records that the run made; a
-//! first part of them if it or the disk failed, and how many it missed is told. The layer above leans on that, and on the
-//! first of the causes that stand together: a fault of the disk, a fault of a turret, and then as a run of two paths ends.
-//! Before a turret is placed the threads of the run are tried.
+//! `run_with_turrets` gives each turret its place and then, in order and a call each, just the moves
+//! of its path's records that the run made; a first part of them if it or the disk failed, and how
+//! many it missed is told. The layer above leans on that, and on the first of the causes that stand
+//! together: a fault of the disk, a fault of a turret, and then as a run of two paths ends. Before a
+//! turret is placed the threads of the run are tried.
+//!
+//! It runs both paths by `run_pair`: each has a worker, which steps it from its seat, and a drive,
+//! which hands its moves to its turret. The turns that are left then are given one by one, in the
+//! caller's thread, by `give_turn`. Behind both, each turret took the moves of its path's records,
+//! all of them, or those before the point at which it failed.
 #![tactic(auto)]
 
 mod crossing;
 mod ending;
+mod pair;
 mod placing;
 mod rest;
 mod run;
 mod threads;
+mod turns;
 
 pub use ending::{TurretEnd, TurretRun};
 pub use run::run_with_turrets;
+
+// For users of the library: both paths of any table, and single turns of them.
+pub use pair::{Ran, Unrun, run_pair};
+pub use turns::give_turn;

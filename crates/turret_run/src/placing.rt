@@ -1,10 +1,11 @@
 //! What comes before a run: leave for its records, and the places of both turrets.
 ghost use Rattle.std.specs.Prelude.{◌≡◌, [], IfErr, OnOk};
+ghost use Rattle.nc_number.specs.Both.{both_of};
 ghost use Rattle.turret_run.specs.Runs.{Stays};
 ghost use Rattle.turret_run.specs.Rests.{ArePlaced, FailsAtPlace};
 
 use disk_model::Disk;
-use nc_number::{NoMemory, Path};
+use nc_number::{Both, NoMemory, Path};
 use nc_outside::Turret;
 use run_table::Table;
 
@@ -16,23 +17,21 @@ pub(crate) fn make_ready<D: Disk>(table: &mut Table<D>, limit: u32) -> Result<()
     table.prepare(limit)
 }
 
-/// Places both turrets where their paths stand, that of path 1 first. It answers the path whose turret failed.
+/// Places both turrets where their paths stand, that of path 1 first. It answers the path whose
+/// turret failed.
 pub(crate) fn place_both<D: Disk, T: Turret>(
     table: &Table<D>,
-    left: &mut T,
-    right: &mut T,
+    turrets: &mut Both<T>,
 ) -> Result<(), Path>
     ensures ok { OnOk result (ArePlaced table.now.machine
-        (record { left = T.state left.old; right = T.state right.old })
-        (record { left = T.state left.new; right = T.state right.new })) }
+        (both_of T.state turrets.old) (both_of T.state turrets.new)) }
     ensures err { IfErr result (FailsAtPlace table.now.machine
-        (record { left = T.state left.old; right = T.state right.old })
-        (record { left = T.state left.new; right = T.state right.new })) }
+        (both_of T.state turrets.old) (both_of T.state turrets.new)) }
 {
-    if let Err(_) = left.place(table.position(Path::One)) {
+    if let Err(_) = turrets.one.place(table.position(Path::One)) {
         return Err(Path::One);
     }
-    if let Err(_) = right.place(table.position(Path::Two)) {
+    if let Err(_) = turrets.two.place(table.position(Path::Two)) {
         return Err(Path::Two);
     }
     Ok(())

@@ -1,36 +1,46 @@
 //! The turns that are left behind the threads.
 ghost use Rattle.std.specs.Prelude.{◌≡◌, List, IfSome};
-ghost use Rattle.drive_line.specs.Driving.{has_failed, Serves};
+ghost use Rattle.drive_line.specs.Driving.{Serves};
 ghost use Rattle.nc_outside.specs.declared.lined_move.LinedMove.{LinedMove as Lined};
 ghost use Rattle.nc_outside.specs.Received.{TurretState};
 ghost use Rattle.nc_number.specs.declared.path.Path.{Path as OnePath};
 ghost use Rattle.nc_number.specs.declared.path.Path.TheVariants.{One, Two};
 ghost use Rattle.run_table.specs.Holding.{records_since};
-ghost use Rattle.turret_run.specs.Rests.{ServesOn, IsStillOrFailed, HasCause, first_failed};
+ghost use Rattle.turret_run.specs.Rests.{ServesOn, IsStillOrFailed, HasCause, who_failed, first_failed};
 
-use crate::TurretEnd;
+use crate::ending::TurretEnd;
+use crate::turns::give_turn;
 use disk_model::Disk;
 use drive_line::Driven;
-use lane_pair::give_turn;
-use nc_number::Path;
+use nc_number::{Both, Path};
 use nc_outside::Turret;
 use run_table::{Held, Opening, RunEnd};
 use std::sync::Wait;
 
-// The path whose turret failed, that of path 1 first.
-fn first_failed(left: bool, right: bool) -> Option<Path>
-    ensures { result ≡ first_failed left right }
+/// Which turrets have failed.
+fn who_failed<T: Turret>(turrets: &Both<Driven<T>>) -> Both<bool>
+    ensures { result ≡ who_failed turrets.now }
 {
-    if left {
+    Both {
+        one: turrets.one.has_failed(),
+        two: turrets.two.has_failed(),
+    }
+}
+
+/// The path whose turret failed, that of path 1 first.
+fn first_failed(failed: Both<bool>) -> Option<Path>
+    ensures { result ≡ first_failed failed }
+{
+    if failed.one {
         return Some(Path::One);
     }
-    if right {
+    if failed.two {
         return Some(Path::Two);
     }
     None
 }
 
-// The end of the run, where no turn is to be given any more.
+/// The end of the run, where no turn is to be given any more.
 fn end_of_run<D: Disk, O: Opening<D>>(
     table: &mut Held<D, O>,
     failed: Option<Path>,
@@ -51,7 +61,7 @@ fn end_of_run<D: Disk, O: Opening<D>>(
     }
 }
 
-// Waits until the turret stands still, unless it has failed.
+/// Waits until the turret stands still, unless it has failed.
 fn settle<T: Turret>(driven: &mut Driven<T>)
     ensures serves { (moves : List Lined) (start : TurretState)
         → Serves moves start driven.old → Serves moves start driven.new }
@@ -60,45 +70,47 @@ fn settle<T: Turret>(driven: &mut Driven<T>)
     driven.settle();
 }
 
-// A turn of the path, whose moves go to its turret.
+/// A turn of the path, whose moves go to its turret.
 fn give_turn_of<R: Wait, D: Disk, O: Opening<D>, T: Turret>(
     rt: &R,
     table: &mut Held<D, O>,
     path: Path,
-    left: &mut Driven<T>,
-    right: &mut Driven<T>,
+    turrets: &mut Both<Driven<T>>,
 )
-    ensures left { ServesOn (records_since O.opened table.old One) left.old (records_since O.opened table.new One) left.new }
-    ensures right { ServesOn (records_since O.opened table.old Two) right.old (records_since O.opened table.new Two) right.new }
+    ensures one { ServesOn (records_since O.opened table.old One) turrets.old.one
+        (records_since O.opened table.new One) turrets.new.one }
+    ensures two { ServesOn (records_since O.opened table.old Two) turrets.old.two
+        (records_since O.opened table.new Two) turrets.new.two }
 {
     match path {
-        Path::One => give_turn(rt, table, Path::One, left),
-        Path::Two => give_turn(rt, table, Path::Two, right),
+        Path::One => give_turn(rt, table, Path::One, &mut turrets.one),
+        Path::Two => give_turn(rt, table, Path::Two, &mut turrets.two),
     }
 }
 
-/// Gives path 1 and path 2 their turns, by turns, until the run ends or a turret fails, and answers which. Both turrets stand still then,
-/// but for one that failed.
+/// Gives path 1 and path 2 their turns, by turns, until the run ends or a turret fails, and answers
+/// which. Both turrets stand still then, but for one that failed.
 pub(crate) fn give_rest<R: Wait, D: Disk, O: Opening<D>, T: Turret>(
     rt: &R,
     table: &mut Held<D, O>,
-    left: &mut Driven<T>,
-    right: &mut Driven<T>,
+    turrets: &mut Both<Driven<T>>,
 ) -> TurretEnd
-    ensures left { ServesOn (records_since O.opened table.old One) left.old (records_since O.opened table.new One) left.new }
-    ensures right { ServesOn (records_since O.opened table.old Two) right.old (records_since O.opened table.new Two) right.new }
-    ensures still { IsStillOrFailed left.new.phase × IsStillOrFailed right.new.phase }
-    ensures ends { HasCause table.new (first_failed (has_failed left.new.phase) (has_failed right.new.phase)) result }
+    ensures one { ServesOn (records_since O.opened table.old One) turrets.old.one
+        (records_since O.opened table.new One) turrets.new.one }
+    ensures two { ServesOn (records_since O.opened table.old Two) turrets.old.two
+        (records_since O.opened table.new Two) turrets.new.two }
+    ensures still { IsStillOrFailed turrets.new.one.phase × IsStillOrFailed turrets.new.two.phase }
+    ensures ends { HasCause table.new (first_failed (who_failed turrets.new)) result }
 {
     let mut path = Path::One;
     for _ in rt.forever() {
-        settle(left);
-        settle(right);
-        let failed = first_failed(left.has_failed(), right.has_failed());
+        settle(&mut turrets.one);
+        settle(&mut turrets.two);
+        let failed = first_failed(who_failed(turrets));
         if let Some(end) = end_of_run(table, failed) {
             return end;
         }
-        give_turn_of(rt, table, path, left, right);
+        give_turn_of(rt, table, path, turrets);
         path = path.other();
     }
     unreachable!()

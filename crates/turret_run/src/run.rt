@@ -1,16 +1,22 @@
 //! A run of an opened table with its turrets.
 ghost use Rattle.std.specs.Prelude.{◌≡◌, length, Some, None};
 ghost use Rattle.run_table.specs.Running.{MayRun, IsNoneOrAlarm, end_of};
-ghost use Rattle.turret_run.specs.Runs.{Turrets, RunsWith};
+ghost use Rattle.nc_number.specs.declared.both.Both.{Both};
+ghost use Rattle.nc_number.specs.Both.{both_of};
+ghost use Rattle.nc_outside.specs.Received.{TurretState};
+ghost use Rattle.turret_run.specs.declared.ending.TurretEnd.TheVariants.{NoMemory};
+ghost use Rattle.turret_run.specs.Runs.{none_missed, RunsWith};
 ghost use Rattle.turret_run.specs.Rests.{ArePlaced};
 
 use crate::crossing::held_crosses;
 use crate::ending::{TurretEnd, TurretRun};
+use crate::pair::{Ran, Unrun, run_pair};
 use crate::placing::{make_ready, place_both};
 use crate::rest::give_rest;
 use crate::threads::can_make_threads;
 use disk_model::Disk;
-use lane_pair::{Ran, Unrun, run_pair};
+use drive_line::Driven;
+use nc_number::Both;
 use nc_outside::Turret;
 use run_table::{Held, Opening, Table, a_table_opens_itself, a_taken_table_ended_so};
 use std::alloc::Global;
@@ -18,13 +24,13 @@ use std::marker::Brand;
 use std::sync::Wait;
 use std::thread::Threads;
 
-// Runs both paths of the table that is the opening, and then gives the turns that are left. Both turrets were placed.
+/// Runs both paths of the table that is the opening, and then gives the turns that are left. Both
+/// turrets were placed.
 fn run_opened<O, R, D, T>(
     rt: &R,
     alloc: Global,
     table: Table<D>,
-    left: T,
-    right: T,
+    turrets: Both<T>,
 ) -> TurretRun<D, T>
 where
     O: Opening<D> + Send + Sync,
@@ -34,60 +40,81 @@ where
     requires opening { O.opened ≡ Some table }
     requires halt { IsNoneOrAlarm table.halt }
     requires all { table.recording.flushed ≡ length table.recording.history }
-    ensures run { (start : Turrets)
-        → ArePlaced table.machine start (record { left = T.state left; right = T.state right })
-        → RunsWith D.state table.budget table result.table start
-        (record { left = T.state result.left; right = T.state result.right })
-        (record { left = result.left_missed; right = result.right_missed }) result.end }
+    ensures run { (start : Both TurretState) → ArePlaced table.machine start (both_of T.state turrets)
+        → RunsWith D.state table.budget table result.table start (both_of T.state result.turrets)
+        result.missed result.end }
 {
     a_table_opens_itself::<D>();
     a_taken_table_ended_so::<D>();
     held_crosses::<D, O>();
-    match run_pair(rt, alloc, Held::<D, O>::new(table), left, right) {
+    match run_pair(rt, alloc, Held::<D, O>::new(table), turrets) {
         Ok(ran) => {
             let Ran {
                 mut table,
-                mut left,
-                mut right,
+                mut turrets,
             } = ran;
-            let end = give_rest(rt, &mut table, &mut left, &mut right);
-            let left_missed = left.missed();
-            let right_missed = right.missed();
+            let end = give_rest(rt, &mut table, &mut turrets);
+            let missed = who_missed(&turrets);
             TurretRun {
                 table: table.into_table(),
-                left: left.into_turret(),
-                right: right.into_turret(),
+                turrets: let_go(turrets),
                 end,
-                left_missed,
-                right_missed,
+                missed,
             }
         }
         Err(unrun) => {
-            let Unrun { table, left, right } = unrun;
-            TurretRun {
-                table: table.into_table(),
-                left,
-                right,
-                end: TurretEnd::NoMemory,
-                left_missed: 0,
-                right_missed: 0,
-            }
+            let Unrun { table, turrets } = unrun;
+            unbegun(table.into_table(), turrets)
         }
     }
 }
 
-/// Places both turrets where their paths stand, that of path 1 first, and then runs both paths at once, until the run ends
-/// or has made `limit` records. Each path has a worker and a drive, in threads of their own.
+/// How many moves each turret did not get.
+fn who_missed<T: Turret>(turrets: &Both<Driven<T>>) -> Both<u64>
+    ensures { result ≡ both_of (λ d. d.missed) turrets.now }
+{
+    Both {
+        one: turrets.one.missed(),
+        two: turrets.two.missed(),
+    }
+}
+
+/// Both turrets, without their drives.
+fn let_go<T: Turret>(turrets: Both<Driven<T>>) -> Both<T>
+    ensures { both_of T.state result ≡ both_of (λ d. d.state) turrets }
+{
+    let Both { one, two } = turrets;
+    Both {
+        one: one.into_turret(),
+        two: two.into_turret(),
+    }
+}
+
+/// A run that has not begun, for want of memory or threads.
+fn unbegun<D: Disk, T: Turret>(table: Table<D>, turrets: Both<T>) -> TurretRun<D, T>
+    ensures { result ≡ record { table = table; turrets = turrets; end = NoMemory; missed = none_missed } }
+{
+    TurretRun {
+        table,
+        turrets,
+        end: TurretEnd::NoMemory,
+        missed: Both { one: 0, two: 0 },
+    }
+}
+
+/// Places both turrets where their paths stand, that of path 1 first, and then runs both paths at
+/// once, until the run ends or has made `limit` records. Each path has a worker and a drive, in
+/// threads of their own.
 ///
-/// Memory may be wanting only before the first step. So are threads: before a turret is placed as many are made at once as
-/// the run needs, and where one is refused nothing is done. A thread that is refused after that makes it wait for ever.
+/// Memory may be wanting only before the first step. So are threads: before a turret is placed as
+/// many are made at once as the run needs, and where one is refused nothing is done. A thread that
+/// is refused after that makes it wait for ever.
 pub fn run_with_turrets<R, D, T>(
     rt: &R,
     alloc: Global,
     table: Table<D>,
     limit: u32,
-    left: T,
-    right: T,
+    turrets: Both<T>,
 ) -> TurretRun<D, T>
 where
     R: Threads + Wait + Sync,
@@ -95,45 +122,26 @@ where
     T: Turret + Send,
     requires may { MayRun table }
     requires unended { end_of table.machine ≡ None }
-    ensures run { RunsWith D.state limit table result.table
-        (record { left = T.state left; right = T.state right })
-        (record { left = T.state result.left; right = T.state result.right })
-        (record { left = result.left_missed; right = result.right_missed }) result.end }
+    ensures run { RunsWith D.state limit table result.table (both_of T.state turrets) (both_of T.state result.turrets)
+        result.missed result.end }
 {
     a_table_opens_itself::<D>();
     let mut table = table;
-    let mut left = left;
-    let mut right = right;
+    let mut turrets = turrets;
     let Ok(()) = make_ready(&mut table, limit) else {
-        return TurretRun {
-            table,
-            left,
-            right,
-            end: TurretEnd::NoMemory,
-            left_missed: 0,
-            right_missed: 0,
-        };
+        return unbegun(table, turrets);
     };
     if !can_make_threads(rt) {
-        return TurretRun {
-            table,
-            left,
-            right,
-            end: TurretEnd::NoMemory,
-            left_missed: 0,
-            right_missed: 0,
-        };
+        return unbegun(table, turrets);
     }
-    if let Err(path) = place_both(&table, &mut left, &mut right) {
+    if let Err(path) = place_both(&table, &mut turrets) {
         let end = TurretEnd::TurretFault(path);
         return TurretRun {
             table,
-            left,
-            right,
+            turrets,
             end,
-            left_missed: 0,
-            right_missed: 0,
+            missed: Both { one: 0, two: 0 },
         };
     }
-    run_opened::<Brand, R, D, T>(rt, alloc, table, left, right)
+    run_opened::<Brand, R, D, T>(rt, alloc, table, turrets)
 }

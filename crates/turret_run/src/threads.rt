@@ -5,7 +5,7 @@ use std::sync::atomic::Ordering::SeqCst;
 use std::thread;
 use std::thread::Threads;
 
-// Waits until all were tried.
+/// Waits until all were tried.
 fn hold<R: Wait>(rt: &R, tried: &AtomicU64) {
     for _ in rt.forever() {
         if tried.load(SeqCst) != 0 {
@@ -16,8 +16,8 @@ fn hold<R: Wait>(rt: &R, tried: &AtomicU64) {
     unreachable!()
 }
 
-/// Makes as many threads at once as a run needs besides its caller's, and lets them end. False where one is refused. Between this
-/// and the run a thread may still be refused.
+/// Makes as many threads at once as a run needs besides its caller's, and lets them end. False
+/// where one is refused. Between this and the run a thread may still be refused.
 pub(crate) fn can_make_threads<R: Threads + Wait + Sync>(rt: &R) -> bool {
     let tried = AtomicU64::new(0);
     let all = &tried;

@@ -1,5 +1,6 @@
 use Rattle.std.proofs.Common.{◌≡◌, ◌+◌, ◌≤◌, None, length, take}
 use Rattle.std.specs.Prelude.{IsTrue}
+use Rattle.nc_number.specs.declared.limits.TheConstants.{MOST_RECORDS}
 use Rattle.run_records.specs.declared.version.Version.TheVariants.{Two}
 use Rattle.run_journal.specs.Stands.{Pends}
 use Rattle.run_edits.specs.Made.{records_of}
@@ -11,8 +12,8 @@ invariant-loop-what g l = record {
   file : l.journal.file ≡ l.fn.journal.file;
   live : IsTrue l.journal.file.live;
   version : l.journal.version ≡ Two;
-  taken : l.journal.count + length l.edits ≤ 4000000 + l.what-index;
+  taken : l.journal.count + length l.edits ≤ MOST_RECORDS + l.what-index;
   calm : l.machine.machine.alarm ≡ None;
   room : length l.edits ≤ l.what-index + l.machine.room;
-  few : l.machine.machine.count + length l.edits ≤ 4000000 + l.what-index;
+  few : l.machine.machine.count + length l.edits ≤ MOST_RECORDS + l.what-index;
 }

@@ -1,6 +1,7 @@
 use Rattle.std.proofs.Common.{[], ◌∷◌}
+use Rattle.nc_outside.specs.declared.stepper.Call.TheVariants.{Step}
 use Rattle.seat_table.proofs.stepper.step_noted.Given as goal
 
 -- the call that is noted
-abbrev pub ghosts-note : goal.ghosts-note
-ghosts-note g a = record { calls = a.call ∷ [] }
+abbrev pub ghosts-note_step : goal.ghosts-note_step
+ghosts-note_step g a = record { calls = Step a.path a.answer.now ∷ [] }

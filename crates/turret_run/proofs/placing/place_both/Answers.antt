@@ -13,14 +13,14 @@ returns-in-Err-clause-err g c =
     let state = g.T.Turret.state in
     let m = c.args.table.now.machine in
     let fault = c.in-Err.ensures.fault in
-    (not_placed (place_of One m) (state c.args.left.now) (state c.place.new.self) c.in-Err.ensures.err fault.later (fault.rose refl), refl)
+    (not_placed (place_of One m) (state c.args.turrets.now.one) (state c.place.new.self) c.in-Err.ensures.err fault.later (fault.rose refl), refl)
 
 pub returns-in-Err-place-clause-err : goal.returns-in-Err-place-clause-err
 returns-in-Err-place-clause-err g c =
     let state = g.T.Turret.state in
     let m = c.args.table.now.machine in
     let fault = c.in-Err-place.ensures.fault in
-    let got = subst (λ (at : Point). Receives (state c.args.left.now) (state c.place.new.self) (Placed at ∷ []) 1) c.position.ensures c.in_default.ensures.ok in (
-      not_placed (place_of Two m) (state c.args.right.now) (state c.place-2.new.self) c.in-Err-place.ensures.err fault.later (fault.rose refl),
-      placed (place_of One m) (state c.args.left.now) (state c.place.new.self) got (c.in_default.ensures.fault.kept (λ p. true≢false (sym p))),
+    let got = subst (λ (at : Point). Receives (state c.args.turrets.now.one) (state c.place.new.self) (Placed at ∷ []) 1) c.position.ensures c.in_default.ensures.ok in (
+      not_placed (place_of Two m) (state c.args.turrets.now.two) (state c.place-2.new.self) c.in-Err-place.ensures.err fault.later (fault.rose refl),
+      placed (place_of One m) (state c.args.turrets.now.one) (state c.place.new.self) got (c.in_default.ensures.fault.kept (λ p. true≢false (sym p))),
     )

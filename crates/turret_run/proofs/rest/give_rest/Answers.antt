@@ -13,20 +13,20 @@ still : (old new now : Records) (was is settled : DrivenState) → now ≡ new �
     → ServesOn old was new is → ServesOn old was now settled
 still old new now was is settled same on s = λ start before. subst (λ r. Serves (moves_in r) start settled) (sym same) (on (moves_in new) start (s start before))
 
-pub returns-in-Some-end_of_run-clause-left : goal.returns-in-Some-end_of_run-clause-left
-returns-in-Some-end_of_run-clause-left g c =
+pub returns-in-Some-end_of_run-clause-one : goal.returns-in-Some-end_of_run-clause-one
+returns-in-Some-end_of_run-clause-one g c =
     still (records_since g.O.Opening.opened c.args.table.now One) _ _ _ _ _ (c.end_of_run.ensures.same One) c.settle.ensures.serves c.loop.invariant.2
 
-pub returns-in-Some-end_of_run-clause-right : goal.returns-in-Some-end_of_run-clause-right
-returns-in-Some-end_of_run-clause-right g c =
+pub returns-in-Some-end_of_run-clause-two : goal.returns-in-Some-end_of_run-clause-two
+returns-in-Some-end_of_run-clause-two g c =
     still (records_since g.O.Opening.opened c.args.table.now Two) _ _ _ _ _ (c.end_of_run.ensures.same Two) c.settle-in-loop.ensures.serves c.loop.invariant.3
 
 pub loop-preserved : goal.loop-preserved
 loop-preserved g c = (
   tt,
   tt,
-  λ start before. c.give_turn_of.ensures.left start
+  λ start before. c.give_turn_of.ensures.one start
       (still (records_since g.O.Opening.opened c.args.table.now One) _ _ _ _ _ (c.end_of_run.ensures.same One) c.settle.ensures.serves c.loop.invariant.2 start before),
-  λ start before. c.give_turn_of.ensures.right start
+  λ start before. c.give_turn_of.ensures.two start
       (still (records_since g.O.Opening.opened c.args.table.now Two) _ _ _ _ _ (c.end_of_run.ensures.same Two) c.settle-in-loop.ensures.serves c.loop.invariant.3 start before),
 )

@@ -7,5 +7,5 @@ use Rattle.turret_run.proofs.rest.give_rest.Given as goal
 abbrev pub invariant-loop : goal.invariant-loop
 invariant-loop g l =
     (goal.iterator-loop g).can_next l.iterator' × (goal.iterator-loop g).is_finite l.iterator'
-    × ServesOn (records_since g.O.Opening.opened l.initial.table One) l.initial.left (records_since g.O.Opening.opened l.table One) l.left
-    × ServesOn (records_since g.O.Opening.opened l.initial.table Two) l.initial.right (records_since g.O.Opening.opened l.table Two) l.right
+    × ServesOn (records_since g.O.Opening.opened l.initial.table One) l.initial.turrets.one (records_since g.O.Opening.opened l.table One) l.turrets.one
+    × ServesOn (records_since g.O.Opening.opened l.initial.table Two) l.initial.turrets.two (records_since g.O.Opening.opened l.table Two) l.turrets.two

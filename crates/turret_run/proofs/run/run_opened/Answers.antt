@@ -1,8 +1,14 @@
 use Rattle.std.proofs.Common.{ap, sym, ◌∙◌, subst, refl}
+use Rattle.nc_number.specs.declared.both.Both.{Both}
+use Rattle.nc_number.specs.declared.path.Path.{Path}
 use Rattle.nc_number.specs.declared.path.Path.TheVariants.{One, Two}
-use Rattle.drive_line.specs.Driving.{has_failed}
+use Rattle.nc_number.specs.Both.{both_of, of_path}
+use Rattle.nc_outside.specs.Received.{TurretState}
 use Rattle.run_table.specs.Holding.{MayHold, without_turret}
-use Rattle.turret_run.proofs.TurretsRun.{none_since, taken_since, got, run_ends, placed_only, calm_is_no_disk, calm_stays}
+use Rattle.turret_run.specs.Rests.{ArePlaced, who_failed}
+use Rattle.turret_run.specs.Runs.{due}
+use Rattle.turret_run.proofs.TurretsGet.{GotBy}
+use Rattle.turret_run.proofs.TurretsRun.{for_each, none_since, taken_since, got, run_ends, placed_only, calm_is_no_disk, calm_stays}
 use Rattle.turret_run.proofs.run.run_opened.Goals as goal
 
 pub new-requires : goal.new-requires
@@ -20,17 +26,19 @@ returns-in-Ok g c =
     let out = c.into_table in
     let rest = c.give_rest-end in
     let held = rest.new.table in
+    let now = rest.new.turrets in
     let is = c.requires.opening in
     let since = taken_since state opened t out.result held is out.ensures.of out.ensures.shown in
     let gets = got state opened t out.result held is out.ensures.of out.ensures.shown in
-    let first = rest.ensures.left (turret c.args.left) c.in-Ok.ensures.left in
-    let second = rest.ensures.right (turret c.args.right) c.in-Ok.ensures.right in
+    let gots : (start : Both TurretState) → ArePlaced t.machine start (both_of turret c.args.turrets)
+    → (path : Path) → GotBy (of_path (who_failed now) path) (of_path (both_of (λ d. d.missed) now) path) (due path t out.result) (of_path start path) (of_path (both_of (λ d. d.state) now) path) =
+    λ start placed. for_each (λ path. GotBy (of_path (who_failed now) path) (of_path (both_of (λ d. d.missed) now) path) (due path t out.result) (of_path start path) (of_path (both_of (λ d. d.state) now) path))
+    (gets One start.one (turret c.args.turrets.one) now.one (placed One) (rest.ensures.one (turret c.args.turrets.one) c.in-Ok.ensures.one))
+    (gets Two start.two (turret c.args.turrets.two) now.two (placed Two) (rest.ensures.two (turret c.args.turrets.two) c.in-Ok.ensures.two)) in
     record {
-      run = λ start placed. rw (c.into_turret.ensures, c.into_turret-in-Ok.ensures, c.missed-left_missed.ensures, c.missed-right_missed.ensures) (run_ends state t out.result since held start (record { left = rest.new.left.state; right = rest.new.right.state }) (has_failed rest.new.left.phase)
-          (has_failed rest.new.right.phase) (record { left = rest.new.left.missed; right = rest.new.right.missed })
+      run = λ start placed. rw (c.let_go.ensures, c.who_missed-missed.ensures) (run_ends state t out.result since held start (both_of (λ d. d.state) now) (who_failed now) (both_of (λ d. d.missed) now)
           (λ end has. c.a_taken_table_ended_so.ensures t out.result held end since (calm_is_no_disk t.halt c.requires.halt) out.ensures.taken has) out.ensures.taken.halt out.ensures.taken.file
-          (gets One start.left (turret c.args.left) rest.new.left (placed One) first) (gets Two start.right (turret c.args.right) rest.new.right (placed Two) second) rest.result
-          rest.ensures.ends);
+          (gots start placed) rest.result rest.ensures.ends);
     }
 
 pub returns-in-Err : goal.returns-in-Err
@@ -42,9 +50,8 @@ returns-in-Err g c =
     let since = taken_since g.D.Disk.state g.O.Opening.opened t c.into_table-in-Err.result c.in-Err.unrun.table c.requires.opening
     c.into_table-in-Err.ensures.of c.into_table-in-Err.ensures.shown in
     let taken = c.into_table-in-Err.ensures.taken in
-    let unrun = c.in-Err.unrun in
     record {
-      run = λ start placed. record {
+      run = λ start placed. rw (c.unbegun.ensures, left.1) (record {
         same = record {
           verified = taken.verified ∙ ap (λ h. h.verified) held;
           machine = taken.machine ∙ ap (λ h. h.machine) held;
@@ -54,8 +61,7 @@ returns-in-Err g c =
           version = since.recording.version;
           halt = taken.halt ∙ ap (λ h. without_turret h.halt) held ∙ calm_stays t.halt c.requires.halt;
         };
-        turrets = placed_only t.machine start (record { left = turret c.args.left; right = turret c.args.right })
-            (record { left = turret unrun.left; right = turret unrun.right }) placed (ap turret (sym left.1)) (ap turret (sym left.2));
+        turrets = placed_only t.machine start (both_of turret c.args.turrets) placed;
         none = refl;
-      };
+      });
     }

@@ -5,6 +5,7 @@ use Rattle.nc_outside.specs.declared.halt.Halt.{Halt}
 use Rattle.nc_outside.specs.declared.halt.Next.{Next}
 use Rattle.nc_outside.specs.declared.halt.Next.TheVariants.{Halted}
 use Rattle.seat_table.specs.Turning.{Answers, AsksDrain}
+use Rattle.run_table.specs.Apart.{step_with}
 use Rattle.run_table.specs.Holding.{HeldView, held_of, waits_at, drains_at, records_since, HasStepped}
 use Rattle.run_table.proofs.HeldKept.{lost_by, held_on, held_answers, held_others, held_halted}
 use Rattle.run_table.proofs.WaitsTold.{waits_told}
@@ -14,22 +15,22 @@ use Rattle.run_table.proofs.held.HeldTurns.turn_step.Goals as goal
 pub invariant_of-self : goal.invariant_of-self
 invariant_of-self g c =
     let i = c.self.inside in
-    held_on g.D.Disk.state g.O.Opening.opened c.args.path i.table c.step-step.new.self c.step-step.result i.shown c.is_still_shown-shown.result
-    c.count-before.ensures.table c.count-before.ensures.within c.self.invariant c.step-step.ensures.step c.step-step.ensures.since c.step-step.ensures.owed
-    (c.is_still_shown-shown.ensures ∙ lost_by i.shown c.step-step.result (c.count-before.ensures.count) (c.count-after.ensures.count))
+    held_on g.D.Disk.state g.O.Opening.opened c.args.path i.table c.step_into-step.new.self (step_with c.step_into-step.result c.step_into-step.new.moves) i.shown c.is_still_shown-shown.result
+    c.count-before.ensures.table c.count-before.ensures.within c.self.invariant c.step_into-step.ensures.step c.step_into-step.ensures.since c.step_into-step.ensures.owed
+    (c.is_still_shown-shown.ensures c.step_into-step.new.moves ∙ lost_by i.shown (step_with c.step_into-step.result c.step_into-step.new.moves) (c.count-before.ensures.count) (c.count-after.ensures.count))
 
 pub returns-clause-step : goal.returns-clause-step
 returns-clause-step g c =
     let d = g.D.Disk.state in
     let i = c.self.inside in
-    subst (λ (h : HeldView g.row.D.Denot). HasStepped d c.args.path h (held_of c.step-step.new.self c.is_still_shown-shown.result) c.next_of.result) c.self.view_is
+    subst (λ (h : HeldView g.row.D.Denot). HasStepped d c.args.path h (held_of c.step_into-step.new.self c.is_still_shown-shown.result) c.next_of.result) c.self.view_is
     (record {
       before = i.table;
-      after = c.step-step.new.self;
-      step = c.step-step.result;
+      after = c.step_into-step.new.self;
+      step = step_with c.step_into-step.result c.step_into-step.new.moves;
       old_is = refl;
       new_is = refl;
-      is = c.step-step.ensures.step;
+      is = c.step_into-step.ensures.step;
       next = c.next_of.ensures;
     })
 
@@ -38,22 +39,22 @@ returns-clause-answer g c =
     let i = c.self.inside in
     let o = g.O.Opening.opened in
     let path = c.args.path in
-    let new = held_of c.step-step.new.self c.is_still_shown-shown.result in
+    let new = held_of c.step_into-step.new.self c.is_still_shown-shown.result in
     subst (λ (h : HeldView g.row.D.Denot). MatchOption c.next_of.result (new ≡ h) (λ next. Answers (records_since o h path) next (records_since o new path))) c.self.view_is
     (subst (λ (n : Option Next). MatchOption n (new ≡ held_of i.table i.shown) (λ next. Answers (records_since o (held_of i.table i.shown) path) next (records_since o new path))) (sym c.next_of.ensures)
-    (held_answers g.D.Disk.state o path i.table c.step-step.new.self c.step-step.result i.shown c.is_still_shown-shown.result
-    c.count-before.ensures.table c.count-before.ensures.within c.self.invariant c.step-step.ensures.step c.step-step.ensures.since c.step-step.ensures.owed
-    (c.is_still_shown-shown.ensures ∙ lost_by i.shown c.step-step.result (c.count-before.ensures.count) (c.count-after.ensures.count))))
+    (held_answers g.D.Disk.state o path i.table c.step_into-step.new.self (step_with c.step_into-step.result c.step_into-step.new.moves) i.shown c.is_still_shown-shown.result
+    c.count-before.ensures.table c.count-before.ensures.within c.self.invariant c.step_into-step.ensures.step c.step_into-step.ensures.since c.step_into-step.ensures.owed
+    (c.is_still_shown-shown.ensures c.step_into-step.new.moves ∙ lost_by i.shown (step_with c.step_into-step.result c.step_into-step.new.moves) (c.count-before.ensures.count) (c.count-after.ensures.count))))
 
 pub returns-clause-others : goal.returns-clause-others
 returns-clause-others g c =
     let i = c.self.inside in
     let o = g.O.Opening.opened in
-    let new = held_of c.step-step.new.self c.is_still_shown-shown.result in
+    let new = held_of c.step_into-step.new.self c.is_still_shown-shown.result in
     subst (λ (h : HeldView g.row.D.Denot). (p : Path) → p ≢ c.args.path → records_since o new p ≡ records_since o h p) c.self.view_is
-    (held_others g.D.Disk.state o c.args.path i.table c.step-step.new.self c.step-step.result i.shown c.is_still_shown-shown.result
-    c.count-before.ensures.table c.count-before.ensures.within c.self.invariant c.step-step.ensures.step c.step-step.ensures.since c.step-step.ensures.owed
-    (c.is_still_shown-shown.ensures ∙ lost_by i.shown c.step-step.result (c.count-before.ensures.count) (c.count-after.ensures.count)))
+    (held_others g.D.Disk.state o c.args.path i.table c.step_into-step.new.self (step_with c.step_into-step.result c.step_into-step.new.moves) i.shown c.is_still_shown-shown.result
+    c.count-before.ensures.table c.count-before.ensures.within c.self.invariant c.step_into-step.ensures.step c.step_into-step.ensures.since c.step_into-step.ensures.owed
+    (c.is_still_shown-shown.ensures c.step_into-step.new.moves ∙ lost_by i.shown (step_with c.step_into-step.result c.step_into-step.new.moves) (c.count-before.ensures.count) (c.count-after.ensures.count)))
 
 pub returns-clause-waits : goal.returns-clause-waits
 returns-clause-waits g c =
@@ -61,26 +62,26 @@ returns-clause-waits g c =
     let path = c.args.path in
     subst (λ (h : HeldView g.row.D.Denot). MatchOption c.next_of.result (waits_at h path ≡ true) (λ _. waits_at h path ≡ false)) c.self.view_is
     (subst (λ (n : Option Next). MatchOption n (waits_at (held_of i.table i.shown) path ≡ true) (λ _. waits_at (held_of i.table i.shown) path ≡ false)) (sym c.next_of.ensures)
-    (waits_told g.D.Disk.state path i.table c.step-step.new.self c.step-step.result i.shown c.count-before.ensures.table c.step-step.ensures.step))
+    (waits_told g.D.Disk.state path i.table c.step_into-step.new.self (step_with c.step_into-step.result c.step_into-step.new.moves) i.shown c.count-before.ensures.table c.step_into-step.ensures.step))
 
 pub returns-clause-drains : goal.returns-clause-drains
 returns-clause-drains g c =
     let i = c.self.inside in
     let path = c.args.path in
-    let new = held_of c.step-step.new.self c.is_still_shown-shown.result in
+    let new = held_of c.step_into-step.new.self c.is_still_shown-shown.result in
     subst (λ (h : HeldView g.row.D.Denot). AsksDrain (drains_at h path) c.next_of.result (drains_at new path)) c.self.view_is
     (subst (λ (n : Option Next). AsksDrain (drains_at (held_of i.table i.shown) path) n (drains_at new path)) (sym c.next_of.ensures)
-    (drains_told g.D.Disk.state path i.table c.step-step.new.self c.step-step.result i.shown c.is_still_shown-shown.result c.step-step.ensures.step c.step-step.ensures.owed))
+    (drains_told g.D.Disk.state path i.table c.step_into-step.new.self (step_with c.step_into-step.result c.step_into-step.new.moves) i.shown c.is_still_shown-shown.result c.step_into-step.ensures.step c.step_into-step.ensures.owed))
 
 pub returns-clause-halted : goal.returns-clause-halted
 returns-clause-halted g c =
     let i = c.self.inside in
     let o = g.O.Opening.opened in
-    let new = held_of c.step-step.new.self c.is_still_shown-shown.result in
+    let new = held_of c.step_into-step.new.self c.is_still_shown-shown.result in
     subst (λ (h : HeldView g.row.D.Denot). (why : Halt) → h.halt ≡ Some why → (c.next_of.result ≡ Some (Halted why)) × (new.halt ≡ Some why)
     × ((p : Path) → records_since o new p ≡ records_since o h p)) c.self.view_is
     (subst (λ (n : Option Next). (why : Halt) → i.table.halt ≡ Some why → (n ≡ Some (Halted why)) × (new.halt ≡ Some why)
     × ((p : Path) → records_since o new p ≡ records_since o (held_of i.table i.shown) p)) (sym c.next_of.ensures)
-    (held_halted g.D.Disk.state o c.args.path i.table c.step-step.new.self c.step-step.result i.shown c.is_still_shown-shown.result
-    c.count-before.ensures.table c.count-before.ensures.within c.self.invariant c.step-step.ensures.step c.step-step.ensures.since c.step-step.ensures.owed
-    (c.is_still_shown-shown.ensures ∙ lost_by i.shown c.step-step.result (c.count-before.ensures.count) (c.count-after.ensures.count))))
+    (held_halted g.D.Disk.state o c.args.path i.table c.step_into-step.new.self (step_with c.step_into-step.result c.step_into-step.new.moves) i.shown c.is_still_shown-shown.result
+    c.count-before.ensures.table c.count-before.ensures.within c.self.invariant c.step_into-step.ensures.step c.step_into-step.ensures.since c.step_into-step.ensures.owed
+    (c.is_still_shown-shown.ensures c.step_into-step.new.moves ∙ lost_by i.shown (step_with c.step_into-step.result c.step_into-step.new.moves) (c.count-before.ensures.count) (c.count-after.ensures.count))))

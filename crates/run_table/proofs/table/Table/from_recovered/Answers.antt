@@ -1,10 +1,10 @@
-use Rattle.std.proofs.Common.{◌≡◌, length, sym, ap, subst, ◌∙◌, Option}
+use Rattle.std.proofs.Common.{◌≡◌, length, sym, ap, subst, ◌∙◌, Option, Bool}
 use Rattle.nc_number.specs.declared.path.Path.TheVariants.{One, Two}
 use Rattle.nc_outside.specs.declared.halt.Halt.{Halt}
 use Rattle.path_state.specs.Opening.{opening_path}
 use Rattle.run_table.specs.Recording.{RecordingView, IsJournaled}
 use Rattle.run_table.specs.Kept.{tapes_in, IsTable}
-use Rattle.run_table.specs.declared.draining.Owed.{Owed}
+use Rattle.nc_number.specs.declared.both.Both.{Both}
 use Rattle.run_table.specs.Begun.{reason_in}
 use Rattle.run_table.proofs.TablesBegin.{recovered_is, recovered_parts, all_held}
 use Rattle.run_table.proofs.table.Table.from_recovered.Goals.{in-Some, in-None}
@@ -20,9 +20,9 @@ invariant_of-result g c =
       | in-None w ↦ w.halt-is ∙ ap reason_in (sym w.in-None.is ∙ c.alarm.ensures)
     ] in
     let keeps = c.each_event_keeps_the_history.ensures (tapes_in v) (opening_path c.args.verified.left c.args.verified.settings One) (opening_path c.args.verified.right c.args.verified.settings Two) in
-    subst (λ (h : Option Halt). IsTable d (record { verified = c.args.verified; machine = c.args.machine.machine; turns = c.args.machine.room; recording = c.over.result; halt = h; budget = 0; owed = c.none.result })) (sym reason)
-    (subst (λ (r : RecordingView g.row.D.Denot). IsTable d (record { verified = c.args.verified; machine = c.args.machine.machine; turns = c.args.machine.room; recording = r; halt = reason_in c.args.machine.machine.alarm; budget = 0; owed = c.none.result })) (sym c.over.ensures)
-    (subst (λ (o : Owed). IsTable d (record {
+    subst (λ (h : Option Halt). IsTable d (record { verified = c.args.verified; machine = c.args.machine.machine; turns = c.args.machine.room; recording = c.over.result; halt = h; budget = 0; owed = c.none_owed.result })) (sym reason)
+    (subst (λ (r : RecordingView g.row.D.Denot). IsTable d (record { verified = c.args.verified; machine = c.args.machine.machine; turns = c.args.machine.room; recording = r; halt = reason_in c.args.machine.machine.alarm; budget = 0; owed = c.none_owed.result })) (sym c.over.ensures)
+    (subst (λ (o : Both Bool). IsTable d (record {
       verified = c.args.verified;
       machine = c.args.machine.machine;
       turns = c.args.machine.room;
@@ -30,7 +30,7 @@ invariant_of-result g c =
       halt = reason_in c.args.machine.machine.alarm;
       budget = 0;
       owed = o;
-    })) (sym c.none.ensures)
+    })) (sym c.none_owed.ensures)
     (recovered_is d c.args.verified c.args.machine c.args.entries c.args.journal keeps c.a_held_journal_leaves_its_records.ensures c.requires)))
 
 pub returns-clause-table : goal.returns-clause-table
@@ -40,8 +40,8 @@ returns-clause-table g c =
       | in-Some w ↦ w.halt-is ∙ ap reason_in (sym w.in-Some.is ∙ c.alarm.ensures)
       | in-None w ↦ w.halt-is ∙ ap reason_in (sym w.in-None.is ∙ c.alarm.ensures)
     ] in
-    recovered_parts c.args.verified c.args.machine c.args.entries c.args.journal c.over.result c.match-alarm.halt c.none.result
-    c.over.ensures reason c.none.ensures
+    recovered_parts c.args.verified c.args.machine c.args.entries c.args.journal c.over.result c.match-alarm.halt c.none_owed.result
+    c.over.ensures reason c.none_owed.ensures
 
 pub returns-clause-journal : goal.returns-clause-journal
 returns-clause-journal g c = λ header holds.

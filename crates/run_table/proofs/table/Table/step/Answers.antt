@@ -1,147 +1,17 @@
-use Rattle.std.proofs.Common.{◌≡◌, length, true, false, None, Some, sym, ap, subst, ◌∙◌, Option}
-use Rattle.std.specs.Prelude.{IfSome}
-use Rattle.nc_number.specs.declared.path.Path.TheVariants.{One, Two}
-use Rattle.nc_number.specs.Path.{other_of}
-use Rattle.nc_outside.specs.declared.halt.Halt.{Halt}
-use Rattle.path_state.specs.Opening.{opening_path}
-use Rattle.run_records.specs.Entries.{Entry, edit_of}
-use Rattle.tape_flow.specs.declared.flow.Flow.{Flow}
-use Rattle.two_path.specs.declared.turn.Turn.{Turn}
-use Rattle.two_path.specs.Machine.{MachineView, own_first}
-use Rattle.two_path.specs.Turns.{Tapes, tapes_of, turn_of, entry_of}
-use Rattle.two_path.specs.Joined.{AreAtTheirWaits}
-use Rattle.two_path.specs.Histories.{list_of}
-use Rattle.run_table.specs.declared.answer.TableStep.TheVariants.{Halted}
-use Rattle.run_table.specs.Kept.{TableView, tapes_in, IsTable}
-use Rattle.run_table.specs.Since.{Since}
-use Rattle.run_table.specs.Stepping.{is_shown, is_due, bound_of, drains, step_of, IsStep, GoesOn}
-use Rattle.run_table.proofs.AlarmsKept.{shown_made, made_step}
-use Rattle.run_table.proofs.OtherGoesOn.{waits_still}
-use Rattle.run_table.proofs.StepsTaken.{kept_step, drain_step}
-use Rattle.run_table.proofs.TablesKept.{table_of, turn_comes, few_turns, turn_table, turn_step_is, answer_waits, may_note}
-use Rattle.run_table.proofs.Then.{since_none}
+use Rattle.std.proofs.Common.{◌≡◌, subst, sym, ◌∙◌}
+use Rattle.run_table.specs.declared.answer.TableStep.{TableStep}
+use Rattle.run_table.specs.Draining.{owed_behind}
+use Rattle.run_table.specs.Stepping.{step_of, IsStep}
 use Rattle.run_table.proofs.table.Table.step.Goals as goal
-
-pub returns-in-Some-clause-step : goal.returns-in-Some-clause-step
-returns-in-Some-clause-step g c =
-    let d = g.D.Disk.state in
-    let i = c.self.inside in
-    subst (λ (t : TableView g.row.D.Denot). IsStep d (step_of t c.args.path) t t (Halted c.in-Some.why)) c.self.view_is
-    (kept_step d (table_of i.verified i.machine i.recording i.halt i.budget i.owed) c.args.path c.in-Some.why (c.in-Some.is ∙ ap Some (sym c.in-Some.why-is)) g.met.D.Disk.coherent)
-
-pub returns-then-drains-clause-step : goal.returns-then-drains-clause-step
-returns-then-drains-clause-step g c =
-    let kept = subst (λ (t : TableView g.row.D.Denot). t.halt ≡ None) c.self.view_is c.in_default.is in
-    drain_step g.D.Disk.state c.args.self.now c.args.path kept (sym c.bound.ensures ∙ c.in_default-bound.is) (sym c.drains.ensures ∙ c.if-drains.true)
-    g.met.D.Disk.coherent
-
-pub turn-turned-requires-clause-few : goal.turn-turned-requires-clause-few
-turn-turned-requires-clause-few g c =
-    let i = c.self.inside in
-    let bound : bound_of (table_of i.verified i.machine i.recording i.halt i.budget i.owed) ≡ None =
-    subst (λ (t : TableView g.row.D.Denot). bound_of t ≡ None) (sym c.self.view_is) (sym c.bound.ensures ∙ c.in_default-bound.is) in
-    let runs = c.histories_are_runs.ensures (tapes_in i.verified) (opening_path i.verified.left i.verified.settings One) (opening_path i.verified.right i.verified.settings Two) in
-    (few_turns g.D.Disk.state i.verified i.machine i.recording i.halt i.budget i.owed c.self.invariant runs.counts
-    (turn_comes (table_of i.verified i.machine i.recording i.halt i.budget i.owed) bound).0).0
-
-pub take-answer-requires-clause-made : goal.take-answer-requires-clause-made
-take-answer-requires-clause-made g c = λ shown.
-    let m : MachineView = c.self.inside.machine.machine in
-    let tapes : Tapes = tapes_of c.left.result.now c.right.result.now in
-    subst (λ (e : Option Entry). length (list_of e) ≡ 1) (sym c.turn-turned.ensures.entry)
-    (shown_made c.args.path (own_first c.args.path m).first.stamps (turn_of tapes c.args.path m).turn
-    (subst (λ (t : Turn). is_shown t ≡ true) c.turn-turned.ensures.turn shown))
-
-pub invariant_of-self-2 : goal.invariant_of-self-2
-invariant_of-self-2 g c =
-    let d = g.D.Disk.state in
-    let i = c.self.inside in
-    let m : MachineView = i.machine.machine in
-    let after : MachineView = c.turn-turned.new.self.machine in
-    let undrained : drains (table_of i.verified i.machine i.recording i.halt i.budget i.owed) c.args.path ≡ false =
-    subst (λ (t : TableView g.row.D.Denot). drains t c.args.path ≡ false) (sym c.self.view_is) (sym c.drains.ensures ∙ c.if-drains.false) in
-    let bound : bound_of (table_of i.verified i.machine i.recording i.halt i.budget i.owed) ≡ None =
-    subst (λ (t : TableView g.row.D.Denot). bound_of t ≡ None) (sym c.self.view_is) (sym c.bound.ensures ∙ c.in_default-bound.is) in
-    let runs = c.histories_are_runs.ensures (tapes_in i.verified) (opening_path i.verified.left i.verified.settings One) (opening_path i.verified.right i.verified.settings Two) in
-    let keeps = c.each_event_keeps_the_history.ensures (tapes_in i.verified) (opening_path i.verified.left i.verified.settings One) (opening_path i.verified.right i.verified.settings Two) in
-    let few = few_turns d i.verified i.machine i.recording i.halt i.budget i.owed c.self.invariant runs.counts (turn_comes (table_of i.verified i.machine i.recording i.halt i.budget i.owed) bound).0 in
-    let tapes : tapes_of c.left.result.now c.right.result.now ≡ tapes_in i.verified = λ j. tapes_of (c.left.ensures.same j) (c.right.ensures.same j) in
-    let machine = subst (λ (t : Tapes). after ≡ (turn_of t c.args.path m).machine) tapes c.turn-turned.ensures.machine in
-    let turned = subst (λ (t : Tapes). c.turn-turned.result.turn ≡ (turn_of t c.args.path m).turn) tapes c.turn-turned.ensures.turn in
-    let entry = subst (λ (t : Tapes). c.turn-turned.result.entry ≡ entry_of t c.args.path m) tapes c.turn-turned.ensures.entry in
-    let waits = subst (λ (f : Flow). AreAtTheirWaits f.order i.verified.right.order after) c.left.ensures.same
-    (subst (λ (f : Flow). AreAtTheirWaits c.left.result.now.order f.order after) c.right.ensures.same c.turn-turned.ensures.waits) in
-    subst (λ (h : Option Halt). IsTable d (table_of i.verified c.turn-turned.new.self c.take-answer.new.recording h c.take-answer.new.budget c.behind-self-inside.result)) (sym c.reason_of-self-inside-2.ensures)
-    (turn_table d i.verified i.machine c.turn-turned.new.self i.recording c.take-answer.new.recording i.budget c.take-answer.new.budget i.owed c.behind-self-inside.result c.args.path i.halt c.in_default.is c.self.invariant
-    c.turn-turned.result.turn c.turn-turned.result.entry c.take-answer.result machine turned entry bound undrained c.take-answer.ensures.answer c.take-answer.ensures.records c.take-answer.ensures.budget
-    keeps runs.counts waits c.turn-turned.ensures.room few.1)
 
 pub returns-clause-step : goal.returns-clause-step
 returns-clause-step g c =
-    let d = g.D.Disk.state in
-    let i = c.self.inside in
-    let m : MachineView = i.machine.machine in
-    let after : MachineView = c.turn-turned.new.self.machine in
-    let answer = c.take-answer.result in
-    let undrained : drains (table_of i.verified i.machine i.recording i.halt i.budget i.owed) c.args.path ≡ false =
-    subst (λ (t : TableView g.row.D.Denot). drains t c.args.path ≡ false) (sym c.self.view_is) (sym c.drains.ensures ∙ c.if-drains.false) in
-    let bound : bound_of (table_of i.verified i.machine i.recording i.halt i.budget i.owed) ≡ None =
-    subst (λ (t : TableView g.row.D.Denot). bound_of t ≡ None) (sym c.self.view_is) (sym c.bound.ensures ∙ c.in_default-bound.is) in
-    let tapes : tapes_of c.left.result.now c.right.result.now ≡ tapes_in i.verified = λ j. tapes_of (c.left.ensures.same j) (c.right.ensures.same j) in
-    let machine = subst (λ (t : Tapes). after ≡ (turn_of t c.args.path m).machine) tapes c.turn-turned.ensures.machine in
-    let turned = subst (λ (t : Tapes). c.turn-turned.result.turn ≡ (turn_of t c.args.path m).turn) tapes c.turn-turned.ensures.turn in
-    let entry = subst (λ (t : Tapes). c.turn-turned.result.entry ≡ entry_of t c.args.path m) tapes c.turn-turned.ensures.entry in
-    let new = table_of i.verified c.turn-turned.new.self c.take-answer.new.recording c.reason_of-self-inside-2.result c.take-answer.new.budget c.behind-self-inside.result in
-    subst (λ (t : TableView g.row.D.Denot). IsStep d (step_of t c.args.path) t new answer) c.self.view_is
-    (subst (λ (h : Option Halt). IsStep d (step_of (table_of i.verified i.machine i.recording i.halt i.budget i.owed) c.args.path) (table_of i.verified i.machine i.recording i.halt i.budget i.owed) (table_of i.verified c.turn-turned.new.self c.take-answer.new.recording h c.take-answer.new.budget c.behind-self-inside.result) answer) (sym c.reason_of-self-inside-2.ensures)
-    (turn_step_is d i.verified i.machine c.turn-turned.new.self i.recording c.take-answer.new.recording i.budget c.take-answer.new.budget i.owed c.behind-self-inside.result c.args.path i.halt c.in_default.is c.self.invariant
-    c.turn-turned.result.turn c.turn-turned.result.entry answer machine turned entry bound undrained c.take-answer.ensures.answer c.take-answer.ensures.records c.take-answer.ensures.budget))
+    subst (λ (s : TableStep). IsStep g.D.Disk.state (step_of c.args.self.now c.args.path) c.args.self.now c.step_into-answer.new.self s)
+    (sym c.of.ensures) c.step_into-answer.ensures.step
+
+pub returns-clause-owed : goal.returns-clause-owed
+returns-clause-owed g c =
+    subst (λ (s : TableStep). c.step_into-answer.new.self.owed ≡ owed_behind c.args.path s c.args.self.now.owed) (sym c.of.ensures) c.step_into-answer.ensures.owed
 
 pub returns-clause-goes_on : goal.returns-clause-goes_on
-returns-clause-goes_on g c = λ code is.
-    let d = g.D.Disk.state in
-    let i = c.self.inside in
-    let m : MachineView = i.machine.machine in
-    let after : MachineView = c.turn-turned.new.self.machine in
-    let tapes : tapes_of c.left.result.now c.right.result.now ≡ tapes_in i.verified = λ j. tapes_of (c.left.ensures.same j) (c.right.ensures.same j) in
-    let machine = subst (λ (t : Tapes). after ≡ (turn_of t c.args.path m).machine) tapes c.turn-turned.ensures.machine in
-    let turned = subst (λ (t : Tapes). c.turn-turned.result.turn ≡ (turn_of t c.args.path m).turn) tapes c.turn-turned.ensures.turn in
-    let waits = answer_waits d (is_due i.recording (list_of c.turn-turned.result.entry) c.turn-turned.result.turn) c.turn-turned.result.turn i.recording c.take-answer.new.recording c.take-answer.result code c.take-answer.ensures.answer is in
-    let there = sym turned ∙ waits in
-    let goes = c.who_is_waited_for_goes_on.ensures i.verified i.recording.history m c.args.path code c.self.invariant.kept there in
-    subst (λ (x : MachineView). GoesOn (tapes_in i.verified) (other_of c.args.path) x) (sym (machine ∙ waits_still (tapes_in i.verified) c.args.path m code there)) goes
-
-pub returns-in-Some-clause-since : goal.returns-in-Some-clause-since
-returns-in-Some-clause-since g c =
-    let d = g.D.Disk.state in
-    let i = c.self.inside in
-    subst (λ (t : TableView g.row.D.Denot). Since d t t) c.self.view_is
-    (since_none d (table_of i.verified i.machine i.recording i.halt i.budget i.owed) g.met.D.Disk.coherent)
-
-pub returns-then-drains-clause-since : goal.returns-then-drains-clause-since
-returns-then-drains-clause-since g c =
-    let d = g.D.Disk.state in
-    let i = c.self.inside in
-    subst (λ (t : TableView g.row.D.Denot). Since d t t) c.self.view_is
-    (since_none d (table_of i.verified i.machine i.recording i.halt i.budget i.owed) g.met.D.Disk.coherent)
-
-pub take-answer-requires-clause-note : goal.take-answer-requires-clause-note
-take-answer-requires-clause-note g c =
-    let i = c.self.inside in
-    let bound : bound_of (table_of i.verified i.machine i.recording i.halt i.budget i.owed) ≡ None =
-    subst (λ (t : TableView g.row.D.Denot). bound_of t ≡ None) (sym c.self.view_is) (sym c.bound.ensures ∙ c.in_default-bound.is) in
-    may_note g.D.Disk.state i.verified i.machine i.recording i.halt i.budget i.owed c.self.invariant c.in_default.is bound
-
-pub take-answer-requires-clause-budget : goal.take-answer-requires-clause-budget
-take-answer-requires-clause-budget g c =
-    let i = c.self.inside in
-    let bound : bound_of (table_of i.verified i.machine i.recording i.halt i.budget i.owed) ≡ None =
-    subst (λ (t : TableView g.row.D.Denot). bound_of t ≡ None) (sym c.self.view_is) (sym c.bound.ensures ∙ c.in_default-bound.is) in
-    (turn_comes (table_of i.verified i.machine i.recording i.halt i.budget i.owed) bound).1
-
-pub take-answer-requires-clause-step : goal.take-answer-requires-clause-step
-take-answer-requires-clause-step g c =
-    let m : MachineView = c.self.inside.machine.machine in
-    let tapes : Tapes = tapes_of c.left.result.now c.right.result.now in
-    subst (λ (e : Option Entry). IfSome e (λ r. edit_of r.kind ≡ None)) (sym c.turn-turned.ensures.entry)
-    (made_step c.args.path (own_first c.args.path m).first.stamps (turn_of tapes c.args.path m).turn)
+returns-clause-goes_on g c = λ code is. c.step_into-answer.ensures.goes_on code (sym c.of.ensures ∙ is)

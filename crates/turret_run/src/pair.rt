@@ -5,10 +5,10 @@ ghost use Rattle.nc_number.specs.declared.path.Path.TheVariants.{One, Two};
 ghost use Rattle.drive_line.specs.Driving.{has_failed, Serves};
 ghost use Rattle.path_worker.specs.Drive.{HasSettled};
 ghost use Rattle.seat_table.specs.Turning.{moves_in};
-ghost use Rattle.lane_pair.specs.Seats.{AreNewEnds, AreOf, AreFresh, StopsBy};
+ghost use Rattle.turret_run.specs.Seats.{AreNewEnds, AreOf, AreFresh, StopsBy};
 
 use drive_line::{Driven, Line, LineIn, LineOut};
-use nc_number::Path;
+use nc_number::{Both, Path};
 use nc_outside::Turret;
 use path_worker::{Lane, run_lane};
 use seat_table::{HaltPass, SeatPass, SeatTable, Seated, Turns};
@@ -24,19 +24,17 @@ const BOUND: usize = 64;
 #[derive(Drop)]
 pub struct Ran<C: Turns, T: Turret> {
     pub table: C,
-    pub left: Driven<T>,
-    pub right: Driven<T>,
+    pub turrets: Both<Driven<T>>,
 }
 
 /// What comes back where memory was wanting for a run: all as it was.
 #[derive(Drop)]
 pub struct Unrun<C: Turns, T: Turret> {
     pub table: C,
-    pub left: T,
-    pub right: T,
+    pub turrets: Both<T>,
 }
 
-// What the two threads of a path give back.
+/// What the two threads of a path give back.
 #[derive(Drop)]
 struct Seat<C, T: Turret> {
     pass: SeatPass<C>,
@@ -44,7 +42,7 @@ struct Seat<C, T: Turret> {
     driven: Driven<T>,
 }
 
-// Runs the worker and the drive of a path, over its passes and the two ends of a new line.
+/// Runs the worker and the drive of a path, over its passes and the two ends of a new line.
 fn run_seat<R, C, T>(
     rt: &R,
     table: &SeatTable<C>,
@@ -78,26 +76,25 @@ where
     }
 }
 
-// Runs both paths, each over its passes and a new line, and closes the table.
+/// Runs both paths, each over its passes and a new line, and closes the table.
 fn run_seats<R, C, T>(
     rt: &R,
     seated: Seated<C>,
-    first_ends: (LineIn<'_, R>, LineOut<'_, R, T>),
-    second_ends: (LineIn<'_, R>, LineOut<'_, R, T>),
-    left: T,
-    right: T,
+    ends: Both<(LineIn<'_, R>, LineOut<'_, R, T>)>,
+    turrets: Both<T>,
 ) -> Ran<C, T>
 where
     R: Threads + Wait + Sync,
     C: Turns + Send,
     T: Turret + Send,
-    requires lines { AreNewEnds first_ends.0 first_ends.1 × AreNewEnds second_ends.0 second_ends.1 }
+    requires lines { AreNewEnds ends.one.0 ends.one.1 × AreNewEnds ends.two.0 ends.two.1 }
     requires passes { AreFresh seated.table One seated.first seated.first_halt
         × AreFresh seated.table Two seated.second seated.second_halt }
-    ensures left { Serves (moves_in (C.records result.table One)) (T.state left) result.left }
-    ensures right { Serves (moves_in (C.records result.table Two)) (T.state right) result.right }
-    ensures rest { HasSettled result.left.phase × HasSettled result.right.phase }
-    ensures halted { StopsBy result.left.phase (C.reason result.table) × StopsBy result.right.phase (C.reason result.table) }
+    ensures one { Serves (moves_in (C.records result.table One)) (T.state turrets.one) result.turrets.one }
+    ensures two { Serves (moves_in (C.records result.table Two)) (T.state turrets.two) result.turrets.two }
+    ensures rest { HasSettled result.turrets.one.phase × HasSettled result.turrets.two.phase }
+    ensures halted { StopsBy result.turrets.one.phase (C.reason result.table)
+        × StopsBy result.turrets.two.phase (C.reason result.table) }
 {
     let Seated {
         table,
@@ -106,6 +103,14 @@ where
         first_halt,
         second_halt,
     } = seated;
+    let Both {
+        one: first_ends,
+        two: second_ends,
+    } = ends;
+    let Both {
+        one: left,
+        two: right,
+    } = turrets;
     let both = &table;
     let (one, two) = thread::join(
         rt,
@@ -136,42 +141,46 @@ where
     let table = table.close(one.pass, two.pass, one.halter, two.halter);
     Ran {
         table,
-        left: one.driven,
-        right: two.driven,
+        turrets: Both {
+            one: one.driven,
+            two: two.driven,
+        },
     }
 }
 
-/// Runs both paths of a table that has made no record since it was opened, until each path has ended or the run has stopped:
-/// a worker and a drive for each, in four threads. Behind it each turret has taken the moves of its path's records,
-/// of which the table gives those since it was opened, and stands still; or it failed, and then the table has halted.
+/// Runs both paths of a table that has made no record since it was opened, until each path has
+/// ended or the run has stopped: a worker and a drive for each, in four threads. Behind it each
+/// turret has taken the moves of its path's records, of which the table gives those since it was
+/// opened, and stands still; or it failed, and then the table has halted.
 ///
-/// Where memory is wanting nothing is done, and all comes back. Where no thread can be made it may not return.
+/// Where memory is wanting nothing is done, and all comes back. Where no thread can be made it may
+/// not return.
 pub fn run_pair<R, C, T>(
     rt: &R,
     alloc: Global,
     table: C,
-    left: T,
-    right: T,
+    turrets: Both<T>,
 ) -> Result<Ran<C, T>, Unrun<C, T>>
 where
     R: Threads + Wait + Sync,
     C: Turns + Send,
     T: Turret + Send,
     requires fresh { (p : OnePath) → C.records table p ≡ [] }
-    ensures left { IfOk result (λ r. Serves (moves_in (C.records r.table One)) (T.state left) r.left) }
-    ensures right { IfOk result (λ r. Serves (moves_in (C.records r.table Two)) (T.state right) r.right) }
-    ensures rest { IfOk result (λ r. HasSettled r.left.phase × HasSettled r.right.phase) }
-    ensures halted { IfOk result (λ r. StopsBy r.left.phase (C.reason r.table) × StopsBy r.right.phase (C.reason r.table)) }
-    ensures err { IfErr result (λ u. (u.table ≡ table) × (u.left ≡ left) × (u.right ≡ right)) }
+    ensures one { IfOk result (λ r. Serves (moves_in (C.records r.table One)) (T.state turrets.one) r.turrets.one) }
+    ensures two { IfOk result (λ r. Serves (moves_in (C.records r.table Two)) (T.state turrets.two) r.turrets.two) }
+    ensures rest { IfOk result (λ r. HasSettled r.turrets.one.phase × HasSettled r.turrets.two.phase) }
+    ensures halted { IfOk result (λ r. StopsBy r.turrets.one.phase (C.reason r.table)
+        × StopsBy r.turrets.two.phase (C.reason r.table)) }
+    ensures err { IfErr result (λ u. (u.table ≡ table) × (u.turrets ≡ turrets)) }
 {
-    let Ok(first_ends) = Line::new(rt, alloc, BOUND) else {
-        return Err(Unrun { table, left, right });
+    let Ok(one) = Line::new(rt, alloc, BOUND) else {
+        return Err(Unrun { table, turrets });
     };
-    let Ok(second_ends) = Line::new(rt, alloc, BOUND) else {
-        return Err(Unrun { table, left, right });
+    let Ok(two) = Line::new(rt, alloc, BOUND) else {
+        return Err(Unrun { table, turrets });
     };
     match SeatTable::new(alloc, table) {
-        Ok(seated) => Ok(run_seats(rt, seated, first_ends, second_ends, left, right)),
-        Err(table) => Err(Unrun { table, left, right }),
+        Ok(seated) => Ok(run_seats(rt, seated, Both { one, two }, turrets)),
+        Err(table) => Err(Unrun { table, turrets }),
     }
 }

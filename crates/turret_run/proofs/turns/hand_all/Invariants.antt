@@ -4,7 +4,7 @@ use Rattle.drive_line.specs.Driving.{Serves}
 use Rattle.nc_outside.specs.declared.lined_move.LinedMove.{LinedMove}
 use Rattle.nc_outside.specs.Lined.{lined_move}
 use Rattle.nc_outside.specs.Received.{TurretState}
-use Rattle.lane_pair.proofs.turns.hand_all.Given as goal
+use Rattle.turret_run.proofs.turns.hand_all.Given as goal
 
 abbrev pub invariant-loop-what : goal.invariant-loop-what
 invariant-loop-what g l = (moves : List LinedMove) (start : TurretState) → Serves moves start l.initial.driven

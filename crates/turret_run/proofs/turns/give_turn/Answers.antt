@@ -2,8 +2,8 @@ use Rattle.std.proofs.Common.{List, ap, subst}
 use Rattle.nc_outside.specs.declared.lined_move.LinedMove.{LinedMove}
 use Rattle.nc_outside.specs.Calls.{moves_of}
 use Rattle.drive_line.specs.Driving.{Serves}
-use Rattle.lane_pair.proofs.ServedOn.{moves_behind, none_behind}
-use Rattle.lane_pair.proofs.turns.give_turn.Goals as goal
+use Rattle.turret_run.proofs.ServedOn.{moves_behind, none_behind}
+use Rattle.turret_run.proofs.turns.give_turn.Goals as goal
 
 pub returns-in-Some-Moves-clause-serves : goal.returns-in-Some-Moves-clause-serves
 returns-in-Some-Moves-clause-serves g c = λ start s.

@@ -1,5 +1,5 @@
 use Rattle.std.proofs.Common.{ap, ◌∙◌}
-use Rattle.lane_pair.proofs.pair.run_seat.Goals as goal
+use Rattle.turret_run.proofs.pair.run_seat.Goals as goal
 
 pub returns-clause-passes : goal.returns-clause-passes
 returns-clause-passes g c =

@@ -2,12 +2,12 @@
 ghost use Rattle.std.specs.Prelude.{◌≡◌, ◌≢◌, ◌++◌, true, false, List};
 ghost use Rattle.drive_line.specs.declared.phase.Phase.TheVariants.{Still};
 ghost use Rattle.drive_line.specs.Driving.{Serves};
-ghost use Rattle.lane_pair.specs.Draining.{IsDrained};
+ghost use Rattle.turret_run.specs.Draining.{IsDrained};
 ghost use Rattle.nc_number.specs.declared.path.Path.{Path as OnePath};
 ghost use Rattle.nc_outside.specs.declared.lined_move.LinedMove.{LinedMove as Lined};
 ghost use Rattle.nc_outside.specs.Lined.{lined};
 ghost use Rattle.nc_outside.specs.Received.{TurretState};
-ghost use Rattle.seat_table.specs.Turning.{moves_in};
+ghost use Rattle.turret_run.specs.Rests.{ServesOn};
 
 use drive_line::{Driven, Phase};
 use nc_moves::Moves;
@@ -16,7 +16,7 @@ use nc_outside::{LinedMove, Next, Turret};
 use seat_table::Turns;
 use std::sync::Wait;
 
-// Hands the moves of a block on, in order.
+/// Hands the moves of a block on, in order.
 fn hand_all<R: Wait, T: Turret>(rt: &R, block: &Moves, driven: &mut Driven<T>)
     ensures { (moves : List Lined) (start : TurretState)
         → Serves moves start driven.old → Serves (moves ++ lined block.now) start driven.new }
@@ -30,7 +30,7 @@ fn hand_all<R: Wait, T: Turret>(rt: &R, block: &Moves, driven: &mut Driven<T>)
     }
 }
 
-// Tells the table that the path is drained: its turret stands still, and nothing is on its way.
+/// Tells the table that the path is drained: its turret stands still, and nothing is on its way.
 fn tell_drained<C: Turns, T: Turret>(table: &mut C, path: Path, driven: &Driven<T>)
     requires { driven.now.phase ≡ Still }
     ensures records { (p : OnePath) → C.records table.new p ≡ C.records table.old p }
@@ -40,8 +40,8 @@ fn tell_drained<C: Turns, T: Turret>(table: &mut C, path: Path, driven: &Driven<
     table.drained(path);
 }
 
-// Waits until the turret stands still, and then tells the table that the path is drained. Where the turret fails it
-// is told nothing.
+/// Waits until the turret stands still, and then tells the table that the path is drained. Where
+/// the turret fails it is told nothing.
 fn drain<C: Turns, T: Turret>(table: &mut C, path: Path, driven: &mut Driven<T>)
     ensures serves { (moves : List Lined) (start : TurretState)
         → Serves moves start driven.old → Serves moves start driven.new }
@@ -57,17 +57,16 @@ fn drain<C: Turns, T: Turret>(table: &mut C, path: Path, driven: &mut Driven<T>)
     }
 }
 
-/// Gives a path one turn, and hands the moves that it answers to the turret before anything else is done, until it fails. Where
-/// the path is to be drained it tells the table that it is, once the turret stands still. If the turret fails in that, the table is
-/// told nothing.
+/// Gives a path one turn, and hands the moves that it answers to the turret before anything else is
+/// done, until it fails. Where the path is to be drained it tells the table that it is, once the
+/// turret stands still. If the turret fails in that, the table is told nothing.
 pub fn give_turn<R: Wait, C: Turns, T: Turret>(
     rt: &R,
     table: &mut C,
     path: Path,
     driven: &mut Driven<T>,
 )
-    ensures serves { (start : TurretState) → Serves (moves_in (C.records table.old path)) start driven.old
-        → Serves (moves_in (C.records table.new path)) start driven.new }
+    ensures serves { ServesOn (C.records table.old path) driven.old (C.records table.new path) driven.new }
     ensures drained { C.drains table.old path ≡ true → IsDrained driven.new.phase (C.drains table.new path) }
     ensures others { (p : OnePath) → p ≢ path → C.records table.new p ≡ C.records table.old p }
 {

@@ -1,4 +1,0 @@
--- What callers read.
-pub mod Draining
--- Words of the inside.
-pub mod Seats
