@@ -1,5 +1,5 @@
-//! The calls of `include/lathe.h`. Each is total for every memory that C passes rightly: as many bytes as the lengths say,
-//! and a room and a length of the caller's own.
+//! The calls of `include/lathe.h`. Each is total for every memory that C passes rightly: as many
+//! bytes as the lengths say, and a room and a length of the caller's own.
 ghost use Rattle.std.specs.Prelude.{◌≡◌, Some};
 ghost use Rattle.lathe_calls.specs.declared.question.Question.TheVariants as ask;
 ghost use Rattle.lathe_calls.specs.Due.{IsAnswerTo};
@@ -29,7 +29,8 @@ pub extern "C" fn lathe_verify(
     room: &mut [u8],
     len: &mut usize,
 ) -> u8
-    ensures { IsAnswerTo ask.Verify (three_texts left.now right.now settings.now) room.old room.new (said result len.new) }
+    ensures { IsAnswerTo ask.Verify (three_texts left.now right.now settings.now)
+        room.old room.new (said result len.new) }
 {
     let texts = PairTexts::of(left, right, settings);
     told(answer(alloc, &texts, Question::Verify, room), len)
@@ -46,7 +47,8 @@ pub extern "C" fn lathe_run(
     room: &mut [u8],
     len: &mut usize,
 ) -> u8
-    ensures { IsAnswerTo (ask.Run limit) (three_texts left.now right.now settings.now) room.old room.new (said result len.new) }
+    ensures { IsAnswerTo (ask.Run limit) (three_texts left.now right.now settings.now)
+        room.old room.new (said result len.new) }
 {
     let texts = PairTexts::of(left, right, settings);
     told(answer(alloc, &texts, Question::Run(limit), room), len)
@@ -63,7 +65,8 @@ pub extern "C" fn lathe_trace(
     room: &mut [u8],
     len: &mut usize,
 ) -> u8
-    ensures { IsAnswerTo (ask.Trace limit) (three_texts left.now right.now settings.now) room.old room.new (said result len.new) }
+    ensures { IsAnswerTo (ask.Trace limit) (three_texts left.now right.now settings.now)
+        room.old room.new (said result len.new) }
 {
     let texts = PairTexts::of(left, right, settings);
     told(answer(alloc, &texts, Question::Trace(limit), room), len)
@@ -80,13 +83,15 @@ pub extern "C" fn lathe_state(
     room: &mut [u8],
     len: &mut usize,
 ) -> u8
-    ensures { IsAnswerTo (ask.State limit) (three_texts left.now right.now settings.now) room.old room.new (said result len.new) }
+    ensures { IsAnswerTo (ask.State limit) (three_texts left.now right.now settings.now)
+        room.old room.new (said result len.new) }
 {
     let texts = PairTexts::of(left, right, settings);
     told(answer(alloc, &texts, Question::State(limit), room), len)
 }
 
-/// The meetings of both tapes, read for their waits alone. They may lack the programs from `least` to `greatest`.
+/// The meetings of both tapes, read for their waits alone. They may lack the programs from `least`
+/// to `greatest`.
 #[unsafe(no_mangle)]
 pub extern "C" fn lathe_waits(
     alloc: Global,
@@ -124,7 +129,8 @@ pub extern "C" fn lathe_events(
     room: &mut [Event],
     len: &mut usize,
 ) -> u8
-    ensures { AreToldOf order.now (three_texts left.now right.now settings.now) room.old room.new (said result len.new) }
+    ensures { AreToldOf order.now (three_texts left.now right.now settings.now)
+        room.old room.new (said result len.new) }
 {
     let texts = PairTexts::of(left, right, settings);
     told(events(alloc, &texts, order, room), len)

@@ -1,5 +1,5 @@
-//! What C calls. Each export is total for every memory that C passes rightly: as many readable bytes as the lengths say, and
-//! a room and a length of the caller's own.
+//! What C calls. Each export is total for every memory that C passes rightly: as many readable
+//! bytes as the lengths say, and a room and a length of the caller's own.
 #![tactic(auto)]
 
 mod exports;

@@ -4,10 +4,10 @@ use Rattle.std.specs.Prelude.{if◌then◌else◌, nat_le}
 use Rattle.nc_number.specs.declared.path.Path.{Path}
 use Rattle.two_path.specs.Machine.{MachineView}
 use Rattle.two_path.specs.Turns.{Tapes, turn_of}
-use Rattle.two_path.specs.Histories.{run}
+use Rattle.two_path.specs.Histories.{run, turns_of}
 use Rattle.lathe_calls.specs.declared.event.Event.{Event}
 use Rattle.lathe_calls.specs.Events.{stamp_of, turn_events}
-use Rattle.lathe_calls.specs.Order.{events_from, given, turns_of}
+use Rattle.lathe_calls.specs.Order.{events_from, given}
 
 -- no turn is given once there are as many records as there may be
 pub given_full : (tapes : Tapes) (most : ℕ) (m : MachineView) (order : List Path) → most ≤ m.count → given tapes most m order ≡ []

@@ -6,7 +6,8 @@ use Rattle.nc_outside.specs.Faults.{Rose}
 use Rattle.nc_outside.specs.Written.{SinkState, Writes}
 use Rattle.lathe_calls.specs.Statuses as exit
 
--- what there is to tell: a status and its text; or nothing, where memory ran out before that was known
+-- what there is to tell: a status and its text; or nothing, where memory ran out before that was
+-- known
 pub data Answer : Type 0 where
   tells : (status : ℕ) (text : List ℕ) → Answer
   nothing : Answer
@@ -15,8 +16,9 @@ pub data Answer : Type 0 where
 abbrev pub IsJust : Answer → Answer → Type 0
 IsJust due answer = answer ≡ due
 
--- How a call ends, by what is due: the text stands whole after what was there, and the status is its own; or the sink failed
--- after a part of the text; or memory ran out there; or before there was a text, and nothing was written.
+-- How a call ends, by what is due: the text stands whole after what was there, and the status is
+-- its own; or the sink failed after a part of the text; or memory ran out there; or before there
+-- was a text, and nothing was written.
 pub data Ends (Due : Answer → Type 0) (old new : SinkState) : ℕ → Type 0 where
   whole : {status : ℕ} {text : List ℕ} → Due (tells status text) → Writes old new text → Ends Due old new status
   cut : {status : ℕ} {text : List ℕ} → Due (tells status text) → Rose old.faults new.faults → (n : ℕ)

@@ -1,4 +1,5 @@
--- What is due to three texts and a question, whoever asks: a caller, or a command of the program over files with these texts.
+-- What is due to three texts and a question, whoever asks: a caller, or a command of the program
+-- over files with these texts.
 use Rattle.std.specs.Prelude.{ℕ, min, List, Some}
 use Rattle.nc_restart.specs.Pair.{IsPairOf, tapes_in, opening_of}
 use Rattle.nc_verify.specs.declared.refusal.Refusal.{Refusal}
@@ -19,7 +20,8 @@ use Rattle.lathe_calls.specs.declared.question.Question.{Question}
 use Rattle.lathe_calls.specs.declared.question.Question.TheVariants as ask
 use Rattle.lathe_calls.specs.Said.{IsSaid}
 
--- the records of the run of a pair whose paths take turns, of so many at most and of no more than the settings allow
+-- the records of the run of a pair whose paths take turns, of so many at most and of no more than
+-- the settings allow
 abbrev pub AreRecordsInTurn : ℕ → Verified → List Entry → Type 0
 AreRecordsInTurn limit pair entries = IsInTurn (tapes_in pair) (opening_of pair) (min limit pair.settings.records) entries
 
@@ -35,7 +37,8 @@ pub data IsStateOf (limit : ℕ) (pair : Verified) : Answer → Type 0 where
       → IsStateOf limit pair (tells exit.done (state_of pair entries))
   unran : IsStateOf limit pair nothing
 
--- what is due to the pair of accepted texts; 1 where they are refused, with the line of that; nothing for want of memory
+-- what is due to the pair of accepted texts; 1 where they are refused, with the line of that;
+-- nothing for want of memory
 pub data IsOfPair (IsDue : Verified → Answer → Type 0) (texts : Texts) : Answer → Type 0 where
   accepted : (pair : Verified) {answer : Answer} → IsPairOf texts pair → IsDue pair answer → IsOfPair IsDue texts answer
   refused : {refusal : Refusal} {text : List ℕ} → IsRefusalOf texts refusal → IsVerdictText (Some refusal) text

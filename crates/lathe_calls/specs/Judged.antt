@@ -10,7 +10,8 @@ use Rattle.nc_verify.specs.Printed.{IsVerdictText}
 use Rattle.lathe_calls.specs.Answers.{Answer, tells, nothing}
 use Rattle.lathe_calls.specs.Statuses as exit
 
--- the verdict: 0 where the texts are accepted, 1 where they are refused, each with its line; nothing for want of memory
+-- the verdict: 0 where the texts are accepted, 1 where they are refused, each with its line;
+-- nothing for want of memory
 pub data IsJudged (texts : Texts) : Answer → Type 0 where
   accepted : {cell : Cell} {left right : List ProgramForm} {text : List ℕ} → AreAccepted texts cell left right
       → IsVerdictText None text → IsJudged texts (tells exit.done text)

@@ -1,5 +1,5 @@
 -- The events of a run whose paths get their turns in the order that a caller gives.
-use Rattle.std.specs.Prelude.{◌≡◌, ℕ, ◌==◌, ◌||◌, Bool, true, false, if◌then◌else◌, nat_le, List, [], ◌∷◌, ◌++◌, map, unwrap_or}
+use Rattle.std.specs.Prelude.{◌≡◌, ℕ, ◌==◌, ◌||◌, Bool, true, false, if◌then◌else◌, nat_le, List, [], ◌∷◌, ◌++◌, unwrap_or, map}
 use Rattle.std.specs.List.{list_all}
 use Rattle.nc_number.specs.declared.path.Path.{Path}
 use Rattle.nc_number.specs.declared.path.Path.TheVariants.{One, Two}
@@ -9,7 +9,7 @@ use Rattle.nc_verify.specs.declared.verified.Verified.{Verified}
 use Rattle.nc_verify.specs.Verdict.{Texts, IsRefusalOf}
 use Rattle.two_path.specs.Machine.{MachineView}
 use Rattle.two_path.specs.Turns.{Tapes, turn_of}
-use Rattle.two_path.specs.Histories.{Event as TurnEvent, TurnOf, IsLegal, history, run}
+use Rattle.two_path.specs.Histories.{IsLegal, history, run, turns_of}
 use Rattle.turn_order.specs.declared.ending.TurnsEnd.{TurnsEnd}
 use Rattle.turn_order.specs.declared.ending.TurnsEnd.TheVariants as ends
 use Rattle.turn_order.specs.Ending.{end_of}
@@ -34,9 +34,6 @@ given tapes most m [] = []
 given tapes most m (path ∷ order) =
     if nat_le most m.count then [] else path ∷ given tapes most (turn_of tapes path m).machine order
 
-abbrev pub turns_of : List Path → List TurnEvent
-turns_of order = map TurnOf order
-
 -- what the turns of these paths came to, from a machine on
 abbrev pub events_from : Tapes → MachineView → List Path → List Event
 events_from tapes m [] = []
@@ -47,12 +44,14 @@ events_from tapes m (path ∷ order) =
 abbrev pub placed_events : MachineView → List Event
 placed_events m = placed_event One m.first.path.position ∷ placed_event Two m.second.path.position ∷ []
 
--- how far a run has come that may have so many records: it has ended, or there are so many, or the order is over
+-- how far a run has come that may have so many records: it has ended, or there are so many, or the
+-- order is over
 abbrev pub end_after : ℕ → MachineView → TurnsEnd
 end_after most m = unwrap_or (end_of m) (if nat_le most m.count then ends.Full else ends.Stopped)
 
--- The events of two tapes from a machine on, of which the paths get their turns in this order: where both turrets begin, and what each
--- turn came to, up to so many records. The records of these turns are one legal history, and the status says how far it has come.
+-- The events of two tapes from a machine on, of which the paths get their turns in this order:
+-- where both turrets begin, and what each turn came to, up to so many records. The records of these
+-- turns are one legal history, and the status says how far it has come.
 pub record AreEventsFrom (tapes : Tapes) (start : MachineView) (most : ℕ) (order : List Path) (status : ℕ) (list : List Event) : Type 0 where
   pub legal : IsLegal tapes start (history tapes start (turns_of (given tapes most start order)))
   pub events : list ≡ placed_events start ++ events_from tapes start (given tapes most start order)
@@ -62,8 +61,8 @@ pub record AreEventsFrom (tapes : Tapes) (start : MachineView) (most : ℕ) (ord
 abbrev pub AreEventsOf : Verified → List Path → ℕ → List Event → Type 0
 AreEventsOf pair order status list = AreEventsFrom (tapes_in pair) (opening_of pair) pair.settings.records order status list
 
--- What is due to three texts and an order: 2 where it has a byte that names no path, 1 where the texts are refused, and else the
--- events of their pair.
+-- What is due to three texts and an order: 2 where it has a byte that names no path, 1 where the
+-- texts are refused, and else the events of their pair.
 pub data AreDue (order : List ℕ) (texts : Texts) : ℕ → List Event → Type 0 where
   disordered : is_order order ≡ false → AreDue order texts exit.usage []
   refused : {refusal : Refusal} → is_order order ≡ true → IsRefusalOf texts refusal → AreDue order texts exit.refused []

@@ -18,8 +18,9 @@ pub data IsHanded (status : ℕ) (text before after : List ℕ) (it : Said) : Ty
   whole : status ≢ exit.no_memory → it ≡ said status (length text) → after ≡ handed text before → IsHanded status text before after it
   lacking : status ≡ exit.no_memory → it ≡ said exit.no_memory 0 → after ≡ before → IsHanded status text before after it
 
--- What a call says of three texts: the status and the length of what is due, of which the room holds the front; or 13, where a text
--- is too long, or 12, where memory ran out, and the room is as it was.
+-- What a call says of three texts: the status and the length of what is due, of which the room
+-- holds the front; or 13, where a text is too long, or 12, where memory ran out, and the room is as
+-- it was.
 pub data IsSaid {A : Type 0} (texts : Texts) (IsDue : ℕ → List A → Type 0) (before after : List A) (it : Said) : Type 0 where
   whole : {status : ℕ} {list : List A} → are_fit texts ≡ true → IsDue status list → it ≡ said status (length list)
       → after ≡ handed list before → IsSaid texts IsDue before after it

@@ -1,5 +1,6 @@
 -- The statuses of calls and of the program.
 use Rattle.std.specs.Prelude.{ℕ}
+use Rattle.move_list.specs.declared.end_line.Reason.{Reason}
 
 abbrev pub done : ℕ
 done = 0
@@ -42,3 +43,12 @@ no_file = 13
 
 abbrev pub full : ℕ
 full = 14
+
+-- the status of the reason for which a run ended
+abbrev pub reason_status : Reason → ℕ
+reason_status Reason.Done = done
+reason_status (Reason.Alarm which) = alarm
+reason_status Reason.Stopped = stopped
+reason_status Reason.Full = full
+reason_status Reason.DiskFault = disk_fault
+reason_status (Reason.TurretFault path) = turret_fault

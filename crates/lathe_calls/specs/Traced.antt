@@ -18,18 +18,16 @@ use Rattle.lathe_calls.specs.Answers.{Answer, tells, nothing}
 use Rattle.lathe_calls.specs.Races.{AreRaces}
 use Rattle.lathe_calls.specs.Statuses as exit
 
--- how the run of a trace ended, as a report says it, and the status of that
+-- how the run of a trace ended, as a report says it
 abbrev pub end_reason : TurnsEnd → Reason
 end_reason ends.Done = Reason.Done
 end_reason (ends.Alarm alarm) = Reason.Alarm alarm
 end_reason ends.Full = Reason.Full
 end_reason ends.Stopped = Reason.Stopped
 
+-- and the status of that
 abbrev pub end_status : TurnsEnd → ℕ
-end_status ends.Done = exit.done
-end_status (ends.Alarm alarm) = exit.alarm
-end_status ends.Full = exit.full
-end_status ends.Stopped = exit.stopped
+end_status end = exit.reason_status (end_reason end)
 
 -- the trace of a history of a pair, and behind it the races of the pair, as `races` prints them
 abbrev pub trace_of : Verified → List Entry → TurnsEnd → List Race → List ℕ
@@ -39,15 +37,16 @@ trace_of pair entries end races = trace_text (tapes_in pair) (opening_of pair) e
 abbrev pub end_of : Verified → List Entry → TurnsEnd
 end_of pair entries = end_told (tapes_in pair) (opening_of pair) pair.settings.records entries
 
--- a trace of a pair: that of its run whose paths take turns, of so many records at most and of no more than the settings allow, with
--- all races of the pair; or nothing for want of memory
+-- a trace of a pair: that of its run whose paths take turns, of so many records at most and of no
+-- more than the settings allow, with all races of the pair; or nothing for want of memory
 pub data IsTraceOf (limit : ℕ) (pair : Verified) : Answer → Type 0 where
   ran : (entries : List Entry) (races : List Race) → IsInTurn (tapes_in pair) (opening_of pair) (min limit pair.settings.records) entries
       → AreRaces pair races
       → IsTraceOf limit pair (tells (end_status (end_of pair entries)) (trace_of pair entries (end_of pair entries) races))
   unran : IsTraceOf limit pair nothing
 
--- the trace of the accepted pair; 1 where the texts are refused, with the line of that; nothing for want of memory
+-- the trace of the accepted pair; 1 where the texts are refused, with the line of that; nothing for
+-- want of memory
 pub data IsTraced (limit : ℕ) (texts : Texts) : Answer → Type 0 where
   traced : (pair : Verified) {answer : Answer} → IsPairOf texts pair → IsTraceOf limit pair answer → IsTraced limit texts answer
   refused : {refusal : Refusal} {text : List ℕ} → IsRefusalOf texts refusal → IsVerdictText (Some refusal) text

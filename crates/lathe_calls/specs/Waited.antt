@@ -16,7 +16,8 @@ use Rattle.lathe_calls.specs.Statuses as exit
 abbrev pub asked_of : Option Outside → Texts → Asked
 asked_of outside texts = record { texts = texts; outside = outside }
 
--- 0 and the meetings of a pair that is accepted for its waits; 1 and the line of a refusal; nothing for want of memory
+-- 0 and the meetings of a pair that is accepted for its waits; 1 and the line of a refusal; nothing
+-- for want of memory
 pub data AreWaits (outside : Option Outside) (texts : Texts) : Answer → Type 0 where
   told : {judged : Judged} {left right : List Labelled} {trust : TrustView} → IsTold (asked_of outside texts) judged left right trust
       → AreWaits outside texts (tells exit.done (waits_text left right trust))

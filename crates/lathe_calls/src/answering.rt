@@ -17,7 +17,8 @@ use crate::waiting::judge_waits;
 use nc_outside::Sink;
 use std::alloc::Global;
 
-/// Writes what is due to the texts and a question, and gives its status. The program's commands answer so over their files.
+/// Writes what is due to the texts and a question, and gives its status. The program's commands
+/// answer so over their files.
 ///
 /// The status is that of [`answer`], or 5 where the sink failed, 12 where it had no memory.
 pub fn tell<K: Sink>(alloc: Global, texts: &PairTexts<'_>, question: Question, out: &mut K) -> u8
@@ -34,11 +35,11 @@ pub fn tell<K: Sink>(alloc: Global, texts: &PairTexts<'_>, question: Question, o
     }
 }
 
-/// Answers a question about the texts: the front of the text that is due goes into the room, and what lies behind it there
-/// stays as it was.
+/// Answers a question about the texts: the front of the text that is due goes into the room, and
+/// what lies behind it there stays as it was.
 ///
-/// The status is the program's: 0, 1, 3, 10 or 14 with a text. Without one: 12 out of memory, 13 a text is longer than a
-/// file of its kind may be.
+/// The status is the program's: 0, 1, 3, 10 or 14 with a text. Without one: 12 out of memory, 13 a
+/// text is longer than a file of its kind may be.
 pub fn answer(alloc: Global, texts: &PairTexts<'_>, question: Question, room: &mut [u8]) -> Said
     ensures { IsAnswerTo question (texts_of texts.now) room.old room.new result }
 {

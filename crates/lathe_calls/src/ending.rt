@@ -1,7 +1,9 @@
 //! How a call ends: a text is written, and there is a status.
 ghost use Rattle.std.specs.Prelude.{◌≡◌};
 ghost use Rattle.lathe_calls.specs.Answers.{Ends, IsJust, status_behind, tells};
+ghost use Rattle.lathe_calls.specs.Statuses.{reason_status};
 
+use move_list::Reason;
 use nc_outside::{PutFault, Sink};
 
 /// What the program ends with.
@@ -35,6 +37,21 @@ pub enum Status {
     NoFile = 13,
     /// The journal has as many records as it may have.
     Full = 14,
+}
+
+/// The status of the reason for which a run ended.
+pub fn reason_status(reason: &Reason) -> u8
+    ensures { result ≡ reason_status reason.now }
+{
+    let status = match reason {
+        Reason::Done => Status::Done,
+        Reason::Alarm(_) => Status::Alarm,
+        Reason::Stopped => Status::Stopped,
+        Reason::Full => Status::Full,
+        Reason::DiskFault => Status::DiskFault,
+        Reason::TurretFault(_) => Status::TurretFault,
+    };
+    status as u8
 }
 
 /// The status after a text that was put: that of the text, or of what went wrong.

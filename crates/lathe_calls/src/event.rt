@@ -36,7 +36,8 @@ pub enum Kind {
     Read = 15,
 }
 
-/// An event of a run. What its kind has no use for is 0. Points are in machine coordinates, lengths in 0.001 mm.
+/// An event of a run. What its kind has no use for is 0. Points are in machine coordinates, lengths
+/// in 0.001 mm.
 #[repr(C)]
 #[derive(Clone, Copy, Debug, PartialEq, Eq)]
 pub struct Event {
@@ -58,7 +59,8 @@ pub struct Event {
     pub by_centre: u8,
     /// Whether a speed is in metres per minute at the surface, 1 or 0.
     pub at_surface: u8,
-    /// The milliseconds of a dwell, the speed of the spindle, its highest speed, or the number of a variable that was read.
+    /// The milliseconds of a dwell, the speed of the spindle, its highest speed, or the number of a
+    /// variable that was read.
     pub amount: u64,
     /// Where the turret stands, or comes to, along X.
     pub x: i64,
@@ -72,7 +74,8 @@ pub struct Event {
     pub value: i64,
 }
 
-/// When and where an event is: the records with its own, its path, and the line of that path's tape.
+/// When and where an event is: the records with its own, its path, and the line of that path's
+/// tape.
 #[derive(Clone, Copy, Debug, PartialEq, Eq)]
 pub(crate) struct Stamp {
     pub(crate) records: u32,
@@ -135,12 +138,14 @@ pub(crate) fn alarm_event(at: Stamp, alarm: &Alarm) -> Event
     }
 }
 
+/// A truth value as C has it.
 fn flag(is: bool) -> u8
     ensures { result ≡ flag is }
 {
     if is { 1 } else { 0 }
 }
 
+/// An event at a point.
 fn moving_event(at: Stamp, kind: Kind, to: Point) -> Event
     ensures { result ≡ moving_event at kind to }
 {
@@ -161,6 +166,7 @@ pub(crate) fn counting_event(at: Stamp, kind: Kind, amount: u64) -> Event
     }
 }
 
+/// A move along an arc, of which the direction and the feed are not told yet.
 fn arc_event(at: Stamp, to: Point, centre: Centre) -> Event
     ensures { result ≡ arc_event at to centre }
 {

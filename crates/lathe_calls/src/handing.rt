@@ -16,7 +16,8 @@ fn hand_out(text: &[u8], room: &mut [u8]) -> usize
     text.len()
 }
 
-/// Copies the front of a list of events into the room that there is, and tells how long the list is.
+/// Copies the front of a list of events into the room that there is, and tells how long the list
+/// is.
 fn hand_out_events(list: &[Event], room: &mut [Event]) -> usize
     ensures room { room.new ≡ handed list.now room.old }
     ensures len { result ≡ length list.now }

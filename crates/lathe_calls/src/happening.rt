@@ -79,7 +79,8 @@ fn events_in(
 
 /// The events of a pair whose paths get their turns in this order.
 fn events_of(alloc: Global, pair: &Verified, order: &[u8]) -> Result<Happened, NoMemory>
-    ensures { IfOk result (λ happened. AreEventsOf pair.now (map path_at order.now) happened.status happened.list.items) }
+    ensures { IfOk result (λ happened. AreEventsOf pair.now (map path_at order.now)
+        happened.status happened.list.items) }
 {
     events_in(alloc, pair.left(), pair.right(), pair.settings(), order)
 }
@@ -112,12 +113,13 @@ fn events_due(alloc: Global, texts: &PairTexts<'_>, order: &[u8]) -> Result<Happ
     }
 }
 
-/// The events of a pair whose paths get their turns in this order, a byte for each turn, 1 or 2: where both turrets begin,
-/// and then what each turn came to. A path that waits or has ended is passed over, and so are both behind an alarm or with
-/// as many records as the settings allow.
+/// The events of a pair whose paths get their turns in this order, a byte for each turn, 1 or 2:
+/// where both turrets begin, and then what each turn came to. A path that waits or has ended is
+/// passed over, and so are both behind an alarm or with as many records as the settings allow.
 ///
-/// Statuses: 0 both paths have ended, 3 an alarm, 10 the order is over, 14 as many records as the settings allow. Without
-/// an event: 1 the texts are refused, 2 the order has another byte, 12 out of memory, 13 a text is too long.
+/// Statuses: 0 both paths have ended, 3 an alarm, 10 the order is over, 14 as many records as the
+/// settings allow. Without an event: 1 the texts are refused, 2 the order has another byte, 12 out
+/// of memory, 13 a text is too long.
 pub fn events(alloc: Global, texts: &PairTexts<'_>, order: &[u8], room: &mut [Event]) -> Said
     ensures { AreToldOf order.now (texts_of texts.now) room.old room.new result }
 {

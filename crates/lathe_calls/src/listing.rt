@@ -9,6 +9,7 @@ use nc_moves::Move;
 use nc_number::NoMemory;
 use two_path::Turn;
 
+/// Puts an event at the end of the list.
 fn push_event(list: &mut Vec<Event>, event: Event) -> Result<(), NoMemory>
     ensures { OnOk result (list.new.items ≡ list.old.items ++ event ∷ []) }
 {

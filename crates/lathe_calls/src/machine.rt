@@ -1,5 +1,6 @@
 //! The machine behind a history.
 ghost use Rattle.std.specs.Prelude.{◌≡◌, ◌≤◌, ◌<◌, length, IfOk, OnOk};
+ghost use Rattle.nc_number.specs.declared.limits.TheConstants.{MOST_RECORDS};
 ghost use Rattle.move_list.specs.Report.{machine_at_start};
 ghost use Rattle.nc_restart.specs.Pair.{machine_behind, opening_of, tapes_in};
 ghost use Rattle.two_path.specs.Histories.{IsLegal, IsNext, behind_entry, fold};
@@ -18,10 +19,11 @@ use two_path::{Machine, histories_are_runs};
 /// Does a record again that is legal there.
 fn do_again(machine: &mut Machine, left: &Flow, right: &Flow, entry: &Entry) -> Result<(), NoMemory>
     requires legal { IsNext (tapes_of left.now right.now) machine.old.machine entry.now }
-    requires few { machine.old.machine.count ≤ 4000000 }
+    requires few { machine.old.machine.count ≤ MOST_RECORDS }
     requires no_reads { without_reads machine.old.machine ≡ machine.old.machine }
     requires waits { AreAtTheirWaits left.now.order right.now.order machine.old.machine }
-    ensures machine { OnOk result (machine.new.machine ≡ behind_entry (tapes_of left.now right.now) entry.now machine.old.machine) }
+    ensures machine { OnOk result (machine.new.machine
+        ≡ behind_entry (tapes_of left.now right.now) entry.now machine.old.machine) }
     ensures no_reads { OnOk result (without_reads machine.new.machine ≡ machine.new.machine) }
     ensures waits { OnOk result (AreAtTheirWaits left.now.order right.now.order machine.new.machine) }
 {
@@ -40,7 +42,7 @@ fn machine_done(
 ) -> Result<Machine, NoMemory>
     requires legal { IsLegal (tapes_of left.now right.now)
         (machine_at_start left.now right.now settings.now) entries.now.items }
-    requires few { length entries.now.items ≤ 4000000 }
+    requires few { length entries.now.items ≤ MOST_RECORDS }
     ensures machine { IfOk result (λ machine. machine.machine
         ≡ fold (tapes_of left.now right.now) (machine_at_start left.now right.now settings.now) entries.now.items) }
     ensures no_reads { IfOk result (λ machine. without_reads machine.machine ≡ machine.machine) }
@@ -61,7 +63,7 @@ pub(crate) fn machine_behind(
     entries: &EntryList,
 ) -> Result<Machine, NoMemory>
     requires legal { IsLegal (tapes_in pair.now) (opening_of pair.now) entries.now.items }
-    requires few { length entries.now.items ≤ 4000000 }
+    requires few { length entries.now.items ≤ MOST_RECORDS }
     ensures machine { IfOk result (λ machine. machine.machine ≡ machine_behind pair.now entries.now.items) }
     ensures no_reads { IfOk result (λ machine. without_reads machine.machine ≡ machine.machine) }
 {

@@ -1,10 +1,11 @@
 //! Turns in the order that a caller gives.
 ghost use Rattle.std.specs.Prelude.{◌≡◌, ◌≤◌, ◌<◌, ◌++◌, map, OnOk};
+ghost use Rattle.nc_number.specs.declared.limits.TheConstants.{MOST_RECORDS};
 ghost use Rattle.two_path.specs.Turns.{tapes_of, turn_of};
-ghost use Rattle.two_path.specs.Histories.{run};
+ghost use Rattle.two_path.specs.Histories.{run, turns_of};
 ghost use Rattle.two_path.specs.Joined.{AreAtTheirWaits};
 ghost use Rattle.trace_list.specs.Trace.{line_of};
-ghost use Rattle.lathe_calls.specs.Order.{end_after, events_from, given, is_order, path_at, turns_of};
+ghost use Rattle.lathe_calls.specs.Order.{end_after, events_from, given, is_order, path_at};
 ghost use Rattle.lathe_calls.specs.Events.{stamp_of, turn_events};
 
 use crate::event::{Event, Stamp};
@@ -46,7 +47,7 @@ fn give_turn(
     right: &Flow,
     path: Path,
 ) -> Result<(), NoMemory>
-    requires few { machine.old.machine.count < 4000000 }
+    requires few { machine.old.machine.count < MOST_RECORDS }
     requires waits { AreAtTheirWaits left.now.order right.now.order machine.old.machine }
     ensures list { OnOk result (list.new.items ≡ list.old.items
         ++ turn_events (stamp_of (tapes_of left.now right.now) path machine.old.machine)
@@ -66,7 +67,8 @@ fn give_turn(
     push_turn(list, at, &turned.turn)
 }
 
-/// Gives the paths their turns in this order, as long as there are fewer records than there may be, and lists the events.
+/// Gives the paths their turns in this order, as long as there are fewer records than there may be,
+/// and lists the events.
 pub(crate) fn give_turns(
     list: &mut Vec<Event>,
     machine: &mut Machine,
@@ -75,9 +77,10 @@ pub(crate) fn give_turns(
     most: u32,
     order: &[u8],
 ) -> Result<(), NoMemory>
-    requires few { most ≤ 4000000 }
+    requires few { most ≤ MOST_RECORDS }
     requires waits { AreAtTheirWaits left.now.order right.now.order machine.old.machine }
-    ensures list { OnOk result (list.new.items ≡ list.old.items ++ events_from (tapes_of left.now right.now) machine.old.machine
+    ensures list { OnOk result (list.new.items ≡ list.old.items
+        ++ events_from (tapes_of left.now right.now) machine.old.machine
         (given (tapes_of left.now right.now) most machine.old.machine (map path_at order.now))) }
     ensures machine { OnOk result (machine.new.machine ≡ run (tapes_of left.now right.now) machine.old.machine
         (turns_of (given (tapes_of left.now right.now) most machine.old.machine (map path_at order.now)))) }

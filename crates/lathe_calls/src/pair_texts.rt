@@ -1,10 +1,10 @@
+//! The three texts of a pair.
 ghost use Rattle.std.specs.Prelude.{◌≡◌};
 ghost use Rattle.lathe_calls.specs.Texts.{are_fit, texts_of, three_texts};
 
-/// The most bytes of a tape.
-pub const LONGEST_TAPE: usize = 4_194_304;
+use nc_number::LONGEST_TAPE;
 
-/// The most bytes of the settings.
+/// Bytes of the settings of a cell.
 pub const LONGEST_SETTINGS: usize = 65_536;
 
 /// The texts of a call: the tape of path 1, that of path 2, and the settings of the cell.

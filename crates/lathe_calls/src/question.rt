@@ -1,3 +1,4 @@
+//! What is asked of three texts.
 use open_order::Outside;
 
 /// What is asked of three texts.

@@ -1,5 +1,6 @@
 //! The texts of the run of a pair whose paths take turns.
 ghost use Rattle.std.specs.Prelude.{◌≡◌, ◌≤◌, ◌<◌, ◌^◌, length};
+ghost use Rattle.nc_number.specs.declared.limits.TheConstants.{MOST_RECORDS};
 ghost use Rattle.nc_restart.specs.Pair.{opening_of, tapes_in};
 ghost use Rattle.nc_verify.specs.Printed.{IsPut};
 ghost use Rattle.two_path.specs.Histories.{IsLegal};
@@ -11,7 +12,7 @@ ghost use Rattle.lathe_calls.specs.Traced.{IsTraceOf, IsTraced, end_reason, end_
 ghost use Rattle.lathe_calls.specs.Due.{IsOfPair, IsReportOf, IsStateOf};
 ghost use Rattle.lathe_calls.specs.Texts.{texts_of};
 
-use crate::ending::{Status, status_behind};
+use crate::ending::{Status, reason_status, status_behind};
 use crate::judging::refuse;
 use crate::machine::machine_behind;
 use crate::pair_texts::PairTexts;
@@ -40,12 +41,7 @@ fn end_reason(end: &TurnsEnd) -> Reason
 pub(crate) fn end_status(end: &TurnsEnd) -> u8
     ensures { result ≡ end_status end.now }
 {
-    match end {
-        TurnsEnd::Done => Status::Done as u8,
-        TurnsEnd::Alarm(_) => Status::Alarm as u8,
-        TurnsEnd::Full => Status::Full as u8,
-        TurnsEnd::Stopped => Status::Stopped as u8,
-    }
+    reason_status(&end_reason(end))
 }
 
 /// Writes the report of a pair, and gives its status.
@@ -71,7 +67,7 @@ fn write_traced<K: Sink>(
     out: &mut K,
 ) -> Result<(), PutFault>
     requires legal { IsLegal (tapes_in pair.now) (opening_of pair.now) entries.now.items }
-    requires few { length entries.now.items ≤ 4000000 }
+    requires few { length entries.now.items ≤ MOST_RECORDS }
     ensures { IsPut (K.state out.old) (K.state out.new) (trace_of pair.now entries.now.items end.now races.now) result }
 {
     match write_trace(alloc, pair, entries, end_reason(end), out) {
@@ -113,7 +109,7 @@ fn trace_pair<K: Sink>(alloc: Global, pair: &Verified, limit: u32, out: &mut K) 
 /// Writes the state of the machine behind a history of a pair.
 fn show_machine<K: Sink>(alloc: Global, pair: &Verified, entries: &EntryList, out: &mut K) -> u8
     requires legal { IsLegal (tapes_in pair.now) (opening_of pair.now) entries.now.items }
-    requires few { length entries.now.items ≤ 4000000 }
+    requires few { length entries.now.items ≤ MOST_RECORDS }
     ensures { Ends (IsJust (tells exit.done (state_of pair.now entries.now.items)))
         (K.state out.old) (K.state out.new) result }
 {
@@ -155,7 +151,8 @@ pub(crate) fn trace<K: Sink>(alloc: Global, texts: &PairTexts<'_>, limit: u32, o
     }
 }
 
-/// Writes the state of the machine behind the records of the run of the texts, and gives its status.
+/// Writes the state of the machine behind the records of the run of the texts, and gives its
+/// status.
 pub(crate) fn show<K: Sink>(alloc: Global, texts: &PairTexts<'_>, limit: u32, out: &mut K) -> u8
     requires { length texts.now.settings.now < 2 ^ 32 }
     ensures { Ends (IsOfPair (IsStateOf limit) (texts_of texts.now)) (K.state out.old) (K.state out.new) result }

@@ -17,7 +17,7 @@ use wait_verify::{WaitPair, push_waits, verdict};
 
 /// Writes the text of a pair that is accepted for its waits.
 fn tell_waits<K: Sink>(alloc: Global, pair: &WaitPair, out: &mut K) -> u8
-    ensures { Ends (IsJust (tells exit.done (waits_text pair.now.left pair.now.right (seen pair.now.trust))))
+    ensures { Ends (IsJust (tells exit.done (waits_text pair.now.labels.one pair.now.labels.two (seen pair.now.trust))))
         (K.state out.old) (K.state out.new) result }
 {
     let mut text = Vec::new(alloc);

@@ -1,4 +1,5 @@
--- The first file of a list that is not had: from one file to the list, and that it is not had indeed.
+-- The first file of a list that is not had: from one file to the list, and that it is not had
+-- indeed.
 use Rattle.std.proofs.Common.{◌≡◌, ℕ, zero, suc, ◌≤◌, ◌<◌, Option, Some, None, List, [], ◌∷◌, ◌++◌, length, map, take, IsSomeAnd, refl, sym, ap, subst, arith, ◌∙◌, append_assoc}
 use Rattle.std.proofs.lemmas.List.{map-append}
 use Rattle.nc_number.specs.declared.fault.Failing.{Failing}

@@ -2,7 +2,8 @@
 use Rattle.std.specs.Prelude.{◌≡◌, ℕ, List, ◌++◌, codes, Option, Ok, Err}
 use Rattle.nc_number.specs.declared.cause.Cause.{Cause}
 use Rattle.cycle_form.specs.Faults.{fault_name}
-use Rattle.nc_verify.specs.Printed.{IsCauseOf, name_text, numbered}
+use Rattle.text_pieces.specs.Pieces.{name_text, numbered}
+use Rattle.nc_verify.specs.Printed.{IsCauseOf}
 use Rattle.tape_expand.specs.declared.fault.ExpandFault.{ExpandFault}
 use Rattle.tape_expand.specs.declared.fault.ExpandFault.TheVariants.{Unreadable, Cycle}
 use Rattle.tape_expand.specs.Expansion.{expansion_of, parts_in, AreClearParts}
@@ -28,8 +29,8 @@ refusal_text cause fault =
 abbrev pub IsRefusalText : ExpandFault → List ℕ → Type 0
 IsRefusalText fault text = (cause : Option Cause) × IsCauseOf (expand_number fault) cause × (text ≡ refusal_text cause fault)
 
--- 0 and the tape with its roughing cycles written out, in which no move of a cycle's blocks lies inside its contour; 1 and the line of
--- the refusal; nothing for want of memory
+-- 0 and the tape with its roughing cycles written out, in which no move of a cycle's blocks lies
+-- inside its contour; 1 and the line of the refusal; nothing for want of memory
 pub data IsExpanded (text : List ℕ) : Answer → Type 0 where
   expanded : {bytes : List ℕ} → expansion_of text ≡ Ok bytes → AreClearParts (parts_in text) → IsExpanded text (tells exit.done bytes)
   refused : {fault : ExpandFault} {line : List ℕ} → expansion_of text ≡ Err fault → IsRefusalText fault line

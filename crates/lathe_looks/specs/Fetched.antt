@@ -33,12 +33,14 @@ Reaches told file [] n = ⊥
 Reaches told file (first ∷ files) zero = file ≡ first
 Reaches told file (first ∷ files) (suc n) = ((text : List ℕ) × IsText told first text) × Reaches told file files n
 
--- the shelf was asked for these files besides, in order and each once; who tells nothing goes on telling nothing
+-- the shelf was asked for these files besides, in order and each once; who tells nothing goes on
+-- telling nothing
 abbrev pub AreAsked : Option (List (List ℕ)) → Option (List (List ℕ)) → List Named → Type 0
 AreAsked None after files = after ≡ None
 AreAsked (Some was) after files = after ≡ Some (was ++ map (λ (file : Named). file.name) files)
 
--- The first file of a list that is not had, and why. The shelf was asked for it and for those before it.
+-- The first file of a list that is not had, and why. The shelf was asked for it and for those
+-- before it.
 pub record IsNotHad (old new : ShelfState) (files : List Named) (file : Named) (fault : FileFault) : Type 0 where
   pub before : ℕ
   pub reached : Reaches old.files file files before
@@ -70,7 +72,8 @@ fault_text name Failed = codes "shelf fault\n"
 fault_text name Absent = codes "no file " ++ name ++ codes "\n"
 fault_text name TooLong = codes "too long " ++ name ++ codes "\n"
 
--- why the texts of the files are not had: the first of them is not that is not, or memory ran out at one
+-- why the texts of the files are not had: the first of them is not that is not, or memory ran out
+-- at one
 abbrev pub IsUnfetched : ShelfState → ShelfState → List Named → Failing Unfetched → Type 0
 IsUnfetched old new files (Fault missing) = IsNotHad old new files (file_of missing) missing.fault
 IsUnfetched old new files NoMemory = AreSome old new files
@@ -80,8 +83,8 @@ abbrev pub unfetched : Failing Unfetched → Answer
 unfetched (Fault missing) = tells (fault_status missing.fault) (fault_text missing.name.now missing.fault)
 unfetched NoMemory = nothing
 
--- What a command of these files answers: of its first file that is not had, while this holds besides; or its answer over their texts,
--- which are listed in the order of the files.
+-- What a command of these files answers: of its first file that is not had, while this holds
+-- besides; or its answer over their texts, which are listed in the order of the files.
 pub data IsOfFiles {A : Type 0} (listed : A → List (List ℕ)) (files : List Named) (Rests : Type 0) (IsAnswer : A → Answer → Type 0)
     (old new : ShelfState) : Answer → Type 0 where
   not_had : {file : Named} {fault : FileFault} → IsNotHad old new files file fault → Rests

@@ -1,7 +1,8 @@
 -- The files that a command names.
 use Rattle.std.specs.Prelude.{ℕ, List, [], ◌∷◌}
+use Rattle.nc_number.specs.declared.limits.TheConstants.{LONGEST_TAPE}
 use Rattle.nc_verify.specs.Verdict.{Texts}
-use Rattle.lathe_calls.specs.Texts.{longest_settings, longest_tape}
+use Rattle.lathe_calls.specs.declared.pair_texts.TheConstants.{LONGEST_SETTINGS}
 use Rattle.lathe_looks.specs.declared.files.CommandFile.{CommandFile}
 use Rattle.lathe_looks.specs.declared.files.CommandFile.TheVariants.{Left, Right, Settings, Tape, Zones, Edits}
 
@@ -15,12 +16,12 @@ named file name = record { file = file; name = name }
 
 -- the most bytes that a file of a command may have
 abbrev pub most_bytes : CommandFile → ℕ
-most_bytes Left = longest_tape
-most_bytes Right = longest_tape
-most_bytes Settings = longest_settings
-most_bytes Tape = longest_tape
-most_bytes Zones = longest_settings
-most_bytes Edits = longest_settings
+most_bytes Left = LONGEST_TAPE
+most_bytes Right = LONGEST_TAPE
+most_bytes Settings = LONGEST_SETTINGS
+most_bytes Tape = LONGEST_TAPE
+most_bytes Zones = LONGEST_SETTINGS
+most_bytes Edits = LONGEST_SETTINGS
 
 -- the files of both tapes
 abbrev pub tapes_of : List ℕ → List ℕ → List Named

@@ -15,15 +15,12 @@ use Rattle.lathe_calls.specs.Reported.{state_of}
 use Rattle.lathe_looks.specs.Standing.{moves_text}
 use Rattle.lathe_calls.specs.Statuses as exit
 
--- an offset of the journal
-abbrev pub at_text : ℕ → List ℕ
-at_text offset = codes " at " ++ decimal offset
-
 -- the line of a journal that is bad at an offset
 abbrev pub bad_text : ℕ → List ℕ
-bad_text offset = codes "bad journal" ++ at_text offset ++ codes "\n"
+bad_text offset = codes "bad journal" ++ (codes " at " ++ (decimal offset ++ codes "\n"))
 
--- what is told where no run is found: the disk failed, or there is no run, or the journal is bad; nothing for want of memory
+-- what is told where no run is found: the disk failed, or there is no run, or the journal is bad;
+-- nothing for want of memory
 abbrev pub unfound : RestartFault → Answer
 unfound restart.DiskFault = tells exit.disk_fault (codes "disk fault\n")
 unfound restart.NoRun = tells exit.run_or_none (codes "no run\n")
@@ -36,8 +33,8 @@ abbrev pub shown_text : Showing → Verified → List Entry → List ℕ
 shown_text Moves = moves_text
 shown_text State = state_of
 
--- What a command answers that looks for a run on the disk and shows its history by this text: why none is found, or that text. It
--- writes nothing to the disk.
+-- What a command answers that looks for a run on the disk and shows its history by this text: why
+-- none is found, or that text. It writes nothing to the disk.
 pub data IsShown (text_of : Verified → List Entry → List ℕ) (old new : DiskState) : Answer → Type 0 where
   unshown : (fault : RestartFault) → Recovers old new (Err fault) → IsShown text_of old new (unfound fault)
   shown : (found : FoundRun) (pair : Verified) → IsPairOf (texts_of found.header) pair → IsHistory pair found.entries

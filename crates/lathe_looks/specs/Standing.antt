@@ -8,7 +8,8 @@ use Rattle.two_path.specs.Machine.{MachineView}
 use Rattle.nc_restart.specs.Pair.{machine_behind}
 use Rattle.lathe_calls.specs.Reported.{report_of}
 
--- why a machine stands where it does, if nothing else stopped it: an alarm, or both paths have ended, or neither
+-- why a machine stands where it does, if nothing else stopped it: an alarm, or both paths have
+-- ended, or neither
 abbrev pub reason_by : Option Alarm → Bool → Reason
 reason_by (Some alarm) finished = Reason.Alarm alarm
 reason_by None true = Reason.Done

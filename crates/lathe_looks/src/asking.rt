@@ -1,4 +1,5 @@
-//! The commands that answer a question of the files of a pair: `verify`, `waits`, `races` and `trace`.
+//! The commands that answer a question of the files of a pair: `verify`, `waits`, `races` and
+//! `trace`.
 ghost use Rattle.std.specs.Prelude.{◌≡◌};
 ghost use Rattle.lathe_calls.specs.Answers.{Ends};
 ghost use Rattle.lathe_calls.specs.Due.{IsDueTo};
@@ -13,8 +14,8 @@ use lathe_calls::{PairTexts, Question, tell};
 use nc_outside::{Shelf, Sink};
 use std::alloc::Global;
 
-/// Writes what is due to the texts of the files and a question, and gives its status; or which file is not had. What is
-/// due is what the library answers to these texts.
+/// Writes what is due to the texts of the files and a question, and gives its status; or which file
+/// is not had. What is due is what the library answers to these texts.
 pub fn ask<H: Shelf, K: Sink>(
     alloc: Global,
     names: &FileNames<'_>,
@@ -22,8 +23,8 @@ pub fn ask<H: Shelf, K: Sink>(
     shelf: &mut H,
     out: &mut K,
 ) -> u8
-    ensures { Ends (IsOfFiles listed (files_in names.now) (Unit {0}) (IsDueTo question) (H.state shelf.old) (H.state shelf.new))
-        (K.state out.old) (K.state out.new) result }
+    ensures { Ends (IsOfFiles listed (files_in names.now) (Unit {0}) (IsDueTo question)
+        (H.state shelf.old) (H.state shelf.new)) (K.state out.old) (K.state out.new) result }
 {
     match fetch_texts(alloc, shelf, names) {
         Ok(texts) => tell(alloc, &lent(&texts), question, out),
@@ -36,8 +37,8 @@ fn lent(texts: &Texts) -> PairTexts<'_>
     ensures { lent_texts result ≡ texts_of texts.now }
 {
     PairTexts::of(
-        texts.left.as_slice(),
-        texts.right.as_slice(),
+        texts.tapes.one.as_slice(),
+        texts.tapes.two.as_slice(),
         texts.settings.as_slice(),
     )
 }

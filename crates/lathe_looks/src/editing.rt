@@ -1,5 +1,5 @@
 //! The text of the edits that an operator makes.
-ghost use Rattle.std.specs.Prelude.{◌≡◌, ◌<◌, ◌^◌, ◌++◌, Ok, length, OnOk, IfOk, IfErr};
+ghost use Rattle.std.specs.Prelude.{◌≡◌, ◌<◌, ◌^◌, Ok, length, IfOk, IfErr};
 ghost use Rattle.edit_texts.specs.Edits.{edits_of};
 ghost use Rattle.lathe_calls.specs.Answers.{Ends, IsJust, tells};
 ghost use Rattle.lathe_calls.specs.Statuses as exit;
@@ -8,14 +8,15 @@ ghost use Rattle.lathe_looks.specs.Fetched.{IsOfFiles};
 ghost use Rattle.lathe_looks.specs.Named.{alone, edits_named};
 
 use crate::fetching::{fetch_edits, tell_unfetched};
-use crate::printing::{push_bytes, push_number};
 use edit_texts::{EditFault, EditList, read_edits};
 use lathe_calls::{Status, write_text};
-use nc_number::{Failing, NoMemory};
+use nc_number::Failing;
 use nc_outside::{Shelf, Sink};
 use std::alloc::Global;
+use text_pieces::Piece;
 
-/// The edits of a file; or what is told of a file that is not had, or of its first bad line, and the status of that.
+/// The edits of a file; or what is told of a file that is not had, or of its first bad line, and
+/// the status of that.
 pub fn edits_of_file<H: Shelf, K: Sink>(
     alloc: Global,
     name: &str,
@@ -42,28 +43,31 @@ fn edits_of_text<K: Sink>(alloc: Global, text: &[u8], out: &mut K) -> Result<Edi
 {
     match read_edits(alloc, text) {
         Ok(edits) => Ok(edits),
-        Err(Failing::Fault(fault)) => Err(tell_bad_edit(alloc, fault, out)),
+        Err(Failing::Fault(fault)) => Err(tell_bad_edit(fault, out)),
         Err(Failing::NoMemory) => Err(Status::NoMemory as u8),
     }
 }
 
 /// Writes the line of a text of edits that is refused, and gives its status.
-fn tell_bad_edit<K: Sink>(alloc: Global, fault: EditFault, out: &mut K) -> u8
+fn tell_bad_edit<K: Sink>(fault: EditFault, out: &mut K) -> u8
     ensures { Ends (IsJust (tells exit.refused (bad_edit_text fault.line))) (K.state out.old) (K.state out.new) result }
 {
-    let mut text = Vec::new(alloc);
-    if push_bad_edit(&mut text, fault.line).is_err() {
-        return Status::NoMemory as u8;
-    }
-    write_text(out, text.as_slice(), Status::Refused as u8)
+    write_text(
+        out,
+        bad_edit_line(fault.line).as_slice(),
+        Status::Refused as u8,
+    )
 }
 
-/// Puts the line of a text of edits that is refused.
-fn push_bad_edit(text: &mut Vec<u8>, line: u32) -> Result<(), NoMemory>
-    ensures { OnOk result (text.new.items ≡ text.old.items ++ bad_edit_text line) }
+/// The line of a text of edits that is refused. It takes no memory.
+#[tactic(auto, unfolding(crate::specs::Edited::bad_edit_text))]
+fn bad_edit_line(line: u32) -> Piece
+    ensures { result ≡ bad_edit_text line }
 {
-    push_bytes(text, b"refused 91 ")?;
-    push_bytes(text, b"BadEdit line ")?;
-    push_number(text, u64::from(line))?;
-    push_bytes(text, b"\n")
+    let mut piece = Piece::empty();
+    piece.add(b"refused 91 ");
+    piece.add(b"BadEdit line ");
+    piece.add_number(u64::from(line));
+    piece.add(b"\n");
+    piece
 }

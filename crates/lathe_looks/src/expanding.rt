@@ -1,6 +1,6 @@
 //! The command `expand`.
 ghost use Rattle.std.specs.Prelude.{◌≡◌, ◌++◌, OnOk, codes};
-ghost use Rattle.nc_verify.specs.Printed.{name_text, numbered};
+ghost use Rattle.text_pieces.specs.Pieces.{name_text, numbered};
 ghost use Rattle.lathe_calls.specs.Answers.{Ends, IsJust, tells};
 ghost use Rattle.lathe_looks.specs.Expanded.{IsExpanded, IsTapeRefusing, at_line_text, fault_name_text, refusal_text};
 ghost use Rattle.lathe_looks.specs.Fetched.{IsOfFiles};
@@ -15,7 +15,8 @@ use nc_outside::{Shelf, Sink};
 use std::alloc::Global;
 use tape_expand::{ExpandFault, expand_tape};
 
-/// Writes a tape with its roughing cycles as plain blocks, and gives the status: 0, or 1 if the tape is refused.
+/// Writes a tape with its roughing cycles as plain blocks, and gives the status: 0, or 1 if the
+/// tape is refused.
 pub fn expand<H: Shelf, K: Sink>(alloc: Global, name: &str, shelf: &mut H, out: &mut K) -> u8
     ensures { Ends (IsOfFiles alone (tape_named name.now) (Unit {0}) IsExpanded (H.state shelf.old) (H.state shelf.new))
         (K.state out.old) (K.state out.new) result }

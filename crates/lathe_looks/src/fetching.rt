@@ -3,14 +3,14 @@ ghost use Rattle.std.specs.Prelude.{◌≡◌, ◌≤◌, ◌<◌, ◌^◌, [], 
 ghost use Rattle.block_order.specs.Answers.{IfFault};
 ghost use Rattle.nc_outside.specs.Files.{HoldsOn};
 ghost use Rattle.lathe_calls.specs.Answers.{Ends, IsJust, tells};
-ghost use Rattle.lathe_looks.specs.Named.{alone, edits_named, listed, named, tape_named, tapes_of, zones_named};
-ghost use Rattle.lathe_looks.specs.Texts.{files_in, texts_of};
+ghost use Rattle.lathe_looks.specs.Named.{alone, edits_named, listed, named, tape_named, zones_named};
+ghost use Rattle.lathe_looks.specs.Texts.{files_in, tape_files, texts_of};
 ghost use Rattle.lathe_looks.specs.Fetched.{AreAsked, AreHad, FileCause, IsText, IsUnfetched, fault_status, fault_text, file_of, unfetched};
 
 use crate::files::{CommandFile, FileNames};
 use crate::printing::push_bytes;
 use lathe_calls::{Status, write_text};
-use nc_number::{Failing, NoMemory};
+use nc_number::{Both, Failing, NoMemory};
 use nc_outside::{FetchFault, Shelf, Sink};
 use std::alloc::Global;
 
@@ -33,18 +33,10 @@ pub struct Unfetched<'a> {
     pub fault: FileFault,
 }
 
-/// The texts of both tapes.
-#[derive(Drop)]
-struct Tapes {
-    pub left: Vec<u8>,
-    pub right: Vec<u8>,
-}
-
 /// The texts of both tapes and of the settings.
 #[derive(Drop)]
 pub struct Texts {
-    pub left: Vec<u8>,
-    pub right: Vec<u8>,
+    pub tapes: Both<Vec<u8>>,
     pub settings: Vec<u8>,
 }
 
@@ -72,6 +64,7 @@ fn fetch<'a, H: Shelf>(
     }
 }
 
+/// That a file is not had, and why.
 fn not_had(file: CommandFile, name: &str, fault: FileFault) -> Failing<Unfetched<'_>>
     ensures { IfFault result (λ unfetched. (file_of unfetched ≡ named file name.now) × (unfetched.fault ≡ fault)) }
 {
@@ -82,24 +75,23 @@ fn not_had(file: CommandFile, name: &str, fault: FileFault) -> Failing<Unfetched
 fn fetch_tapes<'a, H: Shelf>(
     alloc: Global,
     shelf: &mut H,
-    left: &'a str,
-    right: &'a str,
-) -> Result<Tapes, Failing<Unfetched<'a>>>
+    names: &Both<&'a str>,
+) -> Result<Both<Vec<u8>>, Failing<Unfetched<'a>>>
     ensures texts { IfOk result (λ tapes. AreHad (H.state shelf.old) (H.state shelf.new)
-        (tapes_of left.now right.now) (tapes.left.items ∷ tapes.right.items ∷ [])) }
-    ensures not_had { IfErr result (IsUnfetched (H.state shelf.old) (H.state shelf.new) (tapes_of left.now right.now)) }
+        (tape_files names.now) (tapes.one.items ∷ tapes.two.items ∷ [])) }
+    ensures not_had { IfErr result (IsUnfetched (H.state shelf.old) (H.state shelf.new) (tape_files names.now)) }
     ensures files { HoldsOn (H.state shelf.old) (H.state shelf.new) }
     ensures later { (H.state shelf.old).faults ≤ (H.state shelf.new).faults }
 {
-    let left = match fetch(alloc, shelf, CommandFile::Left, left) {
+    let one = match fetch(alloc, shelf, CommandFile::Left, names.one) {
         Ok(text) => text,
         Err(error) => return Err(error),
     };
-    let right = match fetch(alloc, shelf, CommandFile::Right, right) {
+    let two = match fetch(alloc, shelf, CommandFile::Right, names.two) {
         Ok(text) => text,
         Err(error) => return Err(error),
     };
-    Ok(Tapes { left, right })
+    Ok(Both { one, two })
 }
 
 /// The texts of both tapes, and then of the settings.
@@ -112,17 +104,12 @@ pub fn fetch_texts<'a, H: Shelf>(
         (listed (texts_of texts))) }
     ensures not_had { IfErr result (IsUnfetched (H.state shelf.old) (H.state shelf.new) (files_in names.now)) }
 {
-    let tapes = match fetch_tapes(alloc, shelf, names.left, names.right) {
+    let tapes = match fetch_tapes(alloc, shelf, &names.tapes) {
         Ok(tapes) => tapes,
         Err(error) => return Err(error),
     };
-    let Tapes { left, right } = tapes;
     match fetch(alloc, shelf, CommandFile::Settings, names.settings) {
-        Ok(settings) => Ok(Texts {
-            left,
-            right,
-            settings,
-        }),
+        Ok(settings) => Ok(Texts { tapes, settings }),
         Err(error) => Err(error),
     }
 }
@@ -133,7 +120,8 @@ pub(crate) fn fetch_tape<'a, H: Shelf>(
     shelf: &mut H,
     name: &'a str,
 ) -> Result<Vec<u8>, Failing<Unfetched<'a>>>
-    ensures text { IfOk result (λ text. AreHad (H.state shelf.old) (H.state shelf.new) (tape_named name.now) (alone text.items)) }
+    ensures text { IfOk result (λ text. AreHad (H.state shelf.old) (H.state shelf.new)
+        (tape_named name.now) (alone text.items)) }
     ensures not_had { IfErr result (IsUnfetched (H.state shelf.old) (H.state shelf.new) (tape_named name.now)) }
 {
     match fetch(alloc, shelf, CommandFile::Tape, name) {
@@ -148,7 +136,8 @@ pub(crate) fn fetch_zones<'a, H: Shelf>(
     shelf: &mut H,
     name: &'a str,
 ) -> Result<Vec<u8>, Failing<Unfetched<'a>>>
-    ensures text { IfOk result (λ text. AreHad (H.state shelf.old) (H.state shelf.new) (zones_named name.now) (alone text.items)) }
+    ensures text { IfOk result (λ text. AreHad (H.state shelf.old) (H.state shelf.new)
+        (zones_named name.now) (alone text.items)) }
     ensures short { IfOk result (λ text. length text.items < 2 ^ 32) }
     ensures not_had { IfErr result (IsUnfetched (H.state shelf.old) (H.state shelf.new) (zones_named name.now)) }
 {
@@ -164,7 +153,8 @@ pub(crate) fn fetch_edits<'a, H: Shelf>(
     shelf: &mut H,
     name: &'a str,
 ) -> Result<Vec<u8>, Failing<Unfetched<'a>>>
-    ensures text { IfOk result (λ text. AreHad (H.state shelf.old) (H.state shelf.new) (edits_named name.now) (alone text.items)) }
+    ensures text { IfOk result (λ text. AreHad (H.state shelf.old) (H.state shelf.new)
+        (edits_named name.now) (alone text.items)) }
     ensures short { IfOk result (λ text. length text.items < 2 ^ 32) }
     ensures not_had { IfErr result (IsUnfetched (H.state shelf.old) (H.state shelf.new) (edits_named name.now)) }
 {
@@ -174,7 +164,8 @@ pub(crate) fn fetch_edits<'a, H: Shelf>(
     }
 }
 
-/// Writes the line of a file that is not had, and gives its status. Where memory was lacking nothing is written.
+/// Writes the line of a file that is not had, and gives its status. Where memory was lacking
+/// nothing is written.
 pub fn tell_unfetched<K: Sink>(alloc: Global, error: &Failing<Unfetched<'_>>, out: &mut K) -> u8
     ensures { Ends (IsJust (unfetched error.now)) (K.state out.old) (K.state out.new) result }
 {
@@ -196,6 +187,7 @@ fn tell_fault<K: Sink>(alloc: Global, missing: &Unfetched<'_>, out: &mut K) -> u
     write_text(out, text.as_slice(), fault_status(missing.fault))
 }
 
+/// The status of a file that is not had.
 fn fault_status(fault: FileFault) -> u8
     ensures { result ≡ fault_status fault }
 {

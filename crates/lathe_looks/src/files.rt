@@ -2,7 +2,8 @@
 ghost use Rattle.std.specs.Prelude.{◌≡◌};
 ghost use Rattle.lathe_looks.specs.Named.{most_bytes};
 
-use lathe_calls::{LONGEST_SETTINGS, LONGEST_TAPE};
+use lathe_calls::LONGEST_SETTINGS;
+use nc_number::{Both, LONGEST_TAPE};
 
 /// Which of the files of a command.
 #[derive(Clone, Copy, Debug, PartialEq, Eq)]
@@ -36,7 +37,7 @@ impl CommandFile {
 /// The names of the files of a pair.
 #[derive(Clone, Copy, Debug)]
 pub struct FileNames<'a> {
-    pub left: &'a str,
-    pub right: &'a str,
+    /// The names of the tapes.
+    pub tapes: Both<&'a str>,
     pub settings: &'a str,
 }

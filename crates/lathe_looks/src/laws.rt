@@ -1,4 +1,5 @@
-//! What holds of every call. The law is the contract of a function that does nothing: who calls it has the law.
+//! What holds of every call. The law is the contract of a function that does nothing: who calls it
+//! has the law.
 ghost use Rattle.std.specs.Prelude.{◌≡◌, ◌⊎◌, ℕ, List, Some};
 ghost use Rattle.nc_outside.specs.Faults.{Rose};
 ghost use Rattle.nc_outside.specs.Files.{Files, ShelfState};
@@ -9,12 +10,13 @@ ghost use Rattle.lathe_looks.specs.Named.{files_of, listed};
 ghost use Rattle.lathe_calls.specs.declared.question.Question.{Question};
 ghost use Rattle.lathe_calls.specs.Due.{IsDueTo};
 
-/// A command of the program that answers a question of its files answers what is due to the texts of these files: if a shelf has
-/// such texts under the names, and does not fail, then what is due to the command is due to the texts, or is nothing for want of
-/// memory. The commands `verify`, `waits`, `races` and `trace` are such commands: [`ask`](crate::ask) answers them.
+/// A command of the program that answers a question of its files answers what is due to the texts
+/// of these files: if a shelf has such texts under the names, and does not fail, then what is due
+/// to the command is due to the texts, or is nothing for want of memory. The commands `verify`,
+/// `waits`, `races` and `trace` are such commands: [`ask`](crate::ask) answers them.
 pub fn the_program_answers_what_the_library_answers()
-    ensures { (files : Files) (old new : ShelfState) (left right settings : List ℕ) (texts : Texts) (question : Question)
-        → (answer : Answer) → old.files ≡ Some files → (Rose old.faults new.faults → ⊥)
+    ensures { (files : Files) (old new : ShelfState) (left right settings : List ℕ) (texts : Texts)
+        → (question : Question) (answer : Answer) → old.files ≡ Some files → (Rose old.faults new.faults → ⊥)
         → AreTexts (Some files) (files_of left right settings) (listed texts)
         → IsOfFiles listed (files_of left right settings) (Unit {0}) (IsDueTo question) old new answer
         → (answer ≡ nothing) ⊎ IsDueTo question texts answer }

@@ -43,7 +43,7 @@ pub fn show<D: Disk, K: Sink>(alloc: Global, showing: Showing, disk: D, out: &mu
             }
         }
         Err((disk, fault)) => Shown {
-            status: tell_unfound(alloc, fault, out),
+            status: tell_unfound(fault, out),
             disk,
         },
     }

@@ -1,5 +1,5 @@
 //! The command `zones`.
-ghost use Rattle.std.specs.Prelude.{◌≡◌, ◌<◌, ◌^◌, ◌++◌, Ok, length, OnOk, IfOk, IfErr};
+ghost use Rattle.std.specs.Prelude.{◌≡◌, ◌<◌, ◌^◌, Ok, length, IfOk, IfErr};
 ghost use Rattle.nc_restart.specs.Recovered.{IsRecovered};
 ghost use Rattle.nc_verify.specs.Printed.{IsPut};
 ghost use Rattle.zone_cell.specs.Zones.{zones_of};
@@ -11,19 +11,20 @@ ghost use Rattle.lathe_looks.specs.Shown.{IsShown};
 ghost use Rattle.lathe_looks.specs.Zoned.{AreZonesOf, IsUnzoned, bad_zone_text, zones_text};
 
 use crate::fetching::{fetch_zones, tell_unfetched};
-use crate::printing::{push_bytes, push_number};
 use crate::refusing::tell_unfound;
 use crate::showing::Shown;
 use disk_model::Disk;
 use lathe_calls::{Status, status_behind, write_text};
-use nc_number::{Failing, NoMemory};
+use nc_number::Failing;
 use nc_outside::{PutFault, Shelf, Sink};
 use nc_restart::{Recovered, recover};
 use std::alloc::Global;
+use text_pieces::Piece;
 use zone_cell::{ZoneFault, Zones, read_zones};
 use zone_check::{boxes, write_zones};
 
-/// The zones of a file; or what is told of a file that is not had, or of its first bad line, and the status of that.
+/// The zones of a file; or what is told of a file that is not had, or of its first bad line, and
+/// the status of that.
 pub fn zones_of_file<H: Shelf, K: Sink>(
     alloc: Global,
     name: &str,
@@ -50,31 +51,33 @@ fn zones_of_text<K: Sink>(alloc: Global, text: &[u8], out: &mut K) -> Result<Zon
 {
     match read_zones(alloc, text) {
         Ok(zones) => Ok(zones),
-        Err(Failing::Fault(fault)) => Err(tell_bad_zone(alloc, fault, out)),
+        Err(Failing::Fault(fault)) => Err(tell_bad_zone(fault, out)),
         Err(Failing::NoMemory) => Err(Status::NoMemory as u8),
     }
 }
 
 /// Writes the line of a text of zones that is refused, and gives its status.
-fn tell_bad_zone<K: Sink>(alloc: Global, fault: ZoneFault, out: &mut K) -> u8
+fn tell_bad_zone<K: Sink>(fault: ZoneFault, out: &mut K) -> u8
     ensures { Ends (IsJust (tells exit.refused (bad_zone_text fault.line))) (K.state out.old) (K.state out.new) result }
 {
-    let mut text = Vec::new(alloc);
-    if push_bad_zone(&mut text, fault.line).is_err() {
-        return Status::NoMemory as u8;
-    }
-    write_text(out, text.as_slice(), Status::Refused as u8)
+    write_text(
+        out,
+        bad_zone_line(fault.line).as_slice(),
+        Status::Refused as u8,
+    )
 }
 
-/// Puts the line of a text of zones that is refused.
+/// The line of a text of zones that is refused. It takes no memory.
 #[tactic(auto, unfolding(crate::specs::Zoned::bad_zone_text))]
-fn push_bad_zone(text: &mut Vec<u8>, line: u32) -> Result<(), NoMemory>
-    ensures { OnOk result (text.new.items ≡ text.old.items ++ bad_zone_text line) }
+fn bad_zone_line(line: u32) -> Piece
+    ensures { result ≡ bad_zone_text line }
 {
-    push_bytes(text, b"refused 92 ")?;
-    push_bytes(text, b"BadZone line ")?;
-    push_number(text, u64::from(line))?;
-    push_bytes(text, b"\n")
+    let mut piece = Piece::empty();
+    piece.add(b"refused 92 ");
+    piece.add(b"BadZone line ");
+    piece.add_number(u64::from(line));
+    piece.add(b"\n");
+    piece
 }
 
 /// Writes the zones of the run whose journal the disk has, or why there is none.
@@ -91,7 +94,7 @@ pub fn show_zones<D: Disk, K: Sink>(alloc: Global, zones: &Zones, disk: D, out: 
             }
         }
         Err((disk, fault)) => Shown {
-            status: tell_unfound(alloc, fault, out),
+            status: tell_unfound(fault, out),
             disk,
         },
     }

@@ -5,6 +5,7 @@ use Rattle.std.proofs.Math.Seq.{take-length}
 use Rattle.std.specs.Prelude.{min}
 use Rattle.std.proofs.lemmas.List.{length-map}
 use Rattle.std.proofs.lemmas.List.Sums.{sum_by-cons}
+use Rattle.nc_number.specs.Both.{of_path}
 use Rattle.block_forms.specs.Blocks.{block_form}
 use Rattle.cell_settings.specs.Cell.{Cell}
 use Rattle.command_words.specs.declared.command.Command.{Command}
@@ -33,7 +34,6 @@ use Rattle.run_journal.specs.Stands.{Stands}
 use Rattle.run_table.specs.Recording.{StandsForPrefix}
 use Rattle.tape_flow.specs.Forms.{ProgramForm, program_form}
 use Rattle.tape_flow.specs.declared.program.FlowProgram.{FlowProgram}
-use Rattle.turret_run.specs.Runs.{turret_for}
 use Rattle.path_state.specs.View.{PathView}
 use Rattle.race_report.specs.Texts.{list_text}
 use Rattle.trace_list.specs.Trace.{trace_text}
@@ -89,7 +89,8 @@ use Rattle.lathe_calls.specs.Statuses as exit
 use Rattle.lathe_looks.proofs.NotHad.{all_had, fault_once, missing_once, texts_once}
 use Rattle.lathe_top.specs.Lathe.{LatheState}
 use Rattle.lathe_top.specs.Made.{made_limit, made_text, made_texts}
-use Rattle.lathe_top.specs.Session.{Session, EndsBy, over, full, stopped, disk_failed, turret_failed, IsLeast, IsSession, reason_status}
+use Rattle.lathe_calls.specs.Statuses.{reason_status}
+use Rattle.lathe_top.specs.Session.{Session, EndsBy, over, full, stopped, disk_failed, turret_failed, IsLeast, IsSession}
 use Rattle.lathe_top.specs.Kept.{Editing, Opening, HadNoRun, IsRefusedBeginning, KeepsSession, RestsWhole}
 use Rattle.lathe_top.specs.Kinds.{kind_of, named_by}
 use Rattle.lathe_top.specs.Ran as run
@@ -438,7 +439,7 @@ module _ (one_run : OneRun) (one_machine : OneMachine) (old new : DiskState) (by
 module _ {D : Type 0} (state : D → DiskState) (both : NotBoth) (one_refusal : OneRefusal) (one_run : OneRun) (one_journal : OneJournal)
     (one_machine : OneMachine) (old new : LatheState) (coherent : IsCoherent new.disk) (bytes : List ℕ) (holds : Reads old.disk bytes)
     (calm : DiskRose old.disk.faults new.disk.faults → ⊥)
-    (at_work : (path : Path) → Rose (turret_for path old.turrets).faults (turret_for path new.turrets).faults → ⊥) where
+    (at_work : (path : Path) → Rose (of_path old.turrets path).faults (of_path new.turrets path).faults → ⊥) where
   -- the disk holds all records of a session that ended for another reason than a fault
   holds_all : (opening : Opening) (limit : ℕ) (s : Session) (least : ℕ) {reason : Reason} → EndsBy limit s old new reason → IsLeast reason s least
       → KeepsSession state opening s least old.disk new.disk → (c : List ℕ) → new.disk.image c → Stands s.header s.history c

@@ -1,5 +1,6 @@
--- What is due to `edit`: of a file that gives no edits, and that one answer is due to the edits of a run.
-use Rattle.std.proofs.Common.{◌≡◌, ◌⊎◌, inl, inr, ⊎_elim, ℕ, ◌+◌, ◌≤◌, ◌<◌, nat_lt, Bool, true, false, Option, Some, None, List, [], length, ◌++◌, Ok, Err, refl, sym, ap, subst, arith, ◌∙◌, length-append}
+-- What is due to `edit`: of a file that gives no edits, and that one answer is due to the edits of
+-- a run.
+use Rattle.std.proofs.Common.{◌≡◌, ◌⊎◌, inl, inr, ⊎_elim, ℕ, ◌+◌, ◌<◌, nat_lt, Bool, true, false, Option, Some, None, List, [], length, ◌++◌, Ok, Err, refl, sym, ap, subst, arith, ◌∙◌, length-append}
 use Rattle.std.specs.Prelude.{codes}
 use Rattle.std.proofs.lemmas.List.{length-map}
 use Rattle.nc_moves.specs.declared.alarm.Alarm.{Alarm}
@@ -8,6 +9,7 @@ use Rattle.edit_texts.specs.declared.edit_list.PathEdit.{PathEdit}
 use Rattle.edit_texts.specs.Edits.{edits_of}
 use Rattle.move_list.specs.declared.end_line.Reason.{Reason}
 use Rattle.move_list.specs.Report.{report_text}
+use Rattle.nc_number.proofs.Counts.{lt_false, lt_true}
 use Rattle.nc_outside.specs.Files.{ShelfState}
 use Rattle.run_edits.specs.Made.{record_of, records_of}
 use Rattle.run_records.specs.Entries.{Entry}
@@ -60,33 +62,27 @@ by_alarm : (e : Editing) (alarm : Option Alarm) (many : Bool) → (machine_behin
 by_alarm e alarm many is so =
     λ i. told_by (λ a. report_text (tapes_in e.pair) (opening_of e.pair) e.found (Reason.Alarm a)) (length e.edits) (is i) (so i)
 
-is_less : (a b : ℕ) → a < b → nat_lt a b ≡ true
-is_less a b less = grind arith
-
-is_no_less : (a b : ℕ) → b ≤ a → nat_lt a b ≡ false
-is_no_less a b no_less = grind arith
-
 module _ (e : Editing) (old new : DiskState) where
   -- one text is told, or nothing
   pub one_told : (Rose old.faults new.faults → ⊥) → (a : Answer) → IsEditOf e old new a → (a ≡ nothing) ⊎ (a ≡ told_of e)
   one_told calm a (alarmed {alarm} is only) = inr (sym (by_alarm e (Some alarm) _ is refl))
   one_told calm a (full none more only) =
       let many : nat_lt e.pair.settings.records (length e.found + length e.edits) ≡ true =
-      is_less e.pair.settings.records (length e.found + length e.edits) more in
+      lt_true e.pair.settings.records (length e.found + length e.edits) more in
       inr (sym (by_alarm e None true none many))
   one_told calm a (unready only) = inl refl
   one_told calm a (none_asked none are only) =
       let few = only.found_is.few in
       let count : length e.edits ≡ 0 = ap length are in
       let many : nat_lt e.pair.settings.records (length e.found + length e.edits) ≡ false =
-      is_no_less e.pair.settings.records (length e.found + length e.edits) (omega (arith, few, count)) in
+      lt_false e.pair.settings.records (length e.found + length e.edits) (omega (arith, few, count)) in
       inr (ap (λ n. tells exit.done (edited_text n)) (sym count) ∙ sym (by_alarm e None false none many))
   one_told calm a (made none some are) =
       let few = are.writing.is.history_is.few in
       let counted = length-append e.found (records_of e.edits) in
       let each = length-map e.edits record_of in
       let many : nat_lt e.pair.settings.records (length e.found + length e.edits) ≡ false =
-      is_no_less e.pair.settings.records (length e.found + length e.edits) (omega (arith, few, counted, each)) in
+      lt_false e.pair.settings.records (length e.found + length e.edits) (omega (arith, few, counted, each)) in
       inr (sym (by_alarm e None false none many))
   one_told calm a (failed none some writing rose) = absurd (calm rose)
 

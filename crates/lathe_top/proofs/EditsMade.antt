@@ -28,7 +28,7 @@ use Rattle.lathe_calls.specs.Statuses as exit
 use Rattle.lathe_looks.specs.Standing.{are_finished, reason_by, reason_of}
 use Rattle.lathe_top.specs.Edited.{IsEditedRun, in_run, IsOnlyFound, alarmed, full, unready, none_asked, made, failed, edited_text, told_of_writing}
 use Rattle.lathe_top.specs.Kept.{Editing, HasAllOrNone, IsWriting, KeepsEdits, history_with}
-use Rattle.lathe_top.specs.Session.{reason_status}
+use Rattle.lathe_calls.specs.Statuses.{reason_status}
 
 less_of : (a b : ℕ) → nat_le a b ≡ false → b < a
 less_of a b more = grind arith

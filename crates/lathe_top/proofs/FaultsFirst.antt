@@ -1,5 +1,9 @@
--- A fault of the disk goes before one of a turret, and that before all other causes, whatever the outside tells.
+-- A fault of the disk goes before one of a turret, and that before all other causes, whatever the
+-- outside tells.
 use Rattle.std.proofs.Common.{◌≡◌, ℕ, ◌<◌, List, Some, refl, ap, arith, Err}
+use Rattle.nc_outside.specs.Received.{TurretState}
+use Rattle.nc_number.specs.declared.both.Both.{Both}
+use Rattle.nc_number.specs.Both.{of_path}
 use Rattle.command_words.specs.declared.command.Command.{Command}
 use Rattle.command_words.specs.declared.command.Command.TheVariants as command
 use Rattle.disk_model.specs.Device.{DiskState}
@@ -13,7 +17,6 @@ use Rattle.nc_outside.specs.Files.{ShelfState}
 use Rattle.nc_verify.specs.declared.verified.Verified.{Verified}
 use Rattle.nc_verify.specs.Verdict.{Texts}
 use Rattle.run_records.specs.Entries.{Entry}
-use Rattle.turret_run.specs.Runs.{Turrets, turret_for}
 use Rattle.nc_restart.specs.declared.fault.RestartFault.{RestartFault}
 use Rattle.nc_restart.specs.declared.fault.RestartFault.TheVariants as restart
 use Rattle.nc_restart.specs.Recovered.{FoundRun, Recovers}
@@ -34,17 +37,18 @@ use Rattle.lathe_top.specs.Kept.{Editing, Opening, IsRefusedBeginning, RestsWhol
 use Rattle.lathe_top.specs.Lathe.{LatheState, AreAtRest}
 use Rattle.lathe_top.specs.Ran as run
 use Rattle.lathe_top.specs.Ran.{TextOf, IsRun, IsReported, reported, unprepared, IsResumed, not_found, resumed, unbegun}
-use Rattle.lathe_top.specs.Session.{Session, NoneFailed, EndsBy, over, full, stopped, disk_failed, turret_failed, reason_status}
+use Rattle.lathe_calls.specs.Statuses.{reason_status}
+use Rattle.lathe_top.specs.Session.{Session, NoneFailed, EndsBy, over, full, stopped, disk_failed, turret_failed}
 use Rattle.lathe_top.specs.Zoned.{IsZoned, bad_zones, unread_zones, zoned}
 use Rattle.lathe_top.proofs.Agreed.{HasStatus}
 
 -- Something failed: if it was the disk this status is 6, and else it is 7.
 module _ {D : Type 0} (state : D → DiskState) (wanted : ℕ) (old new : LatheState) (some : NoneFailed old new → ⊥)
     (of_disk : DiskRose old.disk.faults new.disk.faults → exit.disk_fault ≡ wanted)
-    (of_turret : (path : Path) → Rose (turret_for path old.turrets).faults (turret_for path new.turrets).faults
+    (of_turret : (path : Path) → Rose (of_path old.turrets path).faults (of_path new.turrets path).faults
     → new.disk.faults ≡ old.disk.faults → exit.turret_fault ≡ wanted) where
-  at_rest : AreAtRest old new → (path : Path) → (turret_for path new.turrets).faults ≡ (turret_for path old.turrets).faults
-  at_rest rest path = ap (λ (t : Turrets). (turret_for path t).faults) rest.0
+  at_rest : AreAtRest old new → (path : Path) → (of_path new.turrets path).faults ≡ (of_path old.turrets path).faults
+  at_rest rest path = ap (λ (t : Both TurretState). (of_path t path).faults) rest.0
 
   not_calm : AreAtRest old new → new.disk.faults ≡ old.disk.faults → ⊥
   not_calm rest same = some (record { disk = same; turrets = at_rest rest })
@@ -143,7 +147,7 @@ module _ {D : Type 0} (state : D → DiskState) (wanted : ℕ) (old new : LatheS
 -- and so of a command, and of a call
 module _ {D E : Type 0} (state : D → DiskState) (second : E → DiskState) (wanted : ℕ) (call : Call E) (some : NoneFailed call.before.lathe call.after.lathe → ⊥)
     (of_disk : DiskRose call.before.lathe.disk.faults call.after.lathe.disk.faults → exit.disk_fault ≡ wanted)
-    (of_turret : (path : Path) → Rose (turret_for path call.before.lathe.turrets).faults (turret_for path call.after.lathe.turrets).faults
+    (of_turret : (path : Path) → Rose (of_path call.before.lathe.turrets path).faults (of_path call.after.lathe.turrets path).faults
     → call.after.lathe.disk.faults ≡ call.before.lathe.disk.faults → exit.turret_fault ≡ wanted) where
   abbrev old : LatheState
   old = call.before.lathe
@@ -184,7 +188,7 @@ disk_first state second call rose =
 -- and where only that of a turret did
 pub turret_first : {D E : Type 0} (state : D → DiskState) (second : E → DiskState) (call : Call E)
     → (DiskRose call.before.lathe.disk.faults call.after.lathe.disk.faults → ⊥) → (path : Path)
-    → (turret_for path call.before.lathe.turrets).faults < (turret_for path call.after.lathe.turrets).faults
+    → (of_path call.before.lathe.turrets path).faults < (of_path call.after.lathe.turrets path).faults
     → (a : Answer) → IsDue state second call a → HasStatus exit.turret_fault a
 turret_first state second call calm path rose =
     call_first state second exit.turret_fault call (λ well. absurd (omega (arith, rose, well.turrets path))) (λ again. absurd (calm again))

@@ -4,6 +4,9 @@ use Rattle.std.specs.Prelude.{IsTrue}
 use Rattle.std.proofs.Math.Seq.{take-append_seam, drop-append_seam, take-length}
 use Rattle.std.proofs.lemmas.List.{length-append}
 use Rattle.std.proofs.lemmas.Grind.{flat_map-append}
+use Rattle.nc_outside.specs.Received.{TurretState}
+use Rattle.nc_number.specs.declared.both.Both.{Both}
+use Rattle.nc_number.specs.Both.{of_path}
 use Rattle.disk_model.specs.Device.{DiskState, Reads}
 use Rattle.disk_model.specs.Moments.{LeavesOnly, Uses}
 use Rattle.gate_file.specs.Gate.{Gate}
@@ -29,12 +32,12 @@ use Rattle.run_table.specs.Running as running
 use Rattle.run_table.specs.Running.{MayRun, end_by, end_of as machine_end}
 use Rattle.run_table.specs.Since.{Since}
 use Rattle.turret_run.specs.Served.{told, GetsAll, GetsSome, FailsAmong, Misses}
-use Rattle.turret_run.specs.Runs.{Turrets, turret_for, place_of, due, GetsAt, GetsBeside, StandsBeside, Missed, missed_by, none_missed, Stays}
+use Rattle.turret_run.specs.Runs.{place_of, due, GetsAt, GetsBeside, StandsBeside, none_missed, Stays}
 use Rattle.two_path.specs.Machine.{MachineView}
 use Rattle.two_path.specs.Histories.{IsKept}
 use Rattle.nc_restart.specs.Pair.{tapes_in, opening_of, machine_behind}
 use Rattle.lathe_looks.specs.Standing.{is_over, reason_by, reason_of}
-use Rattle.lathe_top.specs.Lathe.{LatheState}
+use Rattle.lathe_top.specs.Lathe.{LatheState, lathe_with}
 use Rattle.lathe_top.specs.Session.{Session, AreMost, IsLeast, NoneFailed, EndsBy, over, full, stopped, disk_failed, turret_failed, GoesOn}
 use Rattle.lathe_top.specs.Turrets.{due_to, AreServed, AreMissed, GetTheirs, IsEnding}
 use Rattle.lathe_top.specs.Kept.{end_of}
@@ -86,7 +89,7 @@ module _ {D : Type 0} (state : D → DiskState) (small : AreSmall state) (limit 
     (kept : IsKept (tapes_in new.verified) (opening_of new.verified) new.recording.history new.machine)
     (few : length new.recording.history ≤ new.verified.settings.records)
     (pending : length new.recording.history ≤ new.recording.flushed + 64)
-    (header : Header) (journaled : IsJournaled state header old.recording) (before after : Turrets) (missed : Missed) where
+    (header : Header) (journaled : IsJournaled state header old.recording) (before after : Both TurretState) (missed : Both ℕ) where
   abbrev pub found : List Entry
   found = old.recording.history
 
@@ -100,7 +103,7 @@ module _ {D : Type 0} (state : D → DiskState) (small : AreSmall state) (limit 
   made = since.made
 
   abbrev pub d : LatheState
-  d = record { disk = state old.recording.log.file.disk; turrets = before; missed = none_missed }
+  d = lathe_with (state old.recording.log.file.disk) before
 
   abbrev pub e : LatheState
   e = record { disk = state new.recording.log.file.disk; turrets = after; missed = missed }
@@ -146,12 +149,12 @@ module _ {D : Type 0} (state : D → DiskState) (small : AreSmall state) (limit 
   spent none = omega (arith, none, longer, since.budget)
 
   -- the journal may be written, and each turret got all that is due
-  calm_by : IsTrue new.recording.log.file.live → ((path : Path) → GetsAll (due path old new) (turret_for path before) (turret_for path after))
+  calm_by : IsTrue new.recording.log.file.live → ((path : Path) → GetsAll (due path old new) (of_path before path) (of_path after path))
       → NoneFailed d e
   calm_by live got = record { disk = since.recording.calm live; turrets = λ path. (got path).counted.kept (λ is. absurd cc) }
 
   ends_by : (x : RunEnd) → running.EndsBy state old new x
-      → ((path : Path) → GetsAt x (due path old new) (turret_for path before) (turret_for path after)) → EndsBy limit session d e (run_reason x)
+      → ((path : Path) → GetsAt x (due path old new) (of_path before path) (of_path after path)) → EndsBy limit session d e (run_reason x)
   ends_by run.Done ends got = is_ended run.Done ends.machine (calm_by ends.live got)
   ends_by (run.Alarm alarm) ends got = is_ended (run.Alarm alarm) ends.machine (calm_by ends.live got)
   ends_by run.Full ends got = full (is_open ends.0.machine) ends.1 (calm_by ends.0.live got)
@@ -183,15 +186,15 @@ module _ {D : Type 0} (state : D → DiskState) (small : AreSmall state) (limit 
   due_is path =
       ap (λ (m : MachineView). told (place_of path m) (moves_made new.verified path (length found) least history)) machine_is
 
-  got_all : (path : Path) → GetsAll (due path old new) (turret_for path before) (turret_for path after)
-      → GetsAll (due_to session least path) (turret_for path before) (turret_for path after)
-  got_all path got = subst (λ (what : List Got). GetsAll what (turret_for path before) (turret_for path after)) (due_is path) got
+  got_all : (path : Path) → GetsAll (due path old new) (of_path before path) (of_path after path)
+      → GetsAll (due_to session least path) (of_path before path) (of_path after path)
+  got_all path got = subst (λ (what : List Got). GetsAll what (of_path before path) (of_path after path)) (due_is path) got
 
-  got_some : (path : Path) → GetsSome (due path old new) (turret_for path before) (turret_for path after)
-      → GetsSome (due_to session least path) (turret_for path before) (turret_for path after)
-  got_some path got = subst (λ (what : List Got). GetsSome what (turret_for path before) (turret_for path after)) (due_is path) got
+  got_some : (path : Path) → GetsSome (due path old new) (of_path before path) (of_path after path)
+      → GetsSome (due_to session least path) (of_path before path) (of_path after path)
+  got_some path got = subst (λ (what : List Got). GetsSome what (of_path before path) (of_path after path)) (due_is path) got
 
-  served : (x : RunEnd) → ((path : Path) → GetsAt x (due path old new) (turret_for path before) (turret_for path after))
+  served : (x : RunEnd) → ((path : Path) → GetsAt x (due path old new) (of_path before path) (of_path after path))
       → AreServed (run_reason x) session least before after
   served run.Done got = λ path. got_all path (got path)
   served (run.Alarm alarm) got = λ path. got_all path (got path)
@@ -199,28 +202,28 @@ module _ {D : Type 0} (state : D → DiskState) (small : AreSmall state) (limit 
   served run.Stopped got = λ path. got_all path (got path)
   served run.DiskFault got = λ path. got_some path (got path)
 
-  failed_at : (path : Path) → FailsAmong (due path old new) (turret_for path before) (turret_for path after)
-      → FailsAmong (due_to session least path) (turret_for path before) (turret_for path after)
-  failed_at path got = subst (λ (what : List Got). FailsAmong what (turret_for path before) (turret_for path after)) (due_is path) got
+  failed_at : (path : Path) → FailsAmong (due path old new) (of_path before path) (of_path after path)
+      → FailsAmong (due_to session least path) (of_path before path) (of_path after path)
+  failed_at path got = subst (λ (what : List Got). FailsAmong what (of_path before path) (of_path after path)) (due_is path) got
 
-  got_beside : (path other : Path) → GetsBeside path (due other old new) (turret_for other before) (turret_for other after)
-      → GetsBeside path (due_to session least other) (turret_for other before) (turret_for other after)
+  got_beside : (path other : Path) → GetsBeside path (due other old new) (of_path before other) (of_path after other)
+      → GetsBeside path (due_to session least other) (of_path before other) (of_path after other)
   got_beside path other got =
-      subst (λ (what : List Got). GetsBeside path what (turret_for other before) (turret_for other after)) (due_is other) got
+      subst (λ (what : List Got). GetsBeside path what (of_path before other) (of_path after other)) (due_is other) got
 
   -- the run did not end before it began
   theirs : (reason : Reason) → AreServed reason session least before after → AreMissed session least d e → GetTheirs reason session least d e
   theirs reason are miss = record { over = λ over_now. let open_now = still in absurd (cc); goes_on = λ open_now. are; missed = λ open_now. miss }
 
   abbrev pub Missing : Type 0
-  Missing = (path : Path) → Misses (due path old new) (missed_by path missed) (turret_for path before) (turret_for path after)
+  Missing = (path : Path) → Misses (due path old new) (of_path missed path) (of_path before path) (of_path after path)
 
   missing : Missing → AreMissed session least d e
   missing miss = inl (λ path.
-      subst (λ (what : List Got). Misses what (missed_by path missed) (turret_for path before) (turret_for path after)) (due_is path) (miss path))
+      subst (λ (what : List Got). Misses what (of_path missed path) (of_path before path) (of_path after path)) (due_is path) (miss path))
 
   pub ending : (x : RunEnd) → running.EndsBy state old new x
-      → ((path : Path) → GetsAt x (due path old new) (turret_for path before) (turret_for path after)) → Missing
+      → ((path : Path) → GetsAt x (due path old new) (of_path before path) (of_path after path)) → Missing
       → IsEnding limit (run_reason x) session least d e
   ending x ends got miss = record {
     few = no_more;
@@ -229,8 +232,8 @@ module _ {D : Type 0} (state : D → DiskState) (small : AreSmall state) (limit 
     turrets = theirs (run_reason x) (served x got) (missing miss);
   }
 
-  pub failing : (path : Path) → e.disk.faults ≡ d.disk.faults → FailsAmong (due path old new) (turret_for path before) (turret_for path after)
-      → GetsBeside path (due (other_of path) old new) (turret_for (other_of path) before) (turret_for (other_of path) after)
+  pub failing : (path : Path) → e.disk.faults ≡ d.disk.faults → FailsAmong (due path old new) (of_path before path) (of_path after path)
+      → GetsBeside path (due (other_of path) old new) (of_path before (other_of path)) (of_path after (other_of path))
       → Missing → IsEnding limit (Reason.TurretFault path) session least d e
   failing path calm failed other miss = record {
     few = no_more;
@@ -240,8 +243,8 @@ module _ {D : Type 0} (state : D → DiskState) (small : AreSmall state) (limit 
   }
 
   -- a turret that failed at its place
-  pub unplaced : (path : Path) → Stays old new → FailsAmong (told (place_of path old.machine) []) (turret_for path before) (turret_for path after)
-      → StandsBeside path (told (place_of (other_of path) old.machine) []) (turret_for (other_of path) before) (turret_for (other_of path) after)
+  pub unplaced : (path : Path) → Stays old new → FailsAmong (told (place_of path old.machine) []) (of_path before path) (of_path after path)
+      → StandsBeside path (told (place_of (other_of path) old.machine) []) (of_path before (other_of path)) (of_path after (other_of path))
       → missed ≡ none_missed → IsEnding limit (Reason.TurretFault path) session least d e
   unplaced path same failed other none = record {
     few = no_more;
@@ -251,10 +254,10 @@ module _ {D : Type 0} (state : D → DiskState) (small : AreSmall state) (limit 
         (inr (record {
           none = same.history;
           failed =
-              subst (λ (m : MachineView). FailsAmong (told (place_of path m) []) (turret_for path before) (turret_for path after)) machine_is failed;
+              subst (λ (m : MachineView). FailsAmong (told (place_of path m) []) (of_path before path) (of_path after path)) machine_is failed;
           other =
-              subst (λ (m : MachineView). StandsBeside path (told (place_of (other_of path) m) []) (turret_for (other_of path) before)
-              (turret_for (other_of path) after)) machine_is other;
+              subst (λ (m : MachineView). StandsBeside path (told (place_of (other_of path) m) []) (of_path before (other_of path))
+              (of_path after (other_of path))) machine_is other;
         })) (inr (same.history, none));
   }
 

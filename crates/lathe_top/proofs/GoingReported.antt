@@ -1,6 +1,9 @@
 -- What is told of a run that went on, and a run that did not, for want of memory.
 use Rattle.std.proofs.Common.{◌≡◌, inl, inr, ℕ, ◌+◌, ◌-◌, ◌*◌, ◌≤◌, false, List, [], length, refl, sym, ap, subst, arith, ◌∙◌, Option}
 use Rattle.std.proofs.Math.Seq.{take-length}
+use Rattle.nc_outside.specs.Received.{TurretState}
+use Rattle.nc_number.specs.declared.both.Both.{Both}
+use Rattle.nc_number.specs.Both.{of_path}
 use Rattle.disk_model.specs.Device.{DiskState, IsCoherent, Reads}
 use Rattle.disk_model.proofs.Runs.{no_call, uses_none}
 use Rattle.gate_file.specs.Gate.{Gate}
@@ -14,23 +17,19 @@ use Rattle.run_table.specs.Running.{MayRun}
 use Rattle.turret_run.specs.declared.ending.TurretEnd.{TurretEnd}
 use Rattle.turret_run.specs.declared.ending.TurretEnd.TheVariants as turret
 use Rattle.turret_run.specs.Served.{told, GetsPart}
-use Rattle.turret_run.specs.Runs.{Turrets, turret_for, place_of, HasNotBegun, Missed, none_missed, RunsWith}
+use Rattle.turret_run.specs.Runs.{place_of, HasNotBegun, RunsWith}
 use Rattle.two_path.specs.Machine.{MachineView}
 use Rattle.two_path.specs.Histories.{IsKept}
 use Rattle.nc_restart.specs.Pair.{tapes_in, opening_of, machine_behind}
 use Rattle.nc_restart.specs.History.{IsHistory}
 use Rattle.lathe_calls.specs.Answers.{nothing}
 use Rattle.lathe_looks.specs.Standing.{is_over}
-use Rattle.lathe_top.specs.Lathe.{LatheState}
+use Rattle.lathe_top.specs.Lathe.{LatheState, lathe_with}
 use Rattle.lathe_top.specs.Ran.{TextOf}
 use Rattle.lathe_top.specs.Kept.{end_of}
-use Rattle.lathe_top.specs.Going.{Standing, session_to, IsReport, report, stayed, told_of}
+use Rattle.lathe_top.specs.Going.{Standing, standing, session_to, IsReport, report, stayed, told_of}
 use Rattle.lathe_top.specs.Texts.{end_reason}
 use Rattle.lathe_top.proofs.GoingOn.{AreSmall, goes_on, ending, failing, unplaced, keeps_going}
-
--- a run with a journal of this header
-abbrev pub standing : Header → Verified → List Entry → Standing
-standing header pair found = record { header = header; pair = pair; found = found }
 
 -- a run of the same pair, and with the disk that it leaves
 pub for_pair : {D : Type 0} (state : D → DiskState) (Of : Standing → DiskState → Type 0) (header : Header) (found : List Entry) (pair other : Verified)
@@ -51,12 +50,12 @@ module _ {D : Type 0} (state : D → DiskState) (coherent : (disk : D) → IsCoh
     (kept : IsKept (tapes_in new.verified) (opening_of new.verified) new.recording.history new.machine)
     (few : length new.recording.history ≤ new.verified.settings.records)
     (pending : length new.recording.history ≤ new.recording.flushed + 64)
-    (header : Header) (journaled : IsJournaled state header old.recording) (before after : Turrets) (missed : Missed) where
+    (header : Header) (journaled : IsJournaled state header old.recording) (before after : Both TurretState) (missed : Both ℕ) where
   abbrev pub run : Standing
   run = standing header new.verified old.recording.history
 
   abbrev pub d : LatheState
-  d = record { disk = state old.recording.log.file.disk; turrets = before; missed = none_missed }
+  d = lathe_with (state old.recording.log.file.disk) before
 
   abbrev pub e : LatheState
   e = record { disk = state new.recording.log.file.disk; turrets = after; missed = missed }
@@ -89,7 +88,7 @@ module _ {D : Type 0} (state : D → DiskState) (coherent : (disk : D) → IsCoh
           none = refl;
           all = refl;
           places = λ path.
-              subst (λ (m : MachineView). GetsPart (told (place_of path m) []) (turret_for path before) (turret_for path after)) machine_is
+              subst (λ (m : MachineView). GetsPart (told (place_of path m) []) (of_path before path) (of_path after path)) machine_is
               (not_begun.turrets path);
           missed = not_begun.none;
         })

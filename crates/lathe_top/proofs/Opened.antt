@@ -1,11 +1,12 @@
 -- A session: an opening of the disk, and a run that goes on from it.
 use Rattle.std.proofs.Common.{◌≡◌, ℕ, ◌+◌, ◌-◌, ◌*◌, ◌≤◌, max, List, [], length, take, Ok, refl, ap, arith, ◌∙◌}
 use Rattle.std.proofs.lemmas.List.{length-take}
+use Rattle.nc_outside.specs.Received.{TurretState}
+use Rattle.nc_number.specs.declared.both.Both.{Both}
 use Rattle.disk_model.specs.Device.{DiskState, IsCoherent, Reads}
 use Rattle.disk_model.specs.Moments.{LeavesOnly, Uses}
 use Rattle.disk_model.proofs.Runs.{uses_add, uses_widened, unwritten_none, uses_none}
 use Rattle.move_list.specs.declared.end_line.Reason.{Reason}
-use Rattle.turret_run.specs.Runs.{Turrets, none_missed}
 use Rattle.nc_verify.specs.declared.verified.Verified.{Verified}
 use Rattle.nc_verify.specs.Verdict.{Texts}
 use Rattle.run_records.specs.Entries.{Entry}
@@ -16,28 +17,29 @@ use Rattle.two_path.specs.Stuck.{IsFree}
 use Rattle.nc_restart.specs.Pair.{texts_of, IsPairOf, tapes_in, machine_behind}
 use Rattle.nc_restart.specs.History.{IsHistory}
 use Rattle.nc_restart.specs.Recovered.{FoundRun, Recovers}
-use Rattle.lathe_top.specs.Lathe.{LatheState}
+use Rattle.lathe_top.specs.Lathe.{LatheState, lathe_with}
 use Rattle.lathe_top.specs.Session.{Session, NoneFailed, EndsBy, over, full, stopped, disk_failed, turret_failed, GoesOn, IsSession}
 use Rattle.lathe_top.specs.Turrets.{IsEnding, IsUnprepared}
 use Rattle.lathe_top.specs.Kept.{Opening, anew, again, opening_calls, IsOfOpening, end_of, KeepsSession, RestsWhole}
 use Rattle.lathe_top.specs.Going.{Standing, session_to, KeepsGoing}
 
--- what ends a run after the opening ends the session; no call of an opening failed, and it calls no turret
-module _ (limit : ℕ) (s : Session) (a b : DiskState) (before : Turrets) (c : LatheState) (opened : b.faults ≡ a.faults) where
-  calm_since : NoneFailed (record { disk = b; turrets = before; missed = none_missed }) c → NoneFailed (record { disk = a; turrets = before; missed = none_missed }) c
+-- what ends a run after the opening ends the session; no call of an opening failed, and it calls no
+-- turret
+module _ (limit : ℕ) (s : Session) (a b : DiskState) (before : Both TurretState) (c : LatheState) (opened : b.faults ≡ a.faults) where
+  calm_since : NoneFailed (lathe_with b before) c → NoneFailed (lathe_with a before) c
   calm_since calm = record { disk = calm.disk ∙ opened; turrets = calm.turrets }
 
-  ends_since : {reason : Reason} → EndsBy limit s (record { disk = b; turrets = before; missed = none_missed }) c reason
-      → EndsBy limit s (record { disk = a; turrets = before; missed = none_missed }) c reason
+  ends_since : {reason : Reason} → EndsBy limit s (lathe_with b before) c reason
+      → EndsBy limit s (lathe_with a before) c reason
   ends_since (over is calm) = over is (calm_since calm)
   ends_since (full unended is calm) = full unended is (calm_since calm)
   ends_since (stopped unended is less calm) = stopped unended is less (calm_since calm)
   ends_since (disk_failed rose) = disk_failed (omega (arith, opened, rose))
   ends_since (turret_failed path rose calm) = turret_failed path rose (calm ∙ opened)
 
-pub ending_since : (limit : ℕ) (s : Session) (a b : DiskState) (before : Turrets) (c : LatheState) (reason : Reason) (least : ℕ) → b.faults ≡ a.faults
-    → IsEnding limit reason s least (record { disk = b; turrets = before; missed = none_missed }) c
-    → IsEnding limit reason s least (record { disk = a; turrets = before; missed = none_missed }) c
+pub ending_since : (limit : ℕ) (s : Session) (a b : DiskState) (before : Both TurretState) (c : LatheState) (reason : Reason) (least : ℕ) → b.faults ≡ a.faults
+    → IsEnding limit reason s least (lathe_with b before) c
+    → IsEnding limit reason s least (lathe_with a before) c
 ending_since limit s a b before c reason least opened ends = record {
   few = ends.few;
   cause = ends_since limit s a b before c opened ends.cause;
@@ -106,14 +108,14 @@ found_keeps state found a begun c recovers pair history least begins keeps =
     recovers.later more nothing_written no_less keeps
 
 -- no call of the disk was made, and none of a turret
-pub none_called : (disk : DiskState) (turrets : Turrets) → IsCoherent disk
-    → RestsWhole (record { disk = disk; turrets = turrets; missed = none_missed }) (record { disk = disk; turrets = turrets; missed = none_missed })
+pub none_called : (disk : DiskState) (turrets : Both TurretState) → IsCoherent disk
+    → RestsWhole (lathe_with disk turrets) (lathe_with disk turrets)
 none_called disk turrets coherent = record {
   disk = record { unwritten = unwritten_none disk coherent; uses = uses_none 0 0 disk; faults = refl };
   turrets = (refl, refl);
 }
 
 -- an opening called no turret, whatever it did to the disk
-pub unprepared_since : (s : Session) (a b : DiskState) (before : Turrets) (c : LatheState) (least : ℕ)
-    → IsUnprepared s least (record { disk = b; turrets = before; missed = none_missed }) c → IsUnprepared s least (record { disk = a; turrets = before; missed = none_missed }) c
+pub unprepared_since : (s : Session) (a b : DiskState) (before : Both TurretState) (c : LatheState) (least : ℕ)
+    → IsUnprepared s least (lathe_with b before) c → IsUnprepared s least (lathe_with a before) c
 unprepared_since s a b before c least none = record { unended = none.unended; none = none.none; all = none.all; places = none.places; missed = none.missed }

@@ -1,5 +1,7 @@
 -- What `run` answers behind the beginning of its journal, or behind its refusal.
 use Rattle.std.proofs.Common.{◌≡◌, ◌⊎◌, inl, inr, ℕ, ◌≤◌, false, List, [], length, Ok, Err, refl, sym, ap, subst, arith, ◌∙◌, Option}
+use Rattle.nc_outside.specs.Received.{TurretState}
+use Rattle.nc_number.specs.declared.both.Both.{Both}
 use Rattle.disk_model.specs.Device.{DiskState}
 use Rattle.gate_file.specs.declared.fault.GateFault.{GateFault}
 use Rattle.gate_file.specs.declared.fault.GateFault.TheVariants as gate
@@ -18,18 +20,18 @@ use Rattle.run_journal.specs.Beginning.{BeginsRun}
 use Rattle.run_table.specs.Begun.{IsBegun}
 use Rattle.run_table.specs.Kept.{TableView}
 use Rattle.run_table.specs.Running.{MayRun, IsNoneOrAlarm}
-use Rattle.turret_run.specs.Runs.{Turrets, none_missed}
 use Rattle.two_path.specs.Machine.{MachineView}
+use Rattle.nc_number.specs.declared.limits.TheConstants.{LONGEST_TAPE}
 use Rattle.nc_restart.specs.Pair.{texts_of, IsPairOf, machine_behind}
 use Rattle.lathe_calls.specs.Answers.{Answer, nothing}
 use Rattle.lathe_calls.specs.Judged.{IsRefusing}
 use Rattle.lathe_looks.specs.Standing.{is_over}
-use Rattle.lathe_top.specs.Going.{Standing, IsReport, report, stayed}
+use Rattle.lathe_calls.specs.declared.pair_texts.TheConstants.{LONGEST_SETTINGS}
+use Rattle.lathe_top.specs.Going.{Standing, IsReport, report, stayed, standing}
 use Rattle.lathe_top.specs.Kept.{IsRefusedBeginning, RestsWhole}
-use Rattle.lathe_top.specs.Lathe.{LatheState}
+use Rattle.lathe_top.specs.Lathe.{LatheState, lathe_with}
 use Rattle.lathe_top.specs.Ran.{TextOf, IsRun, refused, unjudged, ran, reported, unprepared, unbegun}
 use Rattle.lathe_top.specs.Session.{Session}
-use Rattle.lathe_top.proofs.GoingReported.{standing}
 use Rattle.lathe_top.proofs.Opened.{NoneIsStuck, begun_keeps, ending_since, is_session, unprepared_since}
 
 -- a table that was begun may be run, and no path of it has ended
@@ -57,11 +59,11 @@ of_begun Of header pair t begun there =
     (subst (λ (p : Verified). Of (standing header p t.recording.history)) begun.pair there)
 
 module _ {A D : Type 0} (state : D → DiskState) (law : NoneIsStuck) (limit : ℕ) (header : Header) (pair : Verified) (a : DiskState) (begun : D)
-    (before : Turrets) (c : LatheState) (answer : A) (begins : BeginsRun {A = A} header a (state begun) (Ok answer))
+    (before : Both TurretState) (c : LatheState) (answer : A) (begins : BeginsRun {A = A} header a (state begun) (Ok answer))
     (accepted : IsPairOf (texts_of header) pair) (version : header.version ≡ Two) where
   pub begun_run : (text_of : TextOf) (told : Answer)
-      → IsReport limit text_of (standing header pair []) (record { disk = state begun; turrets = before; missed = none_missed }) c told
-      → IsRun state limit text_of (texts_of header) (record { disk = a; turrets = before; missed = none_missed }) c told
+      → IsReport limit text_of (standing header pair []) (lathe_with (state begun) before) c told
+      → IsRun state limit text_of (texts_of header) (lathe_with a before) c told
   begun_run text_of told (report history {reason} least goes ends keeps) =
       let s : Session = record { header = header; pair = pair; found = []; history = history } in
       ran s (is_session law (standing header pair []) history accepted goes) (record { same = refl; version = version }) (refl, begins.vacant)
@@ -114,6 +116,6 @@ header_texts header texts left right settings = λ i. record { left = left i; ri
 
 -- and is short
 pub short_header : (header : Header) (texts : Texts) → header.left ≡ texts.left → header.right ≡ texts.right → header.settings ≡ texts.settings
-    → length texts.left ≤ 4194304 → length texts.right ≤ 4194304 → length texts.settings ≤ 65536 → IsShort header
+    → length texts.left ≤ LONGEST_TAPE → length texts.right ≤ LONGEST_TAPE → length texts.settings ≤ LONGEST_SETTINGS → IsShort header
 short_header header texts left right settings few_left few_right few_settings =
     omega (arith, ap length left, ap length right, ap length settings, few_left, few_right, few_settings)

@@ -1,6 +1,8 @@
 -- What is answered after a recovery.
 use Rattle.std.proofs.Common.{◌≡◌, ℕ, ◌-◌, ◌*◌, Bool, true, false, List, length, Ok, Some, None, Option, refl, sym, ap, subst, arith, ◌∙◌}
 use Rattle.std.proofs.Math.Seq.{take-length}
+use Rattle.nc_outside.specs.Received.{TurretState}
+use Rattle.nc_number.specs.declared.both.Both.{Both}
 use Rattle.disk_model.specs.Device.{DiskState, IsCoherent, Reads}
 use Rattle.disk_model.proofs.Runs.{no_call, uses_none}
 use Rattle.move_list.specs.declared.end_line.Reason.{Reason}
@@ -15,27 +17,25 @@ use Rattle.run_table.specs.Begun.{reason_in}
 use Rattle.run_table.specs.Recording.{StandsForPrefix}
 use Rattle.run_table.specs.Recovered as table
 use Rattle.run_table.specs.Running.{IsNoneOrAlarm}
-use Rattle.turret_run.specs.Runs.{Turrets, none_missed}
 use Rattle.two_path.specs.Machine.{MachineView}
 use Rattle.nc_restart.specs.Pair.{texts_of, IsPairOf, machine_behind}
 use Rattle.nc_restart.specs.Recovered.{FoundRun, IsRecovered, Recovers}
 use Rattle.lathe_calls.specs.Answers.{Answer}
 use Rattle.lathe_calls.specs.Reported.{report_of}
 use Rattle.lathe_looks.specs.Standing.{are_finished, is_over, reason_by, reason_of}
-use Rattle.lathe_top.specs.Going.{IsReport, report, stayed, KeepsGoing}
+use Rattle.lathe_top.specs.Going.{IsReport, report, stayed, KeepsGoing, standing}
 use Rattle.lathe_top.specs.Kept.{end_of}
-use Rattle.lathe_top.specs.Lathe.{LatheState}
+use Rattle.lathe_top.specs.Lathe.{LatheState, lathe_with}
 use Rattle.lathe_top.specs.Ran.{IsResumed, resumed, reported, unprepared}
 use Rattle.lathe_top.specs.Session.{Session, GoesOn, IsLeast, EndsBy, over}
 use Rattle.lathe_top.specs.Turrets.{IsEnding}
-use Rattle.lathe_top.proofs.GoingReported.{standing}
 use Rattle.lathe_top.proofs.Opened.{NoneIsStuck, found_keeps, ending_since, is_session, unprepared_since}
 
 module _ {D : Type 0} (state : D → DiskState) (law : NoneIsStuck) (limit : ℕ) (found : FoundRun) (pair : Verified) (a : DiskState) (begun : D)
-    (before : Turrets) (c : LatheState) (recovers : Recovers a (state begun) (Ok found)) (accepted : IsPairOf (texts_of found.header) pair) where
+    (before : Both TurretState) (c : LatheState) (recovers : Recovers a (state begun) (Ok found)) (accepted : IsPairOf (texts_of found.header) pair) where
   pub found_run : (answer : Answer)
-      → IsReport limit report_of (standing found.header pair found.entries) (record { disk = state begun; turrets = before; missed = none_missed }) c answer
-      → IsResumed state limit (record { disk = a; turrets = before; missed = none_missed }) c answer
+      → IsReport limit report_of (standing found.header pair found.entries) (lathe_with (state begun) before) c answer
+      → IsResumed state limit (lathe_with a before) c answer
   found_run answer (report history {reason} least goes ends keeps) =
       let s : Session = record { header = found.header; pair = pair; found = found.entries; history = history } in
       resumed s (is_session law (standing found.header pair found.entries) history accepted goes) recovers.found.means
@@ -83,12 +83,12 @@ least_is s least None false is = is
 -- a run that is over does not go on
 module _ {D : Type 0} (state : D → DiskState) (coherent : (disk : D) → IsCoherent (state disk)) (leaves : LeavesRecords state) (limit : ℕ)
     (header : Header) (pair : Verified) (machine : MachineView) (entries : List Entry) (log : Log D)
-    (is : IsRecovered state header pair machine entries log) (turrets : Turrets) where
+    (is : IsRecovered state header pair machine entries log) (turrets : Both TurretState) where
   abbrev pub disk : DiskState
   disk = state log.file.disk
 
   abbrev pub lathe : LatheState
-  lathe = record { disk = disk; turrets = turrets; missed = none_missed }
+  lathe = lathe_with disk turrets
 
   abbrev pub session : Session
   session = record { header = header; pair = pair; found = entries; history = entries }

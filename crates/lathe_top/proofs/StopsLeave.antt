@@ -1,4 +1,5 @@
--- What a stop at any moment of a call leaves: no journal that is bad; and where a run was, a history of it that goes on.
+-- What a stop at any moment of a call leaves: no journal that is bad; and where a run was, a
+-- history of it that goes on.
 use Rattle.std.proofs.Common.{◌≡◌, ◌⊎◌, inl, inr, ⊎_elim, ℕ, ◌≤◌, List, [], ◌∷◌, length, take, drop, sym, ap, subst, arith, ◌∙◌, length-take, take-append-drop}
 use Rattle.std.proofs.Math.Seq.{take-length}
 use Rattle.std.proofs.lemmas.List.{take-append-le}
@@ -62,7 +63,8 @@ module _ (P : List ℕ → Type 0) where
       → new.disk.image_since old.disk.clock c → P c
   of_rest old new held rests c since = of_unwritten old.disk new.disk held rests.disk.unwritten c since
 
--- a crash at any moment of a session leaves an image of its opening, or a beginning of its history that has all that was found
+-- a crash at any moment of a session leaves an image of its opening, or a beginning of its history
+-- that has all that was found
 session_leaves : {D : Type 0} (state : D → DiskState) (opening : Opening) (s : Session) (least : ℕ) (old new : DiskState) (bytes : List ℕ)
     → Reads old bytes → KeepsSession state opening s least old new
     → LeavesOnly (λ c. IsOfOpening opening s old.image c ⊎ StandsForPrefix s.header (length s.found) s.history c) old new

@@ -4,6 +4,8 @@ use Rattle.std.specs.List.{flat_map}
 use Rattle.std.specs.Option.{ForSome}
 use Rattle.std.proofs.lemmas.List.{take_all, take-append-drop}
 use Rattle.std.proofs.lemmas.List.Concat.{flat_map-append}
+use Rattle.nc_number.specs.Path.{is_same}
+use Rattle.nc_number.specs.Both.{of_path}
 use Rattle.nc_number.specs.declared.path.Path.{Path}
 use Rattle.command_words.specs.declared.command.Command.{Command}
 use Rattle.command_words.specs.declared.command.Command.TheVariants as command
@@ -19,7 +21,7 @@ use Rattle.nc_verify.specs.Verdict.{Texts}
 use Rattle.run_records.specs.Entries.{Entry}
 use Rattle.seat_table.specs.Turning as seat
 use Rattle.two_path.specs.Again.{turn_of_entry}
-use Rattle.two_path.specs.Histories.{behind_entry, fold, is_same}
+use Rattle.two_path.specs.Histories.{behind_entry, fold}
 use Rattle.two_path.specs.Machine.{MachineView}
 use Rattle.two_path.specs.Turns.{Tapes}
 use Rattle.turret_lines.specs.Stream.{stream_of}
@@ -30,7 +32,7 @@ use Rattle.move_list.specs.Report.{lined_text}
 use Rattle.move_list.proofs.Streams.{later_moves, stream_is}
 use Rattle.nc_restart.specs.Pair.{tapes_in, opening_of}
 use Rattle.turret_run.specs.Served.{told, GetsAll}
-use Rattle.turret_run.specs.Runs.{place_of, turret_for}
+use Rattle.turret_run.specs.Runs.{place_of}
 use Rattle.lathe_calls.specs.Answers.{Answer, tells, nothing, whole, cut, unwritten, untold}
 use Rattle.lathe_looks.specs.declared.fetching.FileFault.{FileFault}
 use Rattle.lathe_looks.specs.declared.fetching.FileFault.TheVariants.{Failed, Absent, TooLong}
@@ -44,7 +46,8 @@ use Rattle.lathe_top.specs.Kept.{Opening, anew, again, IsOpened, KeepsSession, R
 use Rattle.lathe_top.specs.Kinds.{kind_of}
 use Rattle.lathe_top.specs.Lathe.{AreAtRest}
 use Rattle.lathe_top.specs.Ran.{TextOf, IsReported, reported, unprepared, IsRun, refused, unjudged, not_begun, ran, unbegun, IsResumed, not_found, resumed}
-use Rattle.lathe_top.specs.Session.{IsSession, Session, machine_found, reason_status}
+use Rattle.lathe_calls.specs.Statuses.{reason_status}
+use Rattle.lathe_top.specs.Session.{IsSession, Session, machine_found}
 use Rattle.lathe_top.specs.Streams.{GetsStream, HasStreams, IsStream, IsUncut, MakesRecords, report_lines}
 use Rattle.lathe_top.specs.Turrets.{due_to, IsEnding}
 
@@ -166,7 +169,7 @@ unfound_status restart.NoMemory uncut = no_high 12 (omega arith) (omega arith) u
 module _ {D E : Type 0} (state : D → DiskState) (second : E → DiskState) (call : Call E) where
   -- the turrets got all that is due to them
   abbrev AllGot : Session → ℕ → Type 0
-  AllGot s least = (path : Path) → GetsAll (due_to s least path) (turret_for path call.before.lathe.turrets) (turret_for path call.after.lathe.turrets)
+  AllGot s least = (path : Path) → GetsAll (due_to s least path) (of_path call.before.lathe.turrets path) (of_path call.after.lathe.turrets path)
 
   served : (opening : Opening) (s : Session) (reason : Reason) (least : ℕ) → IsSession s → IsOpened opening s call.before.lathe.disk
       → KeepsSession state opening s least call.before.lathe.disk call.after.lathe.disk → least ≡ length s.history
@@ -182,7 +185,7 @@ module _ {D E : Type 0} (state : D → DiskState) (second : E → DiskState) (ca
     answered = refl;
     over = over;
     streams = λ more path. gets_stream s path _ _ is.goes_on.extends
-        (subst (λ (n : ℕ). GetsAll (due_to s n path) (turret_for path call.before.lathe.turrets) (turret_for path call.after.lathe.turrets)) all
+        (subst (λ (n : ℕ). GetsAll (due_to s n path) (of_path call.before.lathe.turrets path) (of_path call.after.lathe.turrets path)) all
         (got more path));
   }
 

@@ -1,5 +1,7 @@
--- What a call of the program does: one relation over its words, and over what it works on before and after it.
+-- What a call of the program does: one relation over its words, and over what it works on before
+-- and after it.
 use Rattle.std.specs.Prelude.{◌≡◌, ℕ, ◌<◌, Some, None, Option, List, [], ◌∷◌, take, codes}
+use Rattle.nc_number.specs.Both.{of_path}
 use Rattle.nc_number.specs.declared.path.Path.{Path}
 use Rattle.command_words.specs.declared.command.Command.{Command}
 use Rattle.command_words.specs.declared.command.Command.TheVariants as command
@@ -12,17 +14,14 @@ use Rattle.nc_outside.specs.Written.{SinkState, Writes}
 use Rattle.lathe_looks.specs.declared.showing.Showing.TheVariants as showing
 use Rattle.lathe_calls.specs.Answers.{Answer, tells, nothing, Ends}
 use Rattle.lathe_looks.specs.Expanded.{IsExpanded}
-use Rattle.lathe_looks.specs.Fetched.{IsOfFiles}
 use Rattle.lathe_calls.specs.Judged.{IsJudged}
 use Rattle.lathe_calls.specs.Due.{IsOfPair}
 use Rattle.lathe_looks.specs.Named.{Named, alone, edits_named, files_of, listed, tape_named, zones_named}
 use Rattle.lathe_looks.specs.Shown.{IsShown, shown_text}
 use Rattle.lathe_calls.specs.Races.{AreRacesOf}
-use Rattle.lathe_calls.specs.Reported.{report_of}
 use Rattle.lathe_calls.specs.Statuses as exit
 use Rattle.lathe_calls.specs.Traced.{IsTraced}
 use Rattle.lathe_calls.specs.Waited.{AreWaits}
-use Rattle.turret_run.specs.Runs.{turret_for}
 use Rattle.lathe_top.specs.Kinds.{Kind, rests, looks, branches, edits, begins, goes_on, kind_of, named_by}
 use Rattle.lathe_top.specs.Lathe.{LatheState, AreAtRest}
 use Rattle.lathe_top.specs.Made.{made_limit, made_texts, made_text}
@@ -30,11 +29,12 @@ use Rattle.lathe_top.specs.Outside.{outside_in}
 use Rattle.lathe_top.specs.Branched.{IsBranched}
 use Rattle.lathe_top.specs.Edited.{IsEdited}
 use Rattle.lathe_top.specs.Kept.{RestsWhole}
-use Rattle.lathe_top.specs.Ran.{IsRun, IsResumed}
+use Rattle.lathe_top.specs.OverFiles.{IsOfFilesAlone, IsOverFiles}
+use Rattle.lathe_top.specs.Ran.{IsRun, IsRunAnew, IsResumed}
 use Rattle.lathe_top.specs.Zoned.{IsZoned}
 
--- What the program works on, at one moment: the shelf of the files, the disk of the journal with the turrets of both paths, the second
--- disk, and the sink of the answer.
+-- What the program works on, at one moment: the shelf of the files, the disk of the journal with
+-- the turrets of both paths, the second disk, and the sink of the answer.
 pub record TopState (E : Type 0) : Type 1 where
   pub shelf : ShelfState
   pub lathe : LatheState
@@ -49,6 +49,9 @@ pub record Call (E : Type 0) : Type 1 where
   pub words : List (List ℕ)
   pub before : TopState E
   pub after : TopState E
+
+abbrev pub call_of : {E : Type 0} → List (List ℕ) → TopState E → TopState E → Call E
+call_of words before after = record { words = words; before = before; after = after }
 
 -- the command of a call, if its words are one
 abbrev pub command_of : {E : Type 0} → Call E → Option Command
@@ -71,38 +74,43 @@ LeavesSecond edits old new = new ≡ old
 LeavesSecond (begins limit) old new = new ≡ old
 LeavesSecond (goes_on limit) old new = new ≡ old
 
--- What there is to tell of a command, and what it did to the disks and to the turrets. Who names no file asks the shelf for none.
+-- What there is to tell of a command, and what it did to the disks and to the turrets. Who names no
+-- file asks the shelf for none.
 abbrev pub IsDueTo : {D E : Type 0} → (D → DiskState) → (E → DiskState) → Command → TopState E → TopState E → Answer → Type 0
 IsDueTo state second (command.Verify left right settings) old new answer =
-    IsOfFiles listed (files_of left right settings) (Unit {0}) IsJudged old.shelf new.shelf answer × RestsWhole old.lathe new.lathe
+    IsOfFilesAlone listed (files_of left right settings) IsJudged old.lathe new.lathe old.shelf new.shelf answer
 IsDueTo state second (command.Waits left right settings outside) old new answer =
-    IsOfFiles listed (files_of left right settings) (Unit {0}) (AreWaits (outside_in outside)) old.shelf new.shelf answer
-    × RestsWhole old.lathe new.lathe
+    IsOfFilesAlone listed (files_of left right settings) (AreWaits (outside_in outside)) old.lathe new.lathe old.shelf new.shelf answer
 IsDueTo state second (command.Races left right settings) old new answer =
-    IsOfFiles listed (files_of left right settings) (Unit {0}) (IsOfPair AreRacesOf) old.shelf new.shelf answer × RestsWhole old.lathe new.lathe
+    IsOfFilesAlone listed (files_of left right settings) (IsOfPair AreRacesOf) old.lathe new.lathe old.shelf new.shelf answer
 IsDueTo state second (command.Trace left right settings limit) old new answer =
-    IsOfFiles listed (files_of left right settings) (Unit {0}) (IsTraced limit) old.shelf new.shelf answer × RestsWhole old.lathe new.lathe
+    IsOfFilesAlone listed (files_of left right settings) (IsTraced limit) old.lathe new.lathe old.shelf new.shelf answer
 IsDueTo state second (command.Run left right settings limit turrets) old new answer =
-    IsOfFiles listed (files_of left right settings) (RestsWhole old.lathe new.lathe)
-    (λ texts. IsRun state limit report_of texts old.lathe new.lathe) old.shelf new.shelf answer
+    IsOverFiles listed (files_of left right settings) (IsRunAnew state limit) old.lathe new.lathe old.shelf new.shelf answer
 IsDueTo state second (command.Make number turrets) old new answer =
     IsRun state made_limit (made_text number) (made_texts number) old.lathe new.lathe answer × AsksNothing old new
 IsDueTo state second (command.Resume limit turrets) old new answer = IsResumed state limit old.lathe new.lathe answer × AsksNothing old new
 IsDueTo state second (command.Edit name) old new answer =
-    IsOfFiles alone (edits_named name) (RestsWhole old.lathe new.lathe) (IsEdited old.lathe new.lathe) old.shelf new.shelf answer
+    IsOverFiles alone (edits_named name) IsEdited old.lathe new.lathe old.shelf new.shelf answer
 IsDueTo state second command.Moves old new answer =
     IsShown (shown_text showing.Moves) old.lathe.disk new.lathe.disk answer × AreAtRest old.lathe new.lathe × AsksNothing old new
 IsDueTo state second command.State old new answer =
     IsShown (shown_text showing.State) old.lathe.disk new.lathe.disk answer × AreAtRest old.lathe new.lathe × AsksNothing old new
 IsDueTo state second (command.Zones zones) old new answer =
-    IsOfFiles alone (zones_named zones) (RestsWhole old.lathe new.lathe) (IsZoned old.lathe new.lathe) old.shelf new.shelf answer
+    IsOverFiles alone (zones_named zones) IsZoned old.lathe new.lathe old.shelf new.shelf answer
 IsDueTo state second (command.Branch meetings) old new answer =
     IsBranched second meetings old.lathe.disk new.lathe.disk old.second new.second answer × AreAtRest old.lathe new.lathe × AsksNothing old new
 IsDueTo state second (command.Expand tape) old new answer =
-    IsOfFiles alone (tape_named tape) (Unit {0}) IsExpanded old.shelf new.shelf answer × RestsWhole old.lathe new.lathe
+    IsOfFilesAlone alone (tape_named tape) IsExpanded old.lathe new.lathe old.shelf new.shelf answer
 
--- What there is to tell of a call, and what it did: its words are no command; or there was no memory to read them; or it is what
--- its command does. Only who branches calls the second disk.
+-- the command was done, and this status given
+abbrev pub Performs : {D E : Type 0} → (D → DiskState) → (E → DiskState) → Command → TopState E → TopState E → ℕ → Type 0
+Performs state second command old new status =
+    Ends (λ answer. IsDueTo state second command old new answer × LeavesSecond (kind_of (Some command)) old.second new.second)
+    old.sink new.sink status
+
+-- What there is to tell of a call, and what it did: its words are no command; or there was no
+-- memory to read them; or it is what its command does. Only who branches calls the second disk.
 pub data IsDue {D E : Type 0} (state : D → DiskState) (second : E → DiskState) (call : Call E) : Answer → Type 0 where
   usage : command_of call ≡ None → RestsWhole call.before.lathe call.after.lathe → AsksNothing call.before call.after
       → SparesSecond call.before call.after → IsDue state second call (tells exit.usage (codes "usage\n"))
@@ -112,8 +120,9 @@ pub data IsDue {D E : Type 0} (state : D → DiskState) (second : E → DiskStat
       → IsDueTo state second command call.before call.after answer
       → LeavesSecond (kind_of (Some command)) call.before.second call.after.second → IsDue state second call answer
 
--- The call did this and ended with this status: what there is to tell was told, or cut off by a fault of the sink, or memory ran out
--- for it; and the disks and the turrets are as their command leaves them, whichever it is.
+-- The call did this and ended with this status: what there is to tell was told, or cut off by a
+-- fault of the sink, or memory ran out for it; and the disks and the turrets are as their command
+-- leaves them, whichever it is.
 abbrev pub IsDone : {D E : Type 0} → (D → DiskState) → (E → DiskState) → Call E → ℕ → Type 0
 IsDone state second call status = Ends (IsDue state second call) call.before.sink call.after.sink status
 
@@ -123,7 +132,8 @@ pub data IsOr (old new : SinkState) (status : ℕ) : ℕ → Type 0 where
   sink_failed : Rose old.faults new.faults → IsOr old new status exit.sink_fault
   memory_wanting : IsOr old new status exit.no_memory
 
--- the text stands whole after what was there, with its status; or the sink failed after a part of it; or memory ran out after a part
+-- the text stands whole after what was there, with its status; or the sink failed after a part of
+-- it; or memory ran out after a part
 pub data IsTold (old new : SinkState) (status : ℕ) (text : List ℕ) : ℕ → Type 0 where
   in_full : Writes old new text → IsTold old new status text status
   cut_off : Rose old.faults new.faults → (n : ℕ) → Writes old new (take n text) → IsTold old new status text exit.sink_fault
@@ -147,8 +157,8 @@ ServesJournal call = ServesDisk call.before.lathe.disk call.after.lathe.disk
 
 -- no turret failed
 abbrev pub ServesTurrets : {E : Type 0} → Call E → Type 0
-ServesTurrets call = (path : Path) → Rose (turret_for path call.before.lathe.turrets).faults
-    (turret_for path call.after.lathe.turrets).faults → ⊥
+ServesTurrets call = (path : Path) → Rose (of_path call.before.lathe.turrets path).faults
+    (of_path call.after.lathe.turrets path).faults → ⊥
 
 -- what a command of a kind uses besides files tells what it holds, and did not fail
 abbrev pub ServesKind : {E : Type 0} → (E → DiskState) → Kind → Call E → Type 0
@@ -164,16 +174,17 @@ pub record Serves {E : Type 0} (second : E → DiskState) (call : Call E) : Type
   pub files : ServesFiles (named_by (command_of call)) call
   pub others : ServesKind second (kind_of (command_of call)) call
 
--- The causes of a call have one order, whatever the outside tells. If the count of faults of either disk rose, the status is 6. Else, if that
--- of a turret rose, it is 7. And where what the command uses tells what it holds and did not fail, what is due is told, with its text and
--- its status. Instead of each the sink may have failed, or memory run out.
+-- The causes of a call have one order, whatever the outside tells. If the count of faults of either
+-- disk rose, the status is 6. Else, if that of a turret rose, it is 7. And where what the command
+-- uses tells what it holds and did not fail, what is due is told, with its text and its status.
+-- Instead of each the sink may have failed, or memory run out.
 pub record GetsItsStatus {D E : Type 0} (state : D → DiskState) (second : E → DiskState) (call : Call E) (result : ℕ) : Type 0 where
   pub usage : command_of call ≡ None → IsTold call.before.sink call.after.sink exit.usage (codes "usage\n") result
   pub disk : call.before.lathe.disk.faults < call.after.lathe.disk.faults → IsOr call.before.sink call.after.sink exit.disk_fault result
   pub second_disk : (second call.before.second).faults < (second call.after.second).faults
       → IsOr call.before.sink call.after.sink exit.disk_fault result
   pub turret : (DiskRose call.before.lathe.disk.faults call.after.lathe.disk.faults → ⊥) → (path : Path)
-      → (turret_for path call.before.lathe.turrets).faults < (turret_for path call.after.lathe.turrets).faults
+      → (of_path call.before.lathe.turrets path).faults < (of_path call.after.lathe.turrets path).faults
       → IsOr call.before.sink call.after.sink exit.turret_fault result
   pub served : Serves second call → (status : ℕ) (text : List ℕ) → IsDue state second call (tells status text)
       → IsTold call.before.sink call.after.sink status text result

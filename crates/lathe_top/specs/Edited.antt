@@ -45,15 +45,16 @@ pub record IsOnlyFound (e : Editing) (old new : DiskState) : Type 0 where
 abbrev pub IsWithoutAlarm : Editing → Type 0
 IsWithoutAlarm e = (machine_behind e.pair e.found).alarm ≡ None
 
--- The edits were written, and the disk stands for the records that were found and those of the edits behind them; no call of it failed.
+-- The edits were written, and the disk stands for the records that were found and those of the
+-- edits behind them; no call of it failed.
 pub record AreMade (e : Editing) (old new : DiskState) : Type 0 where
   pub writing : IsWriting e old new
   pub whole : (bytes : List ℕ) → Reads old bytes → (c : List ℕ) → new.image c → Stands e.header (history_with e) c
   pub calm : new.faults ≡ old.faults
 
--- What is answered to the edits of a run that was found. Where it has an alarm that is its report; else, where the settings don't allow
--- so many records, it is full; nothing for want of memory: in each case nothing was written. Else the edits are made, all at once,
--- or the disk failed.
+-- What is answered to the edits of a run that was found. Where it has an alarm that is its report;
+-- else, where the settings don't allow so many records, it is full; nothing for want of memory: in
+-- each case nothing was written. Else the edits are made, all at once, or the disk failed.
 pub data IsEditOf (e : Editing) (old new : DiskState) : Answer → Type 0 where
   alarmed : {alarm : Alarm} → (machine_behind e.pair e.found).alarm ≡ Some alarm → IsOnlyFound e old new
       → IsEditOf e old new (tells exit.alarm (report_of e.pair e.found (Reason.Alarm alarm)))
@@ -65,13 +66,14 @@ pub data IsEditOf (e : Editing) (old new : DiskState) : Answer → Type 0 where
   failed : IsWithoutAlarm e → 1 ≤ length e.edits → IsWriting e old new → Rose old.faults new.faults
       → IsEditOf e old new (tells exit.disk_fault (codes "disk fault\n"))
 
--- What is answered to edits: why no run is found on the disk, or what is answered to them in the run that is.
+-- What is answered to edits: why no run is found on the disk, or what is answered to them in the
+-- run that is.
 pub data IsEditedRun (edits : List PathEdit) (old new : DiskState) : Answer → Type 0 where
   not_found : (fault : RestartFault) → Recovers old new (Err fault) → IsEditedRun edits old new (unfound fault)
   in_run : {answer : Answer} (e : Editing) → e.edits ≡ edits → IsEditOf e old new answer → IsEditedRun edits old new answer
 
--- 1 and the first line that is not allowed, or nothing for want of memory, and the disk was not called; or what is answered to the edits
--- of the text. No turret is called.
+-- 1 and the first line that is not allowed, or nothing for want of memory, and the disk was not
+-- called; or what is answered to the edits of the text. No turret is called.
 pub data IsEdited (old new : LatheState) (text : List ℕ) : Answer → Type 0 where
   bad_edits : {line : ℕ} → edits_of text ≡ Err line → RestsWhole old new → IsEdited old new text (tells exit.refused (bad_edit_text line))
   unread_edits : RestsWhole old new → IsEdited old new text nothing

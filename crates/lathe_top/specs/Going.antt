@@ -6,12 +6,15 @@ use Rattle.move_list.specs.declared.end_line.Reason.{Reason}
 use Rattle.nc_verify.specs.declared.verified.Verified.{Verified}
 use Rattle.run_records.specs.Entries.{Entry}
 use Rattle.run_records.specs.declared.header.Header.{Header}
-use Rattle.run_table.specs.Recording.{StandsForPrefix}
-use Rattle.lathe_calls.specs.Answers.{Answer, tells, nothing}
+use Rattle.nc_outside.specs.Written.{SinkState}
+use Rattle.run_table.specs.Kept.{TableView}
+use Rattle.run_table.specs.Recording.{IsJournaled, StandsForPrefix}
+use Rattle.lathe_calls.specs.Answers.{Answer, tells, nothing, Ends}
 use Rattle.lathe_top.specs.Kept.{end_of}
 use Rattle.lathe_top.specs.Lathe.{LatheState}
 use Rattle.lathe_top.specs.Ran.{TextOf}
-use Rattle.lathe_top.specs.Session.{Session, GoesOn, reason_status}
+use Rattle.lathe_calls.specs.Statuses.{reason_status}
+use Rattle.lathe_top.specs.Session.{Session, GoesOn}
 use Rattle.lathe_top.specs.Turrets.{IsEnding, IsUnprepared}
 
 -- the run that goes on: the header of its journal, its pair, and the records so far
@@ -19,6 +22,9 @@ pub record Standing : Type 0 where
   pub header : Header
   pub pair : Verified
   pub found : List Entry
+
+abbrev pub standing : Header → Verified → List Entry → Standing
+standing header pair found = record { header = header; pair = pair; found = found }
 
 -- the session of a run that goes on, by the records at its end
 abbrev pub session_to : Standing → List Entry → Session
@@ -32,7 +38,8 @@ pub record KeepsGoing (s : Session) (least : ℕ) (old new : DiskState) : Type 0
   pub uses : Uses (4 * (length s.history - length s.found)) (end_of s) old new
   pub later : old.faults ≤ new.faults
 
--- What is told of a run that went on, by at most so many records: its text; nothing, where there was no memory for a first record.
+-- What is told of a run that went on, by at most so many records: its text; nothing, where there
+-- was no memory for a first record.
 pub data IsReport (limit : ℕ) (text_of : TextOf) (run : Standing) (old new : LatheState) : Answer → Type 0 where
   report : (history : List Entry) {reason : Reason} (least : ℕ) → GoesOn run.pair run.found history
       → IsEnding limit reason (session_to run history) least old new
@@ -42,6 +49,12 @@ pub data IsReport (limit : ℕ) (text_of : TextOf) (run : Standing) (old new : L
       → IsUnprepared (session_to run history) least old new
       → KeepsGoing (session_to run history) least old.disk new.disk
       → IsReport limit text_of run old new nothing
+
+-- what is told of the run of a table that went on, whatever the header of its journal is
+abbrev pub IsReportOn : {D : Type 0} → (D → DiskState) → ℕ → TextOf → TableView D → LatheState → LatheState → SinkState → SinkState → ℕ
+    → Type 0
+IsReportOn state limit text_of table old new before after status = (header : Header) → IsJournaled state header table.recording
+    → Ends (IsReport limit text_of (standing header table.verified table.recording.history) old new) before after status
 
 -- what is told of a history whose run ended for this reason; nothing for want of memory
 abbrev pub told_of : TextOf → Verified → List Entry → Option Reason → Answer

@@ -37,18 +37,20 @@ abbrev pub opening_calls : Opening → ℕ
 opening_calls anew = 12
 opening_calls again = 20
 
--- no write of a session ends past this: fourteen bytes, the header, and of each record its bytes and six more
+-- no write of a session ends past this: fourteen bytes, the header, and of each record its bytes
+-- and six more
 abbrev pub end_of : Session → ℕ
 end_of s = 14 + length (header_bytes s.header) + length (records_bytes s.history) + 6 * length s.history
 
--- an image while a session opens: one from before; or, where that is by a new journal, no run, or the journal without a record
+-- an image while a session opens: one from before; or, where that is by a new journal, no run, or
+-- the journal without a record
 abbrev pub IsOfOpening : Opening → Session → (List ℕ → Type 0) → List ℕ → Type 0
 IsOfOpening anew s image c = IsRunBeginning image s.header c
 IsOfOpening again s image c = image c
 
--- What a session does to the disk, in two spans of time. Up to the moment at which the opening answered, a crash leaves an image of the
--- opening; from then on a beginning of the history that has all that was found; and now one of so many records at least. And how far the
--- disk is used.
+-- What a session does to the disk, in two spans of time. Up to the moment at which the opening
+-- answered, a crash leaves an image of the opening; from then on a beginning of the history that
+-- has all that was found; and now one of so many records at least. And how far the disk is used.
 pub record KeepsSession {D : Type 0} (state : D → DiskState) (opening : Opening) (s : Session) (least : ℕ) (old new : DiskState) : Type 0 where
   pub begun : D
   pub opens : (bytes : List ℕ) → Reads old bytes → LeavesOnly (IsOfOpening opening s old.image) old (state begun)
@@ -61,7 +63,8 @@ pub record KeepsSession {D : Type 0} (state : D → DiskState) (opening : Openin
 abbrev pub HadNoRun : DiskState → Type 0
 HadNoRun old = (bytes : List ℕ) → Reads old bytes → IsRunThere bytes → ⊥
 
--- a new journal has no records, and the disk had no run; what a recovery finds is what the disk stands for
+-- a new journal has no records, and the disk had no run; what a recovery finds is what the disk
+-- stands for
 abbrev pub IsOpened : Opening → Session → DiskState → Type 0
 IsOpened anew s old = (s.found ≡ []) × HadNoRun old
 IsOpened again s old = (bytes : List ℕ) → Reads old bytes → StandsForRun (a_run s.header s.found) bytes
@@ -114,7 +117,8 @@ pub record HasSession {D : Type 0} (state : D → DiskState) (opening : Opening)
   pub ended : IsSessionEnd limit session least old new
   pub keeps : KeepsSession state opening session least old.disk new.disk
 
--- An editing of a run: the header of its journal, the pair that its texts are, the records that were found, and the edits.
+-- An editing of a run: the header of its journal, the pair that its texts are, the records that
+-- were found, and the edits.
 pub record Editing : Type 0 where
   pub header : Header
   pub pair : Verified
@@ -129,7 +133,8 @@ made_of e = records_of e.edits
 abbrev pub history_with : Editing → List Entry
 history_with e = e.found ++ made_of e
 
--- The header's texts are accepted; what was found is a history of their pair, and so it is with the edits behind it.
+-- The header's texts are accepted; what was found is a history of their pair, and so it is with the
+-- edits behind it.
 pub record IsEditing (e : Editing) : Type 0 where
   pub accepted : IsPairOf (texts_of e.header) e.pair
   pub found_is : IsHistory e.pair e.found
@@ -139,8 +144,8 @@ pub record IsEditing (e : Editing) : Type 0 where
 abbrev pub HasAllOrNone : Editing → List ℕ → Type 0
 HasAllOrNone e image = StandsEither e.header e.found (made_of e) image
 
--- What edits do to the disk. A crash at any moment leaves an image from before, or what was found, or that and all edits; now it leaves
--- one of the last two. And how far the disk is used.
+-- What edits do to the disk. A crash at any moment leaves an image from before, or what was found,
+-- or that and all edits; now it leaves one of the last two. And how far the disk is used.
 pub record KeepsEdits (e : Editing) (old new : DiskState) : Type 0 where
   pub any_moment : (bytes : List ℕ) → Reads old bytes → LeavesOnly (λ c. old.image c ⊎ HasAllOrNone e c) old new
   pub left : (bytes : List ℕ) → Reads old bytes → (c : List ℕ) → new.image c → HasAllOrNone e c

@@ -7,9 +7,10 @@ use Rattle.command_words.specs.declared.table.Journal.TheVariants as journal
 use Rattle.lathe_looks.specs.Named.{Named, edits_named, files_of, tape_named, zones_named}
 use Rattle.lathe_top.specs.Made.{made_limit}
 
--- it calls neither a disk nor a turret; or it looks for a run on the disk; or it looks for a run and branches it on the second disk; or it
--- looks for a run and makes edits in it; or it begins a journal and runs, for so many records at most; or it looks for a run and goes on
--- with it, for so many records more
+-- it calls neither a disk nor a turret; or it looks for a run on the disk; or it looks for a run
+-- and branches it on the second disk; or it looks for a run and makes edits in it; or it begins a
+-- journal and runs, for so many records at most; or it looks for a run and goes on with it, for so
+-- many records more
 pub data Kind : Type 0 where
   rests : Kind
   looks : Kind

@@ -1,27 +1,31 @@
 -- What a run works on.
-use Rattle.std.specs.Prelude.{◌≡◌}
+use Rattle.std.specs.Prelude.{◌≡◌, ℕ}
 use Rattle.disk_model.specs.Device.{DiskState}
+use Rattle.nc_number.specs.declared.both.Both.{Both}
 use Rattle.nc_outside.specs.Received.{TurretState}
-use Rattle.turret_run.specs.Runs.{Turrets, Missed, none_missed}
+use Rattle.turret_run.specs.Runs.{none_missed}
 use Rattle.lathe_top.specs.declared.outcome.Outcome.{Outcome}
 
--- What a run works on, at one moment: the disk of its journal, and the turrets of both paths; and how many moves of the call's
--- records that are on the disk each turret has missed.
+-- What a run works on, at one moment: the disk of its journal, and the turrets of both paths; and
+-- how many moves of the call's records that are on the disk each turret has missed.
 pub record LatheState : Type 1 where
   pub disk : DiskState
-  pub turrets : Turrets
-  pub missed : Missed
+  pub turrets : Both TurretState
+  pub missed : Both ℕ
 
 -- before a call no move is missed
+abbrev pub lathe_with : DiskState → Both TurretState → LatheState
+lathe_with disk turrets = record { disk = disk; turrets = turrets; missed = none_missed }
+
 abbrev pub lathe_at : DiskState → TurretState → TurretState → LatheState
-lathe_at disk left right = record { disk = disk; turrets = record { left = left; right = right }; missed = none_missed }
+lathe_at disk left right = lathe_with disk (record { one = left; two = right })
 
 -- what a call leaves, with the moves that it counts as missed
 abbrev pub lathe_after : {D E T : Type 0} → (D → DiskState) → (T → TurretState) → Outcome D E T → LatheState
 lathe_after disk turret outcome = record {
   disk = disk outcome.disk;
-  turrets = record { left = turret outcome.left; right = turret outcome.right };
-  missed = record { left = outcome.left_missed; right = outcome.right_missed };
+  turrets = record { one = turret outcome.left; two = turret outcome.right };
+  missed = outcome.missed;
 }
 
 -- no turret was called, and none missed a move

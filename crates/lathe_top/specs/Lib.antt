@@ -5,6 +5,7 @@ pub mod Lathe
 pub mod Session
 pub mod Turrets
 pub mod Kept
+pub mod OverFiles
 pub mod Ran
 pub mod Zoned
 pub mod Edited

@@ -1,6 +1,6 @@
 -- The made pair of a number: its texts, and what is told of its run.
 use Rattle.std.specs.Prelude.{ℕ, Bool, true, false, if◌then◌else◌, List, []}
-use Rattle.tape_maker.specs.declared.path.Path.TheVariants.{One, Two}
+use Rattle.nc_number.specs.declared.path.Path.TheVariants.{One, Two}
 use Rattle.tape_maker.specs.MadeTape.{made_tape}
 use Rattle.move_list.specs.declared.end_line.Reason.{Reason}
 use Rattle.move_list.specs.Summary.{summary_text}
@@ -18,7 +18,8 @@ abbrev pub is_done : Reason → Bool
 is_done Reason.Done = true
 is_done other = false
 
--- what is told of a made pair's history: where both paths have ended its summary, and else its report
+-- what is told of a made pair's history: where both paths have ended its summary, and else its
+-- report
 abbrev pub made_text : ℕ → Verified → List Entry → Reason → List ℕ
 made_text number pair entries reason =
     if is_done reason then summary_text number pair.left pair.right pair.settings entries else report_of pair entries reason

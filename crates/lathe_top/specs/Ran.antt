@@ -16,7 +16,8 @@ use Rattle.lathe_looks.specs.Shown.{unfound}
 use Rattle.lathe_calls.specs.Reported.{report_of}
 use Rattle.lathe_calls.specs.Statuses as exit
 use Rattle.lathe_top.specs.Lathe.{LatheState, AreAtRest}
-use Rattle.lathe_top.specs.Session.{Session, IsSession, reason_status}
+use Rattle.lathe_calls.specs.Statuses.{reason_status}
+use Rattle.lathe_top.specs.Session.{Session, IsSession}
 use Rattle.lathe_top.specs.Turrets.{IsEnding, IsUnprepared}
 use Rattle.lathe_top.specs.Kept.{Opening, anew, again, IsNewHeader, IsOpened, IsRefusedBeginning, KeepsSession, RestsWhole}
 
@@ -24,7 +25,8 @@ use Rattle.lathe_top.specs.Kept.{Opening, anew, again, IsNewHeader, IsOpened, Is
 abbrev pub TextOf : Type 0
 TextOf = Verified → List Entry → Reason → List ℕ
 
--- What is told of a session: its text, by the reason for which it ended; nothing, where there was no memory for a first record.
+-- What is told of a session: its text, by the reason for which it ended; nothing, where there was
+-- no memory for a first record.
 pub data IsReported {D : Type 0} (state : D → DiskState) (opening : Opening) (limit : ℕ) (text_of : TextOf) (s : Session) (old new : LatheState)
     : Answer → Type 0 where
   reported : {reason : Reason} (least : ℕ) → IsEnding limit reason s least old new → KeepsSession state opening s least old.disk new.disk
@@ -32,7 +34,8 @@ pub data IsReported {D : Type 0} (state : D → DiskState) (opening : Opening) (
   unprepared : (least : ℕ) → IsUnprepared s least old new → KeepsSession state opening s least old.disk new.disk
       → IsReported state opening limit text_of s old new nothing
 
--- what is told where no journal is begun: the disk failed, or there is a run; nothing for want of memory, and nothing else refuses it
+-- what is told where no journal is begun: the disk failed, or there is a run; nothing for want of
+-- memory, and nothing else refuses it
 abbrev pub unbegun : GateFault → Answer
 unbegun gate.DiskFault = tells exit.disk_fault (codes "disk fault\n")
 unbegun gate.RunThere = tells exit.run_or_none (codes "run there\n")
@@ -40,8 +43,9 @@ unbegun gate.NoRun = nothing
 unbegun (gate.Cut at) = nothing
 unbegun gate.NoMemory = nothing
 
--- What is answered to run these texts: their refusal; or why no journal of them was begun; or what is told of the session that they
--- made. Only in a session a turret is called, and only for these texts a journal is begun, which has version 2.
+-- What is answered to run these texts: their refusal; or why no journal of them was begun; or what
+-- is told of the session that they made. Only in a session a turret is called, and only for these
+-- texts a journal is begun, which has version 2.
 pub data IsRun {D : Type 0} (state : D → DiskState) (limit : ℕ) (text_of : TextOf) (texts : Texts) (old new : LatheState) : Answer → Type 0 where
   refused : {refusal : Refusal} {text : List ℕ} → IsRefusalOf texts refusal → IsVerdictText (Some refusal) text
       → RestsWhole old new → IsRun state limit text_of texts old new (tells exit.refused text)
@@ -51,9 +55,14 @@ pub data IsRun {D : Type 0} (state : D → DiskState) (limit : ℕ) (text_of : T
   ran : {answer : Answer} (s : Session) → IsSession s → IsNewHeader texts s.header → IsOpened anew s old.disk
       → IsReported state anew limit text_of s old new answer → IsRun state limit text_of texts old new answer
 
--- What `resume` answers: why nothing is found; or the report of the session that went on from what was found.
+-- What `resume` answers: why nothing is found; or the report of the session that went on from what
+-- was found.
 pub data IsResumed {D : Type 0} (state : D → DiskState) (limit : ℕ) (old new : LatheState) : Answer → Type 0 where
   not_found : (fault : RestartFault) → Recovers old.disk new.disk (Err fault) → AreAtRest old new
       → IsResumed state limit old new (unfound fault)
   resumed : {answer : Answer} (s : Session) → IsSession s → IsOpened again s old.disk
       → IsReported state again limit report_of s old new answer → IsResumed state limit old new answer
+
+-- two tapes, run anew and reported
+abbrev pub IsRunAnew : {D : Type 0} → (D → DiskState) → ℕ → LatheState → LatheState → Texts → Answer → Type 0
+IsRunAnew state limit old new = λ texts. IsRun state limit report_of texts old new

@@ -1,5 +1,6 @@
 -- A session of a run: what one call made of it, from its opening on.
 use Rattle.std.specs.Prelude.{◌≡◌, ℕ, ◌+◌, ◌≤◌, true, false, List, length, take}
+use Rattle.nc_number.specs.Both.{of_path}
 use Rattle.nc_number.specs.declared.path.Path.{Path}
 use Rattle.disk_model.specs.Device.{Rose}
 use Rattle.nc_outside.specs.Faults.{Rose as TurretRose}
@@ -11,13 +12,11 @@ use Rattle.two_path.specs.Machine.{MachineView}
 use Rattle.two_path.specs.Stuck.{IsFree}
 use Rattle.nc_restart.specs.Pair.{texts_of, IsPairOf, tapes_in, machine_behind}
 use Rattle.nc_restart.specs.History.{IsHistory}
-use Rattle.turret_run.specs.Runs.{turret_for}
 use Rattle.lathe_looks.specs.Standing.{is_over, reason_of}
-use Rattle.lathe_calls.specs.Statuses as exit
 use Rattle.lathe_top.specs.Lathe.{LatheState}
 
--- the header of the journal, the pair that its texts are, the records that were found at the opening, and those at
--- the end
+-- the header of the journal, the pair that its texts are, the records that were found at the
+-- opening, and those at the end
 pub record Session : Type 0 where
   pub header : Header
   pub pair : Verified
@@ -32,14 +31,15 @@ machine_found s = machine_behind s.pair s.found
 abbrev pub machine_of : Session → MachineView
 machine_of s = machine_behind s.pair s.history
 
--- The records at the end are a history of the pair, and begin with those that were found. Behind a run that is
--- over none are made.
+-- The records at the end are a history of the pair, and begin with those that were found. Behind a
+-- run that is over none are made.
 pub record GoesOn (pair : Verified) (found history : List Entry) : Type 0 where
   pub history_is : IsHistory pair history
   pub extends : take (length found) history ≡ found
   pub rests : is_over (machine_behind pair found) ≡ true → history ≡ found
 
--- The header's texts are accepted, and the records went on. The paths are not stuck, and no wait met another.
+-- The header's texts are accepted, and the records went on. The paths are not stuck, and no wait
+-- met another.
 pub record IsSession (s : Session) : Type 0 where
   pub accepted : IsPairOf (texts_of s.header) s.pair
   pub goes_on : GoesOn s.pair s.found s.history
@@ -48,10 +48,11 @@ pub record IsSession (s : Session) : Type 0 where
 -- no call of the disk failed, and none of a turret
 pub record NoneFailed (old new : LatheState) : Type 0 where
   pub disk : new.disk.faults ≡ old.disk.faults
-  pub turrets : (path : Path) → (turret_for path new.turrets).faults ≡ (turret_for path old.turrets).faults
+  pub turrets : (path : Path) → (of_path new.turrets path).faults ≡ (of_path old.turrets path).faults
 
--- Why a session of at most so many records ended. Where nothing failed: the run is over; or the journal has as many records as it may
--- have; or the session made as many as it was allowed. Else the disk failed; or the disk did not, and the turret of this path did.
+-- Why a session of at most so many records ended. Where nothing failed: the run is over; or the
+-- journal has as many records as it may have; or the session made as many as it was allowed. Else
+-- the disk failed; or the disk did not, and the turret of this path did.
 pub data EndsBy (limit : ℕ) (s : Session) (old new : LatheState) : Reason → Type 0 where
   over : is_over (machine_of s) ≡ true → NoneFailed old new → EndsBy limit s old new (reason_of (machine_of s))
   full : is_over (machine_of s) ≡ false → length s.history ≡ s.pair.settings.records → NoneFailed old new
@@ -59,17 +60,8 @@ pub data EndsBy (limit : ℕ) (s : Session) (old new : LatheState) : Reason → 
   stopped : is_over (machine_of s) ≡ false → length s.history ≡ length s.found + limit
       → (length s.history ≡ s.pair.settings.records → ⊥) → NoneFailed old new → EndsBy limit s old new Reason.Stopped
   disk_failed : Rose old.disk.faults new.disk.faults → EndsBy limit s old new Reason.DiskFault
-  turret_failed : (path : Path) → TurretRose (turret_for path old.turrets).faults (turret_for path new.turrets).faults
+  turret_failed : (path : Path) → TurretRose (of_path old.turrets path).faults (of_path new.turrets path).faults
       → new.disk.faults ≡ old.disk.faults → EndsBy limit s old new (Reason.TurretFault path)
-
--- the status of a reason
-abbrev pub reason_status : Reason → ℕ
-reason_status Reason.Done = exit.done
-reason_status (Reason.Alarm alarm) = exit.alarm
-reason_status Reason.Stopped = exit.stopped
-reason_status Reason.Full = exit.full
-reason_status Reason.DiskFault = exit.disk_fault
-reason_status (Reason.TurretFault path) = exit.turret_fault
 
 -- the disk holds so many records at least: all that were found, and all but 64 at most
 pub record AreMost (s : Session) (least : ℕ) : Type 0 where

@@ -1,20 +1,21 @@
 -- What a stop at any moment of a call leaves.
 use Rattle.std.specs.Prelude.{◌≡◌, ◌⊎◌, ℕ, List, [], ◌∷◌, length, map, take, Option}
+use Rattle.nc_outside.specs.Received.{TurretState}
+use Rattle.nc_number.specs.declared.both.Both.{Both}
 use Rattle.command_words.specs.declared.command.Command.{Command}
 use Rattle.disk_model.specs.Device.{DiskState, Reads, IsSettled}
 use Rattle.gate_file.specs.Chain.{IsNoRun}
 use Rattle.run_records.specs.Entries.{Entry}
 use Rattle.run_records.specs.declared.header.Header.{Header}
 use Rattle.run_journal.specs.Meaning.{a_run}
-use Rattle.turret_run.specs.Runs.{Turrets, Missed, none_missed}
 use Rattle.nc_restart.specs.Lives.{AreOneHistory}
 use Rattle.nc_restart.specs.Meaning.{StandsForRun}
 use Rattle.nc_outside.specs.Files.{ShelfState}
 use Rattle.nc_outside.specs.Written.{SinkState}
-use Rattle.lathe_top.specs.Done.{Call, at}
+use Rattle.lathe_top.specs.Done.{Call, at, call_of}
 use Rattle.lathe_top.specs.Kinds.{kind_of}
 use Rattle.lathe_top.specs.Kept.{Leaves}
-use Rattle.lathe_top.specs.Lathe.{LatheState}
+use Rattle.lathe_top.specs.Lathe.{LatheState, lathe_with}
 
 -- the image stands for a history of the run with this header, which begins with these records
 abbrev pub GoesOnAs : Header → List Entry → List ℕ → Type 0
@@ -29,18 +30,18 @@ IsSomeRun image = (header : Header) × (history : List Entry) × StandsForRun (a
 abbrev pub IsNoneOrRun : List ℕ → Type 0
 IsNoneOrRun image = IsNoRun image ⊎ IsSomeRun image
 
--- A call of the program: its command, if its words are one, the disk and the turrets before and behind it, and how many moves each
--- turret missed.
+-- A call of the program: its command, if its words are one, the disk and the turrets before and
+-- behind it, and how many moves each turret missed.
 pub record CallOver (D : Type 0) : Type 0 where
   pub asked : Option Command
   pub disk : D
   pub after : D
-  pub turrets : Turrets
-  pub moved : Turrets
-  pub missed : Missed
+  pub turrets : Both TurretState
+  pub moved : Both TurretState
+  pub missed : Both ℕ
 
 abbrev pub lathe_before : {D : Type 0} → (D → DiskState) → CallOver D → LatheState
-lathe_before state call = record { disk = state call.disk; turrets = call.turrets; missed = none_missed }
+lathe_before state call = lathe_with (state call.disk) call.turrets
 
 abbrev pub lathe_behind : {D : Type 0} → (D → DiskState) → CallOver D → LatheState
 lathe_behind state call = record { disk = state call.after; turrets = call.moved; missed = call.missed }
@@ -57,13 +58,11 @@ pub record Around (E : Type 0) : Type 0 where
 
 -- all of the call
 abbrev pub call_in : {D E : Type 0} → (D → DiskState) → Around E → CallOver D → Call E
-call_in state around call = record {
-  words = around.words;
-  before = at around.shelf (lathe_before state call) around.second around.sink;
-  after = at around.shelf_after (lathe_behind state call) around.second_after around.sink_after;
-}
+call_in state around call = call_of around.words (at around.shelf (lathe_before state call) around.second around.sink)
+    (at around.shelf_after (lathe_behind state call) around.second_after around.sink_after)
 
--- the disk tells that it reads as these bytes, and the call leaves it and the turrets as its kind of command does
+-- the disk tells that it reads as these bytes, and the call leaves it and the turrets as its kind
+-- of command does
 pub record IsCall {D : Type 0} (state : D → DiskState) (bytes : List ℕ) (call : CallOver D) : Type 0 where
   pub reads : Reads (state call.disk) bytes
   pub leaves : Leaves state (kind_of call.asked) (lathe_before state call) (lathe_behind state call)

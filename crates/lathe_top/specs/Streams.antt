@@ -1,6 +1,8 @@
--- What the turrets of a call write, against the report: the stream of a path, and the lines that the report has for it.
+-- What the turrets of a call write, against the report: the stream of a path, and the lines that
+-- the report has for it.
 use Rattle.std.specs.Prelude.{◌≡◌, ◌⊎◌, ℕ, true, false, List, [], ◌++◌, length, Option, Some}
 use Rattle.std.specs.Option.{ForSome}
+use Rattle.nc_number.specs.Both.{of_path}
 use Rattle.nc_number.specs.declared.path.Path.{Path}
 use Rattle.disk_model.specs.Device.{DiskState}
 use Rattle.nc_outside.specs.declared.got.Got.{Got}
@@ -13,14 +15,15 @@ use Rattle.move_list.specs.declared.end_line.Reason.{Reason}
 use Rattle.two_path.specs.Made.{moves_of}
 use Rattle.move_list.specs.Report.{lines_text}
 use Rattle.nc_restart.specs.Pair.{tapes_in, opening_of}
-use Rattle.turret_run.specs.Runs.{place_of, turret_for}
+use Rattle.turret_run.specs.Runs.{place_of}
 use Rattle.lathe_looks.specs.Standing.{is_over}
 use Rattle.lathe_calls.specs.Statuses as exit
 use Rattle.lathe_top.specs.Done.{Call}
 use Rattle.lathe_top.specs.Kept.{IsOpened, KeepsSession, Opening}
 use Rattle.lathe_top.specs.Kinds.{Kind, rests, looks, branches, edits, begins, goes_on}
 use Rattle.lathe_top.specs.Lathe.{AreAtRest}
-use Rattle.lathe_top.specs.Session.{IsSession, Session, machine_found, reason_status}
+use Rattle.lathe_calls.specs.Statuses.{reason_status}
+use Rattle.lathe_top.specs.Session.{IsSession, Session, machine_found}
 
 -- the command makes records of blocks
 abbrev pub MakesRecords : Kind → Type 0
@@ -31,8 +34,8 @@ MakesRecords edits = ⊥
 MakesRecords (begins limit) = Unit {0}
 MakesRecords (goes_on limit) = Unit {0}
 
--- The statuses of a command that made its records and was not cut off by a fault: both paths ended (0), an alarm (3), as many blocks as
--- were allowed (10), and a journal that is full (14).
+-- The statuses of a command that made its records and was not cut off by a fault: both paths ended
+-- (0), an alarm (3), as many blocks as were allowed (10), and a journal that is full (14).
 abbrev pub IsUncut : ℕ → Type 0
 IsUncut status = (status ≡ exit.done) ⊎ ((status ≡ exit.alarm) ⊎ ((status ≡ exit.stopped) ⊎ (status ≡ exit.full)))
 
@@ -44,15 +47,16 @@ report_lines pair path history = lines_text (moves_of (tapes_in pair) (opening_o
 abbrev pub place_line : Session → Path → List ℕ
 place_line s path = placed_text (place_of path (machine_found s))
 
--- A stream is the line of the path's place, and then exactly the lines that the report has for the path's records of this session: its
--- lines at the end are those for the records that were found, and then these.
+-- A stream is the line of the path's place, and then exactly the lines that the report has for the
+-- path's records of this session: its lines at the end are those for the records that were found,
+-- and then these.
 pub record IsStream (s : Session) (path : Path) (bytes : List ℕ) : Type 0 where
   pub lines : List ℕ
   pub stream : bytes ≡ place_line s path ++ lines
   pub report : report_lines s.pair path s.history ≡ report_lines s.pair path s.found ++ lines
 
--- A turret got what is written as the stream of the path, and did not fail. If it was a new one that writes lines, its sink has the
--- stream, and nothing else.
+-- A turret got what is written as the stream of the path, and did not fail. If it was a new one
+-- that writes lines, its sink has the stream, and nothing else.
 pub record GetsStream (s : Session) (path : Path) (old new : TurretState) : Type 0 where
   pub got : List Got
   pub is : IsStream s path (stream_of got)
@@ -63,8 +67,8 @@ pub record GetsStream (s : Session) (path : Path) (old new : TurretState) : Type
       → new ≡ told_state has calls settles faults → HasStream written has faults
       → ForSome written (λ bytes. IsStream s path bytes)
 
--- What a call did that made its records: of one session, which the disk then holds whole, each turret got the stream of its path; none
--- was called if the run was over when it was found.
+-- What a call did that made its records: of one session, which the disk then holds whole, each
+-- turret got the stream of its path; none was called if the run was over when it was found.
 pub record HasStreams {D E : Type 0} (state : D → DiskState) (call : Call E) (status : ℕ) : Type 0 where
   pub session : Session
   pub is : IsSession session
@@ -75,4 +79,4 @@ pub record HasStreams {D E : Type 0} (state : D → DiskState) (call : Call E) (
   pub answered : reason_status reason ≡ status
   pub over : is_over (machine_found session) ≡ true → AreAtRest call.before.lathe call.after.lathe
   pub streams : is_over (machine_found session) ≡ false → (path : Path)
-      → GetsStream session path (turret_for path call.before.lathe.turrets) (turret_for path call.after.lathe.turrets)
+      → GetsStream session path (of_path call.before.lathe.turrets path) (of_path call.after.lathe.turrets path)

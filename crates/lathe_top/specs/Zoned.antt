@@ -8,8 +8,8 @@ use Rattle.lathe_looks.specs.Zoned.{bad_zone_text, zones_text}
 use Rattle.lathe_top.specs.Kept.{RestsWhole}
 use Rattle.lathe_top.specs.Lathe.{LatheState, AreAtRest}
 
--- 1 and the first line that is not allowed, or nothing for want of memory, and the disk was not called; or what is shown of the run on
--- the disk by these zones
+-- 1 and the first line that is not allowed, or nothing for want of memory, and the disk was not
+-- called; or what is shown of the run on the disk by these zones
 pub data IsZoned (old new : LatheState) (text : List ℕ) : Answer → Type 0 where
   bad_zones : {line : ℕ} → zones_of text ≡ Err line → RestsWhole old new → IsZoned old new text (tells exit.refused (bad_zone_text line))
   unread_zones : RestsWhole old new → IsZoned old new text nothing

@@ -1,14 +1,14 @@
 //! The command `run`: a pair, run anew.
 ghost use Rattle.std.specs.Prelude.{◌≡◌, ◌≤◌, length};
 ghost use Rattle.lathe_calls.specs.Answers.{Ends};
-ghost use Rattle.lathe_looks.specs.Fetched.{IsOfFiles};
+ghost use Rattle.lathe_calls.specs.declared.pair_texts.TheConstants.{LONGEST_SETTINGS};
 ghost use Rattle.lathe_looks.specs.Named.{listed};
-ghost use Rattle.lathe_calls.specs.Reported.{report_of};
 ghost use Rattle.lathe_looks.specs.Texts.{files_in, texts_of};
-ghost use Rattle.lathe_top.specs.Kept.{RestsWhole};
 ghost use Rattle.lathe_top.specs.Held.{lathe_of, lathe_left};
-ghost use Rattle.lathe_top.specs.Ran.{IsRun};
+ghost use Rattle.lathe_top.specs.OverFiles.{IsOverFiles};
+ghost use Rattle.lathe_top.specs.Ran.{IsRun, IsRunAnew};
 ghost use Rattle.lathe_top.specs.Texts.{text_by};
+ghost use Rattle.nc_number.specs.declared.limits.TheConstants.{LONGEST_TAPE};
 ghost use Rattle.nc_restart.specs.Pair.{texts_of as texts_of_header, IsPairOf};
 ghost use Rattle.run_records.specs.declared.version.Version.{Version};
 ghost use Rattle.run_records.specs.Headers.{IsShort};
@@ -20,7 +20,7 @@ use crate::telling::{Request, Telling};
 use disk_model::Disk;
 use lathe_calls::refuse;
 use lathe_looks::{FileNames, Texts, fetch_texts, tell_unfetched};
-use nc_number::ByteList;
+use nc_number::{Both, ByteList};
 use nc_outside::{Shelf, Sink, Turret};
 use nc_restart::no_history_is_stuck;
 use nc_verify::{Verified, verdict};
@@ -30,8 +30,8 @@ use std::alloc::Global;
 use std::sync::Wait;
 use std::thread::Threads;
 
-/// Runs two tapes under the settings of the cell, for at most `limit` records, with a new journal on the
-/// disk. Writes the report, or why there is none.
+/// Runs two tapes under the settings of the cell, for at most `limit` records, with a new journal
+/// on the disk. Writes the report, or why there is none.
 pub(crate) fn run<R, H, D, T, K>(
     rt: &R,
     alloc: Global,
@@ -47,10 +47,8 @@ where
     D: Disk + Send,
     T: Turret + Send,
     K: Sink,
-    ensures { Ends (IsOfFiles listed (files_in names.now)
-        (RestsWhole (lathe_of D.state T.state lathe) (lathe_left D.state T.state result))
-        (λ texts. IsRun D.state limit report_of texts (lathe_of D.state T.state lathe)
-        (lathe_left D.state T.state result)) (H.state shelf.old) (H.state shelf.new))
+    ensures { Ends (IsOverFiles listed (files_in names.now) (IsRunAnew D.state limit)
+        (lathe_of D.state T.state lathe) (lathe_left D.state T.state result) (H.state shelf.old) (H.state shelf.new))
         (K.state out.old) (K.state out.new) result.status }
 {
     let asked = Request {
@@ -61,12 +59,7 @@ where
         Ok(texts) => run_texts(rt, alloc, texts, asked, lathe, out),
         Err(error) => {
             let status = tell_unfetched(alloc, &error, out);
-            Ended {
-                status,
-                lathe,
-                left_missed: 0,
-                right_missed: 0,
-            }
+            Ended::at_rest(status, lathe)
         }
     }
 }
@@ -85,28 +78,23 @@ where
     D: Disk + Send,
     T: Turret + Send,
     K: Sink,
-    requires left { length texts.left.items ≤ 4194304 }
-    requires right { length texts.right.items ≤ 4194304 }
-    requires settings { length texts.settings.items ≤ 65536 }
+    requires left { length texts.tapes.one.items ≤ LONGEST_TAPE }
+    requires right { length texts.tapes.two.items ≤ LONGEST_TAPE }
+    requires settings { length texts.settings.items ≤ LONGEST_SETTINGS }
     ensures { Ends (IsRun D.state asked.limit (text_by asked.telling) (texts_of texts)
         (lathe_of D.state T.state lathe) (lathe_left D.state T.state result))
         (K.state out.old) (K.state out.new) result.status }
 {
     match verdict(
         alloc,
-        texts.left.as_slice(),
-        texts.right.as_slice(),
+        texts.tapes.one.as_slice(),
+        texts.tapes.two.as_slice(),
         texts.settings.as_slice(),
     ) {
         Ok(pair) => run_pair(rt, alloc, pair, header_of(texts), asked, lathe, out),
         Err(error) => {
             let status = refuse(&error, out);
-            Ended {
-                status,
-                lathe,
-                left_missed: 0,
-                right_missed: 0,
-            }
+            Ended::at_rest(status, lathe)
         }
     }
 }
@@ -115,19 +103,16 @@ where
 fn header_of(texts: Texts) -> Header
     ensures version { result.version ≡ Version.Two }
     ensures settings { result.settings ≡ texts.settings.items }
-    ensures left { result.left ≡ texts.left.items }
-    ensures right { result.right ≡ texts.right.items }
+    ensures left { result.left ≡ texts.tapes.one.items }
+    ensures right { result.right ≡ texts.tapes.two.items }
 {
-    let Texts {
-        left,
-        right,
-        settings,
-    } = texts;
+    let Texts { tapes, settings } = texts;
+    let Both { one, two } = tapes;
     Header {
         version: Version::Two,
         settings: ByteList::of(settings),
-        left: ByteList::of(left),
-        right: ByteList::of(right),
+        left: ByteList::of(one),
+        right: ByteList::of(two),
     }
 }
 
@@ -154,14 +139,9 @@ where
         (K.state out.old) (K.state out.new) result.status }
 {
     no_history_is_stuck();
-    let Lathe { disk, left, right } = lathe;
+    let Lathe { disk, turrets } = lathe;
     match Table::begin(alloc, pair, disk, &header) {
-        Ok(table) => go_on(rt, alloc, table, asked, left, right, out),
-        Err((disk, fault)) => Ended {
-            status: tell_unbegun(fault, out),
-            lathe: Lathe { disk, left, right },
-            left_missed: 0,
-            right_missed: 0,
-        },
+        Ok(table) => go_on(rt, alloc, table, asked, turrets, out),
+        Err((disk, fault)) => Ended::at_rest(tell_unbegun(fault, out), Lathe { disk, turrets }),
     }
 }

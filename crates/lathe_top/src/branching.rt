@@ -1,7 +1,8 @@
-//! The command `branch`: the run up to a meeting, as a journal of its own on the second disk. The turrets rest.
+//! The command `branch`: the run up to a meeting, as a journal of its own on the second disk. The
+//! turrets rest.
 ghost use Rattle.std.specs.Prelude.{◌≡◌, Ok};
 ghost use Rattle.run_records.specs.Headers.{IsShort};
-ghost use Rattle.nc_restart.specs.Recovered.{IsRecovered, Recovers};
+ghost use Rattle.nc_restart.specs.Recovered.{IsRecovered, Recovers, run_found};
 ghost use Rattle.lathe_calls.specs.Answers.{Ends, IsJust, tells};
 ghost use Rattle.lathe_calls.specs.Statuses as exit;
 ghost use Rattle.lathe_top.specs.Branched.{IsBranched, branched_text, unbranched};
@@ -12,14 +13,14 @@ use crate::held::{Ended, Lathe};
 use disk_model::Disk;
 use lathe_calls::{Status, write_text};
 use lathe_looks::tell_unfound;
-use move_text::Piece;
 use nc_outside::{Sink, Turret};
 use nc_restart::{Recovered, an_image_of_a_run_is_never_bad, recover};
 use run_branch::{BranchFault, branch};
 use std::alloc::Global;
+use text_pieces::Piece;
 
-/// Writes the run whose journal the disk has, up to its meeting of this number, as a journal onto the second disk. The turrets rest,
-/// and nothing is written to the disk of the run.
+/// Writes the run whose journal the disk has, up to its meeting of this number, as a journal onto
+/// the second disk. The turrets rest, and nothing is written to the disk of the run.
 pub(crate) fn branch_off<D: Disk, E: Disk, T: Turret, K: Sink>(
     alloc: Global,
     meetings: u32,
@@ -27,22 +28,17 @@ pub(crate) fn branch_off<D: Disk, E: Disk, T: Turret, K: Sink>(
     second: E,
     out: &mut K,
 ) -> (Ended<D, T>, E)
-    ensures { Ends (λ answer. IsBranched E.state meetings (D.state lathe.disk) (D.state result.0.lathe.disk) second result.1 answer
-        × AreAtRest (lathe_of D.state T.state lathe) (lathe_left D.state T.state result.0))
+    ensures { Ends (λ answer. IsBranched E.state meetings (D.state lathe.disk) (D.state result.0.lathe.disk) second
+        result.1 answer × AreAtRest (lathe_of D.state T.state lathe) (lathe_left D.state T.state result.0))
         (K.state out.old) (K.state out.new) result.0.status }
 {
-    let Lathe { disk, left, right } = lathe;
+    let Lathe { disk, turrets } = lathe;
     let Branched {
         status,
         disk,
         second,
     } = branch_run(alloc, meetings, disk, second, out);
-    let ended = Ended {
-        status,
-        lathe: Lathe { disk, left, right },
-        left_missed: 0,
-        right_missed: 0,
-    };
+    let ended = Ended::at_rest(status, Lathe { disk, turrets });
     (ended, second)
 }
 
@@ -54,7 +50,8 @@ struct Branched<D: Disk, E: Disk> {
     second: E,
 }
 
-/// Branches the run whose journal the disk has, and writes how many records the branch has, or why it is not made.
+/// Branches the run whose journal the disk has, and writes how many records the branch has, or why
+/// it is not made.
 fn branch_run<D: Disk, E: Disk, K: Sink>(
     alloc: Global,
     meetings: u32,
@@ -68,7 +65,7 @@ fn branch_run<D: Disk, E: Disk, K: Sink>(
     match recover(alloc, disk) {
         Ok(found) => branch_found(alloc, meetings, found, second, out),
         Err((disk, fault)) => Branched {
-            status: tell_unfound(alloc, fault, out),
+            status: tell_unfound(fault, out),
             disk,
             second,
         },
@@ -86,8 +83,7 @@ fn branch_found<D: Disk, E: Disk, K: Sink>(
     requires run { IsRecovered D.state found.header found.verified found.machine.machine found.entries.items
         found.journal }
     requires short { IsShort found.header }
-    ensures { (before : D) → Recovers (D.state before) (D.state found.journal.file.disk)
-        (Ok (record { header = found.header; entries = found.entries.items }))
+    ensures { (before : D) → Recovers (D.state before) (D.state found.journal.file.disk) (run_found (Ok found))
         → Ends (IsBranched E.state meetings (D.state before) (D.state result.disk) second result.second)
         (K.state out.old) (K.state out.new) result.status }
 {
@@ -108,7 +104,8 @@ fn branch_found<D: Disk, E: Disk, K: Sink>(
 
 /// Writes how many records a branch has, and gives the status of that.
 fn tell_branched<K: Sink>(meetings: u32, records: u32, out: &mut K) -> u8
-    ensures { Ends (IsJust (tells exit.done (branched_text meetings records))) (K.state out.old) (K.state out.new) result }
+    ensures { Ends (IsJust (tells exit.done (branched_text meetings records)))
+        (K.state out.old) (K.state out.new) result }
 {
     write_text(
         out,

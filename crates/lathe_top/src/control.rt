@@ -1,12 +1,10 @@
 //! The call that the program makes: words in, text and status out.
-ghost use Rattle.std.specs.Prelude.{◌≡◌, Some, map};
+ghost use Rattle.std.specs.Prelude.{◌≡◌, map};
 ghost use Rattle.std.specs.String.{string_bytes};
-ghost use Rattle.lathe_calls.specs.Answers.{Ends};
 ghost use Rattle.lathe_looks.specs.Named.{files_of};
 ghost use Rattle.lathe_looks.specs.Texts.{files_in};
-ghost use Rattle.lathe_top.specs.Done.{GetsItsStatus, IsDone, IsDueTo, LeavesSecond, at};
+ghost use Rattle.lathe_top.specs.Done.{GetsItsStatus, IsDone, Performs, at, call_of};
 ghost use Rattle.lathe_top.specs.Held.{lathe_of, lathe_left};
-ghost use Rattle.lathe_top.specs.Kinds.{kind_of};
 ghost use Rattle.lathe_top.specs.Lathe.{lathe_at, lathe_after};
 ghost use Rattle.lathe_top.specs.Outside.{outside_in};
 
@@ -23,6 +21,7 @@ use command_words::{Command, Name, ProgramRange, WordsFault};
 use disk_model::Disk;
 use lathe_calls::{Question, Status};
 use lathe_looks::{FileNames, Showing, tell_usage};
+use nc_number::Both;
 use nc_outside::{Shelf, Sink, Turret};
 use nc_restart::{a_machine_hangs_on_its_texts, an_image_stands_for_one_run};
 use nc_verify::{accepted_texts_are_not_refused, texts_have_one_refusal};
@@ -34,18 +33,21 @@ use std::thread::Threads;
 use turn_order::one_run_in_turn;
 use wait_verify::{accepted_pairs_are_not_refused, pairs_have_one_refusal};
 
-/// Does what the words say with the files of the shelf, the journal on the disk, the second disk and the turrets of both paths,
-/// writes the answer to `out`, and gives the status, both disks and the turrets.
+/// Does what the words say with the files of the shelf, the journal on the disk, the second disk
+/// and the turrets of both paths, writes the answer to `out`, and gives the status, both disks and
+/// the turrets.
 ///
-/// 0: the tapes are accepted, both paths ran to their ends, the edits or the branch were made, or the text was written. 1: the tapes,
-/// the settings or the edits are refused, or there is no such meeting. 2: the words are no command. 3: a path raised an alarm. 4: the
-/// shelf failed. 5: the sink failed. 6: a disk failed. 7: the turret of a path failed. 8: there is a run on the disk, or for all
-/// commands but `run` and `make` there is none; or one on the second disk. 9: the journal on the disk is bad. 10: as many blocks
-/// were recorded as the call allows. 12: out of memory. 13: a file is missing or too long. 14: the journal has as
-/// many records as it may have. Of 6, 7, 3, 0, 14 and 10 the first is answered that holds of a run.
+/// 0: the tapes are accepted, both paths ran to their ends, the edits or the branch were made, or
+/// the text was written. 1: the tapes, the settings or the edits are refused, or there is no such
+/// meeting. 2: the words are no command. 3: a path raised an alarm. 4: the shelf failed. 5: the
+/// sink failed. 6: a disk failed. 7: the turret of a path failed. 8: there is a run on the disk, or
+/// for all commands but `run` and `make` there is none; or one on the second disk. 9: the journal
+/// on the disk is bad. 10: as many blocks were recorded as the call allows. 12: out of memory. 13:
+/// a file is missing or too long. 14: the journal has as many records as it may have. Of 6, 7, 3,
+/// 0, 14 and 10 the first is answered that holds of a run.
 ///
-/// `branch` alone calls the second disk. `run`, `make` and `resume` run both paths at once, in four threads: it waits for them, and
-/// where none can be made it may not return.
+/// `branch` alone calls the second disk. `run`, `make` and `resume` run both paths at once, in four
+/// threads: it waits for them, and where none can be made it may not return.
 pub fn top<R, H, D, E, T, K>(
     rt: &R,
     alloc: Global,
@@ -64,19 +66,16 @@ where
     E: Disk,
     T: Turret + Send,
     K: Sink,
-    // What was told and its status, each for its cause; what both disks are now, and what a stop at any moment leaves of them; and what
-    // the turrets got. All of one command and of the texts of its files, whatever the status.
-    ensures done { IsDone D.state E.state (record {
-      words = map string_bytes words.now;
-      before = at (H.state shelf.old) (lathe_at (D.state disk) (T.state left) (T.state right)) second (K.state out.old);
-      after = at (H.state shelf.new) (lathe_after D.state T.state result) result.second (K.state out.new);
-    }) result.status }
+    // What was told and its status, each for its cause; what both disks are now, and what a stop at
+    // any moment leaves of them; and what the turrets got. All of one command and of the texts of
+    // its files, whatever the status.
+    ensures done { IsDone D.state E.state (call_of (map string_bytes words.now)
+        (at (H.state shelf.old) (lathe_at (D.state disk) (T.state left) (T.state right)) second (K.state out.old))
+        (at (H.state shelf.new) (lathe_after D.state T.state result) result.second (K.state out.new))) result.status }
     // Where a cause holds its status comes.
-    ensures due { GetsItsStatus D.state E.state (record {
-      words = map string_bytes words.now;
-      before = at (H.state shelf.old) (lathe_at (D.state disk) (T.state left) (T.state right)) second (K.state out.old);
-      after = at (H.state shelf.new) (lathe_after D.state T.state result) result.second (K.state out.new);
-    }) result.status }
+    ensures due { GetsItsStatus D.state E.state (call_of (map string_bytes words.now)
+        (at (H.state shelf.old) (lathe_at (D.state disk) (T.state left) (T.state right)) second (K.state out.old))
+        (at (H.state shelf.new) (lathe_after D.state T.state result) result.second (K.state out.new))) result.status }
 {
     accepted_texts_are_not_refused();
     texts_have_one_refusal();
@@ -86,22 +85,28 @@ where
     one_run_in_turn();
     accepted_pairs_are_not_refused();
     pairs_have_one_refusal();
-    let lathe = Lathe { disk, left, right };
+    let turrets = Both {
+        one: left,
+        two: right,
+    };
+    let lathe = Lathe { disk, turrets };
     let (ended, second) = respond(rt, alloc, words, shelf, lathe, second, out);
     let Ended {
         status,
-        lathe: Lathe { disk, left, right },
-        left_missed,
-        right_missed,
+        lathe: Lathe { disk, turrets },
+        missed,
     } = ended;
+    let Both {
+        one: left,
+        two: right,
+    } = turrets;
     Outcome {
         status,
         disk,
         second,
         left,
         right,
-        left_missed,
-        right_missed,
+        missed,
     }
 }
 
@@ -122,36 +127,14 @@ where
     E: Disk,
     T: Turret + Send,
     K: Sink,
-    ensures { IsDone D.state E.state (record {
-      words = map string_bytes words.now;
-      before = at (H.state shelf.old) (lathe_of D.state T.state lathe) second (K.state out.old);
-      after = at (H.state shelf.new) (lathe_left D.state T.state result.0) result.1 (K.state out.new);
-    }) result.0.status }
+    ensures { IsDone D.state E.state (call_of (map string_bytes words.now)
+        (at (H.state shelf.old) (lathe_of D.state T.state lathe) second (K.state out.old))
+        (at (H.state shelf.new) (lathe_left D.state T.state result.0) result.1 (K.state out.new))) result.0.status }
 {
     match read_words(alloc, words) {
         Ok(command) => perform(rt, alloc, &command, shelf, lathe, second, out),
-        Err(WordsFault::Usage) => {
-            (
-                Ended {
-                    status: tell_usage(out),
-                    lathe,
-                    left_missed: 0,
-                    right_missed: 0,
-                },
-                second,
-            )
-        }
-        Err(WordsFault::NoMemory) => {
-            (
-                Ended {
-                    status: Status::NoMemory as u8,
-                    lathe,
-                    left_missed: 0,
-                    right_missed: 0,
-                },
-                second,
-            )
-        }
+        Err(WordsFault::Usage) => (Ended::at_rest(tell_usage(out), lathe), second),
+        Err(WordsFault::NoMemory) => (Ended::at_rest(Status::NoMemory as u8, lathe), second),
     }
 }
 
@@ -172,11 +155,9 @@ where
     E: Disk,
     T: Turret + Send,
     K: Sink,
-    ensures { Ends (λ answer. IsDueTo D.state E.state command.now
+    ensures { Performs D.state E.state command.now
         (at (H.state shelf.old) (lathe_of D.state T.state lathe) second (K.state out.old))
-        (at (H.state shelf.new) (lathe_left D.state T.state result.0) result.1 (K.state out.new)) answer
-        × LeavesSecond (kind_of (Some command.now)) second result.1)
-        (K.state out.old) (K.state out.new) result.0.status }
+        (at (H.state shelf.new) (lathe_left D.state T.state result.0) result.1 (K.state out.new)) result.0.status }
 {
     match command {
         Command::Verify(left, right, settings) => {
@@ -241,8 +222,10 @@ fn names_of<'a>(left: &'a Name, right: &'a Name, settings: &'a Name) -> FileName
     ensures { files_in result ≡ files_of left.now right.now settings.now }
 {
     FileNames {
-        left: left.as_str(),
-        right: right.as_str(),
+        tapes: Both {
+            one: left.as_str(),
+            two: right.as_str(),
+        },
         settings: settings.as_str(),
     }
 }

@@ -1,18 +1,18 @@
-//! The command `edit`: an operator's edits, made in the run whose journal the disk has. The turrets rest.
+//! The command `edit`: an operator's edits, made in the run whose journal the disk has. The turrets
+//! rest.
 ghost use Rattle.std.specs.Prelude.{◌≡◌, Ok, codes};
 ghost use Rattle.nc_restart.specs.History.{IsHistory};
-ghost use Rattle.nc_restart.specs.Recovered.{IsRecovered, Recovers};
+ghost use Rattle.nc_restart.specs.Recovered.{IsRecovered, Recovers, run_found};
 ghost use Rattle.lathe_calls.specs.Answers.{Ends, IsJust, tells};
 ghost use Rattle.lathe_calls.specs.Reported.{report_of};
 ghost use Rattle.lathe_calls.specs.Statuses as exit;
-ghost use Rattle.lathe_looks.specs.Fetched.{IsOfFiles};
 ghost use Rattle.lathe_looks.specs.Named.{alone, edits_named};
 ghost use Rattle.lathe_looks.specs.Standing.{reason_of};
 ghost use Rattle.lathe_top.specs.Edited.{IsEdited, IsEditedRun, edited_text, told_of_failure, told_of_writing};
-ghost use Rattle.lathe_top.specs.Kept.{RestsWhole};
 ghost use Rattle.lathe_top.specs.Held.{lathe_of, lathe_left};
 ghost use Rattle.lathe_top.specs.Lathe.{AreAtRest};
-ghost use Rattle.lathe_top.specs.Session.{reason_status};
+ghost use Rattle.lathe_top.specs.OverFiles.{IsOverFiles};
+ghost use Rattle.lathe_calls.specs.Statuses.{reason_status};
 
 use crate::held::{Ended, Lathe};
 use crate::telling::{Telling, tell_end};
@@ -21,15 +21,15 @@ use edit_texts::EditList;
 use gate_file::DiskFault;
 use lathe_calls::{Status, write_text};
 use lathe_looks::{Shown, edits_of_file, reason_of, tell_unfound};
-use move_text::Piece;
 use nc_number::Failing;
 use nc_outside::{Shelf, Sink, Turret};
 use nc_restart::{Recovered, recover};
 use run_edits::{Made, has_room, make_edits};
 use std::alloc::Global;
+use text_pieces::Piece;
 
-/// Makes the edits of a file in the run whose journal the disk has. The turrets rest, and so does the disk unless the file is
-/// read.
+/// Makes the edits of a file in the run whose journal the disk has. The turrets rest, and so does
+/// the disk unless the file is read.
 pub(crate) fn edit<H: Shelf, D: Disk, T: Turret, K: Sink>(
     alloc: Global,
     name: &str,
@@ -37,19 +37,13 @@ pub(crate) fn edit<H: Shelf, D: Disk, T: Turret, K: Sink>(
     lathe: Lathe<D, T>,
     out: &mut K,
 ) -> Ended<D, T>
-    ensures { Ends (IsOfFiles alone (edits_named name.now)
-        (RestsWhole (lathe_of D.state T.state lathe) (lathe_left D.state T.state result))
-        (IsEdited (lathe_of D.state T.state lathe) (lathe_left D.state T.state result))
-        (H.state shelf.old) (H.state shelf.new)) (K.state out.old) (K.state out.new) result.status }
+    ensures { Ends (IsOverFiles alone (edits_named name.now) IsEdited
+        (lathe_of D.state T.state lathe) (lathe_left D.state T.state result) (H.state shelf.old) (H.state shelf.new))
+        (K.state out.old) (K.state out.new) result.status }
 {
     match edits_of_file(alloc, name, shelf, out) {
         Ok(edits) => edit_by(alloc, &edits, lathe, out),
-        Err(status) => Ended {
-            status,
-            lathe,
-            left_missed: 0,
-            right_missed: 0,
-        },
+        Err(status) => Ended::at_rest(status, lathe),
     }
 }
 
@@ -64,17 +58,13 @@ fn edit_by<D: Disk, T: Turret, K: Sink>(
         × AreAtRest (lathe_of D.state T.state lathe) (lathe_left D.state T.state result))
         (K.state out.old) (K.state out.new) result.status }
 {
-    let Lathe { disk, left, right } = lathe;
+    let Lathe { disk, turrets } = lathe;
     let Shown { status, disk } = edit_run(alloc, edits, disk, out);
-    Ended {
-        status,
-        lathe: Lathe { disk, left, right },
-        left_missed: 0,
-        right_missed: 0,
-    }
+    Ended::at_rest(status, Lathe { disk, turrets })
 }
 
-/// Makes edits in the run whose journal the disk has, and writes how many, or why they are not made.
+/// Makes edits in the run whose journal the disk has, and writes how many, or why they are not
+/// made.
 fn edit_run<D: Disk, K: Sink>(alloc: Global, edits: &EditList, disk: D, out: &mut K) -> Shown<D>
     ensures { Ends (IsEditedRun edits.now (D.state disk) (D.state result.disk))
         (K.state out.old) (K.state out.new) result.status }
@@ -82,7 +72,7 @@ fn edit_run<D: Disk, K: Sink>(alloc: Global, edits: &EditList, disk: D, out: &mu
     match recover(alloc, disk) {
         Ok(found) => edit_found(alloc, found, edits, out),
         Err((disk, fault)) => Shown {
-            status: tell_unfound(alloc, fault, out),
+            status: tell_unfound(fault, out),
             disk,
         },
     }
@@ -97,9 +87,9 @@ fn edit_found<D: Disk, K: Sink>(
 ) -> Shown<D>
     requires { IsRecovered D.state found.header found.verified found.machine.machine found.entries.items
         found.journal }
-    ensures { (before : D) → Recovers (D.state before) (D.state found.journal.file.disk)
-        (Ok (record { header = found.header; entries = found.entries.items }))
-        → Ends (IsEditedRun edits.now (D.state before) (D.state result.disk)) (K.state out.old) (K.state out.new) result.status }
+    ensures { (before : D) → Recovers (D.state before) (D.state found.journal.file.disk) (run_found (Ok found))
+        → Ends (IsEditedRun edits.now (D.state before) (D.state result.disk))
+        (K.state out.old) (K.state out.new) result.status }
 {
     if found.machine.alarm().is_some() {
         return tell_alarm(alloc, found, out);

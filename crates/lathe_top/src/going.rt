@@ -1,15 +1,14 @@
 //! How a run goes on, with the turrets of both paths, and ends with its report.
 ghost use Rattle.std.specs.Prelude.{◌≡◌, ◌≤◌, false, length};
-ghost use Rattle.run_records.specs.declared.header.Header.{Header};
-ghost use Rattle.run_table.specs.Recording.{IsJournaled};
 ghost use Rattle.run_table.specs.Running.{MayRun};
+ghost use Rattle.nc_number.specs.Both.{both_of};
 ghost use Rattle.two_path.specs.Histories.{IsLegal};
 ghost use Rattle.nc_restart.specs.Pair.{tapes_in, opening_of, machine_behind};
 ghost use Rattle.lathe_calls.specs.Answers.{Ends, IsJust};
 ghost use Rattle.lathe_looks.specs.Standing.{is_over};
-ghost use Rattle.lathe_top.specs.Going.{IsReport, told_of};
+ghost use Rattle.lathe_top.specs.Going.{IsReportOn, told_of};
 ghost use Rattle.lathe_top.specs.Held.{lathe_left};
-ghost use Rattle.lathe_top.specs.Lathe.{lathe_at};
+ghost use Rattle.lathe_top.specs.Lathe.{lathe_with};
 ghost use Rattle.lathe_top.specs.Texts.{end_reason, run_reason, text_by};
 
 use crate::held::{Ended, Lathe};
@@ -17,6 +16,7 @@ use crate::telling::{Request, Telling, tell_end};
 use disk_model::Disk;
 use lathe_calls::Status;
 use move_list::Reason;
+use nc_number::Both;
 use nc_outside::{Sink, Turret};
 use nc_verify::Verified;
 use run_journal::a_held_journal_is_small;
@@ -33,8 +33,7 @@ pub(crate) fn go_on<R, D, T, K>(
     alloc: Global,
     table: Table<D>,
     asked: Request,
-    left: T,
-    right: T,
+    turrets: Both<T>,
     out: &mut K,
 ) -> Ended<D, T>
 where
@@ -45,21 +44,17 @@ where
     requires may { MayRun table }
     requires behind { table.machine ≡ machine_behind table.verified table.recording.history }
     requires unended { is_over table.machine ≡ false }
-    ensures { (header : Header) → IsJournaled D.state header table.recording
-        → Ends (IsReport asked.limit (text_by asked.telling)
-        (record { header = header; pair = table.verified; found = table.recording.history })
-        (lathe_at (D.state table.recording.log.file.disk) (T.state left) (T.state right))
-        (lathe_left D.state T.state result)) (K.state out.old) (K.state out.new) result.status }
+    ensures { IsReportOn D.state asked.limit (text_by asked.telling) table
+        (lathe_with (D.state table.recording.log.file.disk) (both_of T.state turrets))
+        (lathe_left D.state T.state result) (K.state out.old) (K.state out.new) result.status }
 {
     a_held_journal_is_small::<D>();
     let TurretRun {
         table,
-        left,
-        right,
+        turrets,
         end,
-        left_missed,
-        right_missed,
-    } = run_with_turrets(rt, alloc, table, asked.limit, left, right);
+        missed,
+    } = run_with_turrets(rt, alloc, table, asked.limit, turrets);
     let parts = table.into_parts();
     let status = tell_run(
         alloc,
@@ -73,11 +68,9 @@ where
         status,
         lathe: Lathe {
             disk: parts.disk,
-            left,
-            right,
+            turrets,
         },
-        left_missed,
-        right_missed,
+        missed,
     }
 }
 

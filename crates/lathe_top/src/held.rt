@@ -1,15 +1,17 @@
 //! What a command works on that knows of one journal, and how it ended.
+ghost use Rattle.std.specs.Prelude.{◌≡◌};
+ghost use Rattle.turret_run.specs.Runs.{none_missed};
+
 use disk_model::Disk;
+use nc_number::Both;
 use nc_outside::Turret;
 
-/// What a command works on besides files and text: the disk of the journal, and the turrets of both paths.
+/// What a command works on besides files and text: the disk of the journal, and the turrets of both
+/// paths.
 #[derive(Drop)]
 pub(crate) struct Lathe<D: Disk, T: Turret> {
     pub(crate) disk: D,
-    /// The turret of path 1.
-    pub(crate) left: T,
-    /// The turret of path 2.
-    pub(crate) right: T,
+    pub(crate) turrets: Both<T>,
 }
 
 /// How a command ended: its status, what it worked on, and how many moves each turret missed.
@@ -17,6 +19,18 @@ pub(crate) struct Lathe<D: Disk, T: Turret> {
 pub(crate) struct Ended<D: Disk, T: Turret> {
     pub(crate) status: u8,
     pub(crate) lathe: Lathe<D, T>,
-    pub(crate) left_missed: u64,
-    pub(crate) right_missed: u64,
+    pub(crate) missed: Both<u64>,
+}
+
+impl<D: Disk, T: Turret> Ended<D, T> {
+    /// The end of a command that called no turret, so that none missed a move.
+    pub(crate) fn at_rest(status: u8, lathe: Lathe<D, T>) -> Ended<D, T>
+        ensures { result ≡ record { status = status; lathe = lathe; missed = none_missed } }
+    {
+        Ended {
+            status,
+            lathe,
+            missed: Both { one: 0, two: 0 },
+        }
+    }
 }

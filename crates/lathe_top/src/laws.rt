@@ -20,18 +20,22 @@ use disk_model::Disk;
 use nc_restart::{an_image_of_a_run_is_never_bad, an_image_stands_for_one_run};
 use run_table::a_record_makes_seven_moves_at_most;
 
-/// What a call does it may do by its kind of command: what `top` promises is what the laws over calls and stops ask for.
+/// What a call does it may do by its kind of command: what `top` promises is what the laws over
+/// calls and stops ask for.
 pub fn a_call_leaves_as_its_kind_may<D: Disk, E: Disk>()
     ensures { (call : CallOver D) (around : Around E) (status : ℕ) → call.asked ≡ listed_command around.words
         → IsDone D.state E.state (call_in D.state around call) status
         → Leaves D.state (kind_of call.asked) (lathe_before D.state call) (lathe_behind D.state call) }
 {}
 
-/// A stop at any moment of a call of `top`, inside a call of the disk too, leaves one history, whatever the command is.
+/// A stop at any moment of a call of `top`, inside a call of the disk too, leaves one history,
+/// whatever the command is.
 ///
-/// The disk tells its bytes. Where each image that a crash before the call may leave is no run, or a history of some run, each that a
-/// stop leaves is so too: none is ever bad. Where each of them is a history of one run that begins with certain records, so is each that a
-/// stop leaves: nothing of them is lost. That holds of `run` over the journal of a run, too, which it leaves alone, and whatever fails.
+/// The disk tells its bytes. Where each image that a crash before the call may leave is no run, or
+/// a history of some run, each that a stop leaves is so too: none is ever bad. Where each of them
+/// is a history of one run that begins with certain records, so is each that a stop leaves: nothing
+/// of them is lost. That holds of `run` over the journal of a run, too, which it leaves alone, and
+/// whatever fails.
 pub fn a_stop_leaves_one_history<D: Disk>()
     ensures never_bad { (bytes : List ℕ) (call : CallOver D) → IsCall D.state bytes call
         → ((c : List ℕ) → (D.state call.disk).image c → IsNoneOrRun c)
@@ -44,11 +48,13 @@ pub fn a_stop_leaves_one_history<D: Disk>()
     an_image_of_a_run_is_never_bad();
 }
 
-/// Over any calls of `top`, each cut off at any moment or behind its end, all records are one history of one pair.
+/// Over any calls of `top`, each cut off at any moment or behind its end, all records are one
+/// history of one pair.
 ///
-/// Each call begins on a disk that has what the cut before it left. Until a run is begun there is none; from then on each cut
-/// leaves a history of that run which begins with the one that the call found, and so with all that were found before. The commands are
-/// any, and restarts may be cut off in restarting. No such history is stuck (`no_history_is_stuck` of nc_restart).
+/// Each call begins on a disk that has what the cut before it left. Until a run is begun there is
+/// none; from then on each cut leaves a history of that run which begins with the one that the call
+/// found, and so with all that were found before. The commands are any, and restarts may be cut off
+/// in restarting. No such history is stuck (`no_history_is_stuck` of nc_restart).
 pub fn calls_make_one_history<D: Disk>()
     ensures begun { (bytes : List ℕ) (stops : List (StoppedCall D)) → IsNoRun bytes
         → AreStopped D.state bytes stops → BecomeOneHistory (images_of stops) }
@@ -60,8 +66,9 @@ pub fn calls_make_one_history<D: Disk>()
     an_image_of_a_run_is_never_bad();
 }
 
-/// What is due to a turret by a session is its place and eight moves at most for each record that the session may
-/// make. So a turret that has room for so many calls, of which none fails, never stops a run.
+/// What is due to a turret by a session is its place and eight moves at most for each record that
+/// the session may make. So a turret that has room for so many calls, of which none fails, never
+/// stops a run.
 pub fn a_session_hands_eight_moves_a_record_at_most()
     ensures { (s : Session) (limit upto : ℕ) (path : Path) → upto ≤ length s.history
         → length s.history ≤ length s.found + limit → length (due_to s upto path) ≤ 1 + 8 * limit }

@@ -2,14 +2,13 @@
 ghost use Rattle.lathe_calls.specs.Answers.{Ends};
 ghost use Rattle.lathe_calls.specs.Due.{IsDueTo};
 ghost use Rattle.lathe_looks.specs.Expanded.{IsExpanded};
-ghost use Rattle.lathe_looks.specs.Fetched.{IsOfFiles};
 ghost use Rattle.lathe_looks.specs.Named.{alone, listed, tape_named, zones_named};
 ghost use Rattle.lathe_looks.specs.Shown.{IsShown, shown_text};
 ghost use Rattle.lathe_looks.specs.Zoned.{zones_text};
 ghost use Rattle.lathe_looks.specs.Texts.{files_in};
-ghost use Rattle.lathe_top.specs.Kept.{RestsWhole};
 ghost use Rattle.lathe_top.specs.Held.{lathe_of, lathe_left};
 ghost use Rattle.lathe_top.specs.Lathe.{AreAtRest};
+ghost use Rattle.lathe_top.specs.OverFiles.{IsOfFilesAlone, IsOverFiles};
 ghost use Rattle.lathe_top.specs.Zoned.{IsZoned};
 
 use crate::held::{Ended, Lathe};
@@ -29,17 +28,11 @@ pub(crate) fn answer_pair<H: Shelf, D: Disk, T: Turret, K: Sink>(
     lathe: Lathe<D, T>,
     out: &mut K,
 ) -> Ended<D, T>
-    ensures { Ends (λ answer. IsOfFiles listed (files_in names.now) (Unit {0}) (IsDueTo question)
-        (H.state shelf.old) (H.state shelf.new) answer
-        × RestsWhole (lathe_of D.state T.state lathe) (lathe_left D.state T.state result))
+    ensures { Ends (IsOfFilesAlone listed (files_in names.now) (IsDueTo question)
+        (lathe_of D.state T.state lathe) (lathe_left D.state T.state result) (H.state shelf.old) (H.state shelf.new))
         (K.state out.old) (K.state out.new) result.status }
 {
-    Ended {
-        status: ask(alloc, names, question, shelf, out),
-        lathe,
-        left_missed: 0,
-        right_missed: 0,
-    }
+    Ended::at_rest(ask(alloc, names, question, shelf, out), lathe)
 }
 
 /// Writes a tape with its roughing cycles as plain blocks. The disk and the turrets rest.
@@ -50,17 +43,11 @@ pub(crate) fn write_out<H: Shelf, D: Disk, T: Turret, K: Sink>(
     lathe: Lathe<D, T>,
     out: &mut K,
 ) -> Ended<D, T>
-    ensures { Ends (λ answer. IsOfFiles alone (tape_named tape.now) (Unit {0}) IsExpanded
-        (H.state shelf.old) (H.state shelf.new) answer
-        × RestsWhole (lathe_of D.state T.state lathe) (lathe_left D.state T.state result))
+    ensures { Ends (IsOfFilesAlone alone (tape_named tape.now) IsExpanded
+        (lathe_of D.state T.state lathe) (lathe_left D.state T.state result) (H.state shelf.old) (H.state shelf.new))
         (K.state out.old) (K.state out.new) result.status }
 {
-    Ended {
-        status: expand(alloc, tape, shelf, out),
-        lathe,
-        left_missed: 0,
-        right_missed: 0,
-    }
+    Ended::at_rest(expand(alloc, tape, shelf, out), lathe)
 }
 
 /// Writes what the journal on the disk holds. The turrets rest.
@@ -74,18 +61,13 @@ pub(crate) fn look<D: Disk, T: Turret, K: Sink>(
         × AreAtRest (lathe_of D.state T.state lathe) (lathe_left D.state T.state result))
         (K.state out.old) (K.state out.new) result.status }
 {
-    let Lathe { disk, left, right } = lathe;
+    let Lathe { disk, turrets } = lathe;
     let Shown { status, disk } = show(alloc, showing, disk, out);
-    Ended {
-        status,
-        lathe: Lathe { disk, left, right },
-        left_missed: 0,
-        right_missed: 0,
-    }
+    Ended::at_rest(status, Lathe { disk, turrets })
 }
 
-/// Writes the zones of the run on the disk, by a file of frames and a gap. The turrets rest, and so does the disk unless
-/// the file is read.
+/// Writes the zones of the run on the disk, by a file of frames and a gap. The turrets rest, and so
+/// does the disk unless the file is read.
 pub(crate) fn show_zoned<H: Shelf, D: Disk, T: Turret, K: Sink>(
     alloc: Global,
     name: &str,
@@ -93,19 +75,13 @@ pub(crate) fn show_zoned<H: Shelf, D: Disk, T: Turret, K: Sink>(
     lathe: Lathe<D, T>,
     out: &mut K,
 ) -> Ended<D, T>
-    ensures { Ends (IsOfFiles alone (zones_named name.now)
-        (RestsWhole (lathe_of D.state T.state lathe) (lathe_left D.state T.state result))
-        (IsZoned (lathe_of D.state T.state lathe) (lathe_left D.state T.state result))
-        (H.state shelf.old) (H.state shelf.new)) (K.state out.old) (K.state out.new) result.status }
+    ensures { Ends (IsOverFiles alone (zones_named name.now) IsZoned
+        (lathe_of D.state T.state lathe) (lathe_left D.state T.state result) (H.state shelf.old) (H.state shelf.new))
+        (K.state out.old) (K.state out.new) result.status }
 {
     match zones_of_file(alloc, name, shelf, out) {
         Ok(zones) => look_by(alloc, &zones, lathe, out),
-        Err(status) => Ended {
-            status,
-            lathe,
-            left_missed: 0,
-            right_missed: 0,
-        },
+        Err(status) => Ended::at_rest(status, lathe),
     }
 }
 
@@ -120,12 +96,7 @@ fn look_by<D: Disk, T: Turret, K: Sink>(
         × AreAtRest (lathe_of D.state T.state lathe) (lathe_left D.state T.state result))
         (K.state out.old) (K.state out.new) result.status }
 {
-    let Lathe { disk, left, right } = lathe;
+    let Lathe { disk, turrets } = lathe;
     let Shown { status, disk } = show_zones(alloc, zones, disk, out);
-    Ended {
-        status,
-        lathe: Lathe { disk, left, right },
-        left_missed: 0,
-        right_missed: 0,
-    }
+    Ended::at_rest(status, Lathe { disk, turrets })
 }

@@ -10,6 +10,7 @@ use crate::telling::{Request, Telling};
 use disk_model::Disk;
 use lathe_calls::Status;
 use lathe_looks::Texts;
+use nc_number::Both;
 use nc_outside::{Sink, Turret};
 use std::alloc::Global;
 use std::sync::Wait;
@@ -19,8 +20,8 @@ use tape_maker::make_tapes;
 /// The most records that a made pair makes in a call.
 const MADE_LIMIT: u32 = 100_000;
 
-/// Runs the made pair of this number, with a new journal on the disk. Writes the summary where both paths end, and
-/// else the report, or why there is none.
+/// Runs the made pair of this number, with a new journal on the disk. Writes the summary where both
+/// paths end, and else the report, or why there is none.
 pub(crate) fn make<R, D, T, K>(
     rt: &R,
     alloc: Global,
@@ -42,19 +43,13 @@ where
         telling: Telling::Summary(number),
     };
     match make_tapes(alloc, number) {
-        Ok((left, right)) => {
+        Ok((one, two)) => {
             let texts = Texts {
-                left,
-                right,
+                tapes: Both { one, two },
                 settings: Vec::new(alloc),
             };
             run_texts(rt, alloc, texts, asked, lathe, out)
         }
-        Err(_) => Ended {
-            status: Status::NoMemory as u8,
-            lathe,
-            left_missed: 0,
-            right_missed: 0,
-        },
+        Err(_) => Ended::at_rest(Status::NoMemory as u8, lathe),
     }
 }

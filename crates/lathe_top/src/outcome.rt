@@ -1,13 +1,13 @@
 //! How a call ended.
 ghost use Rattle.std.specs.Prelude.{◌≡◌};
-ghost use Rattle.turret_run.specs.Runs.{missed_by};
+ghost use Rattle.nc_number.specs.Both.{of_path};
 
 use disk_model::Disk;
-use nc_number::Path;
+use nc_number::{Both, Path};
 use nc_outside::Turret;
 
-/// How a call ended: its status, both disks and the turrets that were handed in, and how many moves each turret missed. Only this
-/// crate makes one.
+/// How a call ended: its status, both disks and the turrets that were handed in, and how many moves
+/// each turret missed. Only this crate makes one.
 #[derive(Drop)]
 pub struct Outcome<D: Disk, E: Disk, T: Turret> {
     pub(crate) status: u8,
@@ -19,8 +19,7 @@ pub struct Outcome<D: Disk, E: Disk, T: Turret> {
     pub left: T,
     /// The turret of path 2.
     pub right: T,
-    pub(crate) left_missed: u64,
-    pub(crate) right_missed: u64,
+    pub(crate) missed: Both<u64>,
 }
 
 impl<D: Disk, E: Disk, T: Turret> Outcome<D, E, T> {
@@ -31,15 +30,12 @@ impl<D: Disk, E: Disk, T: Turret> Outcome<D, E, T> {
         self.status
     }
 
-    /// How many moves the turret of the path missed: those of the path's records that this call made, and that are on the
-    /// disk, which the turret did not take. 0 unless the turret failed. A later `resume` goes on behind these records, and does not
-    /// make up for them.
+    /// How many moves the turret of the path missed: those of the path's records that this call
+    /// made, and that are on the disk, which the turret did not take. 0 unless the turret failed. A
+    /// later `resume` goes on behind these records, and does not make up for them.
     pub fn missed(&self, path: Path) -> u64
-        ensures { result ≡ missed_by path (record { left = self.now.left_missed; right = self.now.right_missed }) }
+        ensures { result ≡ of_path self.now.missed path }
     {
-        match path {
-            Path::One => self.left_missed,
-            Path::Two => self.right_missed,
-        }
+        *self.missed.of(path)
     }
 }

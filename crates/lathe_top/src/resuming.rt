@@ -1,17 +1,19 @@
 //! The command `resume`: a run that was stopped goes on.
 ghost use Rattle.lathe_calls.specs.Answers.{Ends};
 ghost use Rattle.lathe_calls.specs.Reported.{report_of};
-ghost use Rattle.lathe_top.specs.Going.{IsReport};
+ghost use Rattle.lathe_top.specs.Going.{IsReport, standing};
 ghost use Rattle.lathe_top.specs.Held.{lathe_of, lathe_left};
-ghost use Rattle.lathe_top.specs.Lathe.{lathe_at};
+ghost use Rattle.lathe_top.specs.Lathe.{lathe_with};
 ghost use Rattle.lathe_top.specs.Ran.{IsResumed};
 ghost use Rattle.nc_restart.specs.Recovered.{IsRecovered};
+ghost use Rattle.nc_number.specs.Both.{both_of};
 
 use crate::going::go_on;
 use crate::held::{Ended, Lathe};
 use crate::telling::{Request, Telling, tell_end};
 use disk_model::Disk;
 use lathe_looks::{is_over, reason_of, tell_unfound};
+use nc_number::Both;
 use nc_outside::{Sink, Turret};
 use nc_restart::{Recovered, no_history_is_stuck, recover};
 use run_journal::a_held_journal_leaves_its_records;
@@ -20,8 +22,8 @@ use std::alloc::Global;
 use std::sync::Wait;
 use std::thread::Threads;
 
-/// Goes on with the run whose journal the disk has, for at most `limit` records more, and writes the report of all its
-/// records, or why there is none. A run that is over is only reported.
+/// Goes on with the run whose journal the disk has, for at most `limit` records more, and writes
+/// the report of all its records, or why there is none. A run that is over is only reported.
 pub(crate) fn resume<R, D, T, K>(
     rt: &R,
     alloc: Global,
@@ -38,15 +40,10 @@ where
         (K.state out.old) (K.state out.new) result.status }
 {
     no_history_is_stuck();
-    let Lathe { disk, left, right } = lathe;
+    let Lathe { disk, turrets } = lathe;
     match recover(alloc, disk) {
-        Ok(found) => resume_found(rt, alloc, found, limit, left, right, out),
-        Err((disk, fault)) => Ended {
-            status: tell_unfound(alloc, fault, out),
-            lathe: Lathe { disk, left, right },
-            left_missed: 0,
-            right_missed: 0,
-        },
+        Ok(found) => resume_found(rt, alloc, found, limit, turrets, out),
+        Err((disk, fault)) => Ended::at_rest(tell_unfound(fault, out), Lathe { disk, turrets }),
     }
 }
 
@@ -56,8 +53,7 @@ fn resume_found<R, D, T, K>(
     alloc: Global,
     found: Recovered<D>,
     limit: u32,
-    left: T,
-    right: T,
+    turrets: Both<T>,
     out: &mut K,
 ) -> Ended<D, T>
 where
@@ -67,10 +63,9 @@ where
     K: Sink,
     requires { IsRecovered D.state found.header found.verified found.machine.machine found.entries.items
         found.journal }
-    ensures { Ends (IsReport limit report_of
-        (record { header = found.header; pair = found.verified; found = found.entries.items })
-        (lathe_at (D.state found.journal.file.disk) (T.state left) (T.state right))
-        (lathe_left D.state T.state result)) (K.state out.old) (K.state out.new) result.status }
+    ensures { Ends (IsReport limit report_of (standing found.header found.verified found.entries.items)
+        (lathe_with (D.state found.journal.file.disk) (both_of T.state turrets)) (lathe_left D.state T.state result))
+        (K.state out.old) (K.state out.new) result.status }
 {
     a_held_journal_leaves_its_records::<D>();
     let Recovered {
@@ -84,24 +79,15 @@ where
     if is_over(&machine) {
         let reason = reason_of(&machine);
         let status = tell_end(alloc, telling, &verified, &entries, reason, out);
-        return Ended {
-            status,
-            lathe: Lathe {
-                disk: journal.into_disk(),
-                left,
-                right,
-            },
-            left_missed: 0,
-            right_missed: 0,
-        };
+        let disk = journal.into_disk();
+        return Ended::at_rest(status, Lathe { disk, turrets });
     }
     go_on(
         rt,
         alloc,
         Table::from_recovered(verified, machine, entries, journal),
         Request { limit, telling },
-        left,
-        right,
+        turrets,
         out,
     )
 }

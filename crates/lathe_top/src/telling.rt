@@ -4,11 +4,11 @@ ghost use Rattle.nc_verify.specs.Printed.{IsPut};
 ghost use Rattle.two_path.specs.Histories.{IsLegal};
 ghost use Rattle.nc_restart.specs.Pair.{tapes_in, opening_of};
 ghost use Rattle.lathe_calls.specs.Answers.{Ends, IsJust, tells};
+ghost use Rattle.lathe_calls.specs.Statuses.{reason_status};
 ghost use Rattle.lathe_top.specs.Made.{is_done, made_text};
-ghost use Rattle.lathe_top.specs.Session.{reason_status};
 ghost use Rattle.lathe_top.specs.Texts.{text_by};
 
-use lathe_calls::{Status, status_behind};
+use lathe_calls::{reason_status, status_behind};
 use move_list::{Reason, write_report, write_summary};
 use nc_outside::{PutFault, Sink};
 use nc_verify::Verified;
@@ -20,7 +20,8 @@ use std::alloc::Global;
 pub(crate) enum Telling {
     /// The report of its history.
     Report,
-    /// Where both paths have ended the summary of the made pair of this number, and else the report.
+    /// Where both paths have ended the summary of the made pair of this number, and else the
+    /// report.
     Summary(u32),
 }
 
@@ -105,19 +106,4 @@ fn is_done(reason: &Reason) -> bool
         Reason::DiskFault => false,
         Reason::TurretFault(_) => false,
     }
-}
-
-/// The status of a reason.
-fn reason_status(reason: &Reason) -> u8
-    ensures { result ≡ reason_status reason.now }
-{
-    let status = match reason {
-        Reason::Done => Status::Done,
-        Reason::Alarm(_) => Status::Alarm,
-        Reason::Stopped => Status::Stopped,
-        Reason::Full => Status::Full,
-        Reason::DiskFault => Status::DiskFault,
-        Reason::TurretFault(_) => Status::TurretFault,
-    };
-    status as u8
 }

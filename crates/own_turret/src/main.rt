@@ -1,7 +1,9 @@
-//! A program with a turret of its own: it runs the pair of tapes that lies beside it, and says what each turret got.
+//! A program with a turret of its own: it runs the pair of tapes that lies beside it, and says what
+//! each turret got.
 //!
-//! A real turret drives its axes in `hand`. It may queue moves and look ahead: `settle` waits until it stands still, and is called
-//! before the path comes to a wait, and at the end. A call that fails stops the run, and is counted.
+//! A real turret drives its axes in `hand`. It may queue moves and look ahead: `settle` waits until
+//! it stands still, and is called before the path comes to a wait, and at the end. A call that
+//! fails stops the run, and is counted.
 #![tactic(auto)]
 
 use lathe_top::top;

@@ -1,6 +1,6 @@
-//! Runs a command of the lathe: its words stand on the command line, tapes are files, the journal of a run is a file
-//! of the current folder, the turrets write what they get to the files that were named for them, and the report goes to
-//! standard output. The exit status is that of the command.
+//! Runs a command of the lathe: its words stand on the command line, tapes are files, the journal
+//! of a run is a file of the current folder, the turrets write what they get to the files that were
+//! named for them, and the report goes to standard output. The exit status is that of the command.
 #![tactic(auto)]
 
 mod ending;
@@ -108,15 +108,16 @@ fn tell_missed<R: Eprint, D: Disk, E: Disk, T: Turret>(rt: &R, outcome: &Outcome
     }
 }
 
-/// Says on standard error why the file of a journal can't be used, if there is a reason. Where that can't be said, the status still tells
-/// of it.
+/// Says on standard error why the file of a journal can't be used, if there is a reason. Where that
+/// can't be said, the status still tells of it.
 fn complain<R: Eprint>(rt: &R, journal: &str, trouble: Option<Trouble>) {
     if let Some(trouble) = trouble {
         let _ = eprintln!(rt; "{journal} {trouble}");
     }
 }
 
-/// The words behind the program's name. Where one of them is no text they are no command, and none is given.
+/// The words behind the program's name. Where one of them is no text they are no command, and none
+/// is given.
 fn words_given<R: Env + AllocGlobal>(rt: &R) -> Result<Vec<String>, AllocError> {
     match env::args(rt) {
         Ok(all) => all.skip(1).collect(rt.alloc()),

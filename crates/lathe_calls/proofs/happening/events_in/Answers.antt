@@ -3,12 +3,12 @@ use Rattle.nc_number.specs.declared.path.Path.TheVariants.{One, Two}
 use Rattle.path_state.specs.Opening.{opening_path}
 use Rattle.two_path.specs.Machine.{MachineView}
 use Rattle.two_path.specs.Turns.{tapes_of}
-use Rattle.two_path.specs.Histories.{run}
+use Rattle.two_path.specs.Histories.{run, turns_of}
 use Rattle.two_path.specs.Joined.{AreAtTheirWaits}
 use Rattle.move_list.specs.Report.{machine_at_start}
 use Rattle.lathe_calls.specs.Traced.{end_status}
 use Rattle.lathe_calls.specs.declared.event.Event.{Event}
-use Rattle.lathe_calls.specs.Order.{end_after, events_from, given, path_at, placed_events, turns_of}
+use Rattle.lathe_calls.specs.Order.{end_after, events_from, given, path_at, placed_events}
 use Rattle.lathe_calls.proofs.happening.events_in.Goals as goal
 
 pub give_turns-requires-clause-waits : goal.give_turns-requires-clause-waits

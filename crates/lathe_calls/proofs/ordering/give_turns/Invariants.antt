@@ -1,9 +1,10 @@
--- The events so far and those of the further turns are all events, and the machine behind the further turns is that behind all.
+-- The events so far and those of the further turns are all events, and the machine behind the
+-- further turns is that behind all.
 use Rattle.std.proofs.Common.{◌≡◌, ◌++◌, drop, map}
 use Rattle.two_path.specs.Turns.{tapes_of}
-use Rattle.two_path.specs.Histories.{run}
+use Rattle.two_path.specs.Histories.{run, turns_of}
 use Rattle.two_path.specs.Joined.{AreAtTheirWaits}
-use Rattle.lathe_calls.specs.Order.{events_from, given, path_at, turns_of}
+use Rattle.lathe_calls.specs.Order.{events_from, given, path_at}
 use Rattle.lathe_calls.proofs.ordering.give_turns.Given as goal
 
 abbrev pub invariant-loop-byte : goal.invariant-loop-byte

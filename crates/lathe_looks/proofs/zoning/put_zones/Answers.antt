@@ -1,7 +1,7 @@
 use Rattle.std.proofs.Common.{ap, subst}
 use Rattle.nc_verify.specs.Printed.{IsPut}
 use Rattle.zone_cell.specs.Lines.{list_text}
-use Rattle.move_list.proofs.InPieces.{none_put}
+use Rattle.nc_verify.proofs.InPieces.{none_put}
 use Rattle.lathe_looks.proofs.zoning.put_zones.Goals as goal
 
 pub returns-in-Ok : goal.returns-in-Ok

@@ -11,5 +11,6 @@ returns-in-Ok g c = ends_by _ (λ answer ran. answers (texts_of c.in-Ok.texts) c
 pub returns-in-Err : goal.returns-in-Err
 returns-in-Err g c =
     let disks = g.met.D.Disk g.world.𝓛 g.world.𝓜 g.world.𝓡 ((λ s x. x), (λ x. x), (λ x. x), λ x. x) in
-    ends_just _ _ (unfetched_due _ _ _ c.in-Err.error c.in-Err.ensures.not_had (none_called _ _ (disks.coherent c.args.lathe.disk)))
-    c.tell_unfetched-status.ensures
+    rw c.at_rest.ensures
+    (ends_just _ _ (unfetched_due _ _ _ c.in-Err.error c.in-Err.ensures.not_had (none_called _ _ (disks.coherent c.args.lathe.disk)))
+    c.tell_unfetched-status.ensures)

@@ -10,9 +10,10 @@ returns-in-Ok g c = ends_by _ (λ answer due. commanded c.in-Ok.ensures.command 
 pub returns-in-Err-Usage : goal.returns-in-Err-Usage
 returns-in-Err-Usage g c =
     let disks = g.met.D.Disk g.world.𝓛 g.world.𝓜 g.world.𝓡 ((λ s x. x), (λ x. x), (λ x. x), λ x. x) in
-    ends_just _ _ (usage (c.in-Err-Usage.ensures.usage (search rules)) (none_called _ _ (disks.coherent c.args.lathe.disk)) refl refl) c.tell_usage.ensures
+    rw c.at_rest.ensures
+    (ends_just _ _ (usage (c.in-Err-Usage.ensures.usage (search rules)) (none_called _ _ (disks.coherent c.args.lathe.disk)) refl refl) c.tell_usage.ensures)
 
 pub returns-in-Err-NoMemory : goal.returns-in-Err-NoMemory
 returns-in-Err-NoMemory g c =
     let disks = g.met.D.Disk g.world.𝓛 g.world.𝓜 g.world.𝓡 ((λ s x. x), (λ x. x), (λ x. x), λ x. x) in
-    ends_untold _ (unread (none_called _ _ (disks.coherent c.args.lathe.disk)) refl refl)
+    rw c.at_rest-in-Err-NoMemory.ensures (ends_untold _ (unread (none_called _ _ (disks.coherent c.args.lathe.disk)) refl refl))

@@ -12,4 +12,5 @@ returns-in-Ok g c =
 
 pub returns-in-Err : goal.returns-in-Err
 returns-in-Err g c =
-    ends_by _ (λ answer due. unedited_due _ _ _ _ _ answer due (none_called _ _ (g.met.D.Disk.coherent c.args.lathe.disk))) c.in-Err.ensures.told
+    rw c.at_rest.ensures
+    (ends_by _ (λ answer due. unedited_due _ _ _ _ _ answer due (none_called _ _ (g.met.D.Disk.coherent c.args.lathe.disk))) c.in-Err.ensures.told)

@@ -5,7 +5,7 @@ use Rattle.lathe_calls.specs.Answers.{Ends, IsJust, tells}
 use Rattle.lathe_calls.specs.Reported.{report_of}
 use Rattle.lathe_calls.specs.Statuses as exit
 use Rattle.lathe_looks.specs.Standing.{reason_of}
-use Rattle.lathe_top.specs.Session.{reason_status}
+use Rattle.lathe_calls.specs.Statuses.{reason_status}
 use Rattle.lathe_calls.proofs.Ended.{ends_just}
 use Rattle.lathe_top.specs.Edited.{IsEditedRun, told_of_writing}
 use Rattle.lathe_top.proofs.EditsMade.{alarm_due, full_due, made_due, none_of}

@@ -2,7 +2,7 @@ use Rattle.std.proofs.Common.{subst}
 use Rattle.move_list.specs.declared.end_line.Reason.{Reason}
 use Rattle.lathe_calls.specs.Answers.{Ends, IsJust, tells}
 use Rattle.lathe_calls.specs.Reported.{report_of}
-use Rattle.lathe_top.specs.Session.{reason_status}
+use Rattle.lathe_calls.specs.Statuses.{reason_status}
 use Rattle.lathe_top.proofs.editing.tell_alarm.Goals as goal
 
 pub returns-clause-told : goal.returns-clause-told

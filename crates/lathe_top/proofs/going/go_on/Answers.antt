@@ -1,7 +1,8 @@
-use Rattle.std.proofs.Common.{List, sym, subst}
+use Rattle.std.proofs.Common.{List, sym, subst, ℕ}
+use Rattle.nc_number.specs.Both.{both_of}
+use Rattle.lathe_top.specs.Lathe.{lathe_with}
 use Rattle.nc_verify.specs.declared.verified.Verified.{Verified}
 use Rattle.run_records.specs.Entries.{Entry}
-use Rattle.turret_run.specs.Runs.{Turrets, Missed, none_missed}
 use Rattle.two_path.specs.Histories.{IsLegal}
 use Rattle.nc_restart.specs.Pair.{tapes_in, opening_of}
 use Rattle.lathe_calls.specs.Answers.{Ends}
@@ -34,12 +35,12 @@ returns g c = λ header journaled.
     let new = run.table in
     let left = c.into_parts-parts in
     let text_of = text_by c.args.asked.telling in
-    let before : Turrets = record { left = g.T.Turret.state c.args.left; right = g.T.Turret.state c.args.right } in
-    let after : Turrets = record { left = g.T.Turret.state run.left; right = g.T.Turret.state run.right } in
-    let missed : Missed = record { left = run.left_missed; right = run.right_missed } in
+    let before = both_of g.T.Turret.state c.args.turrets in
+    let after = both_of g.T.Turret.state run.turrets in
+    let missed = run.missed in
     for_pair state
     (λ standing disk. Ends (IsReport c.args.asked.limit text_of standing
-    (record { disk = state old.recording.log.file.disk; turrets = before; missed = none_missed }) (record { disk = disk; turrets = after; missed = missed }))
+    (lathe_with (state old.recording.log.file.disk) before) (record { disk = disk; turrets = after; missed = missed }))
     (g.K.Sink.state c.args.out.now) (g.K.Sink.state c.tell_run-status.new.out) c.tell_run-status.result)
     header old.recording.history new.verified old.verified new.recording.log.file.disk left.result.disk
     (pair_is state disks.coherent c.a_held_journal_is_small.ensures c.args.asked.limit old new c.requires.may c.requires.behind

@@ -3,4 +3,5 @@ use Rattle.lathe_top.proofs.Opened.{none_called}
 use Rattle.lathe_top.proofs.looking.write_out.Goals as goal
 
 pub returns : goal.returns
-returns g c = ends_by _ (λ answer due. (due, none_called _ _ (g.met.D.Disk.coherent c.args.lathe.disk))) c.expand.ensures
+returns g c =
+    rw c.at_rest.ensures (ends_by _ (λ answer due. (due, none_called _ _ (g.met.D.Disk.coherent c.args.lathe.disk))) c.expand.ensures)

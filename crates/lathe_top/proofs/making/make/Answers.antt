@@ -6,4 +6,4 @@ use Rattle.lathe_top.proofs.making.make.Goals as goal
 pub returns-in-Err : goal.returns-in-Err
 returns-in-Err g c =
     let disks = g.met.D.Disk g.world.𝓛 g.world.𝓜 g.world.𝓡 ((λ s x. x), (λ x. x), (λ x. x), λ x. x) in
-    ends_untold _ (unjudged (none_called _ _ (disks.coherent c.args.lathe.disk)))
+    rw c.at_rest.ensures (ends_untold _ (unjudged (none_called _ _ (disks.coherent c.args.lathe.disk))))

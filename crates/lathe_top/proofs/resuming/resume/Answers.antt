@@ -1,5 +1,5 @@
 use Rattle.std.proofs.Common.{refl}
-use Rattle.turret_run.specs.Runs.{Turrets}
+use Rattle.nc_number.specs.Both.{both_of}
 use Rattle.lathe_top.specs.Held.{lathe_left}
 use Rattle.lathe_top.specs.Lathe.{LatheState}
 use Rattle.lathe_top.specs.Ran.{not_found}
@@ -12,7 +12,7 @@ returns-in-Ok g c =
     let state = g.D.Disk.state in
     let turret = g.T.Turret.state in
     let found = c.in-Ok.found in
-    let before : Turrets = record { left = turret c.args.lathe.left; right = turret c.args.lathe.right } in
+    let before = both_of turret c.args.lathe.turrets in
     let after : LatheState = lathe_left state turret c.resume_found.result in
     ends_by _
     (found_run state c.no_history_is_stuck.ensures c.args.limit (record { header = found.header; entries = found.entries.items }) found.verified
@@ -20,4 +20,4 @@ returns-in-Ok g c =
     c.resume_found.ensures
 
 pub returns-in-Err : goal.returns-in-Err
-returns-in-Err g c = ends_just _ _ (not_found c.in-Err.fault c.in-Err.ensures.recovers (refl, refl)) c.tell_unfound.ensures
+returns-in-Err g c = rw c.at_rest.ensures (ends_just _ _ (not_found c.in-Err.fault c.in-Err.ensures.recovers (refl, refl)) c.tell_unfound.ensures)

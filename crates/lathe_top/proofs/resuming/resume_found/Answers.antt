@@ -1,5 +1,4 @@
 use Rattle.std.proofs.Common.{refl, sym, subst, ◌∙◌, ◌≡◌, false}
-use Rattle.turret_run.specs.Runs.{Turrets, none_missed}
 use Rattle.run_table.specs.Kept.{TableView}
 use Rattle.run_table.specs.Running.{MayRun}
 use Rattle.nc_restart.specs.Pair.{machine_behind}
@@ -7,10 +6,10 @@ use Rattle.lathe_calls.specs.Answers.{Ends}
 use Rattle.lathe_calls.specs.Reported.{report_of}
 use Rattle.lathe_looks.specs.Standing.{is_over}
 use Rattle.lathe_calls.proofs.Ended.{ends_just}
-use Rattle.lathe_top.specs.Going.{IsReport, report}
+use Rattle.nc_number.specs.Both.{both_of}
+use Rattle.lathe_top.specs.Going.{IsReport, report, standing}
 use Rattle.lathe_top.specs.Held.{lathe_left}
-use Rattle.lathe_top.specs.Lathe.{LatheState}
-use Rattle.lathe_top.proofs.GoingReported.{standing}
+use Rattle.lathe_top.specs.Lathe.{LatheState, lathe_with}
 use Rattle.lathe_top.proofs.RunsFound.{none_or_alarm, keeps_there, over_there, stays_there}
 use Rattle.lathe_top.proofs.resuming.resume_found.Goals as goal
 
@@ -20,14 +19,15 @@ returns-then-is_over g c =
     let turret = g.T.Turret.state in
     let found = c.args.found in
     let run = standing found.header found.verified found.entries.items in
-    let turrets : Turrets = record { left = turret c.args.left; right = turret c.args.right } in
-    let d : LatheState = record { disk = state found.journal.file.disk; turrets = turrets; missed = none_missed } in
+    let turrets = both_of turret c.args.turrets in
+    let d : LatheState = lathe_with (state found.journal.file.disk) turrets in
     let leaves = c.a_held_journal_leaves_its_records.ensures in
     let disks = g.met.D.Disk g.world.𝓛 g.world.𝓜 g.world.𝓡 ((λ s x. x), (λ x. x), (λ x. x), λ x. x) in
-    subst
-    (λ disk. Ends (IsReport c.args.limit report_of run d (record { disk = state disk; turrets = turrets; missed = none_missed })) (g.K.Sink.state c.args.out.now)
+    rw c.at_rest.ensures
+    (subst
+    (λ disk. Ends (IsReport c.args.limit report_of run d (lathe_with (state disk) turrets)) (g.K.Sink.state c.args.out.now)
     (g.K.Sink.state c.tell_end-status.new.out) c.tell_end-status.result)
-    (sym c.into_disk.ensures)
+    (sym c.into_disk-disk.ensures)
     (ends_just _ _
     (report found.entries.items _
     (stays_there state disks.coherent leaves c.args.limit found.header found.verified found.machine.machine found.entries.items
@@ -36,7 +36,7 @@ returns-then-is_over g c =
     found.journal c.requires turrets c.reason_of-reason.result (sym c.is_over.ensures ∙ c.if-is_over.true) c.reason_of-reason.ensures)
     (keeps_there state disks.coherent leaves c.args.limit found.header found.verified found.machine.machine found.entries.items
     found.journal c.requires turrets))
-    c.tell_end-status.ensures)
+    c.tell_end-status.ensures))
 
 pub go_on-requires-clause-may : goal.go_on-requires-clause-may
 go_on-requires-clause-may g c = λ κs below.
@@ -58,10 +58,10 @@ returns g c =
     let state = g.D.Disk.state in
     let turret = g.T.Turret.state in
     let header = c.args.found.header in
-    let turrets : Turrets = record { left = turret c.args.left; right = turret c.args.right } in
+    let turrets = both_of turret c.args.turrets in
     let after : LatheState = lathe_left state turret c.go_on.result in
     subst
     (λ (t : TableView g.row.D.Denot). Ends (IsReport c.args.limit report_of (standing header t.verified t.recording.history)
-    (record { disk = state t.recording.log.file.disk; turrets = turrets; missed = none_missed }) after) (g.K.Sink.state c.args.out.now) (g.K.Sink.state c.go_on.new.out)
+    (lathe_with (state t.recording.log.file.disk) turrets) after) (g.K.Sink.state c.args.out.now) (g.K.Sink.state c.go_on.new.out)
     c.go_on.result.status)
     c.from_recovered.ensures.table (c.go_on.ensures header (c.from_recovered.ensures.journal header c.requires.holds))

@@ -1,6 +1,0 @@
-use Rattle.std.proofs.Common.{refl}
-use Rattle.lathe_calls.proofs.Ended.{ends_unwritten}
-use Rattle.lathe_looks.proofs.editing.tell_bad_edit.Goals as goal
-
-pub returns-then-is_err : goal.returns-then-is_err
-returns-then-is_err g c = ends_unwritten _ _ _ refl
