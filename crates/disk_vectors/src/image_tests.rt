@@ -1,14 +1,17 @@
-//! Files of gates on a disk that keeps every image: what a crash at any moment leaves, over several syncs.
+//! Files of gates on a disk that keeps every image: what a crash at any moment leaves, over several
+//! syncs.
 use disk_images::{Image, ImagesDisk};
 use disk_model::Disk;
 use gate_file::{BodyList, GateFault, GateFile, LONGEST_BODY};
 use std::alloc::{AllocError, Global};
 use std::test::Fail;
 
-/// `BODIES|FAILING|DONE|TIME LEFT, ..`: a file of gates is begun on an empty disk with the first body, or with all up to the one with a
-/// `;` at once, and the others are appended. The calls of these numbers fail. So many bodies were acknowledged. Of each image that a crash since the time may have left the file has
-/// that many bodies, or `-`, no run: all of these occur, and no other; and they are the first ones. A beginning makes 8 calls, of which the
-/// last ones sync, write the gate and sync. An append writes, syncs, writes the gate and syncs.
+/// `BODIES|FAILING|DONE|TIME LEFT, ..`: a file of gates is begun on an empty disk with the first
+/// body, or with all up to the one with a `;` at once, and the others are appended. The calls of
+/// these numbers fail. So many bodies were acknowledged. Of each image that a crash since the time
+/// may have left the file has that many bodies, or `-`, no run: all of these occur, and no other;
+/// and they are the first ones. A beginning makes 8 calls, of which the last ones sync, write the
+/// gate and sync. An append writes, syncs, writes the gate and syncs.
 const ROWS: &str = "\
 a||1|0 - 1, 7 - 1, 8 1
 a bcd||2|0 - 1 2, 7 - 1 2, 8 1 2, 11 1 2, 12 2
@@ -74,7 +77,8 @@ fn list_of(alloc: Global, bodies: &str) -> Result<BodyList, AllocError> {
     Ok(list)
 }
 
-/// Begins a file of the first bodies at once and appends the others: the disk then, and how many were acknowledged.
+/// Begins a file of the first bodies at once and appends the others: the disk then, and how many
+/// were acknowledged.
 fn filled(alloc: Global, disk: ImagesDisk, list: &BodyList, others: &str) -> (ImagesDisk, u64) {
     if list.is_empty() {
         return (disk, 0);
@@ -89,7 +93,8 @@ fn filled(alloc: Global, disk: ImagesDisk, list: &BodyList, others: &str) -> (Im
     }
 }
 
-/// Begins a file of the first body and appends the others: the disk then, and how many were acknowledged.
+/// Begins a file of the first body and appends the others: the disk then, and how many were
+/// acknowledged.
 fn created(alloc: Global, disk: ImagesDisk, bodies: &str) -> (ImagesDisk, u64) {
     let (first, others) = bodies.split_once(' ').unwrap_or((bodies, ""));
     let first = first.as_bytes();

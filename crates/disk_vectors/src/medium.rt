@@ -19,8 +19,9 @@ pub(crate) struct Bytes {
 
 /// A file as the system has it in memory, and as its medium has it.
 ///
-/// What is written lies in memory, and its pages are marked. A sync puts the marked pages on the medium and takes the marks away. One that
-/// fails takes them away too, as Linux does: a later sync then has nothing to write.
+/// What is written lies in memory, and its pages are marked. A sync puts the marked pages on the
+/// medium and takes the marks away. One that fails takes them away too, as Linux does: a later sync
+/// then has nothing to write.
 #[derive(Clone, Copy)]
 pub(crate) struct Medium {
     pub(crate) memory: Bytes,
@@ -63,7 +64,8 @@ pub(crate) fn put(bytes: &mut Bytes, at: usize, more: &[u8]) {
     bytes.len = bytes.len.max(at.saturating_add(more.len()).min(ROOM));
 }
 
-/// Copies what stands from a place on, as much as there is and the slice has room for, but no more than `most`, and answers how much.
+/// Copies what stands from a place on, as much as there is and the slice has room for, but no more
+/// than `most`, and answers how much.
 pub(crate) fn get(bytes: &Bytes, at: usize, most: usize, into: &mut [u8]) -> usize
     ensures bound { result ≤ length into.new }
     ensures taken { result ≡ length (take result into.new) }

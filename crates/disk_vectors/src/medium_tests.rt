@@ -1,4 +1,5 @@
 //! What is on the medium, call by call, and what a power cut leaves of it.
+use crate::answers::{is_count, is_done};
 use crate::fake_folder::{Call, FakeFolder, System, new_system};
 use crate::medium::{are, bytes_of, no_bytes};
 use disk_model::{Disk, Failed};
@@ -9,17 +10,21 @@ use std::test::Fail;
 
 const NAME: &str = "a.journal";
 
-/// Steps, one after the other. A body of two bytes after an open gate is `10002ab`, and the next gate is shut: `0`.
+/// Steps, one after the other. A body of two bytes after an open gate is `10002ab`, and the next
+/// gate is shut: `0`.
 ///
-/// Calls of the disk, with their answers: `write PLACE BYTES ANSWER`, `sync ANSWER`, `reads BYTES`, `len COUNT`, `faults COUNT`. What the disk
-/// says of its journal: `says TROUBLE`. What is on the medium: `medium BYTES`. Which calls the system had since it was asked last, without
-/// those that read: `calls LETTERS`, open `o`, open to look `l`, make `m`, hold `h`, write `w`, sync `s`, sync of the folder `f`.
+/// Calls of the disk, with their answers: `write PLACE BYTES ANSWER`, `sync ANSWER`, `reads BYTES`,
+/// `len COUNT`, `faults COUNT`. What the disk says of its journal: `says TROUBLE`. What is on the
+/// medium: `medium BYTES`. Which calls the system had since it was asked last, without those that
+/// read: `calls LETTERS`, open `o`, open to look `l`, make `m`, hold `h`, write `w`, sync `s`, sync
+/// of the folder `f`.
 ///
-/// What happens besides: `has BYTES`, as a file on the medium; `other PLACE BYTES`, another program writes; `again` and `look`, the next
-/// program opens the file, to write or to look; `cut`, the power goes, and then `again`; `stop COUNT`, after so many calls nothing is done any
-/// more; `fail CALL` and `refuse CALL` and `still CALL`, the next call of this letter fails, for want of the disk, of the right, or since the
-/// disk can't be written; `short`, reads and writes come to two bytes at most and every other one is interrupted; `held`; `replaced`;
-/// `removed`.
+/// What happens besides: `has BYTES`, as a file on the medium; `other PLACE BYTES`, another program
+/// writes; `again` and `look`, the next program opens the file, to write or to look; `cut`, the
+/// power goes, and then `again`; `stop COUNT`, after so many calls nothing is done any more; `fail
+/// CALL` and `refuse CALL` and `still CALL`, the next call of this letter fails, for want of the
+/// disk, of the right, or since the disk can't be written; `short`, reads and writes come to two
+/// bytes at most and every other one is interrupted; `held`; `replaced`; `removed`.
 const ROWS: &str = "\
 sync done, calls of, write 0 0 done, calls mhw, sync done, calls sf, write 1 0002ab0 done, sync done, write 0 1 done, sync done, calls wsws, medium 10002ab0
 write 0 0 done, cut, reads , again, write 0 0 done, stop 1, sync failed, cut, reads
@@ -80,20 +85,6 @@ fn call_of(letter: &str) -> Call {
     }
 }
 
-fn is_done(answer: Result<(), Failed>, wanted: &str) -> bool {
-    match answer {
-        Ok(()) => wanted == "done",
-        Err(Failed) => wanted == "failed",
-    }
-}
-
-fn is_count(answer: Result<u64, Failed>, wanted: &str) -> bool {
-    match answer {
-        Ok(count) => wanted.parse::<u64>() == Ok(count),
-        Err(Failed) => wanted == "failed",
-    }
-}
-
 fn number(text: &str) -> u64 {
     text.parse::<u64>().unwrap_or(0)
 }
@@ -116,7 +107,8 @@ fn reads(disk: &mut FileDisk<'_, FakeFolder<'_>>, wanted: &str) -> bool {
     }
 }
 
-/// A call of the disk, and whether it gets its answer, or what the disk says. None where the step is none.
+/// A call of the disk, and whether it gets its answer, or what the disk says. None where the step
+/// is none.
 fn of_disk(
     disk: &mut FileDisk<'_, FakeFolder<'_>>,
     words: (&str, &str, &str, &str),

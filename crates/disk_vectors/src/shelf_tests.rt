@@ -10,7 +10,8 @@ const FOLDER: &str = "file_shelf_test";
 
 const FILE: &str = "file_shelf_test/a.nc";
 
-/// A name, the most bytes, the answer, the text behind a `%` that was there before, and the faults so far.
+/// A name, the most bytes, the answer, the text behind a `%` that was there before, and the faults
+/// so far.
 const ROWS: &str = "\
 file_shelf_test/a.nc|4|Ok(())|%M30~|0
 file_shelf_test/a.nc|18446744073709551615|Ok(())|%M30~|0
@@ -33,7 +34,8 @@ fn put_text(out: &mut String, text: &[u8]) -> Result<(), AllocError> {
     Ok(())
 }
 
-/// What a shelf answers to a name and a number of bytes, and what then stands behind the `%`, with its faults.
+/// What a shelf answers to a name and a number of bytes, and what then stands behind the `%`, with
+/// its faults.
 fn answer<R: Files>(
     alloc: Global,
     shelf: &mut FileShelf<'_, R>,

@@ -6,7 +6,7 @@ use std::io;
 use std::io::ErrorKind;
 use std::test::Fail;
 
-// An output that is closed.
+/// An output that is closed.
 #[derive(Drop)]
 struct Closed;
 

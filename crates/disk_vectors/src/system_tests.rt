@@ -1,4 +1,5 @@
 //! A journal over the files of the system.
+use crate::answers::{is_count, is_done};
 use disk_model::{Disk, Failed};
 use real_outside::{Access, FileDisk, SystemFolder};
 use std::fs;
@@ -26,26 +27,13 @@ const SHOWN: &str = "sync done, len 1, read 0 1, read 1 0, faults 0";
 /// The same file opened after the first. No byte may stand at or past 2^62.
 const OPENED: &str = "write 4 done, len 6, write 4611686018427387903 failed, len failed, faults 2";
 
-/// What stands under the name, and the calls. A full device takes no byte, one that keeps nothing can't be synced, and a folder can't
-/// be opened to be written. After a failed write or sync a write of no byte fails too.
+/// What stands under the name, and the calls. A full device takes no byte, one that keeps nothing
+/// can't be synced, and a folder can't be opened to be written. After a failed write or sync a
+/// write of no byte fails too.
 const FAILING: &str = "\
 /dev/full|write 0 failed, sync failed, faults 2, len failed, read 0 failed, touch failed, sync failed, faults 6
 /dev/null|write 0 done, sync failed, faults 1, len failed, read 0 failed, touch failed, sync failed, faults 5
 /|write 0 failed, sync failed, faults 2, len failed, read 0 failed, touch failed, sync failed, faults 6";
-
-fn is_done(answer: Result<(), Failed>, wanted: &str) -> bool {
-    match answer {
-        Ok(()) => wanted == "done",
-        Err(Failed) => wanted == "failed",
-    }
-}
-
-fn is_count(answer: Result<u64, Failed>, wanted: &str) -> bool {
-    match answer {
-        Ok(count) => wanted.parse::<u64>() == Ok(count),
-        Err(Failed) => wanted == "failed",
-    }
-}
 
 /// How many of four bytes are read at this place.
 fn count_read<R: Files<File = File>>(

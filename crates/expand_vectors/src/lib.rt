@@ -1,6 +1,7 @@
 //! Tables of tests of roughing cycles: tapes, and what they are once their cycles are written out.
 //!
-//! The answers that are expected are worked by hand from the rules of the cycles, and never from what a call answered.
+//! The answers that are expected are worked by hand from the rules of the cycles, and never from
+//! what a call answered.
 #![tactic(auto)]
 
 #[cfg(test)]

@@ -9,11 +9,13 @@ use run_records::{EntryList, Header, take_entry, take_header};
 use std::alloc::Global;
 use std::test::Fail;
 
-/// `HELD|DISK|CALLS|ANSWERS|LOOK CRASH FOUND, ..`. `branch 1 2 RECORD RECORD ..` makes a branch up to the second meeting of a run with
-/// these records, whose header is of version 1; `63x010100` is a record 63 times. Of a record `01` is path 1, and behind it `01` is a
-/// block, `02` an arrival at a wait, `03` a meeting, and `04` the end; a last `00` says that it has no stamps. A new journal takes 8
-/// calls of the disk: a sync, a look at the length, a write of the shut gate, a sync, a write of all that stands behind it, a sync, the
-/// write of the gate, and a sync. Where a shut gate is there, a look at it stands for the two calls that write it.
+/// `HELD|DISK|CALLS|ANSWERS|LOOK CRASH FOUND, ..`. `branch 1 2 RECORD RECORD ..` makes a branch up
+/// to the second meeting of a run with these records, whose header is of version 1; `63x010100` is
+/// a record 63 times. Of a record `01` is path 1, and behind it `01` is a block, `02` an arrival at
+/// a wait, `03` a meeting, and `04` the end; a last `00` says that it has no stamps. A new journal
+/// takes 8 calls of the disk: a sync, a look at the length, a write of the shut gate, a sync, a
+/// write of all that stands behind it, a sync, the write of the gate, and a sync. Where a shut gate
+/// is there, a look at it stands for the two calls that write it.
 const ROWS: &str = "\
 |room 1000|branch 1 0 010200 020300 010100 020200 010300 010200 020300 010400|0 records|bytes still BRANCHED 00
 |room 1000|branch 1 1 010200 020300 010100 020200 010300 010200 020300 010400|2 records|bytes still BRANCHED 01 00000007 02 010200 020300 00
@@ -67,7 +69,8 @@ fn put_record(list: &mut EntryList, bytes: &[u8]) -> Result<(), Fail> {
     Ok(())
 }
 
-/// Puts the record that the word writes into the list, as often as the number before the `x` says, at most 200 times.
+/// Puts the record that the word writes into the list, as often as the number before the `x` says,
+/// at most 200 times.
 fn put_word(alloc: Global, list: &mut EntryList, word: &str) -> Result<(), Fail> {
     let (times, digits) = word.split_once('x').unwrap_or(("1", word));
     let bytes = bytes_of(alloc, digits)?;

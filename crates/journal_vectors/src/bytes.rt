@@ -1,7 +1,9 @@
-//! Bytes as text: hexadecimal digits in words, where `3x01` is 01 three times, and names for what stands in many rows.
+//! Bytes as text: hexadecimal digits in words, where `3x01` is 01 three times, and names for what
+//! stands in many rows.
 use std::alloc::{AllocError, Global};
 
-/// The first three entries of a file of gates, and the whole of four: of each its open gate, its length and its body.
+/// The first three entries of a file of gates, and the whole of four: of each its open gate, its
+/// length and its body.
 const THREE: &str = "010000000141010000000401010100010000000401020100";
 
 const FOUR: &str = "01000000014101000000040101010001000000040102010001000000080101010100000001";
@@ -21,7 +23,8 @@ const HEADER: &str =
 const HEADER2: &str =
     "01000000405457494e00020000000000000017250a4f310a233530303d233530302b310a4d33300a250a00000017250a4f310a233530303d233530302b310a4d33300a250a";
 
-/// What stands in a header of short texts behind its mark: the settings `s`, and the tapes `l1` and `r22`.
+/// What stands in a header of short texts behind its mark: the settings `s`, and the tapes `l1` and
+/// `r22`.
 const SHORT: &str = "0000000173000000026c3100000003723232";
 
 /// The entry of that header in version 2, of 24 bytes.

@@ -24,15 +24,16 @@ fn memory_of(alloc: Global, held: &str, made: &str) -> Result<MemoryDisk, Fail> 
     }
 }
 
-/// A disk that holds these bytes, or is new and has `room 4`. It takes `calls 10`, and a hundred where nothing is said; it `fails 2
-/// and 4`, the second call and the fourth; and it `passes 2` before its fuse burns.
+/// A disk that holds these bytes, or is new and has `room 4`. It takes `calls 10`, and a hundred
+/// where nothing is said; it `fails 2 and 4`, the second call and the fourth; and it `passes 2`
+/// before its fuse burns.
 pub(crate) fn disk_of(alloc: Global, held: &str, made: &str) -> Result<FuseDisk, Fail> {
     let disk = memory_of(alloc, held, made)?;
     Ok(FuseDisk::new(disk, number_behind(made, "passes ")))
 }
 
-/// What is left of the disk without a crash (`still`), and after one that `kept` or `lost` what was written, or filled it with `dots` or
-/// with `sevens`, the byte 7.
+/// What is left of the disk without a crash (`still`), and after one that `kept` or `lost` what was
+/// written, or filled it with `dots` or with `sevens`, the byte 7.
 pub(crate) fn left_of(disk: FuseDisk, pick: &str) -> MemoryDisk {
     let disk = disk.into_inner();
     match pick {

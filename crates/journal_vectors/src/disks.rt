@@ -5,9 +5,10 @@ use disk_model::{Disk, Failed, FuseDisk, MemoryDisk};
 use std::alloc::{AllocError, Global};
 use std::test::Fail;
 
-/// `HELD|DISK|CALLS|ANSWERS|LOOK CRASH FOUND, ..`: a disk (see `disk_of`), the calls and what each answers, and the bytes that each
-/// crash (see `left_of`) leaves, or how often the disk below the fuse failed. `616263646566` is `abcdef` and `58595a` is `XYZ`;
-/// `read 5 4` reads 4 bytes at 5, and `write greatest` writes at the greatest number that there is.
+/// `HELD|DISK|CALLS|ANSWERS|LOOK CRASH FOUND, ..`: a disk (see `disk_of`), the calls and what each
+/// answers, and the bytes that each crash (see `left_of`) leaves, or how often the disk below the
+/// fuse failed. `616263646566` is `abcdef` and `58595a` is `XYZ`; `read 5 4` reads 4 bytes at 5,
+/// and `write greatest` writes at the greatest number that there is.
 const ROWS: &str = "\
 616263646566|calls 10|write 4 58595a|done|bytes kept 6162636458595a, lost 616263646566, dots 616263642e2e2e
 616263646566|calls 10|write 4 58595a, sync|done done|bytes kept 6162636458595a, lost 6162636458595a, sevens 6162636458595a

@@ -6,11 +6,13 @@ use gate_file::{BodyList, GateFile, LONGEST_BODY};
 use std::alloc::{AllocError, Global};
 use std::test::Fail;
 
-/// `HELD|DISK|CALLS|ANSWERS|LOOK CRASH FOUND, ..`. `create BODY, BODY` begins a file of the first body and appends the others, `fill
-/// BODY, BODY; BODY` begins one of all bodies before the `;` at once and appends those behind it, and `append BODY` opens the file and
-/// appends one. An opening makes 4 calls of the disk, and an append a write, a sync, the write of the
-/// gate, and a sync. Of a `list` each body has its length, and its bytes where they are few. The sizes of the long bodies end just
-/// before, at and behind the end of a window of 65,536 bytes, and one is longer than two.
+/// `HELD|DISK|CALLS|ANSWERS|LOOK CRASH FOUND, ..`. `create BODY, BODY` begins a file of the first
+/// body and appends the others, `fill BODY, BODY; BODY` begins one of all bodies before the `;` at
+/// once and appends those behind it, and `append BODY` opens the file and appends one. An opening
+/// makes 4 calls of the disk, and an append a write, a sync, the write of the gate, and a sync. Of
+/// a `list` each body has its length, and its bytes where they are few. The sizes of the long
+/// bodies end just before, at and behind the end of a window of 65,536 bytes, and one is longer
+/// than two.
 const ROWS: &str = "\
 |room 38|create 41, 01010100, 01020100, 0101010100000001|done done done done|bytes still FOUR 00
 THREE 00 00000008 0101010100000001 00||||bodies still 3
@@ -95,7 +97,8 @@ FOUR 00|fails 3|fill 41, 42|disk fault|bytes kept FOUR 00, lost FOUR 00, sevens 
 /// The most bytes of a body of a row that a file is begun with.
 const MOST_BYTES: usize = 200_000;
 
-/// Appends a body as far as the file is live, and tells whether that was done. A file stays live exactly where it was.
+/// Appends a body as far as the file is live, and tells whether that was done. A file stays live
+/// exactly where it was.
 fn append(file: &mut GateFile<FuseDisk>, body: &[u8]) -> &'static str {
     if !file.is_live() || body.len() > LONGEST_BODY {
         return "refused";

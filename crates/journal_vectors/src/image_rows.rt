@@ -1,12 +1,14 @@
-//! Rows of disks that keep every image: what the calls answer, and which images a crash since some time may have left.
+//! Rows of disks that keep every image: what the calls answer, and which images a crash since some
+//! time may have left.
 use disk_images::{Image, ImagesDisk};
 use disk_model::{Disk, Failed};
 use std::alloc::{AllocError, Global};
 use std::test::Fail;
 
-/// `HELD|FAILING|CALLS|ANSWERS|TIME IMAGES, ..`: the bytes of the disk, the numbers of the calls that are to fail, the calls and what
-/// each answers, and all images that a crash since some time may have left, in any order. A time is a number of calls. `.` is a zero
-/// byte, and `-` a file without bytes.
+/// `HELD|FAILING|CALLS|ANSWERS|TIME IMAGES, ..`: the bytes of the disk, the numbers of the calls
+/// that are to fail, the calls and what each answers, and all images that a crash since some time
+/// may have left, in any order. A time is a number of calls. `.` is a zero byte, and `-` a file
+/// without bytes.
 const ROWS: &str = "\
 ab|||/|0 ab
 ab||write 0 xy|done|0 ab xb xy, 1 ab xb xy

@@ -11,11 +11,12 @@ use run_records::{Edit, Entry, EntryKind, Header, StampList, Version, take_heade
 use std::alloc::{AllocError, Global};
 use std::test::Fail;
 
-/// `HELD|DISK|CALLS|ANSWERS|LOOK CRASH FOUND, ..`. A header has 64 bytes, so that the body behind it stands at 74. `journal 1 2`
-/// begins a journal and writes a batch of one record and then one of two; its answers are for each batch how many records were to be
-/// written, whether they were, and how many were then still to be written, and how many records the journal counts. `raise` raises the
-/// journal, and `edit` writes a batch of one edit. The beginning makes 8 calls of the disk, and each batch and the raising mark 4: a
-/// write, a sync, a write of the gate, and a sync.
+/// `HELD|DISK|CALLS|ANSWERS|LOOK CRASH FOUND, ..`. A header has 64 bytes, so that the body behind
+/// it stands at 74. `journal 1 2` begins a journal and writes a batch of one record and then one of
+/// two; its answers are for each batch how many records were to be written, whether they were, and
+/// how many were then still to be written, and how many records the journal counts. `raise` raises
+/// the journal, and `edit` writes a batch of one edit. The beginning makes 8 calls of the disk, and
+/// each batch and the raising mark 4: a write, a sync, a write of the gate, and a sync.
 const ROWS: &str = "\
 HEADER 01 00000000 00||||records still bad record at 74: wrong count
 HEADER 01 00000001 00 00||||records still bad record at 74: wrong count
@@ -212,7 +213,8 @@ fn put_offsets(out: &mut String, opened: &Opened<MemoryDisk>) -> Result<(), Allo
     )
 }
 
-/// How many records an opened journal has, and where they stand if that is looked for; or its version.
+/// How many records an opened journal has, and where they stand if that is looked for; or its
+/// version.
 fn put_opened(out: &mut String, opened: &Opened<MemoryDisk>, look: &str) -> Result<(), AllocError> {
     if look == "version" {
         return write!(out, "{}", opened.journal.version().number());

@@ -1,7 +1,8 @@
-//! Tables of tests of disks, gates, records, journals, branches and texts of edits: what each writes, byte by byte, what a stop at each of its calls leaves, and
-//! why a file is refused.
+//! Tables of tests of disks, gates, records, journals, branches and texts of edits: what each
+//! writes, byte by byte, what a stop at each of its calls leaves, and why a file is refused.
 //!
-//! The bytes and the answers that are expected are worked by hand from the rules of the journal, and never from what a call answered.
+//! The bytes and the answers that are expected are worked by hand from the rules of the journal,
+//! and never from what a call answered.
 #![tactic(auto)]
 
 #[cfg(test)]

@@ -1,4 +1,5 @@
-//! Records and headers: each is put as its bytes, taken from them, and refused with its least cause.
+//! Records and headers: each is put as its bytes, taken from them, and refused with its least
+//! cause.
 ghost use Rattle.run_records.specs.Headers.{IsShort};
 
 use crate::bytes::{bytes_of, put_digits};
@@ -11,9 +12,10 @@ use run_records::{
 use std::alloc::{AllocError, Global};
 use std::test::Fail;
 
-/// `BYTES, BYTES, ..|TAKEN|ROOM`: the size of the record that stands in front of each, or why there is none, and then the records of a
-/// list of them: the path, what it did, and its stamps; or of an edit the path, what is set, its number, and X and Z of an offset in
-/// 0.001 mm or the value of a variable in millionths. `|2` at the end makes room for two records before.
+/// `BYTES, BYTES, ..|TAKEN|ROOM`: the size of the record that stands in front of each, or why there
+/// is none, and then the records of a list of them: the path, what it did, and its stamps; or of an
+/// edit the path, what is set, its number, and X and Z of an offset in 0.001 mm or the value of a
+/// variable in millionths. `|2` at the end makes room for two records before.
 const RECORDS: &str = "\
 02 01 01 00000001 133xaa|7: 2 did 1
 03 01 00|no path:
@@ -80,7 +82,8 @@ const RECORDS: &str = "\
 02 01 00, 02 01 01 00000007, 02 01 02 00000064 00000065, 02 01 20 00000004 30x00000005 00000006, 02 01 00, 02 01 01 00000009\
 |3 7 11 131 3 7: 2 did, 2 did 7, 2 did 100 101, 2 did 4 5 5 5 5 5 5 5 5 5 5 5 5 5 5 5 5 5 5 5 5 5 5 5 5 5 5 5 5 5 5 6, 2 did, 2 did 9";
 
-/// `BYTES|TAKEN`: the version, and the settings and both tapes, each in brackets, or that there are none.
+/// `BYTES|TAKEN`: the version, and the settings and both tapes, each in brackets, or that there are
+/// none.
 const HEADERS: &str = "\
 5457494e0001 TEXTS|1<><250a4f310a233530303d233530302b310a4d33300a250a><250a4f310a233530303d233530302b310a4d33300a250a>
 5457494e0002 TEXTS|2<><250a4f310a233530303d233530302b310a4d33300a250a><250a4f310a233530303d233530302b310a4d33300a250a>

@@ -71,9 +71,10 @@ fn leaves(alloc: Global, row: &str, crash: &str) -> Result<bool, Fail> {
     Ok(is_found(alloc, left_of(disk, pick), look, wanted)?)
 }
 
-/// Whether a row holds: `HELD|DISK|CALLS|ANSWERS|LOOK CRASH FOUND, ..`. The calls are made once for each crash. What a look finds is
-/// the `bytes` of the disk, its `faults`, how many `bodies` a file of gates has or a `list` of them, how many `records` a journal has
-/// or with their `offsets`, or its `version`; or why there are none.
+/// Whether a row holds: `HELD|DISK|CALLS|ANSWERS|LOOK CRASH FOUND, ..`. The calls are made once for
+/// each crash. What a look finds is the `bytes` of the disk, its `faults`, how many `bodies` a file
+/// of gates has or a `list` of them, how many `records` a journal has or with their `offsets`, or
+/// its `version`; or why there are none.
 pub(crate) fn holds(alloc: Global, row: &str) -> Result<bool, Fail> {
     let (_, crashes) = columns(row)[4].split_once(' ').unwrap_or(("", ""));
     for crash in crashes.split(", ") {

@@ -6,8 +6,8 @@ use run_records::{Entry, put_entry};
 use std::alloc::{AllocError, Global};
 use std::test::Fail;
 
-/// `TEXT|RECORDS`: a text, in which `~` stands for the end of a line, and the bytes of the record of each of its edits; or the line
-/// that is refused.
+/// `TEXT|RECORDS`: a text, in which `~` stands for the end of a line, and the bytes of the record
+/// of each of its edits; or the line that is refused.
 const ROWS: &str = "\
 |
 (a comment~~  ( another)~   ~|

@@ -1,4 +1,5 @@
-//! A turret that queues its moves, and a stepper that sees at each drain whether the turret has made every move before it.
+//! A turret that queues its moves, and a stepper that sees at each drain whether the turret has
+//! made every move before it.
 use crate::workers::block;
 use drive_line::{Drained, Driven, Line};
 use nc_moves::Move;
@@ -13,8 +14,8 @@ use std::test::Fail;
 use std::thread;
 use std::thread::Threads;
 
-/// Queues the moves that it is handed, and makes them only where it is to settle. It counts those that it has made, where another
-/// thread sees them. It is slow.
+/// Queues the moves that it is handed, and makes them only where it is to settle. It counts those
+/// that it has made, where another thread sees them. It is slow.
 #[derive(Drop)]
 struct Queue<'a> {
     made: &'a AtomicU64,
@@ -49,7 +50,8 @@ impl<'a> Turret for Queue<'a> {
     }
 }
 
-/// Asks for a drain behind each block but the last, and notes whether it came before the turret had made the moves before it.
+/// Asks for a drain behind each block but the last, and notes whether it came before the turret had
+/// made the moves before it.
 #[derive(Drop)]
 struct Watcher<'a> {
     made: &'a AtomicU64,

@@ -13,8 +13,8 @@ use std::test::Fail;
 use std::thread;
 use std::thread::Threads;
 
-/// Sends the rests from `first` to `last` milliseconds, each with its number as its line, with a drain behind one of them, and the
-/// end. It answers what the drain told.
+/// Sends the rests from `first` to `last` milliseconds, each with its number as its line, with a
+/// drain behind one of them, and the end. It answers what the drain told.
 fn send_rests<R: Wait>(
     line: LineIn<'_, R>,
     first: u32,
@@ -69,7 +69,8 @@ fn next_of(got: &[Got], first: u32) -> u32 {
     next
 }
 
-/// What the drain told, the number behind the last rest that the turret got in order, how many it got, and whether the end was taken.
+/// What the drain told, the number behind the last rest that the turret got in order, how many it
+/// got, and whether the end was taken.
 type Crossed = (u64, u32, usize, bool);
 
 /// Rests cross a line of that bound: the first, the one with a drain behind it, and the last.

@@ -16,7 +16,8 @@ type ListLane<'r, R> = Lane<ListStepper<'r, R>, ListStepper<'r, R>, MemoryTurret
 
 type End<'r, R> = LaneEnd<ListStepper<'r, R>, ListStepper<'r, R>, MemoryTurret>;
 
-/// What path 1 runs with: a stepper of these answers, and a turret that fails at the call and at the settle of these numbers.
+/// What path 1 runs with: a stepper of these answers, and a turret that fails at the call and at
+/// the settle of these numbers.
 fn lane_of<'r, R>(
     rt: &'r R,
     alloc: Global,
@@ -131,8 +132,8 @@ fn reason_of(why: Why) -> &'static str {
     }
 }
 
-/// What is left of a run: why the worker ended, the moves that the turret got and how many it missed, whether it
-/// failed, the drive's calls, and the worker's calls.
+/// What is left of a run: why the worker ended, the moves that the turret got and how many it
+/// missed, whether it failed, the drive's calls, and the worker's calls.
 fn told<R>(alloc: Global, end: End<'_, R>) -> Result<String, AllocError> {
     let mut out = String::from_str(alloc, reason_of(end.why))?;
     let missed = end.driven.missed();
@@ -217,7 +218,8 @@ fn a_worker_steps_sends_and_drains_until_the_turret_fails(rt: HostRuntime) -> Re
     Ok(())
 }
 
-/// Blocks of a rest each, of as many milliseconds as blocks stand before it, and a drain behind each tenth.
+/// Blocks of a rest each, of as many milliseconds as blocks stand before it, and a drain behind
+/// each tenth.
 fn many_blocks(alloc: Global, count: u64) -> Result<Vec<Next>, NoMemory> {
     let mut answers = Vec::new(alloc);
     for ms in 0..count {
@@ -244,8 +246,8 @@ fn in_order(got: &[Got]) -> u64 {
     count
 }
 
-/// Whether the path finished and whether the turret failed, how many it missed, the moves that it got and those of them in
-/// order, and the worker's calls.
+/// Whether the path finished and whether the turret failed, how many it missed, the moves that it
+/// got and those of them in order, and the worker's calls.
 type Rested = (bool, bool, u64, usize, u64, usize);
 
 /// What a worker of so many blocks of a rest each does.

@@ -3,7 +3,8 @@ use crate::pair::default_settings;
 use crate::walk::failure_of;
 use std::test::Fail;
 
-/// The blocks of both tapes, the first at line 3, where `~` stands for the end of a line; turns, edits and records; and the answers.
+/// The blocks of both tapes, the first at line 3, where `~` stands for the end of a line; turns,
+/// edits and records; and the answers.
 const ROWS: &str = "\
 #1=#500+#501~M30|M30|1,edit var 1 500 7,1,1,1,?|reads #500 at 0, edited, reads #500 at 1, reads #501 at 1, did, 2 records #500 7 #501 vacant path 1 line 4 X0.000 Z0.000 #1 7 #2 vacant path 2 line 3 X0.000 Z0.000 #1 vacant #2 vacant
 #1=#500~M30|M30|1,edit work 2 55 X1. Z2.,1,1|reads #500 at 0, edited, reads #500 at 1, did

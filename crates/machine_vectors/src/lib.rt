@@ -1,7 +1,9 @@
-//! Tables of tests of the machine of two paths: what its turns answer, what its edits set, that each record is done again on a
-//! second machine with the same answer, and which records are illegal.
+//! Tables of tests of the machine of two paths: what its turns answer, what its edits set, that
+//! each record is done again on a second machine with the same answer, and which records are
+//! illegal.
 //!
-//! The answers that are expected stem from the rules of turns and of histories, and never from what a machine answered.
+//! The answers that are expected stem from the rules of turns and of histories, and never from what
+//! a machine answered.
 #![tactic(auto)]
 
 #[cfg(test)]

@@ -3,8 +3,8 @@ use crate::pair::default_settings;
 use crate::walk::failure_of;
 use std::test::Fail;
 
-/// The blocks of both tapes, the first at line 3, where `~` stands for the end of a line; turns, and records with their stamps;
-/// and the answers. An illegal record leaves the machine as it was.
+/// The blocks of both tapes, the first at line 3, where `~` stands for the end of a line; turns,
+/// and records with their stamps; and the answers. An illegal record leaves the machine as it was.
 const ROWS: &str = "\
 #500=#500+1~M30|#500=#500+1~M30|1 did 1,1 did 0,2 did 2,2 did 1|illegal, did, illegal, did
 #500=#500+1~M30|#500=#500+1~M30|1 did,1 did 0 0,1 ended 0,1 arrived,1 met,1 alarmed 0,1 did 0|illegal, illegal, illegal, illegal, illegal, illegal, did

@@ -3,7 +3,8 @@ use crate::pair::default_settings;
 use crate::walk::failure_of;
 use std::test::Fail;
 
-/// The blocks of both tapes, the first at line 3, where `~` stands for the end of a line; whose turn it is; and the answers.
+/// The blocks of both tapes, the first at line 3, where `~` stands for the end of a line; whose
+/// turn it is; and the answers.
 const ROWS: &str = "\
 #500=#500+1~M30|#500=#500+1~M30|1,1,2,2,?|reads #500 at 0, did, reads #500 at 1, did, 2 records #500 2 #501 vacant path 1 line 4 X0.000 Z0.000 #1 vacant #2 vacant path 2 line 4 X0.000 Z0.000 #1 vacant #2 vacant
 #500=#500+1~M30|#500=#500+1~M30|1,2,1,2,?|reads #500 at 0, reads #500 at 0, did, did, 2 records #500 1 #501 vacant path 1 line 4 X0.000 Z0.000 #1 vacant #2 vacant path 2 line 4 X0.000 Z0.000 #1 vacant #2 vacant

@@ -257,8 +257,9 @@ fn put_record(
     )
 }
 
-/// One word of a row: `1` or `2` is a turn of that path, `?` asks what the second machine holds, `edit` and a line is that edit on
-/// both machines, `edited` and a line is the record of that edit, and all else is the record of a step.
+/// One word of a row: `1` or `2` is a turn of that path, `?` asks what the second machine holds,
+/// `edit` and a line is that edit on both machines, `edited` and a line is the record of that edit,
+/// and all else is the record of a step.
 fn put_word(
     out: &mut String,
     alloc: Global,

@@ -1,9 +1,10 @@
+//! A line that answers as its list says.
 use nc_moves::{MoveList, Moves};
 use nc_number::Path;
 use nc_outside::{Call, Drain, Drainable, Halt, ListStepper, Next, Stepper};
 use std::test::Fail;
 
-// That a line was drained along which so many moves were sent.
+/// That a line was drained along which so many moves were sent.
 #[derive(Drop)]
 struct Sent {
     count: u64,
@@ -17,7 +18,7 @@ impl Drain for Sent {
     }
 }
 
-// What a call was, in a word, with its path.
+/// What a call was, in a word, with its path.
 fn told(call: &Call) -> (&'static str, Path) {
     match call {
         Call::Step { path, answer } => (word(answer), *path),

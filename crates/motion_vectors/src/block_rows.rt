@@ -1,4 +1,5 @@
-//! Where the words of a block lead, its moves and its cycles: rows worked by hand from the rules of the control.
+//! Where the words of a block lead, its moves and its cycles: rows worked by hand from the rules of
+//! the control.
 ghost use Rattle.motion_track.specs.Block.{IsBlockWithin};
 
 use crate::cycles::cycle_holds;
@@ -14,9 +15,11 @@ use nc_number::Point;
 
 /// The call, where the turret stands, the shift, the words, and what is answered.
 ///
-/// A code is that of a whole block. `target` is where axis words lead, and `leads` where a move does; `cw` and `ccw` are arcs to X and Z;
-/// `reference` is the way of X to the reference position by way of a point, `return` that of a block. `pass` is a block with a cycle,
-/// behind another that kept its end or none, `end` the end of its cut, and `round` the cycle itself from the start to X and Z.
+/// A code is that of a whole block. `target` is where axis words lead, and `leads` where a move
+/// does; `cw` and `ccw` are arcs to X and Z; `reference` is the way of X to the reference position
+/// by way of a point, `return` that of a block. `pass` is a block with a cycle, behind another that
+/// kept its end or none, `end` the end of its cut, and `round` the cycle itself from the start to X
+/// and Z.
 const ROWS: &str = "\
 G00|||X50. Z2. F0.2|rapid X50. Z2.
 G01|||X50. Z2. F0.2|feed X50. Z2. F0.2

@@ -1,4 +1,5 @@
-//! What the forms in memory of a shelf, a sink and a turret answer where some of their calls are to fail.
+//! What the forms in memory of a shelf, a sink and a turret answer where some of their calls are to
+//! fail.
 use crate::move_text::move_of;
 use crate::words::{count, lines_of, point, small};
 use nc_moves::Move;
@@ -9,8 +10,9 @@ use nc_outside::{
 use std::alloc::Global;
 use std::test::Fail;
 
-/// A name and the most bytes that may come, what then stands behind `%`, how often the shelf has failed, and what it answers. There
-/// are `a` with `G00`, `b` with nothing, and another `a`; the third and the fifth call fail.
+/// A name and the most bytes that may come, what then stands behind `%`, how often the shelf has
+/// failed, and what it answers. There are `a` with `G00`, `b` with nothing, and another `a`; the
+/// third and the fifth call fail.
 const SHELF: &str = "\
 a 3|%G00|0|fetched
 a 2|%|0|too long
@@ -20,15 +22,15 @@ c 9|%|2|failed
 b 0|%|2|fetched
 A 9|%|2|absent";
 
-/// A piece, in which `~` stands for the end of a line, what was written up to it, how often the sink has failed, and what it answers.
-/// The second call fails.
+/// A piece, in which `~` stands for the end of a line, what was written up to it, how often the
+/// sink has failed, and what it answers. The second call fails.
 const SINK: &str = "\
 records |records |0|put
 lost|records |1|failed
 7~|records 7~|1|put";
 
-/// A move, a place or a settle, how often the turret has failed, and what it answers. It has room for two; the second and the third move
-/// or place fail, and the second settle.
+/// A move, a place or a settle, how often the turret has failed, and what it answers. It has room
+/// for two; the second and the third move or place fail, and the second settle.
 const TURRET: &str = "\
 to X50. Z0|0|taken
 settle|0|taken

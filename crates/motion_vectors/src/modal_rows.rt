@@ -7,10 +7,11 @@ use nc_number::Var;
 use std::alloc::Global;
 use std::test::Fail;
 
-/// What a block says, the alarm of its F, S and T, and what is then in force: the code of a group, `feed`, `speed`, `limit`, `tool`,
-/// `offset`, `work` and `cycle`; whether X and Z are `incremental` or `absolute`, F is `per-rev` or `per-min`, and S a `surface` speed or
-/// `spindle`'s. `new` begins a tape of a system, `codes` are those of one block in a system, `work code` is one that no table has, and
-/// `cycle` lets a cycle end there.
+/// What a block says, the alarm of its F, S and T, and what is then in force: the code of a group,
+/// `feed`, `speed`, `limit`, `tool`, `offset`, `work` and `cycle`; whether X and Z are
+/// `incremental` or `absolute`, F is `per-rev` or `per-min`, and S a `surface` speed or
+/// `spindle`'s. `new` begins a tape of a system, `codes` are those of one block in a system, `work
+/// code` is one that no table has, and `cycle` lets a cycle end there.
 const ROWS: &str = "\
 new A||01 G0, 02 G97, 03 none, 05 G99, 06 G21, 07 G40, 14 G54, 00 none, 90 none, absolute, per-rev, spindle
 codes A 0 96 98 55 90||01 G90, 02 G96, 03 none, 05 G98, 06 G21, 07 G40, 14 G55, 00 none, 90 none, absolute, per-min, surface

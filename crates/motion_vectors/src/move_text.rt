@@ -1,4 +1,5 @@
-//! Moves as a row writes them: `rapid X50. Z2.`, `feed X50. Z2. F0.2`, `cw X0 Z-10. I-10. K0 F0.1 min`, `speed G96 S200`, `aux M3`.
+//! Moves as a row writes them: `rapid X50. Z2.`, `feed X50. Z2. F0.2`, `cw X0 Z-10. I-10. K0 F0.1
+//! min`, `speed G96 S200`, `aux M3`.
 use crate::words::{behind, centre, count, feed, point, small};
 use motion_track::MotionFault;
 use nc_moves::Move;
@@ -17,7 +18,8 @@ fn number(words: &str, letter: char) -> u16 {
     small(behind(words, letter).unwrap_or(""))
 }
 
-/// The move that the text writes. Its feed is by the revolution, or where it ends with `min` by the minute.
+/// The move that the text writes. Its feed is by the revolution, or where it ends with `min` by the
+/// minute.
 pub(crate) fn move_of(text: &str) -> Option<Move> {
     let (name, words) = text.split_once(' ').unwrap_or((text, ""));
     let (to, feed) = (point(words), feed(words));

@@ -1,3 +1,4 @@
+//! Lists of moves.
 use crate::move_text::are_moves;
 use nc_moves::{MOVES_PER_BLOCK, Move, MoveList, Moves};
 

@@ -1,4 +1,5 @@
-//! The offsets of a path, and which of them G10 names: rows worked by hand from the rules of the control.
+//! The offsets of a path, and which of them G10 names: rows worked by hand from the rules of the
+//! control.
 ghost use Rattle.std.specs.Prelude.{◌≤◌};
 
 use crate::move_text::is_alarm;
@@ -6,8 +7,9 @@ use crate::words::{behind, count, increments, point};
 use nc_number::{Axis, Point};
 use offset_store::{OffsetFault, OffsetForm, Offsets, Slot};
 
-/// The call, its words, and what is answered. `new` begins with every offset 0. G10 names an offset by L2 and P, or by P alone; `make`
-/// is what its axis words make of the offset, which stays as it is.
+/// The call, its words, and what is answered. `new` begins with every offset 0. G10 names an offset
+/// by L2 and P, or by P alone; `make` is what its axis words make of the offset, which stays as it
+/// is.
 const ROWS: &str = "\
 new|
 set work|P1 X0 Z100.|

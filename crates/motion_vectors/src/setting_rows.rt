@@ -6,8 +6,9 @@ use nc_number::{Failing, Point};
 use std::alloc::Global;
 use std::test::Fail;
 
-/// A text, in which `~` stands for the end of a line, and the line that is refused, or what it says: nothing for `taken`. `wear` says
-/// that there are two opening offsets, of wear the first, and where the second is.
+/// A text, in which `~` stands for the end of a line, and the line that is refused, or what it
+/// says: nothing for `taken`. `wear` says that there are two opening offsets, of wear the first,
+/// and where the second is.
 const ROWS: &str = "\
 wait 100 197~shared100 101~|line 2
 place 1 X100000.~|line 1
@@ -94,7 +95,8 @@ fn behind_wear(presets: &[Preset]) -> Option<Point> {
     }
 }
 
-/// The point that the settings have under the name; of two opening offsets, of which the first is of wear, that of the second.
+/// The point that the settings have under the name; of two opening offsets, of which the first is
+/// of wear, that of the second.
 fn place(settings: &Settings, name: &str) -> Option<Point> {
     match name {
         "place1" => Some(settings.place[0]),

@@ -29,7 +29,8 @@ fn literal(digits: &str) -> Option<Literal> {
     }
 }
 
-/// What a word says in 0.001 mm: `X50.` is 50 mm, and `X50` is 0.050 mm. What is no number counts as more than any row wants.
+/// What a word says in 0.001 mm: `X50.` is 50 mm, and `X50` is 0.050 mm. What is no number counts
+/// as more than any row wants.
 pub(crate) fn increments(words: &str, letter: char) -> Option<i64> {
     let digits = behind(words, letter)?;
     let told = if digits.contains('.') {

@@ -6,7 +6,8 @@ use nc_number::{
     sqrt, sub,
 };
 
-/// `A CALL B = ANSWER` of two operands, `CALL A = ANSWER` of one. A fault stands by the name of its cause.
+/// `A CALL B = ANSWER` of two operands, `CALL A = ANSWER` of one. A fault stands by the name of its
+/// cause.
 const ANSWERS: &str = "\
 2 + 12 = 14
 99999999.999999 + 0.000001 = Overflow

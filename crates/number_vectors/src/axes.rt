@@ -31,6 +31,6 @@ fn axes_are_told_by_their_words(rt: HostRuntime) {
 fn bytes_come_back_as_they_were_given(rt: HostRuntime) -> Result<(), Fail> {
     let list = ByteList::of(b"G01X5.".to_vec(rt.alloc())?);
     assert!(rt; list.as_slice() == b"G01X5.".as_slice());
-    assert!(rt; list.into_bytes().as_slice() == b"G01X5.".as_slice());
+    assert!(rt; list.into_vec().as_slice() == b"G01X5.".as_slice());
     Ok(())
 }

@@ -1,3 +1,4 @@
+//! Levels of local variables.
 use crate::values::holding;
 use local_levels::{LOCALS, Levels};
 use nc_number::Var;

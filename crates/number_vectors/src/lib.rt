@@ -1,8 +1,9 @@
-//! Tables of tests of the control's numbers, codes, variables and expressions: what each call answers at both ends of its range, and
-//! the tree and the value of each text.
+//! Tables of tests of the control's numbers, codes, variables and expressions: what each call
+//! answers at both ends of its range, and the tree and the value of each text.
 //!
-//! The answers that are expected are worked by hand from the rules of the control, and never from what a call answered. A table is a
-//! text with a row a line, and a row that does not hold is named.
+//! The answers that are expected are worked by hand from the rules of the control, and never from
+//! what a call answered. A table is a text with a row a line, and a row that does not hold is
+//! named.
 #![tactic(auto)]
 
 #[cfg(test)]

@@ -2,9 +2,10 @@
 
 use nc_number::{Literal, Value, is_literal, length_text, parse_word, text, to_increment};
 
-/// `CALL LITERAL = COUNT`: the value in millionths, how many points the literal has, its length in increments, its time in
-/// thousandths, the whole number, and the same of its value alone: increments `nearest` to it, and whole `units`. A `bare` literal
-/// is one with that value and without a point.
+/// `CALL LITERAL = COUNT`: the value in millionths, how many points the literal has, its length in
+/// increments, its time in thousandths, the whole number, and the same of its value alone:
+/// increments `nearest` to it, and whole `units`. A `bare` literal is one with that value and
+/// without a point.
 const READ: &str = "\
 value 0 = 0
 value 1.5 = 1500000
@@ -128,7 +129,8 @@ units 99999999 = 99999999
 units -99999999 = -99999999
 units 99999999.999999 = none";
 
-/// `COUNT UNIT = TEXT`: how so many millionths, units or increments are printed as a value, and thousandths as a length.
+/// `COUNT UNIT = TEXT`: how so many millionths, units or increments are printed as a value, and
+/// thousandths as a length.
 const PRINTED: &str = "\
 0 millionths = 0
 1000000 millionths = 1

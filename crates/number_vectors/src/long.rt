@@ -1,18 +1,21 @@
-//! Long texts: a million operators, which take no deep stack, long sums in five brackets, and one variable too many.
+//! Long texts: a million operators, which take no deep stack, long sums in five brackets, and one
+//! variable too many.
 
 use crate::trees::expression;
 use crate::values::{answer, is_due};
 use std::alloc::{AllocError, Global};
 use std::test::Fail;
 
-/// `FIRST..OPERATORS -> VALUE`: half a million times the two operators of a rank behind the first operand.
+/// `FIRST..OPERATORS -> VALUE`: half a million times the two operators of a rank behind the first
+/// operand.
 const LONG: &str = "\
 1..+1-1 -> 1
 -1..-1-1 -> -1000001
 1..*2/2 -> 1
 7.. AND 7 MOD 8 -> 7";
 
-/// `COUNT LAST -> ANSWER`: so many variables added up, what follows them, and how the tree begins, or the refusal.
+/// `COUNT LAST -> ANSWER`: so many variables added up, what follows them, and how the tree begins,
+/// or the refusal.
 const CROWDED: &str = "\
 31 #1 -> (
 32 #1 -> 25
@@ -31,6 +34,7 @@ fn chained(
     format!(in alloc; "{first}{chain}{last}")
 }
 
+/// Whether the row's chain has its value, and one that breaks off at its end is refused.
 fn takes_no_stack(alloc: Global, row: &str) -> Option<bool> {
     let (question, value) = row.split_once(" -> ")?;
     let (first, operators) = question.split_once("..")?;
@@ -65,6 +69,7 @@ fn long_sums_stand_in_five_brackets(rt: HostRuntime) -> Result<(), Fail> {
     Ok(())
 }
 
+/// Whether a sum of so many variables begins as the row says, or is refused so.
 fn is_crowded(alloc: Global, row: &str) -> Option<bool> {
     let (question, wanted) = row.split_once(" -> ")?;
     let (count, last) = question.split_once(' ')?;

@@ -9,9 +9,9 @@ use nc_number::NumberFault::NotWhole;
 use nc_number::{Cause, Path};
 use std::alloc::{AllocError, Global};
 
-/// `NOUN NUMBER = WHAT IT STANDS FOR`, or `none`: a cause by its number and name; the place of a path and the number of the one
-/// beside it; a variable and what can be done with it; the kind and the group of a code, and whether the control refuses it, or it
-/// is an arc or a cycle.
+/// `NOUN NUMBER = WHAT IT STANDS FOR`, or `none`: a cause by its number and name; the place of a
+/// path and the number of the one beside it; a variable and what can be done with it; the kind and
+/// the group of a code, and whether the control refuses it, or it is an arc or a cycle.
 const NAMES: &str = "\
 cause 1 = 1 Overflow
 cause 5 = 5 TooManyDigits

@@ -44,6 +44,11 @@ SQRT[-1] -> alarm 3
 +#1 -> 0
 -#1 -> 0
 #1+2 -> 2
+5 -> 5
+#3 -> 3
+#3-#2 -> 0.5
+#9+#3 -> alarm 30
+#3+#9 -> alarm 30
 ABS[#1] -> 0
 #[1+1] -> 2.5
 #[#3] -> 3
@@ -52,7 +57,8 @@ ABS[#1] -> 0
 #[#1] -> vacant
 #[-1] -> alarm 30";
 
-/// `COUNT TEXT -> ANSWER, TAKEN`: so many reads of the shared variable stand ready, 2, 500 and vacant, and so many are taken.
+/// `COUNT TEXT -> ANSWER, TAKEN`: so many reads of the shared variable stand ready, 2, 500 and
+/// vacant, and so many are taken.
 const READS: &str = "\
 0 #500+#500 -> needs #500, 0
 1 #500+#500 -> needs #500, 1
@@ -60,6 +66,12 @@ const READS: &str = "\
 3 #500+#500 -> 502, 2
 3 #500*#500+#500 -> 1000, 3
 1 1/0+#500 -> alarm 2, 0
+0 #500 -> needs #500, 0
+1 #500 -> 2, 1
+0 #3-#500 -> needs #500, 0
+2 #500-#500 -> -498, 2
+1 #9+#500 -> alarm 30, 0
+1 #500+#9 -> alarm 30, 1
 0 #500/0 -> needs #500, 0
 1 #500/0 -> alarm 2, 1
 1 #[#500] -> 2.5, 1
@@ -109,6 +121,7 @@ pub(crate) fn is_due(answer: &Eval, wanted: &str) -> bool {
     }
 }
 
+/// Whether the value is the number that the text writes.
 fn is_value(value: &Value, wanted: &str) -> bool {
     match number(wanted) {
         Some(due) => due.micro() == value.micro(),
@@ -116,6 +129,7 @@ fn is_value(value: &Value, wanted: &str) -> bool {
     }
 }
 
+/// Whether the text is the word and this number behind it.
 fn is_behind(word: &str, wanted: &str, number: u32) -> bool {
     match wanted.strip_prefix(word) {
         Some(digits) => digits.parse::<u32>() == Ok(number),
@@ -123,6 +137,7 @@ fn is_behind(word: &str, wanted: &str, number: u32) -> bool {
     }
 }
 
+/// Whether the row's answer is due, without any read.
 fn has_value(alloc: Global, row: &str) -> Option<bool> {
     let (text, wanted) = row.split_once(" -> ")?;
     let (answer, taken) = answer(alloc, text, &[])?;
@@ -144,6 +159,7 @@ pub(crate) fn holding(micro: i64) -> Var {
     }
 }
 
+/// Whether the row's answer is due, and takes so many of the reads that stand ready.
 fn takes_reads(alloc: Global, row: &str) -> Option<bool> {
     let (question, wanted) = row.split_once(" -> ")?;
     let (count, text) = question.split_once(' ')?;
@@ -174,6 +190,7 @@ fn are_due(codes: &[Code], row: &str) -> Option<bool> {
     Some(wanted.next().is_none())
 }
 
+/// Whether the codes of the row's statement come to its answers.
 fn is_evaluated(alloc: Global, row: &str) -> Option<bool> {
     let text = row.split(" -> ").next()?;
     let statement = parse_statement(alloc, text.as_bytes()).ok()?;

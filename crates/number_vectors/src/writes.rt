@@ -1,3 +1,4 @@
+//! Writes of common variables.
 use crate::values::holding;
 use common_vars::{Own, Shared, is_common, is_shared};
 use nc_number::Var;

@@ -1,4 +1,5 @@
-//! What one block does to its path: its moves, what it changes, and where control goes, or its alarm.
+//! What one block does to its path: its moves, what it changes, and where control goes, or its
+//! alarm.
 use crate::lone_path::{flow_of, on_one_line, put_changes, put_turn, settings_of, state_of};
 use cell_settings::Settings;
 use nc_number::{NoMemory, Path};
@@ -8,15 +9,16 @@ use std::process::Abort;
 use std::test::Fail;
 use tape_flow::Flow;
 
-/// The cell. The path begins at X100. Z50. in machine coordinates, its shift being X0 Z10.; with T0101 it is X-19.5 Z5.,
-/// with G55 X2. Z20. The shared variables are #500 to #599.
+/// The cell. The path begins at X100. Z50. in machine coordinates, its shift being X0 Z10.; with
+/// T0101 it is X-19.5 Z5., with G55 X2. Z20. The shared variables are #500 to #599.
 const CELL: &str = "\
 place 1 X100. Z50.~home 1 X300. Z200.~work 1 54 X0 Z10.~work 1 55 X2. Z20.~\
 tool 1 1 X-20. Z-5.~wear 1 1 X0.5 Z0~";
 
-/// The blocks that run before, the block, the blocks behind it where M30 is not all, and what the block does: its readings,
-/// its moves, what it writes to a shared variable, a wait, the end or the alarm, then each part of the state that changed, and
-/// last the line to which control goes. `~` stands for the end of a line. #500 reads as 10, #501 as 11 and on.
+/// The blocks that run before, the block, the blocks behind it where M30 is not all, and what the
+/// block does: its readings, its moves, what it writes to a shared variable, a wait, the end or the
+/// alarm, then each part of the state that changed, and last the line to which control goes. `~`
+/// stands for the end of a line. #500 reads as 10, #501 as 11 and on.
 const ROWS: &str = "\
 |X1000||rapid X1.000 Z50.000~at X1.000 Z50.000~to 4
 |X1.||rapid X1.000 Z50.000~at X1.000 Z50.000~to 4

@@ -1,6 +1,8 @@
-//! Tables of tests of one path: what single blocks and whole tapes do to it, and the pair as a shop has it, each path alone.
+//! Tables of tests of one path: what single blocks and whole tapes do to it, and the pair as a shop
+//! has it, each path alone.
 //!
-//! The answers that are expected stem from the rules of tapes and of the control, and never from what the path answered.
+//! The answers that are expected stem from the rules of tapes and of the control, and never from
+//! what the path answered.
 #![tactic(auto)]
 
 #[cfg(test)]

@@ -1,5 +1,5 @@
-//! One path alone: its tape is compiled, its blocks run one by one, and what they do is told as text, so that a table of
-//! tests has it written out by hand.
+//! One path alone: its tape is compiled, its blocks run one by one, and what they do is told as
+//! text, so that a table of tests has it written out by hand.
 ghost use Rattle.std.specs.Prelude.{◌≤◌};
 
 use crate::move_text::{put_move, put_point, put_value};
@@ -58,6 +58,7 @@ pub(crate) fn flow_of(alloc: Global, text: &str, settings: &Settings) -> Result<
     }
 }
 
+/// A refusal's number and line.
 fn refusal_text(alloc: Global, number: u8, line: u32) -> Result<String, Fail> {
     Ok(format!(in alloc; "refused {number} line {line}")?)
 }
@@ -81,7 +82,8 @@ pub(crate) fn units(number: i64) -> Var {
     }
 }
 
-/// What each reading of a shared variable gives: #500 is 10, #501 is 11 and on; from #550 on they are vacant.
+/// What each reading of a shared variable gives: #500 is 10, #501 is 11 and on; from #550 on they
+/// are vacant.
 fn shared_value(v: u32) -> Var {
     if v >= 550 {
         return Var::Vacant;
@@ -136,6 +138,7 @@ fn put_effect(
     }
 }
 
+/// The end of a path, and the moves of its last block.
 fn put_end(out: &mut String, head: &str, moves: &MoveList) -> Result<(), AllocError> {
     put_moves(out, head, moves)?;
     out.push_str("end\n")
@@ -169,8 +172,8 @@ fn put_part(
     put_said(out, head, &answer(path, flow, reads))
 }
 
-/// The turn of the path's block with all its readings, of which there are 32 at most, each part on a line of its own, the moves
-/// behind `head`. Whether the path goes on.
+/// The turn of the path's block with all its readings, of which there are 32 at most, each part on
+/// a line of its own, the moves behind `head`. Whether the path goes on.
 pub(crate) fn put_turn(
     out: &mut String,
     head: &str,
@@ -190,6 +193,7 @@ pub(crate) fn put_turn(
     Ok(false)
 }
 
+/// The moves, a line each, behind `head`.
 fn put_moves(out: &mut String, head: &str, moves: &MoveList) -> Result<(), AllocError> {
     for what in moves.as_slice() {
         out.push_str(head)?;
@@ -209,6 +213,7 @@ fn put_alarm(out: &mut String, cause: u8, value: Value) -> Result<(), AllocError
     out.push('\n')
 }
 
+/// What a variable holds.
 pub(crate) fn put_var(out: &mut String, value: &Var) -> Result<(), AllocError> {
     match value {
         Var::Vacant => out.push_str("vacant"),
@@ -228,8 +233,9 @@ fn put_named_point(out: &mut String, head: &str, n: u8, at: Point) -> Result<(),
     out.push('\n')
 }
 
-/// What a path holds, a line for each part: always the same parts in the same order. Of its tools the offsets 1, 2 and 64
-/// are looked at, and of its own common variables #100 to #102 and #600 to #602.
+/// What a path holds, a line for each part: always the same parts in the same order. Of its tools
+/// the offsets 1, 2 and 64 are looked at, and of its own common variables #100 to #102 and #600 to
+/// #602.
 pub(crate) fn state_of(alloc: Global, path: &PathState) -> Result<String, AllocError> {
     let mut out = String::new(alloc);
     put_place(&mut out, path)?;
@@ -240,6 +246,7 @@ pub(crate) fn state_of(alloc: Global, path: &PathState) -> Result<String, AllocE
     Ok(out)
 }
 
+/// Where the turret stands, how many calls are open, and the program that runs.
 fn put_place(out: &mut String, path: &PathState) -> Result<(), AllocError> {
     out.push_str("at")?;
     put_point(out, path.position())?;
@@ -267,6 +274,7 @@ fn put_named(out: &mut String, name: &str, value: &Var) -> Result<(), AllocError
     out.push('\n')
 }
 
+/// The codes in force, F, S and the highest speed, the tool, and the kept end of a cycle.
 fn put_modal(out: &mut String, modal: &Modal) -> Result<(), AllocError> {
     put_groups(out, modal)?;
     put_named(out, "F ", &modal.feed())?;
@@ -277,6 +285,7 @@ fn put_modal(out: &mut String, modal: &Modal) -> Result<(), AllocError> {
     put_cycle(out, modal.cycle())
 }
 
+/// The kept end of the cycle in force, if there is one.
 fn put_cycle(out: &mut String, cycle: Option<Point>) -> Result<(), AllocError> {
     match cycle {
         Some(end) => {
@@ -288,6 +297,7 @@ fn put_cycle(out: &mut String, cycle: Option<Point>) -> Result<(), AllocError> {
     }
 }
 
+/// The offsets that are looked at.
 fn put_offsets(out: &mut String, offsets: &Offsets) -> Result<(), AllocError> {
     for n in 0..7u8 {
         put_named_point(out, "work", n, offsets.work(n))?;
@@ -298,6 +308,7 @@ fn put_offsets(out: &mut String, offsets: &Offsets) -> Result<(), AllocError> {
     put_tool_offset(out, 64, offsets)
 }
 
+/// A tool's offset, its geometry and its wear.
 fn put_tool_offset(out: &mut String, n: u8, offsets: &Offsets) -> Result<(), AllocError>
     requires { n ≤ 64 }
 {
@@ -305,6 +316,7 @@ fn put_tool_offset(out: &mut String, n: u8, offsets: &Offsets) -> Result<(), All
     put_named_point(out, "wear", n, offsets.wear(n))
 }
 
+/// The local variables of the running level.
 fn put_locals(out: &mut String, path: &PathState) -> Result<(), AllocError> {
     for i in 1..34u8 {
         put_variable(out, "#", u32::from(i), &path.local(i))?;
@@ -312,6 +324,7 @@ fn put_locals(out: &mut String, path: &PathState) -> Result<(), AllocError> {
     Ok(())
 }
 
+/// The common variables that are looked at.
 fn put_own(out: &mut String, path: &PathState) -> Result<(), AllocError> {
     for v in 100..103u32 {
         put_variable(out, "#", v, &path.own(v))?;

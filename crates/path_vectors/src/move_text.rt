@@ -1,4 +1,5 @@
-//! Moves as text, in the notation of the report, so that a table of tests has them written out by hand.
+//! Moves as text, in the notation of the report, so that a table of tests has them written out by
+//! hand.
 use nc_moves::{Centre, Move};
 use nc_number::{Point, Value, length_text, text};
 use std::alloc::AllocError;

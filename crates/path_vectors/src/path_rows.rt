@@ -13,9 +13,9 @@ const CELL: &str = "\
 place 1 X200. Z150.~place 2 X200. Z150.~home 1 X300. Z200.~home 2 X300. Z200.~\
 work 1 54 X0 Z100.~work 2 54 X0 Z100.~tool 1 1 X-20. Z-10.~tool 2 2 X-10. Z5.~";
 
-/// A tape, where `~` stands for the end of a line, and what the path does: each move behind the line of its block, waits that
-/// it passes at once, its end or its alarm, the parts of its state that are not as at the start, and the line where it stands
-/// behind so many turns.
+/// A tape, where `~` stands for the end of a line, and what the path does: each move behind the
+/// line of its block, waits that it passes at once, its end or its alarm, the parts of its state
+/// that are not as at the start, and the line where it stands behind so many turns.
 const ROWS: &str = "\
 %~O1~M30~%~|end~line 3 after 1 turns
 %~O1~IF [#1 EQ 0] GOTO 90~IF [#1 GE 0] GOTO 20~N90 #3000=1~N20 G00 X#1 Z5.~#2=#1~IF [#2 EQ #0] GOTO 30~#3000=2~N30 M30~%~|6 rapid X0.000 Z5.000~end~at X0.000 Z5.000~line 10 after 6 turns

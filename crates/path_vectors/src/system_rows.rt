@@ -7,13 +7,14 @@ use std::alloc::{AllocError, Global};
 use std::process::Abort;
 use std::test::Fail;
 
-/// The cell, to which the row's line `codes` is added. The path begins at X100. Z50. in machine coordinates, with no shift. G55 shifts by
-/// X2. Z20., and T0101 by X-20. Z-5.
+/// The cell, to which the row's line `codes` is added. The path begins at X100. Z50. in machine
+/// coordinates, with no shift. G55 shifts by X2. Z20., and T0101 by X-20. Z-5.
 const CELL: &str = "place 1 X100. Z50.~home 1 X300. Z200.~work 1 55 X2. Z20.~tool 1 1 X-20. Z-5.~";
 
-/// The system, the blocks of the tape from line 3 on, and what the path does: each move behind the line of its block, waits that it passes at
-/// once, its end or its alarm, the parts of its state that are not as at the start, and the line where it stands behind so many turns. Or the
-/// number of the refusal and its line.
+/// The system, the blocks of the tape from line 3 on, and what the path does: each move behind the
+/// line of its block, waits that it passes at once, its end or its alarm, the parts of its state
+/// that are not as at the start, and the line where it stands behind so many turns. Or the number
+/// of the refusal and its line.
 const ROWS: &str = "\
 B|G90 G00 X50. Z2.~G77 X40. Z-20. F0.2~G91 G01 X-5. Z-1.~M30|3 rapid X50.000 Z2.000~4 rapid X40.000 Z2.000~4 feed X40.000 Z-20.000 F0.2 rev~4 feed X50.000 Z-20.000 F0.2 rev~4 rapid X50.000 Z2.000~5 feed X45.000 Z1.000 F0.2 rev~end~at X45.000 Z1.000~G01~G91~F 0.2~line 6 after 4 turns
 A|G90 G00 X50. Z2.~G77 X40. Z-20. F0.2~M30|refused 56 line 4

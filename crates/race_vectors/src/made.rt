@@ -1,5 +1,6 @@
-//! Made pairs: each round of a path has 98 cuts, a statement on a variable and a wait. Path 1 counts in #501 in rounds 1, 3, 5
-//! and so on; path 2 copies it to #502 in rounds 2, 4, 6 and so on. The other rounds use variables of the path's own.
+//! Made pairs: each round of a path has 98 cuts, a statement on a variable and a wait. Path 1
+//! counts in #501 in rounds 1, 3, 5 and so on; path 2 copies it to #502 in rounds 2, 4, 6 and so
+//! on. The other rounds use variables of the path's own.
 use crate::listing::{lines_of, listed};
 use std::alloc::Global;
 use std::test::Fail;
@@ -20,8 +21,8 @@ fn has_none(alloc: Global, number: u32) -> Result<bool, Fail> {
     Ok(pair && exchanged)
 }
 
-/// Whether a made tape beside itself has the race of its own variable: path 1's writes #501 before the first meeting, at line
-/// 103, and path 2's #502 before the second, at line 203.
+/// Whether a made tape beside itself has the race of its own variable: path 1's writes #501 before
+/// the first meeting, at line 103, and path 2's #502 before the second, at line 203.
 fn has_its_own(alloc: Global, number: u32) -> Result<bool, Fail> {
     let (left, right) = make_tapes(alloc, number)?;
     let first = "races 1~#501 after 0 path 1 line 103 path 2 line 103~";

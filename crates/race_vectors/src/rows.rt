@@ -1,3 +1,4 @@
+//! Rows of pairs and their races.
 use crate::listing::{lines_of, listed};
 use std::alloc::Global;
 use std::test::Fail;
@@ -59,6 +60,7 @@ a block with a slash whose switch is off|%~O1~/#500=1~M30~%~|%~O1~#1=#500~M30~%~
 a block with a slash whose switch is on|%~O1~/#500=1~M30~%~|%~O1~#1=#500~M30~%~|skip 1 1~|races 0~
 the line of the quiet program is less|%~O1~M98 P2~#500=3~M30~O2~#500=1~M99~%~|%~O1~#1=#500~M30~%~||races 1~#500 after 0 path 1 line 4 path 2 line 3~";
 
+/// Whether the pair of a row has the races that the row says.
 fn holds(alloc: Global, row: &str) -> Result<bool, Fail> {
     let mut parts = row.split('|');
     let _what = parts.next().ok_or("what it is")?;

@@ -1,4 +1,5 @@
-//! A journal in batches of one record and of three, with an edit, stopped behind each call of its disk: what is recovered.
+//! A journal in batches of one record and of three, with an edit, stopped behind each call of its
+//! disk: what is recovered.
 ghost use Rattle.std.specs.Prelude.{◌≡◌, None};
 ghost use Rattle.run_records.specs.Entries.{edit_of};
 ghost use Rattle.run_records.specs.Headers.{IsShort};
@@ -7,15 +8,16 @@ use crate::run::recovered;
 use crate::step_rows::header_of_blocks;
 use common_vars::CommonNumber;
 use disk_model::{Crash, Disk, FuseDisk, MemoryDisk};
-use nc_number::{Path, Value, Var};
+use nc_number::{MOST_PENDING, Path, Value, Var};
 use run_journal::Journal;
 use run_records::{Edit, Entry, EntryKind, Header, StampList, Version};
 use std::alloc::Global;
 use std::test::Fail;
 
-/// The version of the journal, behind how many calls the disk stops, and what is recovered behind a crash that keeps what was written,
-/// one that loses it, and one that fills it. The beginning makes 8 calls, and each flush 4: a write, a sync, a write of the gate, and
-/// a sync. So does the mark that raises version 1, which changes no history.
+/// The version of the journal, behind how many calls the disk stops, and what is recovered behind a
+/// crash that keeps what was written, one that loses it, and one that fills it. The beginning makes
+/// 8 calls, and each flush 4: a write, a sync, a write of the gate, and a sync. So does the mark
+/// that raises version 1, which changes no history.
 const ROWS: &str = "\
 2 0|no run|no run|no run
 2 7||no run|
@@ -44,14 +46,14 @@ fn add<D: Disk>(journal: &mut Journal<D>, path: Path, kind: EntryKind, stamp: Op
     if let Some(stamp) = stamp {
         stamps.push(stamp);
     }
-    if journal.is_live() && journal.pending() < 64 {
+    if journal.is_live() && journal.pending() < MOST_PENDING {
         let _full = journal.add(&Entry::of_step(path, kind, stamps));
     }
 }
 
 /// One edit more is to be written: #500 of path 1 gets 7.
 fn add_edit<D: Disk>(journal: &mut Journal<D>) {
-    if journal.is_live() && journal.pending() < 64 && journal.version() == Version::Two {
+    if journal.is_live() && journal.pending() < MOST_PENDING && journal.version() == Version::Two {
         let edit = Edit::Common {
             variable: CommonNumber::new(500),
             to: Value::of_units(7).map_or(Var::Vacant, |value| Var::Is(value)),
@@ -74,7 +76,8 @@ fn flush<D: Disk>(journal: &mut Journal<D>) {
     }
 }
 
-/// Writes the run of both tapes, which is edited behind its first record, as far as the disk lets it.
+/// Writes the run of both tapes, which is edited behind its first record, as far as the disk lets
+/// it.
 fn put_run<D: Disk>(journal: &mut Journal<D>) {
     add(journal, Path::One, EntryKind::Did, Some(0));
     flush(journal);

@@ -1,4 +1,5 @@
-//! A history with an edit, cut at each record, in both versions of a journal: what is found, and what a restart comes to.
+//! A history with an edit, cut at each record, in both versions of a journal: what is found, and
+//! what a restart comes to.
 use crate::journal_rows::{Headers, headers_of, journal_of};
 use crate::run::{recovered, restarted};
 use crate::step_rows::header_of_blocks;
@@ -11,8 +12,8 @@ const LEFT: &str = "#500=1~M30";
 
 const RIGHT: &str = "IF [#500 EQ 7] GOTO 2~#1=1~N2 #1=2~M30";
 
-/// Bodies as in the rows of journals, the records that they hold, and those of the whole run behind a restart. Behind the edit path 2
-/// reads 7, whatever it has read before.
+/// Bodies as in the rows of journals, the records that they hold, and those of the whole run behind
+/// a restart. Behind the edit path 2 reads 7, whatever it has read before.
 const ROWS: &str = "\
 H||1 did, 2 did 1, 1 ended, 2 did, 2 did, 2 ended
 H,01 010100|1 did|1 did, 2 did 1, 1 ended, 2 did, 2 did, 2 ended

@@ -1,5 +1,6 @@
-//! Journals byte for byte, and what a restart finds in them: the records of a run, or the one cause for which there is none. Each
-//! cause stands at a first, a middle and a last record, wherever it can stand there.
+//! Journals byte for byte, and what a restart finds in them: the records of a run, or the one cause
+//! for which there is none. Each cause stands at a first, a middle and a last record, wherever it
+//! can stand there.
 
 ghost use Rattle.run_records.specs.Headers.{IsShort};
 
@@ -9,12 +10,14 @@ use run_records::{Header, Version, put_header};
 use std::alloc::Global;
 use std::test::Fail;
 
-/// `pair SETTINGS|LEFT|RIGHT` gives the settings and the blocks of both tapes. Each line behind it is a journal of them and what is
-/// found: its bodies, parted by commas, of hexadecimal digits, where `H` is the header of version 2 and `h` that of version 1, `3x01`
-/// is 01 three times, `SEVEN` edits #500 of path 1, and `G54` a work offset of path 2. Of the first
-/// pair the header has 64 bytes, so the first batch stands at 74; there path 1 does 01010100000000, path 2 does 02010100000001, and
-/// they end with 010400 and 020400. A text that begins with a `%` is a whole tape. Of a journal that is `cut 63` so many bytes are left, and
-/// behind `raw` stand the bytes of a file.
+/// `pair SETTINGS|LEFT|RIGHT` gives the settings and the blocks of both tapes. Each line behind it
+/// is a journal of them and what is found: its bodies, parted by commas, of hexadecimal digits,
+/// where `H` is the header of version 2 and `h` that of version 1, `3x01` is 01 three times,
+/// `SEVEN` edits #500 of path 1, and `G54` a work offset of path 2. Of the first pair the header
+/// has 64 bytes, so the first batch stands at 74; there path 1 does 01010100000000, path 2 does
+/// 02010100000001, and they end with 010400 and 020400. A text that begins with a `%` is a whole
+/// tape. Of a journal that is `cut 63` so many bytes are left, and behind `raw` stand the bytes of
+/// a file.
 const ROWS: &str = "\
 pair |#500=#500+1~M30|#500=#500+1~M30
 H|

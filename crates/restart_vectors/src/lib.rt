@@ -1,7 +1,9 @@
-//! Tables of tests of stops and restarts: a run that is stopped at each call of its disk and restarted comes to the very history
-//! of a run that meets no stop. A history that an operator edits is cut at each record, in both versions of a journal.
+//! Tables of tests of stops and restarts: a run that is stopped at each call of its disk and
+//! restarted comes to the very history of a run that meets no stop. A history that an operator
+//! edits is cut at each record, in both versions of a journal.
 //!
-//! The histories that are expected stem from the rules of turns, and never from what a run recorded.
+//! The histories that are expected stem from the rules of turns, and never from what a run
+//! recorded.
 #![tactic(auto)]
 
 #[cfg(test)]

@@ -12,9 +12,10 @@ use run_table::Table;
 use std::alloc::{AllocError, Global};
 use std::test::Fail;
 
-/// The settings, the blocks of both tapes, for how many records there is a budget, the number of the disk's call that fails, or 0;
-/// steps of a path, as many times as the number before the `x` says; what the last of those times answered; and how many bytes
-/// then stand behind the header, with the first twenty of them. The beginning makes eight calls.
+/// The settings, the blocks of both tapes, for how many records there is a budget, the number of
+/// the disk's call that fails, or 0; steps of a path, as many times as the number before the `x`
+/// says; what the last of those times answered; and how many bytes then stand behind the header,
+/// with the first twenty of them. The beginning makes eight calls.
 const ROWS: &str = "\
 |M30|M30|9|0|1,2,1,2|ends, ends, has ended, has ended; 19 bytes 01000000040101040001000000040102040000
 |#500=7~M30|#1=#500~G00 X#1~M30|9|0|1,2,2|did 0 moves, reads #500 at 1, did 0 moves; 1 bytes 00

@@ -8,8 +8,9 @@ use run_records::{Header, Version};
 use std::alloc::Global;
 use std::test::Fail;
 
-/// The settings, both tapes, at how many calls of the disk the run may be stopped, and its history. `~` stands for the end of a
-/// line. The beginning of a run makes eight calls, and each batch four more.
+/// The settings, both tapes, at how many calls of the disk the run may be stopped, and its history.
+/// `~` stands for the end of a line. The beginning of a run makes eight calls, and each batch four
+/// more.
 const ROWS: &str = "\
 |%~O1~M30~%~|%~O1~M30~%~|16|1 ended, 2 ended
 |%~O1~#500=#500+1~M30~%~|%~O1~#500=#500+1~M30~%~|16|1 did 0, 2 did 1, 1 ended, 2 ended
@@ -34,8 +35,8 @@ fn count_of(history: &str) -> usize {
     history.split(", ").count()
 }
 
-/// What is wrong with what a crash left: the history that it holds is no beginning of the wanted one, or lacks a record that
-/// was shown, or its restart comes to another.
+/// What is wrong with what a crash left: the history that it holds is no beginning of the wanted
+/// one, or lacks a record that was shown, or its restart comes to another.
 fn put_fault(
     out: &mut String,
     alloc: Global,
@@ -57,7 +58,8 @@ fn put_fault(
     Ok(())
 }
 
-/// What is wrong with a run that is stopped behind so many calls, for each of the crashes. Whether it met no stop.
+/// What is wrong with a run that is stopped behind so many calls, for each of the crashes. Whether
+/// it met no stop.
 fn put_stop(
     out: &mut String,
     alloc: Global,
@@ -80,7 +82,8 @@ fn put_stop(
     Ok(shown == count_of(wanted))
 }
 
-/// At how many calls a run of the texts may be stopped, behind all that is wrong with what the stops leave.
+/// At how many calls a run of the texts may be stopped, behind all that is wrong with what the
+/// stops leave.
 fn stops_of(alloc: Global, header: &Header, wanted: &str) -> Result<String, Fail>
     requires { IsShort header.now }
 {

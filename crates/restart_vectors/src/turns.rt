@@ -1,5 +1,6 @@
-//! Turns of a table, which hang on the history alone: the path with fewer records has the next one, and where it waits or has
-//! ended, the other. So a run and the rest of it behind a restart give the same turns.
+//! Turns of a table, which hang on the history alone: the path with fewer records has the next one,
+//! and where it waits or has ended, the other. So a run and the rest of it behind a restart give
+//! the same turns.
 use crate::record_text::records_of;
 use disk_model::Disk;
 use nc_number::Path;
@@ -7,7 +8,8 @@ use run_records::EntryList;
 use run_table::{Table, TableStep};
 use two_path::Turn;
 
-/// How many records each path has made, and how many of all the last answer that showed something has left on the disk.
+/// How many records each path has made, and how many of all the last answer that showed something
+/// has left on the disk.
 #[derive(Clone, Copy)]
 pub(crate) struct Count {
     one: usize,
@@ -30,6 +32,7 @@ enum Said {
     Stopped,
 }
 
+/// How much an answer says: that is what the table has to have on the disk before it.
 fn said_of(answer: &TableStep) -> Said {
     match answer {
         TableStep::Drain | TableStep::DiskFault | TableStep::Halted(_) => Said::Stopped,

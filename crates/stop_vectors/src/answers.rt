@@ -55,7 +55,8 @@ fn answer_text(
     Ok(text)
 }
 
-/// What a call answers: its status, what each turret got, and its text. And the disk that it leaves.
+/// What a call answers: its status, what each turret got, and its text. And the disk that it
+/// leaves.
 fn answered<R: Threads + Wait + Sync + Abort>(
     rt: &R,
     alloc: Global,

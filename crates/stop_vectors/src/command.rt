@@ -17,7 +17,8 @@ pub(crate) enum Outside {
     Right,
 }
 
-/// The numbers of the calls that fail: of the shelf, of the output, of the disk, and of the turret of each path.
+/// The numbers of the calls that fail: of the shelf, of the output, of the disk, and of the turret
+/// of each path.
 #[derive(Clone, Copy)]
 pub(crate) struct Failing<'a> {
     pub(crate) fetches: &'a [u64],
@@ -71,10 +72,10 @@ pub(crate) fn devices_of<R: Abort>(
     }
 }
 
-/// What a command comes to, with its output.
+/// What a command comes to beside a second disk in memory, with its output.
 #[derive(Drop)]
-pub(crate) struct Done<D: Disk + Drop, E: Disk + Drop, T: Turret + Drop> {
-    pub(crate) outcome: Outcome<D, E, T>,
+pub(crate) struct Done<D: Disk + Drop, T: Turret + Drop> {
+    pub(crate) outcome: Outcome<D, MemoryDisk, T>,
     pub(crate) sink: VecSink,
 }
 
@@ -106,33 +107,14 @@ pub(crate) fn done_by<R, D, T>(
     shelf: &mut MemoryShelf,
     disk: D,
     devices: Devices<T>,
-) -> Done<D, MemoryDisk, T>
+) -> Done<D, T>
 where
     R: Threads + Wait + Sync + Abort,
     D: Disk + Send + Drop,
-    T: Turret + Send + Drop,
-{
-    let second = disk_of(rt, alloc, &[], &[]);
-    done_beside(rt, alloc, line, shelf, disk, second, devices)
-}
-
-/// Does a command of these words, beside this second disk.
-pub(crate) fn done_beside<R, D, E, T>(
-    rt: &R,
-    alloc: Global,
-    line: &str,
-    shelf: &mut MemoryShelf,
-    disk: D,
-    second: E,
-    devices: Devices<T>,
-) -> Done<D, E, T>
-where
-    R: Threads + Wait + Sync + Abort,
-    D: Disk + Send + Drop,
-    E: Disk + Drop,
     T: Turret + Send + Drop,
 {
     let words = words_of(alloc, line).expect(rt, "words");
+    let second = disk_of(rt, alloc, &[], &[]);
     let Devices { left, right, sink } = devices;
     let mut sink = sink;
     let outcome = top(

@@ -1,4 +1,5 @@
-//! Edits of a stopped run, stopped at each call of their disk; or one call fails. Then the run has all of them, or none.
+//! Edits of a stopped run, stopped at each call of their disk; or one call fails. Then the run has
+//! all of them, or none.
 use crate::command::{HONEST, Outside, disk_of, failing_of};
 use crate::pair::said_over;
 use crate::stops::{Left, crash, said_honestly, stopped};
@@ -40,7 +41,8 @@ fn is_right(said: &str, state: &str) -> bool {
     }
 }
 
-/// Whether a run whose state was so comes to this: with the edits it makes other moves than without.
+/// Whether a run whose state was so comes to this: with the edits it makes other moves than
+/// without.
 fn is_led_to(state: &str, then: &str) -> bool {
     match state {
         "0 records 14" => then == "0 end done",
@@ -49,7 +51,8 @@ fn is_led_to(state: &str, then: &str) -> bool {
     }
 }
 
-/// What is wrong with edits that said this: nothing, or what they said, and what the run then comes to.
+/// What is wrong with edits that said this: nothing, or what they said, and what the run then comes
+/// to.
 fn put_wrong<R: Threads + Wait + Sync + Abort>(
     out: &mut String,
     rt: &R,
@@ -85,7 +88,8 @@ fn are_made<R: Threads + Wait + Sync + Abort>(
     made
 }
 
-/// What is wrong with edits that are stopped at each call of their disk, up to those that are not stopped.
+/// What is wrong with edits that are stopped at each call of their disk, up to those that are not
+/// stopped.
 fn stops_of_edits<R: Threads + Wait + Sync + Abort>(
     rt: &R,
     alloc: Global,
@@ -118,7 +122,8 @@ fn said_by_failed<R: Threads + Wait + Sync + Abort>(
     said
 }
 
-/// What is wrong with edits of which one call of the disk fails each time, up to those that meet no fault.
+/// What is wrong with edits of which one call of the disk fails each time, up to those that meet no
+/// fault.
 fn failures_of_edits<R: Threads + Wait + Sync + Abort>(
     rt: &R,
     alloc: Global,

@@ -28,8 +28,8 @@ fn failed<R: Threads + Wait + Sync + Abort>(
     both(alloc, said.as_str(), then.as_str()).expect(rt, "a text")
 }
 
-/// What runs say of which one call fails each time, from the first call on, with how many runs in succession say the same; up to
-/// the one that meets no fault.
+/// What runs say of which one call fails each time, from the first call on, with how many runs in
+/// succession say the same; up to the one that meets no fault.
 fn failures_of<R: Threads + Wait + Sync + Abort>(
     rt: &R,
     alloc: Global,
@@ -55,7 +55,7 @@ fn failures_of<R: Threads + Wait + Sync + Abort>(
     Ok(out)
 }
 
-// A place and 19 moves for path 1, and a place and 11 moves for path 2. The report has 34 lines.
+/// A place and 19 moves for path 1, and a place and 11 moves for path 2. The report has 34 lines.
 #[test]
 fn each_call_of_the_outside_fails_once(rt: HostRuntime) -> Result<(), Fail> {
     let alloc = rt.alloc();

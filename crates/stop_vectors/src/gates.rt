@@ -12,7 +12,8 @@ use std::sync::atomic::Ordering::SeqCst;
 use std::thread;
 use std::thread::Threads;
 
-/// How often a turret looks for the move of the other one before it fails. In between it lets other threads run.
+/// How often a turret looks for the move of the other one before it fails. In between it lets other
+/// threads run.
 const LOOKS: u32 = 10_000_000;
 
 /// Two tapes of one rapid each, and settings that say nothing.
@@ -21,7 +22,8 @@ left|%~O1~G00 X1.~M30~%~
 right|%~O1~G00 Z1.~M30~%~
 cell|";
 
-/// A turret that answers a move only once the other one was handed a move, and fails where that takes too long.
+/// A turret that answers a move only once the other one was handed a move, and fails where that
+/// takes too long.
 #[derive(Drop)]
 struct GateTurret<'a> {
     /// How many moves it was handed.

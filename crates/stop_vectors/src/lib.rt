@@ -1,19 +1,19 @@
-//! Tests of stops and failures of whole commands: a run of the pair as a shop has it is stopped at each call of its disk, each call
-//! of its shelf, its output, its disk and its turrets fails once, and then the run goes on to the report of one that met no fault.
+//! Tests of stops and failures of whole commands: a run of the pair as a shop has it is stopped at
+//! each call of its disk, each call of its shelf, its output, its disk and its turrets fails once,
+//! and then the run goes on to the report of one that met no fault.
 //!
-//! Edits of a stopped run are stopped at each call of their disk too, and then the run has all of them or none. A branch is stopped at
-//! each call of the second disk, which then has no run or the whole branch.
+//! Edits of a stopped run are stopped at each call of their disk too, and then the run has all of
+//! them or none.
 //!
-//! And a run calls both turrets at the same time: each of two that wait for each other's move gets to answer it. Each turret has its
-//! place and then the moves of its path's records, neither more nor fewer, and what it missed when it failed is counted.
+//! And a run calls both turrets at the same time: each of two that wait for each other's move gets
+//! to answer it. Each turret has its place and then the moves of its path's records, neither more
+//! nor fewer, and what it missed when it failed is counted.
 //!
 //! What is expected stems from the rules of the commands, and never from what a run answered.
 #![tactic(auto)]
 
 #[cfg(test)]
 mod answers;
-#[cfg(test)]
-mod branches;
 #[cfg(test)]
 mod command;
 #[cfg(test)]

@@ -7,16 +7,18 @@ use std::process::Abort;
 use std::sync::Wait;
 use std::thread::Threads;
 
-/// A tape with a cycle of four moves, and one with a single code, each in one block before its wait; and one of the wait alone. So all
-/// moves before the wait are on the disk when the first of them is handed, and no other is recorded until the turret had them.
+/// A tape with a cycle of four moves, and one with a single code, each in one block before its
+/// wait; and one of the wait alone. So all moves before the wait are on the disk when the first of
+/// them is handed, and no other is recorded until the turret had them.
 const FILES: &str = "\
 cycle|%~O1~G90 X40. Z-20. F0.2~M101~M30~%~
 code|%~O1~M08~M101~M30~%~
 wait|%~O1~M101~M30~%~
 none|";
 
-// The words of a command; the turret that fails, and at which of its calls; and the status, with how many moves the turret of path
-// 1 and that of path 2 missed. A place is no move, and a turret that has no such call does not fail.
+/// The words of a command; the turret that fails, and at which of its calls; and the status, with
+/// how many moves the turret of path 1 and that of path 2 missed. A place is no move, and a turret
+/// that has no such call does not fail.
 const ROWS: &str = "\
 run cycle wait none|left 1|7 0 0
 run cycle wait none|left 2|7 4 0
@@ -46,7 +48,8 @@ fn missed_text(alloc: Global, status: u8, missed: (u64, u64)) -> Result<String, 
     format!(in alloc; "{status} {} {}", missed.0, missed.1)
 }
 
-/// The status of a command on an empty disk, and how many moves each turret missed, when this call of this turret fails.
+/// The status of a command on an empty disk, and how many moves each turret missed, when this call
+/// of this turret fails.
 fn missed_by<R: Threads + Wait + Sync + Abort>(
     rt: &R,
     alloc: Global,

@@ -12,12 +12,13 @@ use run_table::Table;
 use std::alloc::{AllocError, Global};
 use std::test::Fail;
 
-// The text of a tape of these blocks, with each `~` as the end of a line.
+/// The text of a tape of these blocks, with each `~` as the end of a line.
 fn tape(alloc: Global, blocks: &str) -> Result<ByteList, AllocError> {
     let text = format!(in alloc; "%~O1~{blocks}~M30~%~")?;
     Ok(ByteList::of(lines_of(alloc, text.as_str())?))
 }
 
+/// The header of two tapes of these blocks and no settings, however long.
 fn header_of_any(alloc: Global, left: &str, right: &str) -> Result<Header, AllocError> {
     Ok(Header {
         version: Version::Two,
@@ -27,7 +28,7 @@ fn header_of_any(alloc: Global, left: &str, right: &str) -> Result<Header, Alloc
     })
 }
 
-// The header of two tapes of these blocks and no settings.
+/// The header of two tapes of these blocks and no settings.
 pub fn header_of(alloc: Global, left: &str, right: &str) -> Result<Header, Fail>
     ensures { IfOk result IsShort }
 {
@@ -42,7 +43,7 @@ pub fn header_of(alloc: Global, left: &str, right: &str) -> Result<Header, Fail>
     }
 }
 
-// The pair of the header's texts, which has to be accepted.
+/// The pair of the header's texts, which has to be accepted.
 fn pair_of(alloc: Global, header: &Header) -> Result<Verified, Fail>
     requires { IsShort header.now }
     ensures { IfOk result (IsVerdictOf header.now) }
@@ -54,6 +55,7 @@ fn pair_of(alloc: Global, header: &Header) -> Result<Verified, Fail>
     }
 }
 
+/// A table at which a new run of the pair begins.
 fn begun(
     alloc: Global,
     pair: Verified,
@@ -71,7 +73,7 @@ fn begun(
     }
 }
 
-// A table at which a run of the pair begins.
+/// A table at which a run of the pair begins.
 pub fn table_of(alloc: Global, header: &Header, disk: MemoryDisk) -> Result<Table<MemoryDisk>, Fail>
     requires { IsShort header.now }
     ensures may { IfOk result MayRun }

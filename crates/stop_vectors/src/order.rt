@@ -1,4 +1,5 @@
-//! That a turret moves after the record of its move is on the disk, and that the run goes on while it moves.
+//! That a turret moves after the record of its move is on the disk, and that the run goes on while
+//! it moves.
 use crate::command::{Devices, done_by};
 use crate::shelf::shelf_of;
 use disk_model::{Disk, MemoryDisk};
@@ -12,7 +13,8 @@ use std::sync::atomic::Ordering::SeqCst;
 use std::thread;
 use std::thread::Threads;
 
-/// How often a call looks for what it waits for before it goes on. In between it lets other threads run.
+/// How often a call looks for what it waits for before it goes on. In between it lets other threads
+/// run.
 const LOOKS: u32 = 10_000_000;
 
 /// Eight rapids of path 1, a block each; path 2 only ends. The settings say nothing.
@@ -39,6 +41,7 @@ struct Counts {
 }
 
 impl Counts {
+    /// Nothing was counted yet.
     fn new() -> Counts {
         Counts {
             syncs: AtomicU64::new(0),
@@ -47,10 +50,12 @@ impl Counts {
         }
     }
 
+    /// Whether nothing was found wrong.
     fn is_faultless(&self) -> bool {
         self.faults.load(SeqCst) == 0
     }
 
+    /// Counts something that is wrong.
     fn add_fault(&self) {
         self.faults.fetch_add(1, SeqCst);
     }
@@ -132,7 +137,8 @@ impl<'a> Turret for OrderTurret<'a> {
         Ok(())
     }
 
-    /// The record of the move is on the disk, with those of all moves before it, and each was shown alone.
+    /// The record of the move is on the disk, with those of all moves before it, and each was shown
+    /// alone.
     fn hand(&mut self, _what: &LinedMove) -> Result<(), nc_outside::Failed> {
         let number = self.counts.hands.fetch_add(1, SeqCst).wrapping_add(1);
         let due = self
@@ -152,7 +158,8 @@ impl<'a> Turret for OrderTurret<'a> {
     }
 }
 
-/// The status of a run of which a sync waits for the first move, and the first move for a sync; 0: for none.
+/// The status of a run of which a sync waits for the first move, and the first move for a sync; 0:
+/// for none.
 fn status_of<R: Threads + Wait + Sync + Abort>(
     rt: &R,
     alloc: Global,

@@ -1,9 +1,8 @@
 //! The pair of tapes as a shop has it.
-use crate::command::{Done, Failing, devices_of, disk_of, done_beside};
+use crate::command::{Done, Failing, devices_of, done_by};
 use crate::line_ends::row_of;
 use crate::shelf::shelf_of;
 use disk_model::Disk;
-use nc_outside::MemoryTurret;
 use std::alloc::{AllocError, Global};
 use std::process::Abort;
 use std::sync::Wait;
@@ -41,17 +40,6 @@ fn status_and_gist(alloc: Global, status: u8, bytes: &[u8]) -> Result<String, Al
     format!(in alloc; "{status} {}", gist_of(text.as_str()))
 }
 
-/// What a command said, and both disks.
-fn said_by<R: Abort, D: Disk + Drop, E: Disk + Drop>(
-    rt: &R,
-    alloc: Global,
-    done: Done<D, E, MemoryTurret>,
-) -> (String, D, E) {
-    let Done { outcome, sink } = done;
-    let said = status_and_gist(alloc, outcome.status(), sink.bytes()).expect(rt, "what it said");
-    (said, outcome.disk, outcome.second)
-}
-
 /// What a command over the pair says with this disk, and the disk that it leaves.
 pub(crate) fn said_over<R, D>(
     rt: &R,
@@ -64,27 +52,9 @@ where
     R: Threads + Wait + Sync + Abort,
     D: Disk + Send + Drop,
 {
-    let second = disk_of(rt, alloc, &[], &[]);
-    let (said, disk, _) = said_beside(rt, alloc, line, disk, second, failing);
-    (said, disk)
-}
-
-/// What a command over the pair says with these disks, and the disks that it leaves.
-pub(crate) fn said_beside<R, D, E>(
-    rt: &R,
-    alloc: Global,
-    line: &str,
-    disk: D,
-    second: E,
-    failing: Failing<'_>,
-) -> (String, D, E)
-where
-    R: Threads + Wait + Sync + Abort,
-    D: Disk + Send + Drop,
-    E: Disk + Drop,
-{
     let mut shelf = shelf_of(rt, alloc, FILES, failing.fetches);
     let devices = devices_of(rt, alloc, 100, failing);
-    let done = done_beside(rt, alloc, line, &mut shelf, disk, second, devices);
-    said_by(rt, alloc, done)
+    let Done { outcome, sink } = done_by(rt, alloc, line, &mut shelf, disk, devices);
+    let said = status_and_gist(alloc, outcome.status(), sink.bytes()).expect(rt, "what it said");
+    (said, outcome.disk)
 }

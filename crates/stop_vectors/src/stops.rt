@@ -74,7 +74,8 @@ fn is_told(said: &str) -> bool {
     matches!(said, "6 disk fault" | "6 end disk fault" | "0 whole report")
 }
 
-/// What is wrong with what a stop left: it came without a fault of the disk, or the run does not come to its report.
+/// What is wrong with what a stop left: it came without a fault of the disk, or the run does not
+/// come to its report.
 fn put_wrong(out: &mut String, said: &str, then: &str) -> Result<(), AllocError> {
     if !is_told(said) {
         writeln!(out, "it said {said}")?;
@@ -97,7 +98,8 @@ fn said_by_stopped<R: Threads + Wait + Sync + Abort>(
     left.said
 }
 
-/// Whether a run that may make so many calls of its disk makes its whole report, whatever crash follows.
+/// Whether a run that may make so many calls of its disk makes its whole report, whatever crash
+/// follows.
 fn is_whole<R: Threads + Wait + Sync + Abort>(
     out: &mut String,
     rt: &R,
@@ -113,7 +115,8 @@ fn is_whole<R: Threads + Wait + Sync + Abort>(
     is_whole
 }
 
-/// At how many calls of its disk a run may be stopped, behind all that is wrong with what the stops leave.
+/// At how many calls of its disk a run may be stopped, behind all that is wrong with what the stops
+/// leave.
 fn stops_of_run<R: Threads + Wait + Sync + Abort>(
     rt: &R,
     alloc: Global,
@@ -160,7 +163,8 @@ fn stops_of_restarts<R: Threads + Wait + Sync + Abort>(rt: &R, alloc: Global) ->
     out
 }
 
-/// What a run over the bytes of a run says, whose disk stops behind so many calls; and that it changed them, where it did.
+/// What a run over the bytes of a run says, whose disk stops behind so many calls; and that it
+/// changed them, where it did.
 fn said_over_a_run<R: Threads + Wait + Sync + Abort>(
     rt: &R,
     alloc: Global,
@@ -175,7 +179,8 @@ fn said_over_a_run<R: Threads + Wait + Sync + Abort>(
     said
 }
 
-/// What such runs say, each of them stopped behind one call of its disk more, up to the one that is not stopped.
+/// What such runs say, each of them stopped behind one call of its disk more, up to the one that is
+/// not stopped.
 fn runs_over_a_run<R: Threads + Wait + Sync + Abort>(
     rt: &R,
     alloc: Global,
@@ -192,14 +197,14 @@ fn runs_over_a_run<R: Threads + Wait + Sync + Abort>(
     Ok(out)
 }
 
-// The beginning makes eight calls, and each of the 24 records that show something four more.
+/// The beginning makes eight calls, and each of the 24 records that show something four more.
 #[test]
 fn a_run_that_is_stopped_at_each_call_goes_on(rt: HostRuntime) {
     let got = stops_of_run(&rt, rt.alloc()).expect(&rt, "what is wrong");
     assert_eq!(&rt; got.as_str(), "104");
 }
 
-// A run looks for another by a sync, the length and the first gate.
+/// A run looks for another by a sync, the length and the first gate.
 #[test]
 fn a_run_over_a_run_leaves_it_alone_wherever_it_is_stopped(rt: HostRuntime) {
     let alloc = rt.alloc();

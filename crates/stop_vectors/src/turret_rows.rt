@@ -5,6 +5,7 @@ ghost use Rattle.run_table.specs.Running.{MayRun, end_of};
 
 use crate::opened_pairs::{header_of, table_of};
 use disk_model::MemoryDisk;
+use nc_number::Both;
 use nc_outside::MemoryTurret;
 use run_records::Header;
 use run_table::{RunEnd, Table};
@@ -15,8 +16,8 @@ use std::test::Fail;
 use std::thread::Threads;
 use turret_run::{TurretEnd, TurretRun, run_with_turrets};
 
-// The blocks of both tapes before their M30, the limit, the number of the call that fails for each turret, or 0; how the run
-// ends, and how much each turret got.
+/// The blocks of both tapes before their M30, the limit, the number of the call that fails for each
+/// turret, or 0; how the run ends, and how much each turret got.
 const ROWS: &str = "\
 M03|M08~M09|9|0|0|done 2 3
 M03~M101~M08|M101~M09|9|0|0|done 3 2
@@ -28,6 +29,7 @@ M03~M08||9|3|0|turret 1 2 1
 |M03~M08|9|0|1|turret 2 1 0
 |M03~M08|9|0|3|turret 2 1 2";
 
+/// The word of a row for how a run ended.
 fn end_word(end: TurretEnd) -> &'static str {
     match end {
         TurretEnd::Ended(RunEnd::Done) => "done",
@@ -41,8 +43,9 @@ fn end_word(end: TurretEnd) -> &'static str {
     }
 }
 
+/// How a run ended, and how much each turret got, as a row says it.
 fn text_of(alloc: Global, run: &TurretRun<MemoryDisk, MemoryTurret>) -> Result<String, AllocError> {
-    let (left, right) = (run.left.got().len(), run.right.got().len());
+    let (left, right) = (run.turrets.one.got().len(), run.turrets.two.got().len());
     format!(in alloc; "{} {left} {right}", end_word(run.end))
 }
 
@@ -51,7 +54,8 @@ fn turret_of<R: Abort>(rt: &R, alloc: Global, failing: u64) -> MemoryTurret {
     MemoryTurret::new(alloc, 73, &[failing]).expect(rt, "a turret")
 }
 
-/// How a run of so many records ends, each turret's call of these numbers failing, and how much each turret got.
+/// How a run of so many records ends, each turret's call of these numbers failing, and how much
+/// each turret got.
 fn run_text<R: Threads + Wait + Sync + Abort>(
     rt: &R,
     alloc: Global,
@@ -62,9 +66,11 @@ fn run_text<R: Threads + Wait + Sync + Abort>(
     requires may { MayRun table }
     requires unended { end_of table.machine ≡ None }
 {
-    let left = turret_of(rt, alloc, failing.0);
-    let right = turret_of(rt, alloc, failing.1);
-    let run = run_with_turrets(rt, alloc, table, limit, left, right);
+    let turrets = Both {
+        one: turret_of(rt, alloc, failing.0),
+        two: turret_of(rt, alloc, failing.1),
+    };
+    let run = run_with_turrets(rt, alloc, table, limit, turrets);
     text_of(alloc, &run).expect(rt, "a text")
 }
 

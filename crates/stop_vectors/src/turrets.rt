@@ -43,7 +43,7 @@ fn moves_of<R: Threads + Wait + Sync + Abort>(rt: &R, alloc: Global, line: &str)
     moves_text(alloc, outcome.status(), left, right).expect(rt, "a text")
 }
 
-// The pair as a shop has it, and a made pair of ten thousand blocks.
+/// The pair as a shop has it, and a made pair of ten thousand blocks.
 #[test]
 fn no_run_strays(rt: HostRuntime) {
     let of_shop = moves_of(&rt, rt.alloc(), RUN);

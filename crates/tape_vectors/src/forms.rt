@@ -1,4 +1,5 @@
-//! What a block says: its refusal, what it does to the order of blocks, the call that it is, and what its codes mean.
+//! What a block says: its refusal, what it does to the order of blocks, the call that it is, and
+//! what its codes mean.
 use crate::tape::read;
 use block_forms::{Dialect, FlowBlock, FlowBody, read_block};
 use code_tables::System;
@@ -120,7 +121,8 @@ G65 P1000 A1.|Some(Called { program: 1000, repeats: 1, kind: Macro })
 G65 P1 P2|Some(Called { program: 2, repeats: 1, kind: Macro })
 X1.|None";
 
-/// A block of system A, and the group and the kind of its first G code, or the number of its refusal.
+/// A block of system A, and the group and the kind of its first G code, or the number of its
+/// refusal.
 const CODES_OF_A: &str = "\
 G00|1 Rapid
 G01|1 Feed

@@ -1,4 +1,5 @@
-//! What a block does to the order of blocks, where nothing else that it says is looked into; or its refusal.
+//! What a block does to the order of blocks, where nothing else that it says is looked into; or its
+//! refusal.
 use crate::tape::read;
 use block_forms::Dialect;
 use code_tables::System;

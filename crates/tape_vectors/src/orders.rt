@@ -1,6 +1,7 @@
 //! The order of the blocks of small tapes, or their first fault.
 ghost use Rattle.std.specs.Prelude.{◌≡◌, ◌++◌, true, IfOk, OnOk};
-ghost use Rattle.block_order.specs.Shape.{RiseFrom, IsListed, lines_of_program, lines_in};
+ghost use Rattle.block_order.specs.Shape.{IsListed, lines_of_program, lines_in};
+ghost use Rattle.nc_number.specs.Rising.{RiseFrom};
 ghost use Rattle.block_order.specs.declared.program.ControlProgram.{ControlProgram};
 
 use crate::call::{Call, call_of, number};
@@ -11,9 +12,10 @@ use std::alloc::{AllocError, Global};
 use std::test::Fail;
 use wait_order::check_order;
 
-/// The programs of a tape, parted by `;`, each with the line of its O number and its blocks, of which each stands a line further on
-/// than the one before; and the refusal of the tape, or `none`. Or, behind a `|`, where a jump from a block of the first program
-/// leads: a search for its sequence number, or the target that is permitted.
+/// The programs of a tape, parted by `;`, each with the line of its O number and its blocks, of
+/// which each stands a line further on than the one before; and the refusal of the tape, or `none`.
+/// Or, behind a `|`, where a jump from a block of the first program leads: a search for its
+/// sequence number, or the target that is permitted.
 const ROWS: &str = "\
 O1 1: GOTO 10, M100, N10 M30; O2 101: M99 = refused 65 line 2
 O1 1: GOTO 10, N10 X1., M100, M30; O2 101: M99 = none

@@ -11,8 +11,9 @@ use tape_flow::{Flow, compile};
 /// The tape whose flow is asked.
 const TAPE: &str = "%~O1~M101~M98 P2~G00~M99~O2~M102~M99~O3~M99~%~";
 
-/// A step of the place and where it stands then: the open calls, and the program, the block and the repeats left of the running
-/// frame. Or a question of the place, of the flow, or of a block of it, by its program and its index, and the answer.
+/// A step of the place and where it stands then: the open calls, and the program, the block and the
+/// repeats left of the running frame. Or a question of the place, of the flow, or of a block of it,
+/// by its program and its index, and the answer.
 const ROWS: &str = "\
 start 1 = 0 1 0 0
 next = 0 1 1 0

@@ -7,9 +7,10 @@ use std::alloc::{AllocError, Global};
 use std::process::Abort;
 use std::test::Fail;
 
-/// The skip switches that are set, 2 for the first one, 4 for the second and on; a text, with `~` for the end of a line; and what is
-/// read: each program and each block with its line, and each word with the places before and behind its value, or the refusal. The
-/// rows from the leader `a` on come in pairs that read the same.
+/// The skip switches that are set, 2 for the first one, 4 for the second and on; a text, with `~`
+/// for the end of a line; and what is read: each program and each block with its line, and each
+/// word with the places before and behind its value, or the refusal. The rows from the leader `a`
+/// on come in pairs that read the same.
 const ROWS: &str = "\
 4: HEAD~%~o1 (a)~n10 g0 x1.5;~/2 g1 z-.5 f.1~%~ = O1 line 3, line 4 N10 G0 5-6 X1.5 8-11
 0: HEAD~%~o1 (a)~n10 g0 x1.5;~/2 g1 z-.5 f.1~%~ = O1 line 3, line 4 N10 G0 5-6 X1.5 8-11, line 5 G1 4-5 Z-.5 7-10 F.1 12-14

@@ -1,4 +1,5 @@
-//! Commands one after another over one disk: their words, their statuses, and the texts that they write.
+//! Commands one after another over one disk: their words, their statuses, and the texts that they
+//! write.
 use crate::row::{is_text, lines_of};
 use disk_model::MemoryDisk;
 use lathe_top::{Outcome, top};
@@ -16,10 +17,11 @@ const ROOM: usize = 100_000;
 /// How many calls a turret has room for.
 const TURRET_ROOM: usize = 100;
 
-/// A line for each step, and a `~` for the end of a line. `pair LEFT|RIGHT|SETTINGS` begins a story with these files, and a disk
-/// of no bytes. `failing N` gives it a disk of no bytes whose call of this number fails, and `bytes HEX` one of these bytes. Every
-/// other line is a command: `WORDS|STATUS|TEXT`, or `WORDS|STATUS|TEXT|or OTHER` where it hangs on which path has its turn first.
-/// It leaves its bytes on a disk that does not fail, and `honest` says so.
+/// A line for each step, and a `~` for the end of a line. `pair LEFT|RIGHT|SETTINGS` begins a story
+/// with these files, and a disk of no bytes. `failing N` gives it a disk of no bytes whose call of
+/// this number fails, and `bytes HEX` one of these bytes. Every other line is a command:
+/// `WORDS|STATUS|TEXT`, or `WORDS|STATUS|TEXT|or OTHER` where it hangs on which path has its turn
+/// first. It leaves its bytes on a disk that does not fail, and `honest` says so.
 const STORIES: &str = "\
 pair %~O0001 (UPPER TURRET)~N10 G21 G40 G97 G99~N20 G28 U0 W0~N30 G50 S2500~N40 T0101~N50 G97 S800 M03~N60 G00 X52. Z2. M08~N70 M101~N80 G90 X48. Z-30. F0.25~N90 X46.~N100 G00 X100. Z50. M09~N110 T0100~N120 M102~N130 M30~%~|%~O0002 (LOWER TURRET)~N10 G21 G40 G99~N20 G28 U0 W0~N30 T0202~N40 M101~N50 G97 S600 M03~N60 G00 X54. Z-10.~N70 G01 X40. F0.1~N80 G03 X46. Z-13. R3.~N90 G04 P500~N100 G00 X60.~N110 T0200~N120 M102~N130 M30~%~|place 1 X200. Z150.~place 2 X200. Z150.~home 1 X300. Z200.~home 2 X300. Z200.~work 1 54 X0 Z100.~work 2 54 X0 Z100.~tool 1 1 X-20. Z-10.~tool 2 2 X-10. Z5.~
 verify left right settings|0|accepted~
@@ -182,7 +184,8 @@ fn bytes_of(alloc: Global, text: &str) -> Result<Vec<u8>, AllocError> {
     Ok(out)
 }
 
-/// Where a story is: its files, the bytes on its disk, and the number of the call that fails, 0 where none does.
+/// Where a story is: its files, the bytes on its disk, and the number of the call that fails, 0
+/// where none does.
 #[derive(Drop)]
 struct Story {
     pair: String,
@@ -198,6 +201,7 @@ struct Answer {
     bytes: Vec<u8>,
 }
 
+/// The bytes of a disk.
 fn bytes_on(alloc: Global, disk: &MemoryDisk) -> Result<Vec<u8>, AllocError> {
     disk.bytes().to_vec(alloc)
 }

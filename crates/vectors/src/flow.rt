@@ -1,5 +1,5 @@
-//! Tapes that are refused once they are read, with the number and the line of their refusal: a block by itself, the order of
-//! blocks, and loads that the judging of a tape must bear.
+//! Tapes that are refused once they are read, with the number and the line of their refusal: a
+//! block by itself, the order of blocks, and loads that the judging of a tape must bear.
 use crate::listing::read_in;
 use crate::row::lines_of;
 use cell_settings::read_settings;
@@ -9,7 +9,8 @@ use std::process::Abort;
 use std::test::Fail;
 use tape_flow::{Flow, FlowFault, compile};
 
-/// `BLOCK = REFUSAL`, the number and the line of the least refusal of a tape whose line 3 it is, or `none`.
+/// `BLOCK = REFUSAL`, the number and the line of the least refusal of a tape whose line 3 it is, or
+/// `none`.
 const BLOCKS: &str = "\
 X1. Z2. = none
 Y1. = 56 line 3

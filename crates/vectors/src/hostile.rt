@@ -7,8 +7,8 @@ use nc_text::{Reader, TextFault};
 use std::alloc::{AllocError, Global};
 use std::test::Fail;
 
-/// `TEXT = ANSWER`, what is read or the refusal. More digits than a literal may have, in a word whose letter is neither N nor O,
-/// are refused by its block's form.
+/// `TEXT = ANSWER`, what is read or the refusal. More digits than a literal may have, in a word
+/// whose letter is neither N nor O, are refused by its block's form.
 const ROWS: &str = "\
 G00 X1.~M30~ = refused 13 line 1
  = refused 13 line 1

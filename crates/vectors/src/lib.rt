@@ -1,7 +1,9 @@
-//! Tables of tests that cross crates: what the reader of tapes, their flow, the verdict, the settings and the maker of pairs
-//! say of single blocks, of the realistic pair, of made pairs, of the program's own examples and of hostile texts.
+//! Tables of tests that cross crates: what the reader of tapes, their flow, the verdict, the
+//! settings and the maker of pairs say of single blocks, of the realistic pair, of made pairs, of
+//! the program's own examples and of hostile texts.
 //!
-//! The answers that are expected stem from the rules of tapes and settings, and never from what the program answered.
+//! The answers that are expected stem from the rules of tapes and settings, and never from what the
+//! program answered.
 #![tactic(auto)]
 
 #[cfg(test)]

@@ -1,5 +1,5 @@
-//! What the reader says of a text, as rows have it: `O1 line 2~3 N10 G0 X1.5~` with a line for each program and each block, or
-//! `refused 13 line 1`.
+//! What the reader says of a text, as rows have it: `O1 line 2~3 N10 G0 X1.5~` with a line for each
+//! program and each block, or `refused 13 line 1`.
 use nc_number::Failing;
 use nc_text::{Block, Body, Program, Reader, Tape, TextFault, Word};
 use std::alloc::{AllocError, Global};
@@ -50,6 +50,7 @@ pub(crate) fn refusal(alloc: Global, fault: Failing<TextFault>) -> Result<String
     }
 }
 
+/// The programs of a tape, one after another.
 fn programs_listed(
     alloc: Global,
     shown: Shown,
@@ -62,6 +63,7 @@ fn programs_listed(
     Ok(out)
 }
 
+/// The number and the line of a program, and then its blocks.
 fn put_program(out: &mut String, shown: Shown, program: &Program) -> Result<(), AllocError> {
     let (number, line) = (program.number, program.line);
     write!(out, "O{number} line {line}~")?;
@@ -85,6 +87,7 @@ pub(crate) fn put_block(out: &mut String, shown: Shown, block: &Block) -> Result
     out.push('~')
 }
 
+/// The letters and the texts of words, and where they stand if that is shown.
 fn put_words(out: &mut String, shown: Shown, words: &[Word]) -> Result<(), AllocError> {
     for word in words {
         out.push(' ')?;
@@ -94,6 +97,7 @@ fn put_words(out: &mut String, shown: Shown, words: &[Word]) -> Result<(), Alloc
     Ok(())
 }
 
+/// Where a word begins and ends, if that is shown.
 fn put_places(out: &mut String, shown: Shown, start: u32, end: u32) -> Result<(), AllocError> {
     match shown {
         Shown::Values => Ok(()),

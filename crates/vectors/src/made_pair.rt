@@ -5,7 +5,8 @@ use std::alloc::{AllocError, Global};
 use std::test::Fail;
 use tape_maker::make_tapes;
 
-/// Whether a block stands on that line, without a sequence number, and is neither a statement nor has an M word.
+/// Whether a block stands on that line, without a sequence number, and is neither a statement nor
+/// has an M word.
 fn is_cut(block: &Block, line: u32) -> bool {
     let is_plain = match &block.body {
         Body::Words(words) => words.as_slice().iter().all(|word| word.letter != b'M'),
@@ -14,7 +15,8 @@ fn is_cut(block: &Block, line: u32) -> bool {
     is_plain && block.line == line && block.sequence.is_none()
 }
 
-/// The blocks that are no cuts, and the line behind the last block where each block has a line of its own.
+/// The blocks that are no cuts, and the line behind the last block where each block has a line of
+/// its own.
 fn rounds_of(alloc: Global, blocks: &[Block]) -> Result<String, AllocError> {
     let mut out = String::new(alloc);
     let mut line = 3u32;
@@ -46,8 +48,9 @@ fn put_round(out: &mut String, number: u32, round: u32, statement: &str) -> Resu
     write!(out, "{before} {statement}~{behind} M{code}~")
 }
 
-/// The statements and the waits of a made tape, and its end. The statement of round k, one in odd rounds and one in even
-/// rounds, and its wait are the last two of the hundred lines behind line 4 + 100 (k - 1).
+/// The statements and the waits of a made tape, and its end. The statement of round k, one in odd
+/// rounds and one in even rounds, and its wait are the last two of the hundred lines behind line 4
+/// + 100 (k - 1).
 fn due(alloc: Global, number: u32, odd: &str, even: &str) -> Result<String, AllocError> {
     let mut out = String::new(alloc);
     for round in 1..51u32 {

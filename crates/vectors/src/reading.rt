@@ -5,9 +5,10 @@ use std::alloc::{AllocError, Global};
 use std::process::Abort;
 use std::test::Fail;
 
-/// `SWITCHES: TEXT = ANSWER`. The switches are bits, 2 for the first one, 4 for the second and on, and may be left out where
-/// none is set. The answer is what is read, or the refusal. Small letters, a leader, comments, a line's end by `;`, blocks that
-/// a switch leaves out, several programs, and the pair of a shop.
+/// `SWITCHES: TEXT = ANSWER`. The switches are bits, 2 for the first one, 4 for the second and on,
+/// and may be left out where none is set. The answer is what is read, or the refusal. Small
+/// letters, a leader, comments, a line's end by `;`, blocks that a switch leaves out, several
+/// programs, and the pair of a shop.
 const ROWS: &str = "\
 4: HEAD~%~o1 (a)~n10 g0 x1.5;~/2 g1 z-.5 f.1~%~ = O1 line 3~4 N10 G0 X1.5~
 HEAD~%~o1 (a)~n10 g0 x1.5;~/2 g1 z-.5 f.1~%~ = O1 line 3~4 N10 G0 X1.5~5 G1 Z-.5 F.1~
@@ -34,7 +35,8 @@ HEAD~%~o1 (a)~n10 g0 x1.5;~/2 g1 z-.5 f.1~%~ = O1 line 3~4 N10 G0 X1.5~5 G1 Z-.5
 %~O0001 (UPPER TURRET)~N10 G21 G40 G97 G99~N20 G28 U0 W0~N30 G50 S2500~N40 T0101~N50 G97 S800 M03~N60 G00 X52. Z2. M08~N70 M101~N80 G90 X48. Z-30. F0.25~N90 X46.~N100 G00 X100. Z50. M09~N110 T0100~N120 M102~N130 M30~%~ = O1 line 2~3 N10 G21 G40 G97 G99~4 N20 G28 U0 W0~5 N30 G50 S2500~6 N40 T0101~7 N50 G97 S800 M03~8 N60 G00 X52. Z2. M08~9 N70 M101~10 N80 G90 X48. Z-30. F0.25~11 N90 X46.~12 N100 G00 X100. Z50. M09~13 N110 T0100~14 N120 M102~15 N130 M30~
 %~O0002 (LOWER TURRET)~N10 G21 G40 G99~N20 G28 U0 W0~N30 T0202~N40 M101~N50 G97 S600 M03~N60 G00 X54. Z-10.~N70 G01 X40. F0.1~N80 G03 X46. Z-13. R3.~N90 G04 P500~N100 G00 X60.~N110 T0200~N120 M102~N130 M30~%~ = O2 line 2~3 N10 G21 G40 G99~4 N20 G28 U0 W0~5 N30 T0202~6 N40 M101~7 N50 G97 S600 M03~8 N60 G00 X54. Z-10.~9 N70 G01 X40. F0.1~10 N80 G03 X46. Z-13. R3.~11 N90 G04 P500~12 N100 G00 X60.~13 N110 T0200~14 N120 M102~15 N130 M30~";
 
-/// A text, and the end of a line and a line that stand in its listing with the places of the words, which count the bytes of the line.
+/// A text, and the end of a line and a line that stand in its listing with the places of the words,
+/// which count the bytes of the line.
 const PLACES: &str = "\
 4: HEAD~%~o1 (a)~n10 g0 x1.5;~/2 g1 z-.5 f.1~%~ = ~4 N10 G0 5-6 X1.5 8-11~
 %~O0001 (UPPER TURRET)~N10 G21 G40 G97 G99~N20 G28 U0 W0~N30 G50 S2500~N40 T0101~N50 G97 S800 M03~N60 G00 X52. Z2. M08~N70 M101~N80 G90 X48. Z-30. F0.25~N90 X46.~N100 G00 X100. Z50. M09~N110 T0100~N120 M102~N130 M30~%~ = ~3 N10 G21 5-7 G40 9-11 G97 13-15 G99 17-19~

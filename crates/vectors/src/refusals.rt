@@ -1,8 +1,9 @@
 //! Short texts, and the number and the line of the refusal that each one gets.
 //!
-//! The least line at which a refusal holds is named, and on it the least number: 5 for too many digits of N or O, 10 for
-//! a byte that is not allowed, 11 for a letter without its value, 12 for an open comment, 13 for a tape without an O
-//! number, 14 for one without an end, 64 for an N or O out of its range.
+//! The least line at which a refusal holds is named, and on it the least number: 5 for too many
+//! digits of N or O, 10 for a byte that is not allowed, 11 for a letter without its value, 12 for
+//! an open comment, 13 for a tape without an O number, 14 for one without an end, 64 for an N or O
+//! out of its range.
 use crate::reading::expect;
 use std::test::Fail;
 
@@ -115,7 +116,8 @@ $$(~%$$(~O1~%$ = read
 %~O1~/ (C) X1~(C) /2 X1~%~ = read
 %~O1~X1(C)Y(D)2~%~ = refused 11 line 3";
 
-/// The same with switch 1 on. A block that it leaves out must be readable, and counts for nothing else.
+/// The same with switch 1 on. A block that it leaves out must be readable, and counts for nothing
+/// else.
 const LEFT_OUT: &str = "\
 2: %~O1~/O2~%~ = refused 11 line 3
 2: %~O1~/X$~%~ = refused 10 line 3

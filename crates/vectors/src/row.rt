@@ -1,4 +1,5 @@
-//! The texts that rows write: `~` stands for the end of a line, and `^` for the byte 0xC3, which no character is.
+//! The texts that rows write: `~` stands for the end of a line, and `^` for the byte 0xC3, which no
+//! character is.
 use std::alloc::{AllocError, Global};
 
 /// The byte that a byte of a row stands for.
@@ -25,7 +26,8 @@ pub(crate) fn lines_of(alloc: Global, text: &str) -> Result<Vec<u8>, AllocError>
     Ok(bytes)
 }
 
-/// The bytes of a text that a row may write as `HEAD|AGAIN|COUNT|END`: a head, a part so many times, and an end.
+/// The bytes of a text that a row may write as `HEAD|AGAIN|COUNT|END`: a head, a part so many
+/// times, and an end.
 pub(crate) fn long_lines_of(alloc: Global, text: &str) -> Result<Vec<u8>, AllocError> {
     let (head, more) = text.split_once('|').unwrap_or((text, ""));
     let (again, more) = more.split_once('|').unwrap_or((more, ""));
@@ -43,7 +45,8 @@ pub(crate) fn is_text(alloc: Global, bytes: &[u8], text: &str) -> Result<bool, A
     Ok(bytes == wanted.as_slice())
 }
 
-/// Whether an answer is what a row wants: that text, or where it wants `read` any answer but a refusal.
+/// Whether an answer is what a row wants: that text, or where it wants `read` any answer but a
+/// refusal.
 pub(crate) fn is_due(answer: &str, wanted: &str) -> bool {
     match wanted {
         "read" => !answer.starts_with("refused"),

@@ -5,7 +5,8 @@ use nc_number::{Failing, Point};
 use std::alloc::{AllocError, Global};
 use std::test::Fail;
 
-/// `TEXT = ANSWER`: the line that is refused, `read`, or all that is read, with lengths in thousandths of a millimetre.
+/// `TEXT = ANSWER`: the line that is refused, `read`, or all that is read, with lengths in
+/// thousandths of a millimetre.
 const ROWS: &str = "\
 wait 100 197~shared100 101~ = refused line 2
 place 1 X100000.~ = refused line 1
@@ -16,6 +17,7 @@ records 1~records 4000000~records 4000001~ = refused line 3
 wait 100 197~~shared100 100~ = read
 place 1 X200. Z150.~place 2 X200. Z150.~home 1 X300. Z200.~home 2 X300. Z200.~work 1 54 X0 Z100.~work 2 54 X0 Z100.~tool 1 1 X-20. Z-10.~tool 2 2 X-10. Z5.~ = place X200000 Z150000, X200000 Z150000~home X300000 Z200000, X300000 Z200000~path 1 Work 1 X0 Z100000~path 2 Work 1 X0 Z100000~path 1 Geometry 1 X-20000 Z-10000~path 2 Geometry 2 X-10000 Z5000~wait 100 to 197~shared 0 and 100~bits true~records 4000000~skips 0 0~";
 
+/// A point, in increments.
 fn put_point(out: &mut String, point: Point) -> Result<(), AllocError> {
     let (x, z) = (point.x, point.z);
     write!(out, " X{x} Z{z}")
@@ -31,6 +33,7 @@ fn put_points(out: &mut String, name: &str, points: [Point; 2]) -> Result<(), Al
     out.push('~')
 }
 
+/// An offset that a path begins with.
 fn put_preset(out: &mut String, preset: &Preset) -> Result<(), AllocError> {
     let (path, kind, number) = (preset.path.number(), preset.kind, preset.number);
     write!(out, "path {path} {kind:?} {number}")?;
@@ -74,6 +77,7 @@ fn shown(
     }
 }
 
+/// What is wanted of settings whose line of this number is the first that is refused.
 fn refusal(alloc: Global, line: u32) -> Result<String, AllocError> {
     format!(in alloc; "refused line {line}")
 }

@@ -56,6 +56,7 @@ fn accepted(_pair: Verified) -> Option<Refusal> {
     None
 }
 
+/// The refusal, unless memory ran out.
 fn refused(fault: Failing<Refusal>) -> Result<Option<Refusal>, AllocError> {
     match fault {
         Failing::Fault(refusal) => Ok(Some(refusal)),

@@ -1,5 +1,5 @@
-//! Pairs that the verdict on a run accepts are accepted for their waits too, with the same lists; and those that it refuses
-//! for the order of their blocks are refused so.
+//! Pairs that the verdict on a run accepts are accepted for their waits too, with the same lists;
+//! and those that it refuses for the order of their blocks are refused so.
 use crate::row::lines_of;
 use label_list::{Labelled, labels};
 use nc_number::Failing;
@@ -9,8 +9,8 @@ use std::test::Fail;
 use tape_maker::make_tapes;
 use wait_verify::WaitPair;
 
-/// `WHAT IT IS|TAPE OF PATH 1|TAPE OF PATH 2|SETTINGS`, of pairs that the verdict on a run accepts, or refuses for their reading,
-/// the order of their blocks or their waits.
+/// `WHAT IT IS|TAPE OF PATH 1|TAPE OF PATH 2|SETTINGS`, of pairs that the verdict on a run accepts,
+/// or refuses for their reading, the order of their blocks or their waits.
 const PAIRS: &str = "\
 the pair of a shop|%~O0001 (UPPER TURRET)~N10 G21 G40 G97 G99~N20 G28 U0 W0~N30 G50 S2500~N40 T0101~N50 G97 S800 M03~N60 G00 X52. Z2. M08~N70 M101~N80 G90 X48. Z-30. F0.25~N90 X46.~N100 G00 X100. Z50. M09~N110 T0100~N120 M102~N130 M30~%~|%~O0002 (LOWER TURRET)~N10 G21 G40 G99~N20 G28 U0 W0~N30 T0202~N40 M101~N50 G97 S600 M03~N60 G00 X54. Z-10.~N70 G01 X40. F0.1~N80 G03 X46. Z-13. R3.~N90 G04 P500~N100 G00 X60.~N110 T0200~N120 M102~N130 M30~%~|place 1 X200. Z150.~place 2 X200. Z150.~home 1 X300. Z200.~home 2 X300. Z200.~work 1 54 X0 Z100.~work 2 54 X0 Z100.~tool 1 1 X-20. Z-10.~tool 2 2 X-10. Z5.~
 ends alone|%~O1~M30~%~|%~O1~M30~%~|
@@ -60,8 +60,8 @@ fn agrees(alloc: Global, pair: Verified, told: WaitPair) -> Result<bool, Fail> {
     match left {
         Ok(left) => match right {
             Ok(right) => Ok(
-                is_same(left.as_slice(), told.left.as_slice())
-                    && is_same(right.as_slice(), told.right.as_slice()),
+                is_same(left.as_slice(), told.labels.one.as_slice())
+                    && is_same(right.as_slice(), told.labels.two.as_slice()),
             ),
             Err(_) => Err(Fail::new("no labels of path 2")),
         }

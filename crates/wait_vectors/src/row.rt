@@ -1,4 +1,5 @@
-//! The texts that rows write: `~` stands for the end of a line, and `^` for the byte 0xC3, which no character is.
+//! The texts that rows write: `~` stands for the end of a line, and `^` for the byte 0xC3, which no
+//! character is.
 use std::alloc::{AllocError, Global};
 
 /// The byte that a byte of a row stands for.

@@ -4,7 +4,8 @@ use crate::row::{is_text, lines_of};
 use std::alloc::Global;
 use std::test::Fail;
 
-/// `WHAT IT TRIES|TAPE OF PATH 1|TAPE OF PATH 2|SETTINGS|PROGRAMS OUTSIDE|ANSWER`, the last as it is printed.
+/// `WHAT IT TRIES|TAPE OF PATH 1|TAPE OF PATH 2|SETTINGS|PROGRAMS OUTSIDE|ANSWER`, the last as it
+/// is printed.
 const ROWS: &str = "\
 two ends|%~O1~M30~%~|%~O1~M30~%~|||waits 0~end path 1 line 3 path 2 line 3~
 M02 is an end too|%~O1~M02~%~|%~O1~M30~%~|||waits 0~end path 1 line 3 path 2 line 3~

@@ -5,8 +5,8 @@ use command_words::{Command, ProgramRange, TurretFiles, WordsFault};
 use std::alloc::{AllocError, Global};
 use std::test::Fail;
 
-/// Words, each one space behind the one before, and what they give. Two spaces hold an empty word. A file of a turret stands
-/// behind a `>`, as `1>a`.
+/// Words, each one space behind the one before, and what they give. Two spaces hold an empty word.
+/// A file of a turret stands behind a `>`, as `1>a`.
 const ROWS: &str = "verify l r s -> verify [l] [r] [s]
 verify -> usage
 verify l -> usage

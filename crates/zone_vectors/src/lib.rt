@@ -1,6 +1,8 @@
-//! Tables of tests of zones: texts of frames, mirrors and gaps, and pairs whose paths may come to one place or not.
+//! Tables of tests of zones: texts of frames, mirrors and gaps, and pairs whose paths may come to
+//! one place or not.
 //!
-//! The answers that are expected are worked by hand from the rules of zones, and never from what a call answered.
+//! The answers that are expected are worked by hand from the rules of zones, and never from what a
+//! call answered.
 #![tactic(auto)]
 
 #[cfg(test)]

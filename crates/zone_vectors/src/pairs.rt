@@ -65,6 +65,7 @@ fn answer(
     }
 }
 
+/// Whether the run of a row has the zones that the row says.
 fn holds(alloc: Global, row: &str) -> Result<bool, Fail> {
     let (_, texts) = row.split_once('|').unwrap_or((row, ""));
     let (left, texts) = texts.split_once('|').unwrap_or((texts, ""));

@@ -1,14 +1,15 @@
-//! Texts of zones, and what they make of an area of path 1 from X1. Z3. to X2. Z4. and one of path 2 from X11. Z13. to
-//! X12. Z14.
+//! Texts of zones, and what they make of an area of path 1 from X1. Z3. to X2. Z4. and one of path
+//! 2 from X11. Z13. to X12. Z14.
 use crate::row::lines_of;
-use move_text::Piece;
-use nc_number::{Failing, Point};
+use nc_number::{Both, Failing, Point};
 use std::alloc::Global;
 use std::test::Fail;
+use text_pieces::Piece;
 use zone_area::Area;
 use zone_cell::{Zones, read_zones, zone_line};
 
-/// A text, in which `~` stands for the end of a line, and the line that is refused, or the line of the two areas.
+/// A text, in which `~` stands for the end of a line, and the line that is refused, or the line of
+/// the two areas.
 const ROWS: &str = "\
 |0 X1.000 X2.000 Z3.000 Z4.000 X11.000 X12.000 Z13.000 Z14.000 clear
 mirror 1~|0 X-2.000 X-1.000 Z3.000 Z4.000 X11.000 X12.000 Z13.000 Z14.000 clear
@@ -73,13 +74,18 @@ const RIGHT: Area = Area {
 
 /// Whether the zones make this line of the two areas.
 fn gives(zones: &Zones, wanted: &str) -> bool {
-    let piece: Piece = zone_line(0, &zones.zone(&LEFT, &RIGHT));
+    let areas = Both {
+        one: LEFT,
+        two: RIGHT,
+    };
+    let piece: Piece = zone_line(0, &zones.zone(&areas));
     match piece.as_slice() {
         [line @ .., b'\n'] => line == wanted.as_bytes(),
         _ => false,
     }
 }
 
+/// Whether this is the line that a row wants.
 fn is_line(line: u32, wanted: &str) -> bool {
     match wanted.strip_prefix("line ") {
         Some(number) => u64::from(line) == number.parse().unwrap_or(u64::MAX),
@@ -87,6 +93,7 @@ fn is_line(line: u32, wanted: &str) -> bool {
     }
 }
 
+/// Whether the text of a row reads as the row says.
 fn row_holds(alloc: Global, row: &str) -> Result<bool, Fail> {
     let (text, wanted) = row.split_once('|').unwrap_or((row, ""));
     let text = lines_of(alloc, text)?;

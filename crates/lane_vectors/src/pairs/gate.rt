@@ -1,11 +1,13 @@
-// A turret that answers a move only once a word has come so far, and fails where that takes too long.
+//! A turret that answers a move only once a word has come so far, and fails where that takes too
+//! long.
+
 use nc_number::Point;
 use nc_outside::{Failed, LinedMove, Turret};
 use std::sync::atomic::AtomicU64;
 use std::sync::atomic::Ordering::SeqCst;
 use std::thread;
 
-// So often it looks, and lets other threads run in between.
+/// So often it looks, and lets other threads run in between.
 const LOOKS: u32 = 10_000_000;
 
 #[derive(Drop)]

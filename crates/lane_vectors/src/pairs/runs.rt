@@ -4,8 +4,7 @@ ghost use Rattle.std.specs.Prelude.{◌≡◌, []};
 use super::codes::CodeTable;
 use super::gate::GateTurret;
 use drive_line::Driven;
-use lane_pair::{Ran, give_turn, run_pair};
-use nc_number::{NoMemory, Path};
+use nc_number::{Both, NoMemory, Path};
 use nc_outside::{Halt, MemoryTurret, Turret};
 use std::alloc::Global;
 use std::sync::Wait;
@@ -13,26 +12,26 @@ use std::sync::atomic::AtomicU64;
 use std::sync::atomic::Ordering::SeqCst;
 use std::test::Fail;
 use std::thread::Threads;
+use turret_run::{Ran, give_turn, run_pair};
 
 /// Runs both paths of a table.
 fn run<'a, R: Threads + Wait + Sync, T: Turret + Send>(
     rt: &R,
     alloc: Global,
     table: CodeTable<'a>,
-    left: T,
-    right: T,
+    turrets: Both<T>,
 ) -> Result<Ran<CodeTable<'a>, T>, NoMemory>
     requires { (table.first.items ≡ []) × (table.second.items ≡ []) }
 {
-    match run_pair(rt, alloc, table, left, right) {
+    match run_pair(rt, alloc, table, turrets) {
         Ok(ran) => Ok(ran),
         Err(_) => Err(NoMemory),
     }
 }
 
-/// Runs both paths up to so many records each. The right turret waits for the left one's first move, and the left one until the
-/// right one has moved so often, or until there were so many steps. It answers whether each turret failed, and the moves
-/// of each.
+/// Runs both paths up to so many records each. The turret of path 2 waits for the first move of
+/// that of path 1, and this one until the other has moved so often, or until there were so many
+/// steps. It answers whether each turret failed, and the moves of each.
 fn gated<R: Threads + Wait + Sync>(
     rt: &R,
     alloc: Global,
@@ -42,13 +41,13 @@ fn gated<R: Threads + Wait + Sync>(
     least: u64,
 ) -> Result<(bool, bool, u64, u64), NoMemory> {
     let (steps, one, two) = (AtomicU64::new(0), AtomicU64::new(0), AtomicU64::new(0));
-    let left = GateTurret {
+    let first_turret = GateTurret {
         mine: &one,
         other: if waits_for_steps { &steps } else { &two },
         least,
         faults: 0,
     };
-    let right = GateTurret {
+    let second_turret = GateTurret {
         mine: &two,
         other: &one,
         least: 1,
@@ -56,10 +55,14 @@ fn gated<R: Threads + Wait + Sync>(
     };
     let goals = (first as usize, second as usize);
     let table = CodeTable::new(alloc, goals, false, &steps);
-    let ran = run(rt, alloc, table, left, right)?;
+    let turrets = Both {
+        one: first_turret,
+        two: second_turret,
+    };
+    let ran = run(rt, alloc, table, turrets)?;
     Ok((
-        ran.left.has_failed(),
-        ran.right.has_failed(),
+        ran.turrets.one.has_failed(),
+        ran.turrets.two.has_failed(),
         one.load(SeqCst),
         two.load(SeqCst),
     ))
@@ -77,8 +80,9 @@ fn turrets_move_at_once_and_beside_their_workers(rt: HostRuntime) -> Result<(), 
     Ok(())
 }
 
-/// Runs path 1 up to 500 records where the left turret fails at that call or that settle. It answers whether each turret failed and
-/// whether that halted the run, the moves that the left turret got, and whether it got or missed all that were recorded.
+/// Runs path 1 up to 500 records where its turret fails at that call or that settle. It answers
+/// whether each turret failed and whether that halted the run, the moves that the turret of path 1
+/// got, and whether it got or missed all that were recorded.
 fn failed<R: Threads + Wait + Sync>(
     rt: &R,
     alloc: Global,
@@ -86,19 +90,20 @@ fn failed<R: Threads + Wait + Sync>(
     unsettled: u64,
 ) -> Result<(bool, bool, bool, usize, bool), NoMemory> {
     let steps = AtomicU64::new(0);
-    let left = MemoryTurret::with_plans(alloc, 500, &[failing], &[unsettled])?;
-    let right = MemoryTurret::new(alloc, 500, &[])?;
+    let one = MemoryTurret::with_plans(alloc, 500, &[failing], &[unsettled])?;
+    let two = MemoryTurret::new(alloc, 500, &[])?;
     let table = CodeTable::new(alloc, (500, 0), false, &steps);
-    let ran = run(rt, alloc, table, left, right)?;
-    let (left, right) = (ran.left.has_failed(), ran.right.has_failed());
-    let missed = ran.left.missed();
-    let got = ran.left.into_turret().got().len();
+    let Ran { table, turrets } = run(rt, alloc, table, Both { one, two })?;
+    let Both { one, two } = turrets;
+    let (first_failed, second_failed) = (one.has_failed(), two.has_failed());
+    let missed = one.missed();
+    let got = one.into_turret().got().len();
     Ok((
-        left,
-        right,
-        ran.table.halt == Some(Halt::Turret(Path::One)),
+        first_failed,
+        second_failed,
+        table.halt == Some(Halt::Turret(Path::One)),
         got,
-        ran.table.first.len() as u64 == missed.wrapping_add(got as u64),
+        table.first.len() as u64 == missed.wrapping_add(got as u64),
     ))
 }
 
@@ -111,8 +116,8 @@ fn a_turret_that_fails_stops_both_paths(rt: HostRuntime) -> Result<(), Fail> {
     Ok(())
 }
 
-/// Gives path 1 so many turns, up to 20 records. It answers how many drains the table was told, how many moves the turret took and
-/// missed, and whether it failed.
+/// Gives path 1 so many turns, up to 20 records. It answers how many drains the table was told, how
+/// many moves the turret took and missed, and whether it failed.
 fn given<R: Wait>(
     rt: &R,
     alloc: Global,

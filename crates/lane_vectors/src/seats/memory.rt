@@ -1,4 +1,5 @@
-// A table in memory, of which the paths take strict turns, path 1 first.
+//! A table in memory, of which the paths take strict turns, path 1 first.
+
 ghost use Rattle.std.specs.Prelude.{◌≡◌, ◌≢◌, map, [], ◌∷◌};
 ghost use Rattle.nc_outside.specs.declared.halt.Next.TheVariants.{Drain};
 ghost use Rattle.nc_moves.specs.declared.motion.Move.TheVariants.{Aux};
@@ -52,7 +53,7 @@ pub fn yield_often(times: u32) {
     }
 }
 
-// The moves of a block with an auxiliary code.
+/// The moves of a block with an auxiliary code.
 fn block(m: u16) -> Moves
     ensures { lined result ≡ lined_move 1 (Aux m) ∷ [] }
 {
@@ -61,7 +62,7 @@ fn block(m: u16) -> Moves
     Moves { line: 1, list }
 }
 
-// One record more of a path.
+/// One record more of a path.
 fn make(records: &mut Vec<u16>) -> Next
     ensures undrained { result ≢ Drain }
     ensures made { Answers (map (λ m. lined_move 1 (Aux m) ∷ []) records.old.items) result
@@ -78,13 +79,13 @@ impl Turns for MemoryTable {
     ghost use Rattle.std.specs.Prelude.{map, false, is_none, length, [], ◌∷◌};
     ghost use Rattle.nc_moves.specs.declared.motion.Move.TheVariants.{Aux};
     ghost use Rattle.nc_outside.specs.Lined.{lined_move};
-    ghost use Rattle.seat_table.specs.Knowing.{list_of};
+    ghost use Rattle.nc_number.specs.Both.{of_path};
     ghost use Rattle.lane_vectors.specs.Waiting.{waits_at};
 
-    ghost records = { λ t path. list_of path (record {
-      first = map (λ m. lined_move 1 (Aux m) ∷ []) t.first.items;
-      second = map (λ m. lined_move 1 (Aux m) ∷ []) t.second.items;
-    }) };
+    ghost records = { λ t path. of_path (record {
+      one = map (λ m. lined_move 1 (Aux m) ∷ []) t.first.items;
+      two = map (λ m. lined_move 1 (Aux m) ∷ []) t.second.items;
+    }) path };
 
     ghost reason = { λ t. t.halt };
 

@@ -1,3 +1,4 @@
+//! Paths that walk in threads, for the tests of seats.
 ghost use Rattle.std.specs.Prelude.{◌≡◌};
 ghost use Rattle.nc_outside.specs.Calls.{moves_answered};
 ghost use Rattle.nc_number.specs.declared.path.Path.TheVariants.{One};
@@ -16,7 +17,7 @@ use std::test::*;
 use std::thread;
 use std::thread::Threads;
 
-// A line along which so many moves were sent.
+/// A line along which so many moves were sent.
 #[derive(Drop)]
 struct Sent {
     count: u64,
@@ -30,9 +31,10 @@ impl Drain for Sent {
     }
 }
 
-// The auxiliary codes of a path, or that there was no memory for them.
+/// The auxiliary codes of a path, or that there was no memory for them.
 type Codes = Result<Vec<u16>, NoMemory>;
 
+/// Puts the codes of a block's moves behind those before.
 fn keep(codes: &mut Vec<u16>, moves: &Moves) -> Result<(), NoMemory> {
     for what in moves.list.as_slice() {
         if let Move::Aux { m } = *what {
@@ -42,7 +44,7 @@ fn keep(codes: &mut Vec<u16>, moves: &Moves) -> Result<(), NoMemory> {
     Ok(())
 }
 
-// One step, and a drain behind it. None where the path goes on no further.
+/// One step, and a drain behind it. None where the path goes on no further.
 fn walk_once<S: Stepper + Drainable<Sent>>(
     path: Path,
     stepper: &mut S,
@@ -57,7 +59,7 @@ fn walk_once<S: Stepper + Drainable<Sent>>(
     Some(keep(codes, &moves))
 }
 
-// Steps until the path goes on no further, and keeps its codes.
+/// Steps until the path goes on no further, and keeps its codes.
 fn walk<R: Wait, S: Stepper + Drainable<Sent>>(
     rt: &R,
     alloc: Global,
@@ -77,9 +79,10 @@ fn walk<R: Wait, S: Stepper + Drainable<Sent>>(
     unreachable!()
 }
 
-// A stepper may go to another thread.
+/// A stepper may go to another thread.
 fn is_sent<T: Send>(_value: &T) {}
 
+/// Steps the path of the pass to its end, and keeps the codes of its moves.
 fn work<R: Wait + Sync>(
     rt: &R,
     alloc: Global,
@@ -97,7 +100,7 @@ fn work<R: Wait + Sync>(
     (stepper.into_pass(), codes)
 }
 
-// Looks on for a while, and then halts for the turret of path 1.
+/// Looks on for a while, and then halts for the turret of path 1.
 fn look_on<R: Wait + Sync>(
     rt: &R,
     table: &SeatTable<MemoryTable>,
@@ -120,7 +123,7 @@ struct Ran {
     second: Vec<u16>,
 }
 
-// Both paths, up to so many records each, where a turn lasts so long.
+/// Both paths, up to so many records each, where a turn lasts so long.
 fn run_both<R: Threads + Wait + Sync>(
     rt: &R,
     alloc: Global,
@@ -157,7 +160,7 @@ fn run_both<R: Threads + Wait + Sync>(
     })
 }
 
-// Path 2, which waits for path 1 until the run is halted.
+/// Path 2, which waits for path 1 until the run is halted.
 fn run_second<R: Threads + Wait + Sync>(
     rt: &R,
     alloc: Global,
@@ -188,7 +191,8 @@ fn run_second<R: Threads + Wait + Sync>(
     Ok((table, codes?))
 }
 
-/// How many codes each path got, whether they are those of its records, and how many drains the table was told.
+/// How many codes each path got, whether they are those of its records, and how many drains the
+/// table was told.
 fn told_of(ran: &Ran) -> (usize, usize, bool, bool, u64) {
     (
         ran.first.len(),
@@ -213,7 +217,7 @@ fn each_path_gets_the_moves_of_its_records(rt: HostRuntime) -> Result<(), Fail> 
     Ok(())
 }
 
-// Path 1, which halts the run by its own pass and then asks for a step.
+/// Path 1, which halts the run by its own pass and then asks for a step.
 fn halt_first<R: Wait>(rt: &R, alloc: Global) -> Result<(MemoryTable, Next), NoMemory> {
     let Ok(seated) = SeatTable::new(alloc, MemoryTable::new(alloc, 5, 0)) else {
         return Err(NoMemory);

@@ -2,7 +2,8 @@ use Rattle.std.proofs.Common.{◌≡◌, ℕ, zero, suc, ◌+◌, ◌<◌, ◌�
 use Rattle.std.proofs.lemmas.Bool.Decides.{nat_tests}
 use Rattle.std.proofs.lemmas.List.{length-map}
 use Rattle.block_order.specs.declared.program.ControlProgram.{ControlProgram}
-use Rattle.block_order.specs.Shape.{RiseFrom, IsListed, lines_of_program, lines_in, blocks_in}
+use Rattle.nc_number.specs.Rising.{RiseFrom}
+use Rattle.block_order.specs.Shape.{IsListed, lines_of_program, lines_in, blocks_in}
 use Rattle.tape_vectors.proofs.orders.is_listed.Goals as goal
 
 few_blocks : (tape : List ControlProgram) → length (blocks_in tape) ≤ length (lines_in tape)

@@ -1,5 +1,5 @@
 use Rattle.std.proofs.Common.{drop}
-use Rattle.block_order.specs.Shape.{RiseFrom}
+use Rattle.nc_number.specs.Rising.{RiseFrom}
 use Rattle.tape_vectors.proofs.orders.is_rising.Given as goal
 
 abbrev pub invariant-loop-line : goal.invariant-loop-line

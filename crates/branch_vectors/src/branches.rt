@@ -1,8 +1,6 @@
-//! A branch that is stopped at each call of the second disk, or of which one call fails. Then that disk has no run, or the whole branch;
-//! and the disk of the run is as it was.
-use crate::command::{HONEST, disk_of};
-use crate::pair::{RUN, said_beside};
-use crate::stops::{crash, crashed, said_honestly, stopped};
+//! A branch that is stopped at each call of the second disk, or of which one call fails. Then that
+//! disk has no run, or the whole branch; and the disk of the run is as it was.
+use crate::commands::{disk_of, run_within, said_beside, said_over};
 use disk_model::{Crash, FuseDisk};
 use std::alloc::{AllocError, Global};
 use std::process::Abort;
@@ -12,15 +10,24 @@ use std::thread::Threads;
 /// The command that branches at the first meeting.
 const BRANCH: &str = "branch 1";
 
-/// What it says where it is not stopped: each path has six and three blocks before its wait, and then one arrives and both meet.
+/// What it says where it is not stopped: each path has six and three blocks before its wait, and
+/// then one arrives and both meet.
 const BRANCHED: &str = "0 branched 1 records 11";
 
-/// What is on the second disk before: nothing, a byte of a file that was begun, and what a beginning left behind a shut gate.
+/// What is on the second disk before: nothing, a byte of a file that was begun, and what a
+/// beginning left behind a shut gate.
 const BEFORE: [&[u8]; 3] = [&[], &[1], &[0, 255, 255, 1, 0, 0, 0, 1]];
 
-/// The bytes of the whole run.
-fn whole_run<R: Threads + Wait + Sync + Abort>(rt: &R, alloc: Global) -> Vec<u8> {
-    stopped(rt, alloc, RUN, &[], 1_000, Crash::Kept).bytes
+/// As many calls as no command here makes.
+const ALL_CALLS: u64 = 1_000;
+
+/// The crash of this number.
+fn crash(number: u64) -> Crash {
+    match number % 3 {
+        0 => Crash::Kept,
+        1 => Crash::Lost,
+        _ => Crash::Fill(7),
+    }
 }
 
 /// Whether this may be said of a branch, where the second disk then has this state.
@@ -40,7 +47,8 @@ fn is_led_to(state: &str, then: &str) -> bool {
     }
 }
 
-/// What is wrong with a branch that said this: nothing, or what it said, and what the second disk then comes to.
+/// What is wrong with a branch that said this: nothing, or what it said, and what the second disk
+/// then comes to.
 fn put_wrong<R: Threads + Wait + Sync + Abort>(
     out: &mut String,
     rt: &R,
@@ -48,18 +56,19 @@ fn put_wrong<R: Threads + Wait + Sync + Abort>(
     said: &str,
     bytes: &[u8],
 ) -> Result<(), AllocError> {
-    let state = said_honestly(rt, alloc, "state", bytes);
+    let state = said_over(rt, alloc, "state", bytes);
     if !is_right(said, state.as_str()) {
         writeln!(out, "it said {said}, and has {}", state.as_str())?;
     }
-    let then = said_honestly(rt, alloc, "resume", bytes);
+    let then = said_over(rt, alloc, "resume", bytes);
     if !is_led_to(state.as_str(), then.as_str()) {
         writeln!(out, "it said {said}, and comes to {}", then.as_str())?;
     }
     Ok(())
 }
 
-/// What a branch of a run says whose second disk has these bytes and stops behind so many calls, behind what is wrong with what it left.
+/// What a branch of a run says whose second disk has these bytes and stops behind so many calls,
+/// behind what is wrong with what it left.
 fn said_by_stopped<R: Threads + Wait + Sync + Abort>(
     out: &mut String,
     rt: &R,
@@ -70,16 +79,17 @@ fn said_by_stopped<R: Threads + Wait + Sync + Abort>(
 ) -> String {
     let disk = disk_of(rt, alloc, run, &[]);
     let second = FuseDisk::new(disk_of(rt, alloc, before, &[]), passes);
-    let (said, disk, second) = said_beside(rt, alloc, BRANCH, disk, second, HONEST);
-    if disk.bytes() != run {
+    let (said, outcome) = said_beside(rt, alloc, BRANCH, disk, second);
+    if outcome.disk.bytes() != run {
         out.push_str("it changed the run\n").expect(rt, "a text");
     }
-    let left = crashed(alloc, second.into_inner(), crash(passes)).expect(rt, "bytes");
-    put_wrong(out, rt, alloc, said.as_str(), left.as_slice()).expect(rt, "what is wrong");
+    let left = outcome.second.into_inner().crash(crash(passes));
+    put_wrong(out, rt, alloc, said.as_str(), left.bytes()).expect(rt, "what is wrong");
     said
 }
 
-/// At how many calls of the second disk a branch may be stopped, behind all that is wrong with what the stops leave.
+/// At how many calls of the second disk a branch may be stopped, behind all that is wrong with what
+/// the stops leave.
 fn stops_of_branch<R: Threads + Wait + Sync + Abort>(
     rt: &R,
     alloc: Global,
@@ -87,7 +97,7 @@ fn stops_of_branch<R: Threads + Wait + Sync + Abort>(
     before: &[u8],
 ) -> Result<String, AllocError> {
     let mut out = String::new(alloc);
-    for passes in 0..1_000u64 {
+    for passes in 0..ALL_CALLS {
         let said = said_by_stopped(&mut out, rt, alloc, run, before, passes);
         if said.as_str() == BRANCHED {
             out.push_str("made")?;
@@ -108,19 +118,20 @@ fn said_by_failed<R: Threads + Wait + Sync + Abort>(
     let calls = [number];
     let disk = disk_of(rt, alloc, run, &[]);
     let second = disk_of(rt, alloc, &[], &calls);
-    let (said, _, second) = said_beside(rt, alloc, BRANCH, disk, second, HONEST);
-    put_wrong(out, rt, alloc, said.as_str(), second.bytes()).expect(rt, "what is wrong");
+    let (said, outcome) = said_beside(rt, alloc, BRANCH, disk, second);
+    put_wrong(out, rt, alloc, said.as_str(), outcome.second.bytes()).expect(rt, "what is wrong");
     said
 }
 
-/// What is wrong with branches of which one call of the second disk fails each time, up to the one that meets no fault.
+/// What is wrong with branches of which one call of the second disk fails each time, up to the one
+/// that meets no fault.
 fn failures_of_branch<R: Threads + Wait + Sync + Abort>(
     rt: &R,
     alloc: Global,
     run: &[u8],
 ) -> Result<String, AllocError> {
     let mut out = String::new(alloc);
-    for number in 1..1_000u64 {
+    for number in 1..ALL_CALLS {
         let said = said_by_failed(&mut out, rt, alloc, run, number);
         if said.as_str() == BRANCHED {
             out.push_str("made")?;
@@ -130,7 +141,8 @@ fn failures_of_branch<R: Threads + Wait + Sync + Abort>(
     Ok(out)
 }
 
-/// What a branch says whose first disk fails at its first call, and how many bytes the second disk then has.
+/// What a branch says whose first disk fails at its first call, and how many bytes the second disk
+/// then has.
 fn said_without_a_run<R: Threads + Wait + Sync + Abort>(
     rt: &R,
     alloc: Global,
@@ -139,8 +151,8 @@ fn said_without_a_run<R: Threads + Wait + Sync + Abort>(
     let calls = [1u64];
     let disk = disk_of(rt, alloc, run, &calls);
     let second = disk_of(rt, alloc, &[], &[]);
-    let (said, _, second) = said_beside(rt, alloc, BRANCH, disk, second, HONEST);
-    format!(in alloc; "{said}, {}", second.bytes().len())
+    let (said, outcome) = said_beside(rt, alloc, BRANCH, disk, second);
+    format!(in alloc; "{said}, {}", outcome.second.bytes().len())
 }
 
 /// What a branch says over a second disk with a run, and whether that stays as it was.
@@ -152,14 +164,14 @@ fn said_over_a_run<R: Threads + Wait + Sync + Abort>(
 ) -> Result<String, AllocError> {
     let disk = disk_of(rt, alloc, run, &[]);
     let second = disk_of(rt, alloc, there, &[]);
-    let (said, _, second) = said_beside(rt, alloc, BRANCH, disk, second, HONEST);
-    format!(in alloc; "{said}, {}", second.bytes() == there)
+    let (said, outcome) = said_beside(rt, alloc, BRANCH, disk, second);
+    format!(in alloc; "{said}, {}", outcome.second.bytes() == there)
 }
 
 #[test]
 fn a_branch_that_is_stopped_at_each_call_is_there_whole_or_not_at_all(rt: HostRuntime) {
     let alloc = rt.alloc();
-    let run = whole_run(&rt, alloc);
+    let run = run_within(&rt, alloc, ALL_CALLS);
     for before in BEFORE {
         let got = stops_of_branch(&rt, alloc, run.as_slice(), before).expect(&rt, "what is wrong");
         assert_eq!(&rt; got.as_str(), "made");
@@ -169,7 +181,7 @@ fn a_branch_that_is_stopped_at_each_call_is_there_whole_or_not_at_all(rt: HostRu
 #[test]
 fn a_branch_of_which_one_call_fails_is_there_whole_or_not_at_all(rt: HostRuntime) {
     let alloc = rt.alloc();
-    let run = whole_run(&rt, alloc);
+    let run = run_within(&rt, alloc, ALL_CALLS);
     let got = failures_of_branch(&rt, alloc, run.as_slice()).expect(&rt, "what is wrong");
     assert_eq!(&rt; got.as_str(), "made");
 }
@@ -177,8 +189,8 @@ fn a_branch_of_which_one_call_fails_is_there_whole_or_not_at_all(rt: HostRuntime
 #[test]
 fn a_branch_leaves_a_run_alone(rt: HostRuntime) {
     let alloc = rt.alloc();
-    let run = whole_run(&rt, alloc);
-    let half = stopped(&rt, alloc, RUN, &[], 40, Crash::Kept).bytes;
+    let run = run_within(&rt, alloc, ALL_CALLS);
+    let half = run_within(&rt, alloc, 40);
     let got = said_over_a_run(&rt, alloc, run.as_slice(), half.as_slice()).expect(&rt, "a text");
     assert_eq!(&rt; got.as_str(), "8 run there, true");
     let got = said_without_a_run(&rt, alloc, run.as_slice()).expect(&rt, "a text");

@@ -1,0 +1,18 @@
+//! Whether a call of a disk answered what a row wants.
+use disk_model::Failed;
+
+/// The row wants `done` or `failed`.
+pub(crate) fn is_done(answer: Result<(), Failed>, wanted: &str) -> bool {
+    match answer {
+        Ok(()) => wanted == "done",
+        Err(Failed) => wanted == "failed",
+    }
+}
+
+/// The row wants a number or `failed`.
+pub(crate) fn is_count(answer: Result<u64, Failed>, wanted: &str) -> bool {
+    match answer {
+        Ok(count) => wanted.parse::<u64>() == Ok(count),
+        Err(Failed) => wanted == "failed",
+    }
+}
