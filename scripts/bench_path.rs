@@ -1,6 +1,6 @@
 //! A loop of #1=#1+1 as one path does it, in plain Rust that proves nothing: the yardstick of scripts/bench_path. Its flow is
-//! made in the code, and not read from a tape. A block is decided first and then done, and its answer has the line and the
-//! moves of the block.
+//! made in the code, and not read from a tape. A block is decided first and then done, and its moves go into a list that is
+//! lent.
 
 // The loop has none of some parts of the language, whose room the types have all the same.
 #![allow(dead_code)]
@@ -88,8 +88,8 @@ struct Moves {
 
 enum Advance {
     Need(u32),
-    Effect { write: Option<(u32, Var)>, moves: Moves },
-    AtEnd { moves: Moves },
+    Effect { write: Option<(u32, Var)> },
+    AtEnd,
     Alarm { cause: u8, value: i64 },
 }
 
@@ -223,17 +223,15 @@ impl PathState {
 
     /// A call that stays one, as that of a library does.
     #[inline(never)]
-    fn advance(&mut self, flow: &Flow, reads: &[Var]) -> Advance {
-        let running = self.running();
-        let line = flow.block(running.program, running.block).map_or(0, |block| block.line);
-        let moves = Moves { line, count: 0, list: [Move::Dwell { ms: 0 }; 8] };
+    fn advance(&mut self, flow: &Flow, reads: &[Var], moves: &mut Moves) -> Advance {
+        moves.count = 0;
         match self.decide(flow, reads) {
             Decision::Need(variable) => Advance::Need(variable),
             Decision::Alarm { cause, value } => Advance::Alarm { cause, value },
-            Decision::End => Advance::AtEnd { moves },
+            Decision::End => Advance::AtEnd,
             Decision::Go(route) => {
                 self.go(route);
-                Advance::Effect { write: None, moves }
+                Advance::Effect { write: None }
             }
             Decision::Write(change) => {
                 let mut write = None;
@@ -246,7 +244,7 @@ impl PathState {
                     Change::Shared(v, value) => write = Some((v, value)),
                 }
                 self.go(Route::Next);
-                Advance::Effect { write, moves }
+                Advance::Effect { write }
             }
         }
     }
@@ -270,15 +268,15 @@ fn looped() -> Flow {
 }
 
 /// What an answer adds to the count of blocks and of moves.
-fn counted(answer: &Advance) -> (u64, u64) {
+fn counted(answer: &Advance, moves: &Moves) -> (u64, u64) {
     match answer {
-        Advance::Effect { write, moves } => {
+        Advance::Effect { write } => {
             let written = u64::from(matches!(write, Some((v, Var::Is(_))) if *v < 100));
             let listed = moves.list[..moves.count].iter();
             let leading = listed.filter(|what| matches!(what, Move::Rapid { to } if to.x + to.z > 0));
             (1, moves.count as u64 + written + leading.count() as u64 * u64::from(moves.line == 0))
         }
-        Advance::AtEnd { moves } => (u64::from(moves.line > 9), 0),
+        Advance::AtEnd => (u64::from(moves.line > 9), 0),
         Advance::Need(variable) => (u64::from(*variable < 100), 0),
         Advance::Alarm { cause, value } => (u64::from(*cause == 0 && *value == 0), 0),
     }
@@ -290,8 +288,9 @@ fn main() {
     let flow = std::hint::black_box(looped());
     let mut path = PathState::new();
     let (mut done, mut made) = (0, 0);
+    let mut lent = Moves { line: 3, count: 0, list: [Move::Dwell { ms: 0 }; 8] };
     for _ in 0..turns {
-        let (blocks, moves) = counted(&path.advance(&flow, &[]));
+        let (blocks, moves) = { let answer = path.advance(&flow, &[], &mut lent); counted(&answer, &lent) };
         done += blocks;
         made += moves;
     }
