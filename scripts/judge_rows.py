@@ -92,8 +92,16 @@ def wrong_page(edit, module):
     return made
 
 
-def refuse_wrong_pages(row, page, module):
-    """Each wrong page must be refused by a row of the group that its edit names."""
+def open_browser():
+    """A page in a browser of its own, whose workers are watched."""
+    browser = Browser()
+    browser.watch_workers()
+    return Page(browser)
+
+
+def refuse_wrong_pages(row, module):
+    """Each wrong page must be refused by a row of the group that its edit names. Behind one that hangs there is a new browser."""
+    page = open_browser()
     for name in sorted(glob.glob(os.path.join(ROOT, "page/judge/must-fail/*.edit"))):
         called, edit = "wrong page: " + os.path.basename(name)[:-len(".edit")].replace("_", " "), edit_of(name)
         try:
@@ -105,6 +113,11 @@ def refuse_wrong_pages(row, page, module):
             print(f"judge rows: {called}, refused by: {refused}")
         except RuntimeError as fault:
             row(called, False, str(fault))
+        except Hung as fault:
+            row(called, False, str(fault))
+            page.browser.close()
+            page = open_browser()
+    page.browser.close()
 
 
 def main():
@@ -115,23 +128,22 @@ def main():
     os.mkdir(os.path.dirname(alone))
     shutil.copy(PAGE, alone)
     try:
-        browser = Browser()
+        page = open_browser()
     except Hung as fault:
         row("the browser starts", False, str(fault))
     else:
         try:
-            browser.watch_workers()
-            page = Page(browser)
             page.open(alone)
             for group in GROUPS.values():
                 group(row, page, WORK)
             compare(row, page)
-            row.equal("no exception, and no request", browser.problems, [])
-            refuse_wrong_pages(row, page, base64.b64decode(MODULE.search(page_module.read(PAGE))[2]))
+            row.equal("no exception, and no request", page.browser.problems, [])
+            page.browser.close()
+            refuse_wrong_pages(row, base64.b64decode(MODULE.search(page_module.read(PAGE))[2]))
         except (Hung, RuntimeError, subprocess.TimeoutExpired) as fault:
             row("the rows come to their end", False, str(fault))
         finally:
-            browser.close()
+            page.browser.close()
     print(f"judge rows: {time.monotonic() - began:.0f} seconds")
     print(f"judge rows: {row.passed} passed, {row.failed} failed")
     return row.failed > 0

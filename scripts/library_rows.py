@@ -46,6 +46,10 @@ def reads_none(texts):
     return not any(it.kind == simulator.READ for it in LATHE.events(*texts, bytes([1, 2]) * 20000).list)
 
 
+# How many runs, lists of events and moves of such lists were compared. Runs that hang on an order of turns are not.
+compared = {"runs": 0, "lists of events": 0, "moves": 0}
+
+
 def compare_run(given):
     """Report and state of a whole run, where they hang on no order of turns."""
     name, texts = given
@@ -87,6 +91,8 @@ def check_events(name, texts):
     if report.status != 0 or not reads_none(texts):
         return
     due = moves_of(report.text)
+    compared["lists of events"] += 1
+    compared["moves"] += sum(map(len, due.values()))
     for order in (bytes([1, 2]), bytes([2, 1]), bytes([1, 1, 1, 2]), bytes([2] * 40 + [1] * 7)):
         status, events = LATHE.events(*texts, order * 4000)
         found = {path: [shown(it) for it in events if it.path == path and shown(it)] for path in (1, 2)}
@@ -171,13 +177,15 @@ def main():
             for name, answer, due in rows:
                 check(name, answer == due, f"{answer.status} {answer.text[:80]}, and {due.status} {due.text[:80]} is due")
         for rows in pool.map(compare_run, given):
+            compared["runs"] += bool(rows)
             for name, answer, due in rows:
                 check(name, answer == due, f"{answer.status} {answer.text[-80:]}, and {due.status} {due.text[-80:]} is due")
     for name, texts in given[::7]:
         check_events(name, texts)
     for name, texts in given[::11]:
         check_rooms(name, texts)
-    PROGRAM_OF(given[0][1], "verify", *FILES)
+    for what, count in compared.items():
+        check(f"{what} are compared", count > 0, "there are none")
     check_refusals()
     check_threads(given)
     check_simulators()

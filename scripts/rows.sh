@@ -1,6 +1,6 @@
 # Rows that call the program as a user does, on real files and a real journal, and compare what it prints and its exit status.
-# Sourced by shell_rows and hostile_rows. Whoever sources it has set `root`, the repository's folder, `suite`, what its rows are
-# called, and has sourced program.sh. `work` is a folder that goes at the end; each room, in which rows run, is a folder of it.
+# Sourced by the suites that call the program from the shell. Whoever sources it has set `root`, the repository's folder, `suite`, what its
+# rows are called, and has sourced program.sh. `work` is a folder that goes at the end; each room, in which rows run, is a folder of it.
 
 work=$(mktemp -d) || exit 1
 trap 'rm -rf -- "$work"' EXIT
@@ -37,8 +37,11 @@ judge() {
 # The command through which the program is called, where there is one: taskset or env with its words.
 through=()
 
-# Calls the program, which is given a minute, or so many seconds: a call that hangs has a status that is never due.
-call() { timeout -s KILL "${seconds:-60}" "${through[@]}" "$program" "$@"; }
+# Runs a command, which is given a minute, or so many seconds, and no input: one that hangs has a status that is never due.
+limited() { timeout -s KILL "${seconds:-60}" "$@" </dev/null; }
+
+# Calls the program so.
+call() { limited "${through[@]}" "$program" "$@"; }
 
 # The calls that follow have one processor, where that can be asked for.
 pin() {
@@ -51,6 +54,16 @@ pin() {
 
 # The calls that follow have all processors.
 unpin() { through=(); }
+
+# Says that rows are left out, and why.
+leave_out() { printf '%s: left out: %s\n' "$suite" "$1"; }
+
+# The first of these tools that is not there, if one isn't.
+lacks() {
+    local tool
+    for tool; do command -v "$tool" >/dev/null || { printf '%s' "$tool"; return; }; done
+    false
+}
 
 # Whether a call with this status hung, and was killed.
 has_hung() { [[ $1 == 137 || $1 == 124 ]]; }
@@ -88,6 +101,37 @@ has_line() {
     if grep -qxF -e "$2" -e "${3-$2}" "$work/said"; then pass; else fail "$1" "it did not print the line: $2"; fi
 }
 
+# A line of all that was printed last, behind `last_line` or what else keeps it in `all`.
+has_line_in_all() {
+    if grep -qxF -e "$2" "$work/all"; then pass; else fail "$1" "it did not print the line: $2"; fi
+}
+
+# How many recorded moves were not made, as the lines of the file $1 say: `COUNT of PATH` for each path. And the file without them.
+missed_in() {
+    sed -nE -e 's/^path ([12]): (1) recorded move was not made$/\2 of \1/p' \
+        -e 's/^path ([12]): ([2-9]|[1-9][0-9]+) recorded moves were not made$/\2 of \1/p' "$1"
+}
+without_missed() {
+    grep -vE -e '^path [12]: 1 recorded move was not made$' -e '^path [12]: ([2-9]|[1-9][0-9]+) recorded moves were not made$' "$1"
+}
+
+# A file as hexadecimal digits.
+digits() { od -An -v -tx1 "$@" | tr -d ' \n'; }
+
+# The bytes of hexadecimal digits, between which there may be blanks.
+from_digits() {
+    local digits="$*"
+    printf '%b' "$(sed 's/../\\x&/g' <<<"${digits//[[:space:]]/}")"
+}
+
+# A body behind an open gate, of digits and as digits, and its bytes.
+entry_digits() {
+    local body="$*"
+    body=${body//[[:space:]]/}
+    printf '01%08x%s' $((${#body} / 2)) "$body"
+}
+entry() { from_digits "$(entry_digits "$@")"; }
+
 rooms=0
 mkdir "$work/tapes"
 
@@ -122,15 +166,24 @@ still() {
     printf 'path 1 moves 0\npath 2 moves 0\nrecords %d\nend %s\n' "$1" "$2"
 }
 
-# Finds the program: the one that is named, or the built one, which is built first where that is still to be done.
+# Finds the program: the one that is named, or the built one, which is built first where that is still to be done. Without one no row
+# runs, and the suite has failed.
 find_program() {
+    begun=$SECONDS
     if (($#)); then
         program=$(readlink -f -- "$1")
+        [[ -f $program && -x $program ]] || end_at 'the program' "$1 is none"
     else
-        "$root/twin_lathe" build >/dev/null
-        [[ -x $program ]] || exit 70
+        "$root/twin_lathe" build >/dev/null || end_at 'the program' 'it was not proved or not built'
     fi
     begun=$SECONDS
+}
+
+# Ends the suite at this failure.
+end_at() {
+    fail "$1" "$2"
+    count_rows
+    exit 1
 }
 
 # As a user who is not root, whose rights count.
@@ -139,8 +192,13 @@ user=()
 as_user() {
     local name=$1 due_status=$2 due=$3
     shift 3
-    timeout -s KILL 60 "${user[@]}" "$work/lathe" "$@" >"$work/said" 2>"$work/complained"
+    limited "${user[@]}" "$work/lathe" "$@" >"$work/said" 2>"$work/complained"
     judge "$name" "$due_status" $? "$due"
+}
+
+# Whether a command can be called as such a user. If not, it says that the rows of $1 are left out.
+has_user() {
+    "${user[@]}" true 2>/dev/null || { leave_out "$1: root has no way here to call the program as another user"; false; }
 }
 
 # Makes the program one that this user may call.
@@ -173,7 +231,7 @@ complaint() {
 complaint_as_user() {
     local name=$1 due_status=$2 due=$3 complaint=$4
     shift 4
-    "${user[@]}" "$work/lathe" "$@" >"$work/said" 2>"$work/complained"
+    limited "${user[@]}" "$work/lathe" "$@" >"$work/said" 2>"$work/complained"
     judge_complaint "$name" "$due_status" $? "$due" "$complaint"
 }
 

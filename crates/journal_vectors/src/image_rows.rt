@@ -1,5 +1,6 @@
 //! Rows of disks that keep every image: what the calls answer, and which images a crash since some
 //! time may have left.
+use crate::rows::columns;
 use disk_images::{Image, ImagesDisk};
 use disk_model::{Disk, Failed};
 use std::alloc::{AllocError, Global};
@@ -25,16 +26,6 @@ abc||len, read 1, read 3, read greatest|3 2:bc 0: 0:|0 abc
 abc|1 3|len, read 0, sync, faults|failed 3:abc failed 2|0 abc
 ab||write greatest x, write 4611686018427387903 x, faults|failed failed 2|0 ab
 ab||sync, sync, write 0 x, sync, sync|done done done done done|0 ab xb, 2 ab xb, 3 ab xb, 4 xb, 5 xb";
-
-/// The parts between the strokes of a row. Those that are not there are empty.
-fn columns(row: &str) -> [&str; 5] {
-    let mut parts = row.split("|");
-    let first = parts.next().unwrap_or("");
-    let second = parts.next().unwrap_or("");
-    let third = parts.next().unwrap_or("");
-    let fourth = parts.next().unwrap_or("");
-    [first, second, third, fourth, parts.next().unwrap_or("")]
-}
 
 /// The number that the text writes, or the greatest that there is.
 fn number(text: &str) -> u64 {

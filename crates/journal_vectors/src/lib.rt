@@ -1,5 +1,5 @@
-//! Tables of tests of disks, gates, records, journals, branches and texts of edits: what each
-//! writes, byte by byte, what a stop at each of its calls leaves, and why a file is refused.
+//! Tables of tests of disks, gates, records, journals and branches: what each writes, byte by byte,
+//! what a stop at each of its calls leaves, and why a file is refused.
 //!
 //! The bytes and the answers that are expected are worked by hand from the rules of the journal,
 //! and never from what a call answered.
@@ -23,5 +23,3 @@ mod journals;
 mod records;
 #[cfg(test)]
 mod rows;
-#[cfg(test)]
-mod texts;

@@ -123,6 +123,7 @@ fn take_one(out: &mut String, list: &mut EntryList, bytes: &[u8]) -> Result<(), 
     Ok(())
 }
 
+/// The word of a row that stands for the kind of a record.
 fn kind_word(kind: &EntryKind) -> &'static str {
     match kind {
         EntryKind::Did => "did",

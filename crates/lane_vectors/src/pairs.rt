@@ -1,4 +1,3 @@
 //! Both paths of a table in memory, with a turret each.
 mod codes;
-mod gate;
 mod runs;

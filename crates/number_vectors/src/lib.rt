@@ -7,10 +7,6 @@
 #![tactic(auto)]
 
 #[cfg(test)]
-mod arithmetic;
-#[cfg(test)]
-mod axes;
-#[cfg(test)]
 mod levels;
 #[cfg(test)]
 mod literals;

@@ -221,12 +221,14 @@ pub(crate) fn put_var(out: &mut String, value: &Var) -> Result<(), AllocError> {
     }
 }
 
+/// A line with a variable's number, behind this head, and what it holds.
 fn put_variable(out: &mut String, head: &str, v: u32, value: &Var) -> Result<(), AllocError> {
     write!(out, "{head}{v} ")?;
     put_var(out, value)?;
     out.push('\n')
 }
 
+/// A line with a numbered point, such as an offset.
 fn put_named_point(out: &mut String, head: &str, n: u8, at: Point) -> Result<(), AllocError> {
     write!(out, "{head} {n}")?;
     put_point(out, at)?;
@@ -258,6 +260,7 @@ fn put_place(out: &mut String, path: &PathState) -> Result<(), AllocError> {
 /// The groups of codes that a modal state keeps; system A has no group 3.
 const GROUPS: &[u8] = &[1, 2, 3, 5, 6, 7, 14];
 
+/// The code in force of each group, a line each.
 fn put_groups(out: &mut String, modal: &Modal) -> Result<(), AllocError> {
     for group in GROUPS {
         match modal.code(*group) {
@@ -268,6 +271,7 @@ fn put_groups(out: &mut String, modal: &Modal) -> Result<(), AllocError> {
     Ok(())
 }
 
+/// A line with a name and a value.
 fn put_named(out: &mut String, name: &str, value: &Var) -> Result<(), AllocError> {
     out.push_str(name)?;
     put_var(out, value)?;

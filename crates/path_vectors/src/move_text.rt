@@ -4,18 +4,21 @@ use nc_moves::{Centre, Move};
 use nc_number::{Point, Value, length_text, text};
 use std::alloc::AllocError;
 
+/// A value, as the report prints it.
 pub(crate) fn put_value(out: &mut String, value: Value) -> Result<(), AllocError> {
     let mut room = [0; 24];
     let length = text(value, &mut room);
     put_bytes(out, &room[..length])
 }
 
+/// A length in 0.001 mm, as the report prints it.
 fn put_length(out: &mut String, length: i64) -> Result<(), AllocError> {
     let mut room = [0; 24];
     let length = length_text(length, &mut room);
     put_bytes(out, &room[..length])
 }
 
+/// Bytes of ASCII, as text.
 fn put_bytes(out: &mut String, bytes: &[u8]) -> Result<(), AllocError> {
     for byte in bytes {
         out.push(char::from(*byte))?;
@@ -23,6 +26,7 @@ fn put_bytes(out: &mut String, bytes: &[u8]) -> Result<(), AllocError> {
     Ok(())
 }
 
+/// A point, X before Z.
 pub(crate) fn put_point(out: &mut String, to: Point) -> Result<(), AllocError> {
     out.push_str(" X")?;
     put_length(out, to.x)?;
@@ -30,12 +34,14 @@ pub(crate) fn put_point(out: &mut String, to: Point) -> Result<(), AllocError> {
     put_length(out, to.z)
 }
 
+/// A feed, by the revolution or by the minute.
 fn put_feed(out: &mut String, feed: Value, per_rev: bool) -> Result<(), AllocError> {
     out.push_str(" F")?;
     put_value(out, feed)?;
     out.push_str(if per_rev { " rev" } else { " min" })
 }
 
+/// The centre of an arc, as I and K or as R.
 fn put_centre(out: &mut String, centre: Centre) -> Result<(), AllocError> {
     match centre {
         Centre::Offset { i, k } => {
@@ -51,6 +57,7 @@ fn put_centre(out: &mut String, centre: Centre) -> Result<(), AllocError> {
     }
 }
 
+/// A straight move under this name, with its feed.
 fn put_cut(
     out: &mut String,
     name: &str,
@@ -63,6 +70,7 @@ fn put_cut(
     put_feed(out, feed, per_rev)
 }
 
+/// A move along a thread, with its lead.
 fn put_thread(out: &mut String, to: Point, lead: Value) -> Result<(), AllocError> {
     out.push_str("thread")?;
     put_point(out, to)?;
@@ -70,12 +78,14 @@ fn put_thread(out: &mut String, to: Point, lead: Value) -> Result<(), AllocError
     put_value(out, lead)
 }
 
+/// An arc under this name, to its end and round its centre.
 fn put_arc(out: &mut String, name: &str, to: Point, centre: Centre) -> Result<(), AllocError> {
     out.push_str(name)?;
     put_point(out, to)?;
     put_centre(out, centre)
 }
 
+/// A rapid move.
 fn put_rapid(out: &mut String, to: Point) -> Result<(), AllocError> {
     out.push_str("rapid")?;
     put_point(out, to)

@@ -126,6 +126,7 @@ fn cell_text(alloc: Global, system: &str) -> Result<String, AllocError> {
     format!(in alloc; "{CELL}codes {system}~")
 }
 
+/// A tape whose one program has these blocks.
 fn tape_text(alloc: Global, blocks: &str) -> Result<String, AllocError> {
     format!(in alloc; "%~O1~{blocks}~%~")
 }

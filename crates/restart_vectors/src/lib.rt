@@ -1,5 +1,5 @@
-//! Tables of tests of stops and restarts: a run that is stopped at each call of its disk and
-//! restarted comes to the very history of a run that meets no stop. A history that an operator
+//! Tables of tests of restarts: what is found in a journal, byte for byte, and what a restart comes
+//! to. A journal in batches is stopped behind each call of its disk, and a history that an operator
 //! edits is cut at each record, in both versions of a journal.
 //!
 //! The histories that are expected stem from the rules of turns, and never from what a run
@@ -20,8 +20,6 @@ mod run;
 mod step_rows;
 #[cfg(test)]
 mod step_text;
-#[cfg(test)]
-mod stop_rows;
 #[cfg(test)]
 mod texts;
 #[cfg(test)]

@@ -1,4 +1,4 @@
-//! A run of a pair on a disk that stops, and its restart.
+//! A run of a pair, and its restart.
 ghost use Rattle.run_records.specs.Headers.{IsShort};
 ghost use Rattle.nc_restart.specs.Recovered.{IsRecovered};
 ghost use Rattle.run_table.specs.Kept.{IsVerdictOf};
@@ -6,20 +6,13 @@ ghost use Rattle.run_table.specs.Kept.{IsVerdictOf};
 use crate::record_text::history_text;
 use crate::texts::pair_of;
 use crate::turns::{Count, step_on};
-use disk_model::{Crash, Disk, FuseDisk, MemoryDisk};
+use disk_model::{Disk, FuseDisk, MemoryDisk};
 use nc_restart::{Recovered, RestartFault, recover};
 use nc_verify::Verified;
 use run_records::{EntryList, Header};
 use run_table::{Parts, Table};
 use std::alloc::{AllocError, Global};
 use std::test::Fail;
-
-/// What a stop leaves: the bytes of the disk, and how many records it must have.
-#[derive(Drop)]
-pub(crate) struct Left {
-    pub(crate) bytes: Vec<u8>,
-    pub(crate) shown: usize,
-}
 
 /// A disk of these bytes, which passes so many calls.
 fn disk_of(alloc: Global, bytes: &[u8], passes: u64) -> Result<FuseDisk, Fail> {
@@ -52,12 +45,6 @@ pub(crate) fn begun_on<D: Disk + Drop>(
     }
 }
 
-/// What a crash leaves of a disk.
-fn crashed(alloc: Global, disk: FuseDisk, pick: Crash, shown: usize) -> Result<Left, Fail> {
-    let bytes = disk.into_inner().crash(pick).bytes().to_vec(alloc)?;
-    Ok(Left { bytes, shown })
-}
-
 /// The table runs until it stops, or both paths have ended.
 fn run_on<D: Disk>(table: &mut Table<D>, from: Count) -> Result<Count, Fail> {
     table.prepare(1_000)?;
@@ -79,28 +66,6 @@ pub(crate) fn disk_left<D: Disk>(table: Table<D>) -> D {
 /// The history of a table.
 fn history_left<D: Disk + Drop>(alloc: Global, table: Table<D>) -> Result<String, AllocError> {
     history_text(alloc, &table.into_parts().entries)
-}
-
-/// The table runs until its disk stops or both paths have ended, and then comes a crash.
-fn stopped(alloc: Global, table: Table<FuseDisk>, pick: Crash) -> Result<Left, Fail> {
-    let mut table = table;
-    let ran = run_on(&mut table, Count::of(&EntryList::empty(alloc)));
-    crashed(alloc, disk_left(table), pick, ran?.shown)
-}
-
-/// A run from the beginning, whose disk stops behind so many calls.
-pub(crate) fn run_to_stop(
-    alloc: Global,
-    header: &Header,
-    passes: u64,
-    pick: Crash,
-) -> Result<Left, Fail>
-    requires { IsShort header.now }
-{
-    match begun_on(alloc, header, disk_of(alloc, &[], passes)?)? {
-        Ok(table) => stopped(alloc, table, pick),
-        Err(disk) => crashed(alloc, disk, pick, 0),
-    }
 }
 
 /// The history of a table whose run goes to its end.

@@ -8,13 +8,11 @@ use run_records::EntryList;
 use run_table::{Table, TableStep};
 use two_path::Turn;
 
-/// How many records each path has made, and how many of all the last answer that showed something
-/// has left on the disk.
+/// How many records each path has made.
 #[derive(Clone, Copy)]
 pub(crate) struct Count {
     one: usize,
     two: usize,
-    pub(crate) shown: usize,
 }
 
 /// What a step came to.
@@ -22,17 +20,15 @@ pub(crate) struct Count {
 enum Said {
     /// A read of a block.
     Read,
-    /// A record, which shows nothing to the outside.
-    Silent,
-    /// A record, which does.
-    Shown,
+    /// A record.
+    Record,
     /// The path waits, or has ended.
     Idle,
     /// The run has stopped.
     Stopped,
 }
 
-/// How much an answer says: that is what the table has to have on the disk before it.
+/// How much an answer says.
 fn said_of(answer: &TableStep) -> Said {
     match answer {
         TableStep::Drain | TableStep::DiskFault | TableStep::Halted(_) => Said::Stopped,
@@ -43,26 +39,20 @@ fn said_of(answer: &TableStep) -> Said {
 fn said_of_turn(turn: &Turn) -> Said {
     match turn {
         Turn::Read { .. } => Said::Read,
-        Turn::Did { moves } => if moves.list.as_slice().is_empty() {
-            Said::Silent
-        } else {
-            Said::Shown
-        },
-        Turn::Arrived { .. } | Turn::Met { .. } | Turn::Ended { .. } | Turn::Alarm { .. } => {
-            Said::Shown
+        Turn::Did { .. } | Turn::Arrived { .. } | Turn::Met { .. } | Turn::Ended { .. } => {
+            Said::Record
         }
+        Turn::Alarm { .. } | Turn::Edited => Said::Record,
         Turn::Waiting { .. } | Turn::Finished | Turn::Halted { .. } => Said::Idle,
-        Turn::Edited => Said::Silent,
     }
 }
 
 impl Count {
-    /// The counts of a history, all of which is on the disk.
+    /// The counts of a history.
     pub(crate) fn of(entries: &EntryList) -> Count {
         Count {
             one: records_of(entries, Path::One),
             two: records_of(entries, Path::Two),
-            shown: entries.len(),
         }
     }
 
@@ -76,13 +66,10 @@ impl Count {
     }
 
     /// A record more of the path.
-    fn add(&mut self, path: Path, is_shown: bool) {
+    fn add(&mut self, path: Path) {
         match path {
             Path::One => self.one = self.one.saturating_add(1),
             Path::Two => self.two = self.two.saturating_add(1),
-        }
-        if is_shown {
-            self.shown = self.one.saturating_add(self.two);
         }
     }
 
@@ -90,12 +77,8 @@ impl Count {
     fn goes_on(&mut self, path: Path, said: &Said) -> bool {
         match said {
             Said::Read => true,
-            Said::Silent => {
-                self.add(path, false);
-                true
-            }
-            Said::Shown => {
-                self.add(path, true);
+            Said::Record => {
+                self.add(path);
                 true
             }
             Said::Idle | Said::Stopped => false,

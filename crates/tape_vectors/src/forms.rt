@@ -1,10 +1,10 @@
 //! What a block says: its refusal, what it does to the order of blocks, the call that it is, and
 //! what its codes mean.
-use crate::tape::read;
+use crate::tape::{first_block, read};
 use block_forms::{Dialect, FlowBlock, FlowBody, read_block};
 use code_tables::System;
 use nc_number::Failing;
-use nc_text::{Block, Tape};
+use nc_text::Block;
 use std::alloc::{AllocError, Global};
 use std::process::Abort;
 use std::test::Fail;
@@ -252,14 +252,6 @@ G90 P1|61
 M101 G90|57
 M101 U1.|56
 Q1|56";
-
-/// The first block of a tape.
-fn first_block(tape: &Tape) -> Option<&Block> {
-    match tape.as_slice() {
-        [program, ..] => program.blocks.as_slice().first(),
-        [] => None,
-    }
-}
 
 /// The group and the kind of the first G code.
 fn first_code(alloc: Global, body: &FlowBody) -> Result<String, AllocError> {

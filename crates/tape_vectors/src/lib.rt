@@ -8,8 +8,6 @@
 #[cfg(test)]
 mod call;
 #[cfg(test)]
-mod flows;
-#[cfg(test)]
 mod forms;
 #[cfg(test)]
 mod open_blocks;

@@ -1,9 +1,9 @@
 //! What a block does to the order of blocks, where nothing else that it says is looked into; or its
 //! refusal.
-use crate::tape::read;
+use crate::tape::{first_block, read};
 use block_forms::Dialect;
 use code_tables::System;
-use nc_text::{Block, Tape};
+use nc_text::Block;
 use open_forms::open_control;
 use std::alloc::{AllocError, Global};
 use std::process::Abort;
@@ -308,14 +308,6 @@ G91 G53 X0|Next
 M101 G90|57
 M101 U1.|57
 M30|End";
-
-/// The first block of a tape.
-fn first_block(tape: &Tape) -> Option<&Block> {
-    match tape.as_slice() {
-        [program, ..] => program.blocks.as_slice().first(),
-        [] => None,
-    }
-}
 
 /// The control of a block, or the number of its refusal.
 fn answer(alloc: Global, block: &Block, dialect: &Dialect) -> Result<String, AllocError> {

@@ -7,7 +7,7 @@ ghost use Rattle.block_order.specs.declared.program.ControlProgram.{ControlProgr
 use crate::call::{Call, call_of, number};
 use crate::tape::refusal;
 use block_order::{BlockOrder, Control, ControlBlock, ControlBlockList, ControlProgram};
-use nc_number::{Failing, NoMemory};
+use nc_number::{Failing, MOST_BLOCKS, NoMemory};
 use std::alloc::{AllocError, Global};
 use std::test::Fail;
 use wait_order::check_order;
@@ -64,6 +64,7 @@ O1 1: X1., DO 1, N10 X1., X1., END 1, X1. | target 2 10 = Some(2)
 O1 1: X1., DO 1, N10 X1., X1., END 1, X1. | target 4 10 = Some(2)
 O1 1: X1., DO 1, N10 X1., X1., END 1, X1. | target 5 10 = None";
 
+/// Puts the line of a program and those of its blocks.
 fn push_lines(lines: &mut Vec<u32>, program: &ControlProgram) -> Result<(), NoMemory>
     ensures { OnOk result (lines.new.items ≡ lines.old.items ++ lines_of_program program.now) }
 {
@@ -74,6 +75,7 @@ fn push_lines(lines: &mut Vec<u32>, program: &ControlProgram) -> Result<(), NoMe
     Ok(())
 }
 
+/// The lines of all programs and blocks of a tape, in their order.
 fn all_lines(alloc: Global, tape: &[ControlProgram]) -> Result<Vec<u32>, NoMemory>
     ensures { IfOk result (λ lines. lines.items ≡ lines_in tape.now) }
 {
@@ -84,6 +86,7 @@ fn all_lines(alloc: Global, tape: &[ControlProgram]) -> Result<Vec<u32>, NoMemor
     Ok(lines)
 }
 
+/// Whether each line is above the one before it, and the first above 0.
 fn is_rising(lines: &[u32]) -> bool
     ensures { result ≡ true → RiseFrom 0 lines.now }
 {
@@ -97,11 +100,12 @@ fn is_rising(lines: &[u32]) -> bool
     true
 }
 
+/// Whether the tape may be handed on: it has a program, its lines rise, and they are not too many.
 fn is_listed(alloc: Global, tape: &[ControlProgram]) -> Result<bool, NoMemory>
     ensures { IfOk result (λ listed. listed ≡ true → IsListed tape.now) }
 {
     let lines = all_lines(alloc, tape)?;
-    if tape.is_empty() || lines.len() > 20000 {
+    if tape.is_empty() || lines.len() > MOST_BLOCKS {
         return Ok(false);
     }
     let rising = is_rising(&lines);

@@ -1,6 +1,6 @@
 //! The tapes that rows write.
 use nc_number::Failing;
-use nc_text::{Reader, Tape, TextFault};
+use nc_text::{Block, Reader, Tape, TextFault};
 use std::alloc::{AllocError, Global};
 
 /// A byte of a tape: the end of a line for a `~`.
@@ -50,4 +50,12 @@ pub(crate) fn read(alloc: Global, text: &str) -> Result<Tape, Failing<TextFault>
 /// The number and the line of a refusal.
 pub(crate) fn refusal(alloc: Global, number: u8, line: u32) -> Result<String, AllocError> {
     format!(in alloc; "refused {number} line {line}")
+}
+
+/// The first block of a tape.
+pub(crate) fn first_block(tape: &Tape) -> Option<&Block> {
+    match tape.as_slice() {
+        [program, ..] => program.blocks.as_slice().first(),
+        [] => None,
+    }
 }

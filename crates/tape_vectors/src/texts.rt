@@ -119,3 +119,22 @@ fn what_is_read_in_a_text(rt: HostRuntime) -> Result<(), Fail> {
     all_hold(&rt, rt.alloc(), 7)?;
     all_hold(&rt, rt.alloc(), 1)
 }
+
+/// What is read of a text of so many bytes, none of which is of a tape.
+fn long_answer(alloc: Global, size: usize) -> Result<String, AllocError> {
+    let text = "x".repeat(alloc, size)?;
+    answer(alloc, 0, text.as_str(), 65_536)
+}
+
+#[test]
+fn a_tape_has_four_million_bytes_at_most(rt: HostRuntime) -> Result<(), Fail> {
+    assert_eq!(&rt;
+        long_answer(rt.alloc(), 4_194_304)?.as_str(),
+        "refused 13 line 1"
+    );
+    assert_eq!(&rt;
+        long_answer(rt.alloc(), 4_194_305)?.as_str(),
+        "refused 17 line 1"
+    );
+    Ok(())
+}

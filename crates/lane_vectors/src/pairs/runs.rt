@@ -2,14 +2,12 @@
 ghost use Rattle.std.specs.Prelude.{◌≡◌, []};
 
 use super::codes::CodeTable;
-use super::gate::GateTurret;
 use drive_line::Driven;
 use nc_number::{Both, NoMemory, Path};
 use nc_outside::{Halt, MemoryTurret, Turret};
 use std::alloc::Global;
 use std::sync::Wait;
 use std::sync::atomic::AtomicU64;
-use std::sync::atomic::Ordering::SeqCst;
 use std::test::Fail;
 use std::thread::Threads;
 use turret_run::{Ran, give_turn, run_pair};
@@ -27,57 +25,6 @@ fn run<'a, R: Threads + Wait + Sync, T: Turret + Send>(
         Ok(ran) => Ok(ran),
         Err(_) => Err(NoMemory),
     }
-}
-
-/// Runs both paths up to so many records each. The turret of path 2 waits for the first move of
-/// that of path 1, and this one until the other has moved so often, or until there were so many
-/// steps. It answers whether each turret failed, and the moves of each.
-fn gated<R: Threads + Wait + Sync>(
-    rt: &R,
-    alloc: Global,
-    first: u32,
-    second: u32,
-    waits_for_steps: bool,
-    least: u64,
-) -> Result<(bool, bool, u64, u64), NoMemory> {
-    let (steps, one, two) = (AtomicU64::new(0), AtomicU64::new(0), AtomicU64::new(0));
-    let first_turret = GateTurret {
-        mine: &one,
-        other: if waits_for_steps { &steps } else { &two },
-        least,
-        faults: 0,
-    };
-    let second_turret = GateTurret {
-        mine: &two,
-        other: &one,
-        least: 1,
-        faults: 0,
-    };
-    let goals = (first as usize, second as usize);
-    let table = CodeTable::new(alloc, goals, false, &steps);
-    let turrets = Both {
-        one: first_turret,
-        two: second_turret,
-    };
-    let ran = run(rt, alloc, table, turrets)?;
-    Ok((
-        ran.turrets.one.has_failed(),
-        ran.turrets.two.has_failed(),
-        one.load(SeqCst),
-        two.load(SeqCst),
-    ))
-}
-
-#[test]
-fn turrets_move_at_once_and_beside_their_workers(rt: HostRuntime) -> Result<(), Fail> {
-    for (first, second, waits_for_steps, least, due) in [
-        (1, 1, false, 1, (false, false, 1, 1)),
-        (9, 0, true, 5, (false, false, 9, 0)),
-    ] {
-        let got = gated(&rt, rt.alloc(), first, second, waits_for_steps, least)?;
-        assert_eq!(rt; got, due);
-    }
-    Ok(())
 }
 
 /// Runs path 1 up to 500 records where its turret fails at that call or that settle. It answers
