@@ -14,7 +14,7 @@ use Rattle.block_words.specs.Ranges.{range_of}
 use Rattle.block_forms.specs.Refusals.{is_not_fixed, is_unknown, is_wait_not_alone, is_wait_of_others, has_two_m, is_bad_call, has_axis_twice, is_out_of_range, refusal_of}
 use Rattle.block_forms.specs.Controls.{number_of, or_number, call_of_p, back_to, wait_at, end_or_next, control_by, control_of_words, number_of_aim, control_of_sentence, is_sequence, is_allowed, waits_by_a_code}
 use Rattle.block_forms.proofs.NumbersFit.{IsWithin, last_within, first_within}
-use Rattle.block_words.proofs.Waiting.{found_passes}
+use Rattle.code_tables.proofs.FoundPasses.{found_passes}
 
 last_of_eight : (a b c d e f g h : Bool) → (if a then Some NotFixed else if b then Some UnknownCode else if c then Some WaitNotAlone else if d then Some WaitPaths else if e then Some TwoM else if f then Some BadCall else if g then Some AxisTwice else if h then Some WordRange else None) ≡ None → h ≡ false
 last_of_eight true b c d e f g h none = absurd (cc)

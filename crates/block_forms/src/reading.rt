@@ -23,19 +23,9 @@ use crate::words::FlowWords;
 use block_words::{Dialect, FlowWord, FlowWordList, WordValue};
 use macro_eval::{compile, compile_statement};
 use macro_expr::{parse_expr, parse_statement};
-use nc_number::{Cause, Failing, MOST_READS, is_literal, parse_word};
+use nc_number::{Cause, Failing, MOST_READS, is_literal, parse_word, unsigned};
 use nc_text::{Block, Body, Word};
 use std::alloc::Global;
-
-/// The text without the sign that it may begin with.
-fn without_sign(text: &[u8]) -> &[u8]
-    ensures { result.now ≡ behind_sign text.now }
-{
-    match text {
-        [b'+' | b'-', rest @ ..] => rest,
-        _ => text,
-    }
-}
 
 /// The sign before a variable or an expression is the word's own, not the expression's.
 fn is_minus(text: &[u8]) -> bool
@@ -64,7 +54,7 @@ fn read_expression(alloc: Global, text: &[u8]) -> Result<WordValue, Failing<Form
     ensures named { IfOk result (λ value. variables_of_value value ≤ variable_signs text.now) }
 {
     let minus = is_minus(text);
-    match parse_expr(alloc, without_sign(text)) {
+    match parse_expr(alloc, unsigned(text)) {
         Ok(tree) => {
             let code = compile(alloc, &tree)?;
             Ok(WordValue::Computed { minus, code })

@@ -30,7 +30,6 @@ pub struct FlowWords {
 
 impl FlowWords {
     ghost use Rattle.std.specs.Prelude.{◌≤◌, false, None, IfOk, IfSome, codes};
-    ghost use Rattle.std.specs.List.{list_any};
     ghost use Rattle.code_tables.specs.Kinds.{is_arc};
     ghost use Rattle.block_words.specs.Words.{has};
     ghost use Rattle.block_forms.specs.Refusals.{refusal_of};

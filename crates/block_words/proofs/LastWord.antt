@@ -1,16 +1,12 @@
 -- The last word of a letter, word by word.
-use Rattle.std.proofs.Common.{◌≡◌, ℕ, ◌+◌, ◌<◌, Bool, true, false, cond, List, [], ◌∷◌, ◌++◌, length, get_or, take, Some, append-nil, refl, ap}
+use Rattle.std.proofs.Common.{◌≡◌, ℕ, ◌+◌, ◌<◌, Bool, true, false, cond, List, [], ◌∷◌, ◌++◌, length, get_or, take, append-nil, refl, ap}
 use Rattle.std.proofs.lemmas.List.Elements.{filter-append}
 use Rattle.std.proofs.lemmas.List.{take_more}
 use Rattle.code_tables.specs.Codes.{last_of}
+use Rattle.code_tables.proofs.LastOfGroup.{last_of_push}
 use Rattle.block_words.specs.declared.word.FlowWord.{FlowWord}
 use Rattle.block_words.specs.Words.{is_one_of, words_of, whole_value, value_of_last, whole_of_last, last_whole}
 use Rattle.block_words.specs.Codes.{natural}
-
--- the last of a list with one more is that one
-pub last_of_push : {X : Type 0} (xs : List X) (x : X) → last_of (xs ++ x ∷ []) ≡ Some x
-last_of_push [] x = refl
-last_of_push (y ∷ ys) x = rw (last_of_push ys x) refl
 
 last_whole_push : (letters : List ℕ) (words : List FlowWord) (word : FlowWord) → last_whole letters (words ++ word ∷ []) ≡ cond (is_one_of letters word.letter) (whole_value word.value) (last_whole letters words)
 last_whole_push letters words word =

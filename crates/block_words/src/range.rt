@@ -2,7 +2,6 @@
 ghost use Rattle.std.specs.Prelude.{◌≡◌};
 ghost use Rattle.block_words.specs.Ranges.{fits, range_of_p, range_of_l, range_of_way, range_of_letter, range_of_argument, range_of, is_between, is_in_range};
 
-use crate::letters::is_one_of;
 use crate::purpose::Purpose;
 use crate::word::{FlowWord, WordValue};
 use nc_number::Literal;

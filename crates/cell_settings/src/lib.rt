@@ -9,11 +9,13 @@
 
 mod entry;
 mod named;
+mod placing;
 mod preset;
 mod preset_line;
 mod reading;
 mod settings;
 
+pub use placing::preset_slot;
 pub use preset::{Preset, PresetKind, PresetList};
 pub use preset_line::read_preset;
 pub use reading::{SettingFault, read_settings};

@@ -1,5 +1,5 @@
 //! What the fields of a line of the settings say, by its first word.
-ghost use Rattle.std.specs.Prelude.{◌≡◌, ◌≤◌, IfOk, IfSome};
+ghost use Rattle.std.specs.Prelude.{◌≡◌, IfOk, IfSome};
 ghost use Rattle.field_lines.specs.Field.{texts};
 ghost use Rattle.field_lines.specs.Line.{line_says};
 ghost use Rattle.cell_settings.specs.Entry.{wait_of, shared100_of, shared500_of, paths_of, codes_of, skip_of, place_of, home_of, records_of, named_of, named_point_of, fields_say, IsAllowed};

@@ -41,6 +41,7 @@ impl Model for PresetList {
     ghost view = { λ l. l.items.items };
 }
 
+/// Whether both set the same offset of the same path.
 fn is_same_place(a: &Preset, b: &Preset) -> bool
     ensures { result ≡ is_same_place a.now b.now }
 {
@@ -48,6 +49,7 @@ fn is_same_place(a: &Preset, b: &Preset) -> bool
 }
 
 impl PresetList {
+    /// A list without offsets.
     pub(crate) fn empty(alloc: Global) -> Self
         ensures { result ≡ [] }
     {

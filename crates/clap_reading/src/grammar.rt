@@ -21,6 +21,7 @@ pub fn program<'a>(alloc: Global) -> Result<Command<'a>, AllocError>
     Ok(program)
 }
 
+/// The command before its rows: it wants a subcommand and offers no help.
 fn bare<'a>(alloc: Global) -> Command<'a>
     ensures { IsRead bare_app result }
 {

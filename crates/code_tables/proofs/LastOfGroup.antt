@@ -9,7 +9,7 @@ use Rattle.code_tables.specs.declared.row.Row.{Row}
 use Rattle.code_tables.specs.Codes.{row_of, rows_of, is_of_group, last_of, last_of_group}
 
 -- the last of a list with one more is that one
-last_of_push : {X : Type 0} (xs : List X) (x : X) → last_of (xs ++ x ∷ []) ≡ Some x
+pub last_of_push : {X : Type 0} (xs : List X) (x : X) → last_of (xs ++ x ∷ []) ≡ Some x
 last_of_push [] x = refl
 last_of_push (y ∷ ys) x = rw (last_of_push ys x) refl
 

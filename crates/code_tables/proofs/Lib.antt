@@ -1,2 +1,3 @@
+pub mod FoundPasses
 pub mod LastOfGroup
 pub mod Lookup

@@ -1,6 +1,7 @@
 use Rattle.std.specs.Prelude.{◌≡◌, ℕ, Bool, true, false, ◌&&◌, ◌==◌, not, if◌then◌else◌, List, [], ◌∷◌, ◌++◌, find, length, nat_le, Option, Some, None, is_some, map, option_and_then, option_map, codes}
 use Rattle.std.specs.List.{after_first, before_first, list_any, slice_index}
 use Rattle.std.specs.Str.{IsUtf8, bytes_eq}
+use Rattle.nc_number.specs.declared.limits.TheConstants.{MOST_RECORDS}
 use Rattle.command_words.specs.Number.{number_of}
 use Rattle.command_words.specs.Table.{Listing, Text, row_of, takes_option}
 use Rattle.command_words.specs.declared.command.Command.{Command}
@@ -151,7 +152,7 @@ command_with task.Edit (edits ∷ []) limits files = Some (command.Edit edits)
 command_with task.Moves [] limits files = Some command.Moves
 command_with task.State [] limits files = Some command.State
 command_with task.Zones (zones ∷ []) limits files = Some (command.Zones zones)
-command_with task.Branch (meetings ∷ []) limits files = option_map command.Branch (number_of 0 4000000 meetings)
+command_with task.Branch (meetings ∷ []) limits files = option_map command.Branch (number_of 0 MOST_RECORDS meetings)
 command_with task.Make (number ∷ []) limits files = option_map (λ n. command.Make n files) (number_of 0 999999 number)
 command_with task.Expand (tape ∷ []) limits files = Some (command.Expand tape)
 command_with _ _ _ _ = None

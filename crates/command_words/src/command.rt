@@ -17,6 +17,7 @@ impl Model for Name {
 }
 
 impl Name {
+    /// The name that a text has, in memory of its own.
     pub(crate) fn new(alloc: Global, text: &str) -> Result<Name, AllocError>
         ensures { IfOk result (λ name. name ≡ text.now) }
     {
@@ -25,12 +26,14 @@ impl Name {
         })
     }
 
+    /// The name as text, just as the words have it.
     pub fn as_str(&self) -> &str
         ensures { result.now ≡ self.now }
     {
         self.text.as_str()
     }
 
+    /// The bytes of the name.
     pub fn as_slice(&self) -> &[u8]
         ensures { result.now ≡ self.now }
     {

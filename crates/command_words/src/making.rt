@@ -1,5 +1,6 @@
 //! The command that a row's task makes of what its words were given.
 ghost use Rattle.std.specs.Prelude.{◌≡◌, ◌≤◌, IfSome, map, option_map};
+ghost use Rattle.nc_number.specs.declared.limits.TheConstants.{MOST_RECORDS};
 ghost use Rattle.command_words.specs.Listed.{command_of, command_with, file_of, files_of, limit_of, outside_of, range_by, range_of};
 ghost use Rattle.command_words.specs.Making.{Answers, texts_seen};
 ghost use Rattle.command_words.specs.Number.{number_of};
@@ -9,18 +10,18 @@ use crate::fault::WordsFault;
 use crate::number::read_number;
 use crate::option_texts::OptionTexts;
 use crate::table::Task;
+use nc_number::MOST_RECORDS;
 use std::alloc::Global;
 
 /// How many blocks a call may run where the words do not say.
 const DEFAULT_BLOCKS: u32 = 100_000;
 
+/// The most blocks that the words may let a call run.
 const MOST_BLOCKS: u32 = 1_000_000;
 /// The greatest O number.
 const MOST_PROGRAMS: u32 = 9_999;
 /// The greatest number of a made pair.
 const MOST_MADE: u32 = 999_999;
-/// The most meetings of a branch, which are as many as a journal may have records.
-const MOST_MEETINGS: u32 = 4_000_000;
 
 /// What the options of numbers say.
 #[derive(Clone, Copy)]
@@ -81,6 +82,7 @@ fn range_of(text: &str) -> Option<ProgramRange>
     }
 }
 
+/// The range between two O numbers, if both are there and the least is not above the greatest.
 fn range_by(greatest: Option<u32>, least: Option<u32>) -> Option<ProgramRange>
     requires greatest { IfSome greatest (λ n. n ≤ 9999) }
     ensures { result ≡ range_by greatest least }
@@ -227,11 +229,12 @@ fn command_with(
     }
 }
 
-/// The command that branches at the meeting of this number.
+/// The command that branches at the meeting of this number. There are no more meetings than a
+/// journal may have records.
 fn branched(meetings: &str) -> Result<Command, WordsFault>
-    ensures { Answers (option_map Command.Branch (number_of 0 4000000 meetings.now)) result }
+    ensures { Answers (option_map Command.Branch (number_of 0 MOST_RECORDS meetings.now)) result }
 {
-    match read_number(meetings, 0, MOST_MEETINGS) {
+    match read_number(meetings, 0, MOST_RECORDS) {
         Some(meetings) => Ok(Command::Branch(meetings)),
         None => Err(WordsFault::Usage),
     }

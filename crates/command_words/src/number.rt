@@ -23,12 +23,14 @@ pub(crate) fn read_number(text: &str, low: u32, high: u32) -> Option<u32>
     }
 }
 
+/// Whether the text is one to seven decimal digits and nothing else.
 fn is_numeral_text(text: &str) -> bool
     ensures { result ≡ is_numeral text.now }
 {
     1 <= text.len() && text.len() <= MOST_DIGITS && has_digits_alone(text)
 }
 
+/// Whether no byte is anything but a decimal digit; an empty text passes.
 fn has_digits_alone(text: &str) -> bool
     ensures { result ≡ list_all is_ascii_digit text.now }
 {

@@ -1,7 +1,7 @@
 //! The writes of shared variables, linked so that a value is found without a walk.
-ghost use Rattle.std.specs.Prelude.{◌≡◌, ℕ, ◌<◌, ◌≤◌, IfSome, length, map};
+ghost use Rattle.std.specs.Prelude.{◌≡◌, ℕ, ◌<◌, IfSome, length, map};
 ghost use Rattle.common_vars.specs.Writes.{value_after};
-ghost use Rattle.common_vars.specs.Links.{AreLinked, IsLatestBefore, IsSomeBefore, IsPast};
+ghost use Rattle.common_vars.specs.Links.{AreLinked, IsLatestBefore, IsSomeBefore};
 
 use nc_number::Var;
 use std::marker::Model;
@@ -35,6 +35,7 @@ impl Model for Link {
 }
 
 impl Link {
+    /// The link to a place, or to none.
     fn to(place: Option<usize>) -> Link
         requires { IfSome place (λ i. i < usize.MAX) }
         ensures { result ≡ place }
@@ -47,6 +48,7 @@ impl Link {
         }
     }
 
+    /// The place that it leads to.
     fn place(&self) -> Option<usize>
         ensures { result ≡ self.now }
     {

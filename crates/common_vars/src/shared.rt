@@ -1,5 +1,5 @@
 //! The common variables that the paths share.
-ghost use Rattle.std.specs.Prelude.{◌≡◌, ◌≢◌, ◌↔◌, ◌+◌, ◌<◌, ◌≤◌, ℕ, List, [], ◌∷◌, ◌++◌, if◌then◌else◌, All, IsTrue, IfOk, IsOk, OnOk};
+ghost use Rattle.std.specs.Prelude.{◌≡◌, ◌↔◌, ◌+◌, ◌<◌, ◌≤◌, ℕ, List, [], ◌∷◌, ◌++◌, if◌then◌else◌, All, IsTrue, IfOk, IsOk, OnOk};
 ghost use Rattle.common_vars.specs.declared.links.Write.{Write};
 ghost use Rattle.common_vars.specs.Writes.{IsShared, is_write_of, value_after};
 

@@ -75,6 +75,7 @@ pub fn variable_of(number: u32) -> Option<Variable>
     named_by(number)
 }
 
+/// The variable whose number it is, by one table.
 fn named_by(number: u32) -> Option<Variable>
     ensures named { IfSome result (λ variable. IsVariable variable) }
     ensures number { IfSome result (λ variable. number_of variable ≡ number) }

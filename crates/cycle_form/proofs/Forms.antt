@@ -7,7 +7,7 @@ use Rattle.nc_number.proofs.Bools.{both}
 use Rattle.rough_cycle.specs.Contour.{Descends, last_of}
 use Rattle.rough_cycle.specs.Form.{IsWritten}
 use Rattle.rough_cycle.specs.Roughing.{Rough, IsForm, IsFinishStart}
-use Rattle.rough_cycle.proofs.Orders.{le_is}
+use Rattle.nc_number.proofs.Integers.{le_is}
 use Rattle.cycle_form.specs.Forms.{goes_down, descends, is_form, is_finish_start}
 
 falls : (p : Point) (points : List Point) → descends p points ≡ true → Descends p points

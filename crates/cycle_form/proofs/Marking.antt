@@ -15,22 +15,19 @@ none : (marked : Bool) → marks_from marked [] ≡ marked ∷ []
 unfolding marks_from
 none marked = refl
 
-rest_is : (text : List ℕ) (i : ℕ) → i < length text → drop i text ≡ get_or text i 0 ∷ drop (i + 1) text
-rest_is text i before = drop_more text i 0 before
-
 pub ended : (marks new all : List Bool) (marked : Bool) (text : List ℕ) (i : ℕ) → i < length text
     → marks ++ marks_from marked (drop i text) ≡ all → (get_or text i 0 == 10) ≡ true → new ≡ marks ++ marked ∷ []
     → new ++ marks_from false (drop (i + 1) text) ≡ all
 ended marks new all marked text i before so_far end new_is =
     ap (λ l. l ++ marks_from false (drop (i + 1) text)) new_is ∙ append_assoc marks (marked ∷ []) (marks_from false (drop (i + 1) text))
-    ∙ ap (λ l. marks ++ l) (sym (at_line_feed marked (get_or text i 0) (drop (i + 1) text) end)) ∙ ap (λ l. marks ++ marks_from marked l) (sym (rest_is text i before)) ∙ so_far
+    ∙ ap (λ l. marks ++ l) (sym (at_line_feed marked (get_or text i 0) (drop (i + 1) text) end)) ∙ ap (λ l. marks ++ marks_from marked l) (sym (drop_more text i 0 before)) ∙ so_far
 
 pub went_on : (marks all : List Bool) (marked new : Bool) (text : List ℕ) (i : ℕ) → i < length text
     → marks ++ marks_from marked (drop i text) ≡ all → (get_or text i 0 == 10) ≡ false → new ≡ (marked || is_mark (get_or text i 0))
     → marks ++ marks_from new (drop (i + 1) text) ≡ all
 went_on marks all marked new text i before so_far other new_is =
     ap (λ m. marks ++ marks_from m (drop (i + 1) text)) new_is
-    ∙ ap (λ l. marks ++ l) (sym (at_byte marked (get_or text i 0) (drop (i + 1) text) other)) ∙ ap (λ l. marks ++ marks_from marked l) (sym (rest_is text i before)) ∙ so_far
+    ∙ ap (λ l. marks ++ l) (sym (at_byte marked (get_or text i 0) (drop (i + 1) text) other)) ∙ ap (λ l. marks ++ marks_from marked l) (sym (drop_more text i 0 before)) ∙ so_far
 
 pub at_end : (marks new all : List Bool) (marked : Bool) (rest : List ℕ) → rest ≡ [] → marks ++ marks_from marked rest ≡ all → new ≡ marks ++ marked ∷ [] → new ≡ all
 at_end marks new all marked rest empty so_far new_is =

@@ -3,7 +3,8 @@ use Rattle.std.proofs.Common.{◌≡◌, ℕ, ◌+◌, ◌<◌, true, false, Lis
 use Rattle.std.proofs.lemmas.List.{drop_more}
 use Rattle.nc_text.specs.declared.tape.Block.{Block}
 use Rattle.nc_number.specs.declared.point.Point.{Point}
-use Rattle.cycle_form.specs.Contour.{contour_point, points_behind, is_numbered}
+use Rattle.nc_number.specs.Options.{is_some_of}
+use Rattle.cycle_form.specs.Contour.{contour_point, points_behind}
 
 rest_is : (blocks : List Block) (i : ℕ) (b : Block) → b ≡ get_or blocks i b → i < length blocks → drop i blocks ≡ b ∷ drop (i + 1) blocks
 rest_is blocks i b is before = drop_more blocks i b before ∙ ap (λ c. c ∷ drop (i + 1) blocks) (sym is)
@@ -12,11 +13,11 @@ stops : (done : List Point) (from : Point) (last : ℕ) (b : Block) (bs : List B
 unfolding points_behind
 stops done from last b bs none = rw none refl
 
-ends : (done : List Point) (from : Point) (last : ℕ) (b : Block) (bs : List Block) (to : Point) → contour_point from b.body ≡ Some to → is_numbered last b.sequence ≡ true → points_behind done from last (b ∷ bs) ≡ Some (done ++ to ∷ [])
+ends : (done : List Point) (from : Point) (last : ℕ) (b : Block) (bs : List Block) (to : Point) → contour_point from b.body ≡ Some to → is_some_of last b.sequence ≡ true → points_behind done from last (b ∷ bs) ≡ Some (done ++ to ∷ [])
 unfolding points_behind
 ends done from last b bs to some numbered = rw (some, numbered) refl
 
-goes_on : (done : List Point) (from : Point) (last : ℕ) (b : Block) (bs : List Block) (to : Point) → contour_point from b.body ≡ Some to → is_numbered last b.sequence ≡ false → points_behind done from last (b ∷ bs) ≡ points_behind (done ++ to ∷ []) to last bs
+goes_on : (done : List Point) (from : Point) (last : ℕ) (b : Block) (bs : List Block) (to : Point) → contour_point from b.body ≡ Some to → is_some_of last b.sequence ≡ false → points_behind done from last (b ∷ bs) ≡ points_behind (done ++ to ∷ []) to last bs
 unfolding points_behind
 goes_on done from last b bs to some numbered = rw (some, numbered) refl
 
@@ -28,10 +29,10 @@ pub at_stop : (done : List Point) (from : Point) (last : ℕ) (all : Option (Lis
 at_stop done from last all blocks i b is before so_far none =
     sym (stops done from last b (drop (i + 1) blocks) none) ∙ ap (points_behind done from last) (sym (rest_is blocks i b is before)) ∙ so_far
 
-pub at_last : (done new : List Point) (from : Point) (last : ℕ) (all : Option (List Point)) (blocks : List Block) (i : ℕ) (b : Block) (to : Point) → b ≡ get_or blocks i b → i < length blocks → points_behind done from last (drop i blocks) ≡ all → contour_point from b.body ≡ Some to → is_numbered last b.sequence ≡ true → new ≡ done ++ to ∷ [] → Some new ≡ all
+pub at_last : (done new : List Point) (from : Point) (last : ℕ) (all : Option (List Point)) (blocks : List Block) (i : ℕ) (b : Block) (to : Point) → b ≡ get_or blocks i b → i < length blocks → points_behind done from last (drop i blocks) ≡ all → contour_point from b.body ≡ Some to → is_some_of last b.sequence ≡ true → new ≡ done ++ to ∷ [] → Some new ≡ all
 at_last done new from last all blocks i b to is before so_far some numbered new_is =
     ap Some new_is ∙ sym (ends done from last b (drop (i + 1) blocks) to some numbered) ∙ ap (points_behind done from last) (sym (rest_is blocks i b is before)) ∙ so_far
 
-pub at_next : (done new : List Point) (from : Point) (last : ℕ) (all : Option (List Point)) (blocks : List Block) (i : ℕ) (b : Block) (to : Point) → b ≡ get_or blocks i b → i < length blocks → points_behind done from last (drop i blocks) ≡ all → contour_point from b.body ≡ Some to → is_numbered last b.sequence ≡ false → new ≡ done ++ to ∷ [] → points_behind new to last (drop (i + 1) blocks) ≡ all
+pub at_next : (done new : List Point) (from : Point) (last : ℕ) (all : Option (List Point)) (blocks : List Block) (i : ℕ) (b : Block) (to : Point) → b ≡ get_or blocks i b → i < length blocks → points_behind done from last (drop i blocks) ≡ all → contour_point from b.body ≡ Some to → is_some_of last b.sequence ≡ false → new ≡ done ++ to ∷ [] → points_behind new to last (drop (i + 1) blocks) ≡ all
 at_next done new from last all blocks i b to is before so_far some numbered new_is =
     ap (λ l. points_behind l to last (drop (i + 1) blocks)) new_is ∙ sym (goes_on done from last b (drop (i + 1) blocks) to some numbered) ∙ ap (points_behind done from last) (sym (rest_is blocks i b is before)) ∙ so_far

@@ -1,6 +1,6 @@
 -- The blocks of a contour.
-use Rattle.std.specs.Prelude.{ℕ, Bool, false, ◌==◌, List, [], ◌∷◌, ◌++◌, length, drop, Option, Some, None, ℤ, pos, if◌then◌else◌}
-use Rattle.nc_number.specs.Options.{◌>>=◌}
+use Rattle.std.specs.Prelude.{ℕ, ◌==◌, List, [], ◌∷◌, ◌++◌, length, drop, Option, Some, None, ℤ, pos, if◌then◌else◌}
+use Rattle.nc_number.specs.Options.{◌>>=◌, is_some_of}
 use Rattle.line_text.specs.declared.body.Word.{Word}
 use Rattle.nc_text.specs.declared.tape.Block.{Block}
 use Rattle.line_text.specs.declared.body.Body.{Body}
@@ -39,13 +39,9 @@ contour_point from body = do
   words ← words_of body
   target_of from (behind_line words)
 
-abbrev pub is_numbered : ℕ → Option ℕ → Bool
-is_numbered number None = false
-is_numbered number (Some n) = n == number
-
 -- the points of the blocks up to the first with this number, behind those that were read
 unfoldable pub points_behind : List Point → Point → ℕ → List Block → Option (List Point)
 points_behind done from last [] = None
 points_behind done from last (block ∷ blocks) = do
   to ← contour_point from block.body
-  if is_numbered last block.sequence then Some (done ++ to ∷ []) else points_behind (done ++ to ∷ []) to last blocks
+  if is_some_of last block.sequence then Some (done ++ to ∷ []) else points_behind (done ++ to ∷ []) to last blocks

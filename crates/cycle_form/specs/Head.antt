@@ -1,7 +1,7 @@
 -- What the first four blocks of a G71 form say.
 use Rattle.std.specs.Prelude.{◌≡◌, ℕ, ◌≤◌, ◌&&◌, ◌==◌, nat_lt, List, [], ◌∷◌, length, Option, Some, None, is_none, ℤ, pos, negsuc, int_lt, if◌then◌else◌}
 use Rattle.nc_number.specs.Arithmetic.{whole_of}
-use Rattle.nc_number.specs.Options.{◌>>=◌}
+use Rattle.nc_number.specs.Options.{◌>>=◌, is_some_of}
 use Rattle.line_text.specs.declared.body.Word.{Word}
 use Rattle.nc_text.specs.declared.tape.Block.{Block}
 use Rattle.rough_cycle.specs.Form.{IsWritten}
@@ -9,7 +9,7 @@ use Rattle.cycle_form.specs.declared.head.Cut.{Cut}
 use Rattle.cycle_form.specs.declared.head.Call.{Call}
 use Rattle.cycle_form.specs.declared.head.Head.{Head}
 use Rattle.cycle_form.specs.Words.{literal_at, length_at, is_code, start_of}
-use Rattle.cycle_form.specs.Contour.{words_of, is_numbered}
+use Rattle.cycle_form.specs.Contour.{words_of}
 
 abbrev pub natural : ℤ → Option ℕ
 natural (pos n) = Some n
@@ -61,7 +61,7 @@ plain_words block = if is_none block.sequence then words_of block.body else None
 unfoldable pub first_of : ℕ → Block → Option ℤ
 first_of number block = do
   words ← words_of block.body
-  if (is_numbered number block.sequence && length words == 2) && is_code (pos 0) (literal_at words 0 71) then length_at words 1 88 else None
+  if (is_some_of number block.sequence && length words == 2) && is_code (pos 0) (literal_at words 0 71) then length_at words 1 88 else None
 
 unfoldable pub head_of : Block → Block → Block → Block → Option Head
 head_of a b c d = do

@@ -1,7 +1,8 @@
 //! The contour that a roughing cycle names.
 ghost use Rattle.std.specs.Prelude.{◌≡◌, [], Some, IfOk, IfSome, All, option_map};
 ghost use Rattle.rough_cycle.specs.Form.{IsWritten};
-ghost use Rattle.cycle_form.specs.Contour.{behind_line, target_of, contour_point, points_behind, is_numbered};
+ghost use Rattle.nc_number.specs.Options.{is_some_of};
+ghost use Rattle.cycle_form.specs.Contour.{behind_line, target_of, contour_point, points_behind};
 
 use crate::words::{is_code, length_at, literal_at};
 use nc_number::Point;
@@ -61,7 +62,7 @@ fn contour_point(from: &Point, body: &Body) -> Option<Point>
 
 /// Whether a block has this sequence number.
 pub(crate) fn is_numbered(number: u32, sequence: Option<u32>) -> bool
-    ensures { result ≡ is_numbered number sequence }
+    ensures { result ≡ is_some_of number sequence }
 {
     match sequence {
         Some(n) => n == number,
@@ -77,7 +78,8 @@ pub(crate) fn points_of(
     blocks: &[Block],
 ) -> Result<Option<Vec<Point>>, AllocError>
     requires { IsWritten from.now }
-    ensures points { IfOk result (λ read. option_map (λ points. points.items) read ≡ points_behind [] from.now last blocks.now) }
+    ensures points { IfOk result (λ read.
+        option_map (λ points. points.items) read ≡ points_behind [] from.now last blocks.now) }
     ensures near { IfOk result (λ read. IfSome read (λ points. All IsWritten points.items)) }
 {
     let mut points = Vec::new(alloc);

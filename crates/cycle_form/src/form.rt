@@ -1,8 +1,7 @@
 //! The forms of the roughing cycle G71.
-ghost use Rattle.std.specs.Prelude.{◌≡◌, ◌+◌, ◌≤◌, IfOk, IfSome, IsTrue, All, take, drop, map};
+ghost use Rattle.std.specs.Prelude.{◌≡◌, ◌+◌, ◌≤◌, IfOk, IfSome, All, take, drop, map};
 ghost use Rattle.rough_cycle.specs.Contour.{last_of};
 ghost use Rattle.rough_cycle.specs.Form.{rough_of, IsNearForm, IsWritten};
-ghost use Rattle.rough_cycle.specs.Roughing.{IsForm};
 ghost use Rattle.cycle_form.specs.Forms.{rough_by, is_below_start, goes_down, descends, is_form, is_short, form_of, form_at};
 ghost use Rattle.cycle_form.specs.Head.{IsSoundHead};
 ghost use Rattle.cycle_form.specs.Parts.{IsSoundPart};

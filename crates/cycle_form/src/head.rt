@@ -1,7 +1,6 @@
 //! The two blocks that a roughing cycle begins with.
 ghost use Rattle.std.specs.Prelude.{◌≡◌, ◌≤◌, IfSome, Some, option_map, unsigned_abs};
 ghost use Rattle.cycle_form.specs.Head.{natural, size_at, number_at, feed_at, cut_of, call_of, plain_words, first_of, head_of, head_at, IsSoundCall, IsSoundCut, IsSoundHead};
-ghost use Rattle.rough_cycle.specs.Form.{IsWritten};
 
 use crate::contour::is_numbered;
 use crate::words::{is_code, length_at, literal_at, start_of};

@@ -1,5 +1,5 @@
 //! A part of a tape that stands for plain blocks.
-ghost use Rattle.std.specs.Prelude.{◌≡◌, IfOk, List, length};
+ghost use Rattle.std.specs.Prelude.{◌≡◌, IfOk};
 ghost use Rattle.rough_cycle.specs.Form.{rough_of};
 ghost use Rattle.cycle_form.specs.Parts.{PartView, IsSoundPart, IsClearPart, part_blocks, is_called};
 
@@ -38,9 +38,23 @@ impl Model for Part {
 
     ghost Value = { PartView };
 
-    ghost view = { λ p. record { kind = p.kind; rough = rough_of p.rough; first = p.first; last = p.last; feed = p.feed; lines = p.lines.items } };
+    ghost view = { λ p. record {
+      kind = p.kind;
+      rough = rough_of p.rough;
+      first = p.first;
+      last = p.last;
+      feed = p.feed;
+      lines = p.lines.items;
+    } };
 
-    ghost invariant = { λ p. IsSoundPart (record { kind = p.kind; rough = rough_of p.rough; first = p.first; last = p.last; feed = p.feed; lines = p.lines.items }) };
+    ghost invariant = { λ p. IsSoundPart (record {
+      kind = p.kind;
+      rough = rough_of p.rough;
+      first = p.first;
+      last = p.last;
+      feed = p.feed;
+      lines = p.lines.items;
+    }) };
 }
 
 impl Part {
@@ -53,8 +67,22 @@ impl Part {
         feed: Value,
         lines: Vec<u32>,
     ) -> Self
-        requires { IsSoundPart (record { kind = kind; rough = rough_of rough; first = first; last = last; feed = feed; lines = lines.items }) }
-        ensures { result ≡ record { kind = kind; rough = rough_of rough; first = first; last = last; feed = feed; lines = lines.items } }
+        requires { IsSoundPart (record {
+          kind = kind;
+          rough = rough_of rough;
+          first = first;
+          last = last;
+          feed = feed;
+          lines = lines.items;
+        }) }
+        ensures { result ≡ record {
+          kind = kind;
+          rough = rough_of rough;
+          first = first;
+          last = last;
+          feed = feed;
+          lines = lines.items;
+        } }
     {
         Part {
             kind,

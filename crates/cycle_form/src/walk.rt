@@ -125,7 +125,8 @@ fn with_program(
     blocks: &[Block],
 ) -> Result<Vec<Part>, Failing<CycleFault>>
     requires { All IsSoundPart parts.items }
-    ensures exact { Gives (λ parts. parts.items) result (parts_from marks.now (length parts.items) 0 [] parts.items blocks.now) }
+    ensures exact { Gives (λ parts. parts.items) result
+        (parts_from marks.now (length parts.items) 0 [] parts.items blocks.now) }
     ensures sound { IfOk result (λ parts. All IsSoundPart parts.items) }
 {
     let mut parts = parts;

@@ -1,13 +1,13 @@
 //! A disk in memory that keeps every image.
 
-ghost use Rattle.std.specs.Prelude.{◌≡◌, ◌+◌, ◌-◌, ◌^◌, ◌<◌, ◌++◌, ◌==◌, length, take, drop, min, IfOk, IsOk, IsErr, is_err};
+ghost use Rattle.std.specs.Prelude.{◌≡◌, ◌+◌, ◌-◌, ◌^◌, ◌<◌, ◌==◌, length, IfOk, IsOk, IsErr, is_err};
 ghost use Rattle.std.specs.List.{list_any};
 
 use crate::Image;
 use crate::ended::{EndedImage, add_left, ended_at};
 use crate::growing::added_by;
 use crate::image::write_over;
-use disk_model::{Disk, Failed};
+use disk_model::{Disk, Failed, read_into};
 use nc_number::NoMemory;
 use std::alloc::Global;
 use std::marker::Model;
@@ -92,11 +92,13 @@ impl ImagesDisk {
     /// ended.
     pub fn images_since(&self, since: u64) -> Result<Vec<Image>, NoMemory>
         ensures list { IfOk result (λ images. images.items ≡ images_since self.now since) }
-        ensures just { IfOk result (λ images. (c : List ℕ) → IsAmong images.items c ↔ (images_state self.now).image_since since c) }
+        ensures just { IfOk result (λ images.
+            (c : List ℕ) → IsAmong images.items c ↔ (images_state self.now).image_since since c) }
     {
         self.listed_since(since)
     }
 
+    /// The images that a crash since that time may have left, as a list.
     fn listed_since(&self, since: u64) -> Result<Vec<Image>, NoMemory>
         ensures { IfOk result (λ images. images.items ≡ images_since self.now since) }
     {
@@ -112,6 +114,7 @@ impl ImagesDisk {
     }
 }
 
+/// Whether the call of this number is to fail.
 fn is_listed(failing: &[u64], number: u64) -> bool
     ensures { result ≡ list_any (λ n. n == number) failing.now }
 {
@@ -122,6 +125,7 @@ impl ImagesDisk {
     ghost use Rattle.disk_model.specs.Device.{HasCause};
     ghost use Rattle.disk_images.specs.Images.{IsKept, after_look, after_request, after_settling, grown, images_state, next_fails, overwritten, refuses_write, with_fault};
 
+    /// Whether the next call fails by its number.
     fn next_call_fails(&self) -> bool
         ensures fails { result ≡ next_fails self.now }
         ensures kept { IsKept self.now }
@@ -145,6 +149,7 @@ impl ImagesDisk {
         Ok(())
     }
 
+    /// Counts one fault more.
     fn count_fault(&mut self)
         ensures { self.new ≡ with_fault self.old }
     {
@@ -257,7 +262,8 @@ impl Disk for ImagesDisk {
     }
 
     fn sync(&mut self) -> Result<(), Failed>
-        ensures model { Comes (next_fails self.old) (after_sync self.old) (with_fault (after_look self.old)) self.new (is_err result) }
+        ensures model { Comes (next_fails self.old) (after_sync self.old)
+            (with_fault (after_look self.old)) self.new (is_err result) }
         ensures does { Syncs (images_state self.old) (images_state self.new) result }
     {
         self.look()?;
@@ -267,18 +273,4 @@ impl Disk for ImagesDisk {
         }
         Ok(())
     }
-}
-
-/// Copies what stands from an offset on, as much as there is and the slice has room for.
-fn read_into(bytes: &[u8], at: u64, into: &mut [u8]) -> usize
-    ensures count { result ≡ min (length into.old) (length bytes.now - at) }
-    ensures got { into.new ≡ take result (drop at bytes.now) ++ drop result into.old }
-{
-    if bytes.len() as u64 <= at {
-        return 0;
-    }
-    let (_, rest) = bytes.split_at(at as usize);
-    let count = into.len().min(rest.len());
-    into[..count].copy_from_slice(&rest[..count]);
-    count
 }

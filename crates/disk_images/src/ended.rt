@@ -24,6 +24,7 @@ impl Model for EndedImage {
 }
 
 impl EndedImage {
+    /// An image of these bytes that could be left until that time.
     fn of_bytes(alloc: Global, bytes: &[u8], until: u64) -> Result<EndedImage, NoMemory>
         ensures { IfOk result (λ ended. ended ≡ record { bytes = bytes.now; until = until }) }
     {

@@ -36,7 +36,8 @@ pub(crate) fn added_by(
     bytes: &[u8],
 ) -> Result<Vec<Image>, NoMemory>
     requires { at + length bytes.now < 2 ^ 62 }
-    ensures { IfOk result (λ added. added.items ≡ held.now ∷ flat_map (torn_images at bytes.now) (held.now ∷ others.now)) }
+    ensures { IfOk result (λ added.
+        added.items ≡ held.now ∷ flat_map (torn_images at bytes.now) (held.now ∷ others.now)) }
 {
     let mut added = Vec::new(alloc);
     added.push(Image::of_bytes(alloc, held)?)?;

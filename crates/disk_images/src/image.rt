@@ -27,6 +27,7 @@ impl Image {
         &self.bytes
     }
 
+    /// An image of these bytes.
     pub(crate) fn of_bytes(alloc: Global, bytes: &[u8]) -> Result<Image, NoMemory>
         ensures { IfOk result (λ image. image ≡ bytes.now) }
     {
@@ -77,6 +78,7 @@ fn filled_up(alloc: Global, old: &[u8], end: usize) -> Result<Vec<u8>, NoMemory>
     Ok(new)
 }
 
+/// Puts bytes over others, of which there are as many.
 fn put_inside(content: &mut [u8], at: usize, bytes: &[u8])
     requires { at + length bytes.now ≤ length content.old }
     ensures { content.new ≡ take at content.old ++ bytes.now ++ drop (at + length bytes.now) content.old }

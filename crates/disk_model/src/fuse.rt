@@ -1,7 +1,6 @@
 //! A disk that stops.
 
 ghost use Rattle.std.specs.Prelude.{◌≡◌, ◌+◌, ◌-◌, ◌^◌, ◌<◌, ◌==◌, length, is_err, not, IsTrue};
-ghost use Rattle.nc_number.specs.Faults.{next};
 ghost use Rattle.disk_model.specs.Calls.{Measures, Fetches, Writes, Syncs};
 
 use crate::{Disk, Failed, MemoryDisk};
@@ -32,6 +31,7 @@ impl Model for FuseDisk {
 impl FuseDisk {
     ghost use Rattle.disk_model.specs.Fuse.{Fuse, after_stop};
 
+    /// The disk with a fuse that burns out behind so many passed calls.
     pub fn new(inner: MemoryDisk, passes: u64) -> FuseDisk
         ensures { result ≡ record { inner = inner; passes = passes; burnt = 0; reach = 0 } }
     {
@@ -43,6 +43,7 @@ impl FuseDisk {
         }
     }
 
+    /// The disk without its fuse.
     pub fn into_inner(self) -> MemoryDisk
         ensures { result ≡ self.inner }
     {

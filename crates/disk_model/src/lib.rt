@@ -17,6 +17,6 @@ mod stretch;
 pub use device::Disk;
 pub use fuse::FuseDisk;
 pub use laws::{a_new_disk_allows_its_room, images_are_torn_writes};
-pub use memory::{Crash, MemoryDisk};
+pub use memory::{Crash, MemoryDisk, read_into};
 pub use nc_number::Failed;
 pub use stretch::Stretch;

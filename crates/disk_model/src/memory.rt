@@ -1,9 +1,8 @@
 //! A disk in memory, whose calls can be made to fail, and which can crash.
 
-ghost use Rattle.std.specs.Prelude.{◌≡◌, ◌⊎◌, slice_index, ◌+◌, ◌-◌, ◌^◌, ◌≤◌, ◌<◌, ◌++◌, ◌==◌, [], ◌∷◌, List, ℕ, length, take, drop, min, IfOk, OnOk, OnErr, IfErr, IsOk, is_err, vec_capacity, replicate, max, nat_lt, nat_le};
+ghost use Rattle.std.specs.Prelude.{◌≡◌, ◌⊎◌, slice_index, ◌+◌, ◌-◌, ◌^◌, ◌≤◌, ◌<◌, ◌++◌, ◌==◌, [], ℕ, length, take, drop, min, IfOk, is_err, vec_capacity, replicate, max};
 ghost use Rattle.std.specs.List.{list_any};
-ghost use Rattle.disk_model.specs.Device.{DiskState, Reads, written_over, Looks, Tears, HasCause, Only, IsCoherent};
-ghost use Rattle.nc_number.specs.Faults.{next};
+ghost use Rattle.disk_model.specs.Device.{written_over, HasCause};
 ghost use Rattle.disk_model.specs.Image.{IsImage, greatest_end};
 ghost use Rattle.disk_model.specs.Memory.{IsFilled};
 
@@ -107,6 +106,7 @@ impl MemoryDisk {
         MemoryDisk::with_bytes(alloc, bytes, room, calls, failing)
     }
 
+    /// A disk that holds these bytes, in a room that they have already.
     fn with_bytes(
         alloc: Global,
         bytes: Vec<u8>,
@@ -146,6 +146,7 @@ impl MemoryDisk {
 }
 
 impl Epoch {
+    /// Nothing synced and nothing written, with room for so many bytes and calls.
     fn with_room(alloc: Global, room: usize, calls: usize) -> Result<Epoch, NoMemory>
         ensures synced { IfOk result (λ e. (e.synced.items ≡ []) × (room ≤ vec_capacity e.synced)) }
         ensures written { IfOk result (λ e. (e.written.items ≡ []) × (calls ≤ vec_capacity e.written)) }
@@ -178,6 +179,7 @@ fn fill_up(content: &mut Vec<u8>, end: usize, with: u8)
     }
 }
 
+/// Puts bytes over others, of which there are as many.
 fn put_inside(content: &mut [u8], at: usize, bytes: &[u8])
     requires { at + length bytes.now ≤ length content.old }
     ensures { content.new ≡ take at content.old ++ bytes.now ++ drop (at + length bytes.now) content.old }
@@ -185,6 +187,7 @@ fn put_inside(content: &mut [u8], at: usize, bytes: &[u8])
     content[at..at + bytes.len()].copy_from_slice(bytes);
 }
 
+/// Whether the call of this number is to fail.
 fn is_listed(failing: &[u64], number: u64) -> bool
     ensures { result ≡ list_any (λ n. n == number) failing.now }
 {
@@ -194,6 +197,7 @@ fn is_listed(failing: &[u64], number: u64) -> bool
 impl MemoryDisk {
     ghost use Rattle.disk_model.specs.Memory.{IsKept, memory_state, next_fails, after_look, after_settling};
 
+    /// Whether the next call fails by its number, or has no room in the record.
     fn next_call_fails(&self) -> bool
         ensures fails { result ≡ next_fails self.now }
         ensures kept { IsKept self.now }
@@ -276,6 +280,7 @@ impl MemoryDisk {
         (refused, fails)
     }
 
+    /// Counts one fault more.
     fn count_fault(&mut self)
         ensures { self.new ≡ with_fault self.old }
     {
@@ -321,6 +326,7 @@ impl MemoryDisk {
         disk
     }
 
+    /// Makes of what was written since the last sync what `pick` says.
     fn lose(&mut self, pick: Crash)
         ensures image { IsImage self.old.synced self.old.written self.new.bytes }
         ensures same { self.new ≡ record self.old { bytes = self.new.bytes } }
@@ -340,6 +346,7 @@ impl MemoryDisk {
     }
 }
 
+/// Makes a list hold these bytes alone, in the room that it has.
 fn copy_over(from: &[u8], into: &mut Vec<u8>)
     requires { length from.now ≤ vec_capacity into.old }
     ensures items { into.new.items ≡ from.now }
@@ -361,6 +368,7 @@ fn fill_stretches(content: &mut Vec<u8>, written: &[Stretch], with: u8)
     }
 }
 
+/// Fills a stretch that lies within with this byte.
 fn fill_inside(content: &mut [u8], at: usize, len: usize, with: u8)
     requires { at + len ≤ length content.old }
     ensures items { content.new ≡ take at content.old ++ replicate len with ++ drop (at + len) content.old }
@@ -433,7 +441,7 @@ impl Disk for MemoryDisk {
 }
 
 /// Copies what stands from an offset on, as much as there is and the slice has room for.
-fn read_into(bytes: &[u8], at: u64, into: &mut [u8]) -> usize
+pub fn read_into(bytes: &[u8], at: u64, into: &mut [u8]) -> usize
     ensures count { result ≡ min (length into.old) (length bytes.now - at) }
     ensures got { into.new ≡ take result (drop at bytes.now) ++ drop result into.old }
 {

@@ -1,9 +1,8 @@
 -- What a text of edits gives, line by line.
-use Rattle.std.proofs.Common.{◌≡◌, ◌⊎◌, inl, inr, ⊎_elim, ◌+◌, ◌≤◌, ◌<◌, ◌++◌, ℕ, nat_lt, Bool, true, false, List, [], ◌∷◌, Option, Some, None, Result, Ok, Err, length, map, append-nil, append_assoc, length-append, refl, sym, ap, subst, arith, ◌∙◌}
+use Rattle.std.proofs.Common.{◌≡◌, ◌⊎◌, inl, inr, ⊎_elim, ◌+◌, ◌≤◌, ◌<◌, ◌++◌, ℕ, nat_lt, Bool, true, false, List, [], ◌∷◌, Option, Some, None, Ok, Err, length, map, append-nil, append_assoc, length-append, refl, sym, ap, subst, arith, ◌∙◌}
 use Rattle.std.specs.Prelude.{if◌then◌else◌}
 use Rattle.std.specs.Str.Lines.{lines}
 use Rattle.edit_texts.specs.declared.edit_list.PathEdit.{PathEdit}
-use Rattle.edit_texts.specs.declared.edit_list.TheConstants.{MOST_EDITS}
 use Rattle.edit_texts.specs.declared.entry.Entry.{Entry}
 use Rattle.edit_texts.specs.declared.entry.Entry.TheVariants as says
 use Rattle.edit_texts.specs.Lines.{line_says}
@@ -148,9 +147,9 @@ unfolding edits_of
 given_whole text said all =
     ap (λ (l : List (List ℕ)). edits_from l 1 []) (sym (append-nil (lines text))) ∙ through (lines text) [] said 1 [] all.are (omega (arith, all.few))
 
-given_broken : (text : List ℕ) (number : ℕ) → IsFirstBad text number → edits_of text ≡ Err number
+pub are_refused : (text : List ℕ) (number : ℕ) → IsFirstBad text number → edits_of text ≡ Err number
 unfolding edits_of
-given_broken text number first =
+are_refused text number first =
     let place : 1 + length first.before ≡ number = omega (arith, first.number_is) in
     ap (λ (l : List (List ℕ)). edits_from l 1 []) first.are ∙ through first.before (first.line ∷ first.after) first.said 1 [] first.allowed.are (omega (arith, first.allowed.few))
     ∙ refused_at first.line first.after (1 + length first.before) (edits_in first.said) first.bad ∙ ap (λ n. Err n) place
@@ -183,7 +182,7 @@ is_given text edits is = go (sorted (lines text) 0 (omega arith))
         (whole.said, all, cc)
     go (inr broken) =
         let first = first_bad text broken in
-        let clash : Ok edits ≡ Err first.0 = sym is ∙ given_broken text first.0 first.1 in
+        let clash : Ok edits ≡ Err first.0 = sym is ∙ are_refused text first.0 first.1 in
         absurd cc
 
 pub is_refused : (text : List ℕ) (number : ℕ) → edits_of text ≡ Err number → IsFirstBad text number
@@ -196,9 +195,6 @@ is_refused text number is = go (sorted (lines text) 0 (omega arith))
         absurd cc
     go (inr broken) =
         let first = first_bad text broken in
-        let same : Err first.0 ≡ Err number = sym (given_broken text first.0 first.1) ∙ is in
+        let same : Err first.0 ≡ Err number = sym (are_refused text first.0 first.1) ∙ is in
         let numbers : first.0 ≡ number = cc in
         subst (IsFirstBad text) numbers first.1
-
-pub are_refused : (text : List ℕ) (number : ℕ) → IsFirstBad text number → edits_of text ≡ Err number
-are_refused text number first = given_broken text number first

@@ -1,36 +1,25 @@
 -- What a line of a text of edits says. A line that is none of these is not allowed.
-use Rattle.std.specs.Prelude.{ℕ, List, [], ◌∷◌, Option, Some, None, option_map, Result, Ok, Err, codes, ℤ, if◌then◌else◌}
+use Rattle.std.specs.Prelude.{ℕ, List, [], ◌∷◌, Option, Some, None, codes, ℤ, if◌then◌else◌}
 use Rattle.std.specs.Str.{bytes_eq}
-use Rattle.nc_number.specs.declared.fault.NumberFault.{NumberFault}
-use Rattle.nc_number.specs.declared.literal.Literal.{Literal}
 use Rattle.nc_number.specs.declared.value.Var.{Var}
 use Rattle.nc_number.specs.declared.value.Var.TheVariants.{Vacant, Is}
-use Rattle.nc_number.specs.Literals.{is_literal, word_literal}
+use Rattle.nc_number.specs.Literals.{is_literal, value_of_literal, word_literal}
 use Rattle.nc_number.specs.Options.{◌>>=◌}
 use Rattle.field_lines.specs.Field.{number_in, path_of}
 use Rattle.field_lines.specs.Line.{line_fields}
 use Rattle.cell_settings.specs.declared.preset.Preset.{Preset}
-use Rattle.cell_settings.specs.declared.preset.PresetKind.{PresetKind}
-use Rattle.cell_settings.specs.declared.preset.PresetKind.TheVariants as kind
 use Rattle.cell_settings.specs.PresetLine.{preset_of}
+use Rattle.cell_settings.specs.Slots.{preset_slot}
 use Rattle.common_vars.specs.Common.{common_number}
-use Rattle.offset_store.specs.declared.slot.Slot.{Slot}
-use Rattle.offset_store.specs.declared.slot.Slot.TheVariants as slot
 use Rattle.run_records.specs.declared.edit.Edit.{Edit}
 use Rattle.run_records.specs.declared.edit.Edit.TheVariants as edit
 use Rattle.edit_texts.specs.declared.edit_list.PathEdit.{PathEdit}
 use Rattle.edit_texts.specs.declared.entry.Entry.{Entry}
 use Rattle.edit_texts.specs.declared.entry.Entry.TheVariants as says
 
--- the offset that has this kind and number
-abbrev pub slot_of : PresetKind → ℕ → Slot
-slot_of kind.Work n = slot.Work n
-slot_of kind.Geometry n = slot.Geometry n
-slot_of kind.Wear n = slot.Wear n
-
 -- the edit that sets an offset as a line of the settings does
 abbrev pub edit_of_preset : Preset → PathEdit
-edit_of_preset preset = record { path = preset.path; edit = edit.Offset (slot_of preset.kind preset.number) preset.to }
+edit_of_preset preset = record { path = preset.path; edit = edit.Offset (preset_slot preset.kind preset.number) preset.to }
 
 -- the number of a common variable
 unfoldable pub number_of : List ℕ → Option ℕ
@@ -38,13 +27,9 @@ number_of text = do
   n ← number_in 100 999 text
   common_number n
 
-abbrev pub value_of_word : Result Literal NumberFault → Option ℤ
-value_of_word (Ok literal) = Some literal.value
-value_of_word (Err fault) = None
-
 -- the number that a literal writes, in whole units
 unfoldable pub value_of : List ℕ → Option ℤ
-value_of text = if is_literal text then value_of_word (word_literal text) else None
+value_of text = if is_literal text then value_of_literal (word_literal text) else None
 
 -- what a variable is to be: vacant, or the number that a literal writes
 unfoldable pub var_of : List ℕ → Option Var

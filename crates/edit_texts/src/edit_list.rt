@@ -37,6 +37,7 @@ impl Model for EditList {
 }
 
 impl EditList {
+    /// A list without edits.
     pub(crate) fn empty(alloc: Global) -> Self
         ensures { result ≡ [] }
     {

@@ -1,30 +1,18 @@
 //! What the fields of a line of edits say.
-ghost use Rattle.std.specs.Prelude.{◌≡◌, IfOk, IfSome};
+ghost use Rattle.std.specs.Prelude.{◌≡◌, IfOk};
 ghost use Rattle.field_lines.specs.Field.{texts};
 ghost use Rattle.cell_settings.specs.Preset.{IsPreset};
-ghost use Rattle.edit_texts.specs.Lines.{slot_of, edit_of_preset, number_of, value_of, var_of, variable_of, edit_of, fields_say, line_says};
+ghost use Rattle.edit_texts.specs.Lines.{edit_of_preset, number_of, value_of, var_of, variable_of, edit_of, fields_say, line_says};
 
 use crate::edit_list::PathEdit;
 use crate::entry::Entry;
-use cell_settings::{Preset, PresetKind, read_preset};
+use cell_settings::{Preset, preset_slot, read_preset};
 use common_vars::CommonNumber;
 use field_lines::{line_fields, number_in, read_path};
 use nc_number::{Value, Var, is_literal, parse_word};
-use offset_store::{Offset, Slot, ToolNumber, WorkNumber};
+use offset_store::Offset;
 use run_records::Edit;
 use std::alloc::{AllocError, Global};
-
-/// The offset that has this kind and number.
-fn slot(preset: &Preset) -> Slot
-    requires { IsPreset preset.now }
-    ensures { result ≡ slot_of preset.now.kind preset.now.number }
-{
-    match preset.kind {
-        PresetKind::Work => Slot::Work(WorkNumber::new(preset.number)),
-        PresetKind::Geometry => Slot::Geometry(ToolNumber::new(preset.number)),
-        PresetKind::Wear => Slot::Wear(ToolNumber::new(preset.number)),
-    }
-}
 
 /// The edit that sets an offset.
 fn offset(preset: &Preset) -> PathEdit
@@ -34,7 +22,7 @@ fn offset(preset: &Preset) -> PathEdit
     PathEdit {
         path: preset.path,
         edit: Edit::Offset {
-            slot: slot(preset),
+            slot: preset_slot(preset),
             to: Offset::new(preset.to),
         },
     }

@@ -61,7 +61,8 @@ pub fn read_edits(alloc: Global, text: &[u8]) -> Result<EditList, Failing<EditFa
 
 /// Takes what a line says behind the edits before it, and tells whether it is allowed there.
 fn take_line(alloc: Global, edits: &mut EditList, line: &[u8]) -> Result<bool, NoMemory>
-    ensures { IfOk result (λ taken. with_said edits.old (line_says line.now) ≡ (if taken then Some edits.new else None)) }
+    ensures { IfOk result (λ taken.
+        with_said edits.old (line_says line.now) ≡ (if taken then Some edits.new else None)) }
 {
     match read_line(alloc, line) {
         Ok(said) => edits.take(said),

@@ -195,6 +195,7 @@ fn start_of(ends: &[usize], index: usize) -> usize
     if index == 0 { 0 } else { ends[index - 1] }
 }
 
+/// The bytes from one place up to another, without the byte there.
 fn stretch(bytes: &[u8], start: usize, end: usize) -> &[u8]
     requires { (start ≤ end) × (end ≤ length bytes.now) }
     ensures { result.now ≡ between start end bytes.now }

@@ -55,6 +55,7 @@ pub(crate) fn read_all<D: Disk>(alloc: Global, disk: &mut D) -> Result<Contents,
     Ok(Contents { end, bodies, room })
 }
 
+/// Room for one read of the file: 64 KB of zeros.
 fn empty_window(alloc: Global) -> Result<Vec<u8>, AllocError>
     ensures { IfOk result (λ window. 5 ≤ length window.items) }
 {

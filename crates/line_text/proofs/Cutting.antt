@@ -38,7 +38,7 @@ begins true n e = refl
 begins false n e = absurd (omega arith)
 
 -- a letter opens and closes nothing
-depth_stays : (b : ℕ) → is_ascii_uppercase b ≡ true → depth_behind 0 b ≡ 0
+pub depth_stays : (b : ℕ) → is_ascii_uppercase b ≡ true → depth_behind 0 b ≡ 0
 depth_stays b letter = grind (arith, nat_tests)
 
 -- the signs of which the first begins a word: that word, and the words of the rest

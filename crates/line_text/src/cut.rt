@@ -1,7 +1,7 @@
 //! The words that the signs of a line are cut into: each letter outside square brackets begins one.
-ghost use Rattle.std.specs.Prelude.{◌≡◌, ◌+◌, ◌-◌, ◌^◌, ◌<◌, ◌≤◌, [], ◌∷◌, ◌++◌, length, map, take, drop, All, IfOk};
-ghost use Rattle.std.specs.List.{list_all, position_or_len, before_first};
-ghost use Rattle.line_text.specs.Pieces.{is_comment, depth_behind, begins_word, cut_at, bytes_of, end_of, value_part, piece_of, pieces_of, value_len};
+ghost use Rattle.std.specs.Prelude.{◌≡◌, ◌+◌, ◌-◌, ◌^◌, ◌<◌, ◌≤◌, [], length, IfOk};
+ghost use Rattle.std.specs.List.{list_all, position_or_len};
+ghost use Rattle.line_text.specs.Pieces.{is_comment, depth_behind, begins_word, bytes_of, end_of, piece_of, pieces_of, value_len};
 ghost use Rattle.line_text.specs.Places.{ArePlaced};
 ghost use Rattle.line_text.specs.Said.{AreShort};
 

@@ -1,8 +1,7 @@
 //! A whole line: which of the readings its signs have, and its least refusal by itself.
-ghost use Rattle.std.specs.Prelude.{◌≡◌, ◌-◌, ◌^◌, ◌<◌, length, IfOk, IsTrue, IfSome, ◌≤◌};
+ghost use Rattle.std.specs.Prelude.{◌≡◌, ◌-◌, ◌^◌, ◌<◌, length, IfOk, IfSome, ◌≤◌};
 ghost use Rattle.nc_number.specs.Answers.{Gives};
 ghost use Rattle.line_text.specs.Places.{ArePlaced};
-ghost use Rattle.line_text.specs.Front.{is_numbered, sentence_of};
 ghost use Rattle.line_text.specs.Said.{read_words, read_numbered, read_statement, read_block, read_head, is_skipped, judged, line_says, IsNumbered, statement_reading};
 
 use crate::body::Body;

@@ -22,6 +22,7 @@ pub struct Level {
 }
 
 impl Level {
+    /// A level that begins with these arguments.
     fn opened(arguments: &[Var; LOCALS]) -> Level
         ensures { result ≡ opened arguments.now }
     {

@@ -1,12 +1,13 @@
 -- What an expression means: its value, the shared variable that must be read next, or an alarm; and
 -- the reads left.
-use Rattle.std.specs.Prelude.{ℕ, Bool, List, [], ◌∷◌, Option, Some, None, Result, Ok, Err, ℤ, pos, neg_ℤ, unsigned_abs, if◌then◌else◌}
+use Rattle.std.specs.Prelude.{ℕ, Bool, List, [], ◌∷◌, Option, Some, None, Result, Ok, Err, ℤ, pos, unsigned_abs, if◌then◌else◌}
 use Rattle.std.specs.Int.{is_negative}
 use Rattle.nc_number.specs.declared.cause.Cause.{Cause}
 use Rattle.nc_number.specs.declared.cause.Cause.TheVariants.{NotWhole, VariableRange}
 use Rattle.nc_number.specs.declared.value.Var.{Var}
 use Rattle.nc_number.specs.declared.value.Var.TheVariants.{Is}
 use Rattle.nc_number.specs.declared.fault.NumberFault.{NumberFault}
+use Rattle.nc_number.specs.Signs.{signed as with_sign}
 use Rattle.nc_number.specs.Causes.{cause_number, cause_of_number_fault}
 use Rattle.nc_number.specs.Variables.{or_zero}
 use Rattle.nc_number.specs.Arithmetic.{sum_of, difference_of, product_of, quotient_of, remainder_of, and_of, or_of, xor_of, root_of, rounded, dropped, raised, whole_of}
@@ -30,9 +31,6 @@ made (Ok z) = Got (Is z)
 made (Err fault) = alarm (cause_of_number_fault fault)
 
 -- behind a sign, which makes a number
-abbrev pub with_sign : Bool → ℤ → ℤ
-with_sign minus z = if minus then neg_ℤ z else z
-
 abbrev pub signed : Bool → Var → Eval
 signed minus v = Got (Is (with_sign minus (or_zero v)))
 

@@ -144,6 +144,7 @@ fn emit_backwards(instrs: &mut Vec<Instr>, tree: &Expr) -> Result<(), NoMemory>
     }
 }
 
+/// Pushes an instruction, which is to stand before those that were pushed earlier.
 fn put(instrs: &mut Vec<Instr>, instr: Instr) -> Result<(), NoMemory>
     ensures { OnOk result (reverse instrs.new.items ≡ instr ∷ reverse instrs.old.items) }
 {

@@ -66,6 +66,7 @@ fn count(statement: &Statement) -> usize
     }
 }
 
+/// How many codes the number of a variable takes: 1 if it is computed.
 fn count_name(variable: &VarRef) -> usize
     ensures count { result ≡ length (evaluated_name (variable_of variable.now)) }
     ensures bound { result ≤ 1 }
@@ -76,6 +77,7 @@ fn count_name(variable: &VarRef) -> usize
     }
 }
 
+/// How many codes the target of a jump takes: 1 if it is computed.
 fn count_target(target: &Target) -> usize
     ensures count { result ≡ length (evaluated_aim (aim_of target.now)) }
     ensures bound { result ≤ 1 }
@@ -86,6 +88,7 @@ fn count_target(target: &Target) -> usize
     }
 }
 
+/// Puts the code of each expression of the statement, in the order of evaluation.
 fn put_statement(
     alloc: Global,
     codes: &mut Vec<Code>,
@@ -109,6 +112,7 @@ fn put_statement(
     }
 }
 
+/// Puts the codes of both sides of a comparison.
 fn put_condition(alloc: Global, codes: &mut Vec<Code>, condition: &Cond) -> Result<(), NoMemory>
     ensures { OnOk result (codes.new.items ≡ codes.old.items ++ evaluated_test (test_of condition.now)) }
 {
@@ -130,6 +134,7 @@ fn put_assignment(
     put(alloc, codes, tree)
 }
 
+/// Puts the code of a variable's number, if it is computed.
 fn put_name(alloc: Global, codes: &mut Vec<Code>, variable: &VarRef) -> Result<(), NoMemory>
     ensures { OnOk result (codes.new.items ≡ codes.old.items ++ evaluated_name (variable_of variable.now)) }
 {
@@ -139,6 +144,7 @@ fn put_name(alloc: Global, codes: &mut Vec<Code>, variable: &VarRef) -> Result<(
     }
 }
 
+/// Puts the code of a jump's target, if it is computed.
 fn put_target(alloc: Global, codes: &mut Vec<Code>, target: &Target) -> Result<(), NoMemory>
     ensures { OnOk result (codes.new.items ≡ codes.old.items ++ evaluated_aim (aim_of target.now)) }
 {
@@ -148,6 +154,7 @@ fn put_target(alloc: Global, codes: &mut Vec<Code>, target: &Target) -> Result<(
     }
 }
 
+/// Puts the code of one expression.
 fn put(alloc: Global, codes: &mut Vec<Code>, tree: &Expr) -> Result<(), NoMemory>
     ensures { OnOk result (codes.new.items ≡ codes.old.items ++ tree_of tree.now ∷ []) }
 {

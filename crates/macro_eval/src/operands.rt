@@ -25,6 +25,7 @@ impl Model for Operands {
 }
 
 impl Operands {
+    /// A stack that is empty.
     pub(crate) fn new() -> Operands
         ensures { result ≡ [] }
     {
@@ -34,6 +35,7 @@ impl Operands {
         }
     }
 
+    /// Puts a value on top.
     pub(crate) fn push(&mut self, value: Var)
         requires { length self.old < OPERANDS }
         ensures { self.new ≡ value ∷ self.old }
@@ -42,6 +44,7 @@ impl Operands {
         self.height += 1;
     }
 
+    /// Takes the value on top.
     pub(crate) fn pop(&mut self) -> Var
         requires { 0 < length self.old }
         ensures { self.old ≡ result ∷ self.new }

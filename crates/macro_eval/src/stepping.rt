@@ -1,7 +1,7 @@
 //! One instruction of an evaluation.
 ghost use Rattle.std.specs.Prelude.{◌≡◌, ◌≤◌, ◌==◌, [], ◌∷◌, List, length};
 ghost use Rattle.nc_number.specs.declared.value.Var.{Var};
-ghost use Rattle.macro_eval.specs.Meaning.{made, signed, function_value, applied, operator_value, joined, looked_at, looked_up};
+ghost use Rattle.macro_eval.specs.Meaning.{made, signed, function_value, operator_value, looked_at, looked_up};
 ghost use Rattle.macro_eval.specs.Postfix.{takes, step, run};
 
 use crate::code::Instr;
@@ -14,6 +14,7 @@ use nc_number::{
     neg, round, sqrt, sub,
 };
 
+/// A number that was computed, or the alarm of its fault.
 fn made(number: Result<Value, NumberFault>) -> Eval
     ensures { result ≡ made number }
 {
@@ -31,6 +32,7 @@ fn signed(minus: bool, operand: &Var) -> Eval
     Eval::Got(Var::Is(if minus { neg(value) } else { value }))
 }
 
+/// What the function makes of a number.
 fn function_value(function: Fun, value: Value) -> Result<Value, NumberFault>
     ensures { result ≡ function_value function value }
 {
@@ -43,6 +45,7 @@ fn function_value(function: Fun, value: Value) -> Result<Value, NumberFault>
     }
 }
 
+/// What the operator makes of two numbers.
 fn operator_value(op: Op, a: Value, b: Value) -> Result<Value, NumberFault>
     ensures { result ≡ operator_value op a b }
 {

@@ -106,7 +106,7 @@ alone t e kept = record {
   named = omega (arith, kept.named);
 }
 
-variables-append : (xs ys : List Tree) → variables_in (xs ++ ys) ≡ variables_in xs + variables_in ys
+pub variables-append : (xs ys : List Tree) → variables_in (xs ++ ys) ≡ variables_in xs + variables_in ys
 variables-append [] ys = omega arith
 variables-append (x ∷ xs) ys = let further = variables-append xs ys in omega arith
 

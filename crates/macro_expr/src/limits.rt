@@ -1,7 +1,7 @@
 //! What an expression may have at most.
-ghost use Rattle.std.specs.Prelude.{◌≡◌, ◌==◌, ◌++◌, nat_eq, false, IfOk};
+ghost use Rattle.std.specs.Prelude.{◌≡◌, ◌==◌, nat_eq, false, IfOk};
 ghost use Rattle.std.specs.Char.{is_ascii_digit};
-ghost use Rattle.macro_expr.specs.Limits.{cleaned, ends, is_loop_head, are_too_many, begins_long, has_long_number, open_behind, has_deep_brackets, has_many_variables};
+ghost use Rattle.macro_expr.specs.Limits.{cleaned, ends, is_loop_head, are_too_many, begins_long, has_long_number, has_deep_brackets, has_many_variables};
 
 use crate::words::{begins_with_digit, digits, significant};
 use nc_number::{MOST_BRACKETS, MOST_READS, NoMemory};
@@ -29,12 +29,14 @@ pub(crate) fn cleaned(alloc: Global, text: &[u8]) -> Result<Vec<u8>, NoMemory>
     Ok(clean)
 }
 
+/// Whether the last byte is a digit.
 fn ends_with_digit(text: &[u8]) -> bool
     ensures { result ≡ ends is_ascii_digit text.now }
 {
     !text.is_empty() && text[text.len() - 1].is_ascii_digit()
 }
 
+/// Whether the last byte is a point.
 fn ends_with_point(text: &[u8]) -> bool
     ensures { result ≡ ends (λ b. b == 46) text.now }
 {

@@ -56,6 +56,7 @@ fn alone<T: Drop>(tree: T, rest: &[u8]) -> Result<T, Failing<Stop>>
     }
 }
 
+/// The tree of a cleaned text that is one expression, or why reading stops.
 fn read_expression(alloc: Global, text: &[u8]) -> Result<Expr, Failing<Stop>>
     ensures { Gives (λ tree. tree_of tree) result (whole (expression_at text.now)) }
 {
@@ -63,6 +64,7 @@ fn read_expression(alloc: Global, text: &[u8]) -> Result<Expr, Failing<Stop>>
     alone(tree, rest)
 }
 
+/// The tree of a cleaned text that is one statement, or why reading stops.
 fn read_statement(alloc: Global, text: &[u8]) -> Result<Statement, Failing<Stop>>
     ensures { Gives (λ tree. sentence_of tree) result (whole (statement_at text.now)) }
 {
@@ -70,6 +72,7 @@ fn read_statement(alloc: Global, text: &[u8]) -> Result<Statement, Failing<Stop>
     alone(tree, rest)
 }
 
+/// The tree of an expression, or the least refusal of its text.
 fn answer_expression(alloc: Global, text: &[u8]) -> Result<Expr, Failing<ExprFault>>
     ensures { Gives (λ tree. tree_of tree) result (expression_of text.now) }
 {
@@ -78,6 +81,7 @@ fn answer_expression(alloc: Global, text: &[u8]) -> Result<Expr, Failing<ExprFau
     answer(&text, read)
 }
 
+/// The tree of a statement, or the least refusal of its text.
 fn answer_statement(alloc: Global, text: &[u8]) -> Result<Statement, Failing<ExprFault>>
     ensures { Gives (λ tree. sentence_of tree) result (statement_of text.now) }
 {
@@ -89,9 +93,9 @@ fn answer_statement(alloc: Global, text: &[u8]) -> Result<Statement, Failing<Exp
 /// The tree of an expression, all of the text.
 ///
 /// Spaces, tabs and comments are left out, and lower case letters are read as upper case. A text
-/// that has a tree and names no more than [`MOST_READS`] variables gets it. Of several refusals the least number is
-/// given, 20 only where there is no other: 5, 21 and 25 are conditions of the whole text, and the
-/// others are that of the first place where reading from left to right stops.
+/// that has a tree and names no more than [`MOST_READS`] variables gets it. Of several refusals the
+/// least number is given, 20 only where there is no other: 5, 21 and 25 are conditions of the whole
+/// text, and the others are that of the first place where reading from left to right stops.
 pub fn parse_expr(alloc: Global, text: &[u8]) -> Result<Expr, Failing<ExprFault>>
     // The tree is the one that the grammar gives the text, which names no more variables than a block may read.
     ensures found { IfOk result (λ tree. HasTree text.now (tree_of tree)) }

@@ -1,5 +1,5 @@
 //! Expressions, read from left to right.
-ghost use Rattle.std.specs.Prelude.{◌≡◌, ◌-◌, ◌<◌, ◌≤◌, Ok};
+ghost use Rattle.std.specs.Prelude.{◌-◌, ◌<◌, Ok};
 ghost use Rattle.macro_expr.specs.Tree.{tree_of, variable_of, Joined};
 ghost use Rattle.nc_number.specs.Answers.{Gives};
 ghost use Rattle.macro_expr.specs.Reading.{word_at, literal_of, number_at, digits_at, bracket_at, variable_behind, variable_at, function_at, prim_at, signed_at, product_at, operand_at, chain_at, sum_at, inside};
@@ -37,6 +37,7 @@ fn literal_of(digits: &[u8]) -> Result<Value, Failing<Stop>>
     }
 }
 
+/// A number that is written out, and what stands behind it.
 #[tactic(auto, unfolding(crate::specs::Reading::number_at))]
 fn number_at(text: &[u8]) -> Result<(Expr, &[u8]), Failing<Stop>>
     ensures { Gives (λ x. (tree_of x.0, x.1.now)) result (number_at text.now) }

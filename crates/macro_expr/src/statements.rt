@@ -1,5 +1,4 @@
 //! Statements, read from left to right.
-ghost use Rattle.std.specs.Prelude.{◌≡◌};
 ghost use Rattle.macro_expr.specs.Tree.{tree_of, variable_of, test_of, aim_of, sentence_of};
 ghost use Rattle.nc_number.specs.Answers.{Gives};
 ghost use Rattle.macro_expr.specs.Statements.{relation_at, condition_at, test_at, target_at, loop_at, assignment_at, branch_at, if_at, while_at, statement_for, statement_at};
@@ -16,6 +15,7 @@ use std::alloc::Global;
 /// The greatest sequence number.
 const MOST_SEQUENCE: u32 = 99_999;
 
+/// The comparison that stands at the head, such as `EQ`.
 #[tactic(auto, unfolding(crate::specs::Statements::relation_at))]
 fn relation_at(text: &[u8]) -> Result<(Rel, &[u8]), Failing<Stop>>
     ensures { Gives (λ x. (x.0, x.1.now)) result (relation_at text.now) }
@@ -26,6 +26,7 @@ fn relation_at(text: &[u8]) -> Result<(Rel, &[u8]), Failing<Stop>>
     }
 }
 
+/// A condition in brackets: two expressions that are compared.
 #[tactic(auto, unfolding(crate::specs::Statements::condition_at))]
 fn condition_at(alloc: Global, text: &[u8]) -> Result<(Cond, &[u8]), Failing<Stop>>
     ensures { Gives (λ x. (test_of x.0, x.1.now)) result (condition_at text.now) }
@@ -111,6 +112,7 @@ fn branch_at(
     Ok((Statement::IfThen(condition, variable, tree), text))
 }
 
+/// What stands behind IF: a condition, and then a jump or an assignment.
 #[tactic(auto, unfolding(crate::specs::Statements::if_at))]
 fn if_at(alloc: Global, text: &[u8]) -> Result<(Statement, &[u8]), Failing<Stop>>
     ensures { Gives (λ x. (sentence_of x.0, x.1.now)) result (if_at text.now) }
@@ -119,6 +121,7 @@ fn if_at(alloc: Global, text: &[u8]) -> Result<(Statement, &[u8]), Failing<Stop>
     branch_at(alloc, condition, text)
 }
 
+/// What stands behind WHILE: a condition, and the DO of a loop.
 #[tactic(auto, unfolding(crate::specs::Statements::while_at))]
 fn while_at(alloc: Global, text: &[u8]) -> Result<(Statement, &[u8]), Failing<Stop>>
     ensures { Gives (λ x. (sentence_of x.0, x.1.now)) result (while_at text.now) }

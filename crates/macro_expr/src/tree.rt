@@ -126,6 +126,7 @@ pub struct ExprFault {
 }
 
 impl ExprFault {
+    /// The refusal of this cause.
     pub(crate) fn of(cause: Cause) -> ExprFault
         ensures { result ≡ refusal cause }
     {

@@ -130,12 +130,14 @@ pub(crate) fn begins_with_digit(text: &[u8]) -> bool
     }
 }
 
+/// The place of the first byte that is no digit.
 fn first_no_digit(text: &[u8]) -> Option<usize>
     ensures { result ≡ position (λ b. not (is_ascii_digit b)) text.now }
 {
     text.iter().position(|b| !b.is_ascii_digit())
 }
 
+/// The place of the first byte that is neither a digit nor a point.
 fn first_no_number_byte(text: &[u8]) -> Option<usize>
     ensures { result ≡ position (λ b. not (is_number_byte b)) text.now }
 {
@@ -143,6 +145,7 @@ fn first_no_number_byte(text: &[u8]) -> Option<usize>
         .position(|b| !(b.is_ascii_digit() || *b == b'.'))
 }
 
+/// The place of the first byte that is no upper case letter.
 fn first_no_letter(text: &[u8]) -> Option<usize>
     ensures { result ≡ position (λ b. not (is_letter b)) text.now }
 {
@@ -185,6 +188,7 @@ pub(crate) fn letters(text: &[u8]) -> (&[u8], &[u8])
     split(text, first_no_letter(text))
 }
 
+/// The place of the first digit that is not 0.
 fn first_significant(digits: &[u8]) -> Option<usize>
     ensures { result ≡ position (λ d. not (d == 48)) digits.now }
 {

@@ -1,9 +1,9 @@
 //! The laws of the limits, over what `macro_expr` answers for a text.
 
-ghost use Rattle.std.specs.Prelude.{◌≡◌, ℕ, false, List};
+ghost use Rattle.std.specs.Prelude.{ℕ, false, List};
 ghost use Rattle.macro_expr.specs.Tree.{Tree, Sentence};
 ghost use Rattle.macro_expr.specs.Grammar.{IsExpression, IsStatement};
-ghost use Rattle.macro_expr.specs.Limits.{cleaned, has_long_number, has_deep_brackets};
+ghost use Rattle.macro_expr.specs.Limits.{cleaned};
 ghost use Rattle.macro_expr.specs.Statements.{expression_at, statement_at, whole};
 ghost use Rattle.macro_expr.specs.Answers.{expression_of, statement_of};
 ghost use Rattle.macro_limits.specs.Refused.{IsWithinLimits, IsRefusedByLimits};

@@ -1,7 +1,6 @@
 use Rattle.std.proofs.Common.{◌≡◌, ℕ, ◌*◌, ◌≤◌, ◌∙◌, ap, arith, ℤ, unsigned_abs, to_z, of_z, w64}
 use Rattle.std.proofs.Math.Nat.{mul-le-mul}
 use Rattle.std.proofs.lemmas.Int.{to_z-of_z, fits_signed_from_abs}
-use Rattle.nc_number.specs.declared.point.Point.{Point}
 use Rattle.nc_number.specs.declared.axis.Axis.{Axis}
 use Rattle.motion_track.specs.declared.circle.Place.{Place}
 use Rattle.motion_track.specs.Target.{part_of}
@@ -10,12 +9,7 @@ use Rattle.motion_track.specs.Target.{part_of}
 pub square_bound : (d : ℕ) → d ≤ 800000000000000 → d * d ≤ 640000000000000000000000000000
 square_bound d le = let squares : d * d ≤ 800000000000000 * 800000000000000 = mul-le-mul le le in squares
 
--- points and places with equal parts are equal
-pub same_point : (p q : Point) → p.x ≡ q.x → p.z ≡ q.z → p ≡ q
-same_point p q x z =
-    let at : ℤ → ℤ → Point = λ a b. record { x = a; z = b } in
-    ap (λ a. at a p.z) x ∙ ap (λ b. at q.x b) z
-
+-- places with equal parts are equal
 pub same_place : (p q : Place) → p.across ≡ q.across → p.along ≡ q.along → p ≡ q
 same_place p q across along =
     let at : ℤ → ℤ → Place = λ a b. record { across = a; along = b } in

@@ -2,13 +2,10 @@ use Rattle.std.proofs.Common.{◌≡◌, ℕ, zero, suc, ◌+◌, ◌-◌, ◌*�
 use Rattle.std.proofs.Math.Nat.{mul-le-mul_left}
 use Rattle.std.proofs.lemmas.Bool.Decides.{nat_tests}
 use Rattle.nc_number.specs.declared.point.Point.{Point}
+use Rattle.nc_number.proofs.Roots.{root_le}
 use Rattle.nc_moves.specs.declared.motion.Centre.TheVariants.{Offset}
 use Rattle.motion_track.specs.Circle.{is_past_tolerance, misses}
 use Rattle.motion_track.specs.Tolerance.{Reaches, IsAtMostFarther, EndsOnCircle}
-
--- of two numbers the one with the smaller square is the smaller
-root_le : (a b : ℕ) → a * a ≤ b * b → a ≤ b
-root_le a b squares = grind arith
 
 -- a square is not negative: 4 S n ≤ (S + n)², where S is n + g
 mean : (S n g : ℕ) → S ≡ n + g → 4 * S * n ≤ (S + n) * (S + n)

@@ -1,14 +1,9 @@
 -- Each row of the table of causes has a number of its own.
-use Rattle.std.proofs.Common.{◌≡◌, ◌≢◌, ◌==◌, ℕ, Option, Some, None, IfSome, IsNone, All, Contains, lit<, refl, ap, sym, ◌∙◌}
-use Rattle.std.specs.Prelude.{find}
+use Rattle.std.proofs.Common.{◌≡◌, ◌≢◌, ℕ, Option, Some, None, IfSome, IsNone, All, Contains, lit<, refl, ap, sym, ◌∙◌}
 use Rattle.std.proofs.lemmas.List.Elements.{All-contains}
 use Rattle.nc_number.specs.declared.cause.Cause.{Cause}
 use Rattle.nc_number.specs.declared.cause.Cause.TheVariants.{Overflow, ZeroDivide, NegativeRoot, NotWhole, TooManyDigits, BadCharacter, NoNumber, OpenComment, NoProgramNumber, NoEnd, LineTooLong, TooManyBlocks, TapeTooLong, BadExpression, TooManyBrackets, BadCondition, UnknownFunction, BadLoopNumber, TooManyVariables, VariableRange, Protected, TooDeep, MacroAlarm, OffsetNumber, PositionRange, ArcRadius, NoCentre, FeedZero, NoSequence, NoProgram, LoopMismatch, IntoLoop, NotFixed, UnknownCode, WaitNotAlone, WaitPaths, TwoM, ProgramTwice, BadCall, AxisTwice, RanOff, WordRange, BranchAtWait, WaitTooDeep, TooManyLabels, WaitMismatch, WaitDiffers, BadRecord, DiskFault, NoRun, RunThere, Cut, JournalFull, BadSetting}
-use Rattle.nc_number.specs.Causes.{cause_number, every_cause}
-
--- the cause that a look through the table finds
-abbrev cause_of : ℕ → Option Cause
-cause_of n = find (λ cause. cause_number cause == n) every_cause
+use Rattle.nc_number.specs.Causes.{cause_number, every_cause, cause_of}
 
 -- each cause is in the table, and no row before it has its number
 every_row : (cause : Cause) → Contains every_cause cause × (cause_of (cause_number cause) ≡ Some cause)

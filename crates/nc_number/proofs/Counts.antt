@@ -1,6 +1,7 @@
 -- Facts of counts and of their tests that the proofs of every crate need.
-use Rattle.std.proofs.Common.{◌≡◌, ◌==◌, ◌+◌, ◌<◌, ◌≤◌, ◌⊎◌, inl, inr, ℕ, Bool, true, false, nat_lt, nat_le, Some, refl, arith}
+use Rattle.std.proofs.Common.{◌≡◌, ◌==◌, ◌+◌, ◌<◌, ◌≤◌, ◌⊎◌, inl, inr, ℕ, Bool, true, false, nat_lt, nat_le, min, Option, Some, None, refl, arith}
 use Rattle.std.proofs.lemmas.Bool.Decides.{nat_tests}
+use Rattle.nc_number.specs.Options.{lesser}
 
 pub equal : (a b : ℕ) → (a == b) ≡ true → a ≡ b
 equal a b e = grind (arith, nat_tests)
@@ -34,3 +35,16 @@ last_or_before a b h = same_or_below a b (grind arith)
 
 pub some_is : {A : Type 0} {a b : A} → Some a ≡ Some b → a ≡ b
 some_is e = cc
+
+-- the lesser one is one of the two
+pub lesser_is : (a b : Option ℕ) (n : ℕ) → lesser a b ≡ Some n → (a ≡ Some n) ⊎ (b ≡ Some n)
+lesser_is None b n e = inr e
+lesser_is (Some x) None n e = inl e
+lesser_is (Some x) (Some y) n e = let same : min x y ≡ n = some_is e in go same (either x y)
+  where
+    either : (x y : ℕ) → (min x y ≡ x) ⊎ (min x y ≡ y)
+    either x y = grind arith
+
+    go : min x y ≡ n → (min x y ≡ x) ⊎ (min x y ≡ y) → (Some x ≡ Some n) ⊎ (Some y ≡ Some n)
+    go same (inl e) = let it : x ≡ n = cc in inl (cc)
+    go same (inr e) = let it : y ≡ n = cc in inr (cc)

@@ -2,9 +2,11 @@ pub mod Bools
 pub mod CauseTable
 pub mod Counts
 pub mod DecimalDigits
+pub mod Integers
 pub mod LastDigits
 pub mod LiteralsThatRead
 pub mod NearestQuotient
+pub mod Points
 pub mod PrintedRoom
 pub mod ReadsBack
 pub mod Remainders

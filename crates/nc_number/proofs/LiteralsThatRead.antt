@@ -1,5 +1,5 @@
 -- A literal that reads is a value, and one without a point is whole.
-use Rattle.std.proofs.Common.{◌≡◌, ◌<◌, ◌≤◌, ◌*◌, ◌+◌, ◌/◌, ◌%◌, ℕ, ℤ, pos, ◌*ℤ◌, Bool, true, false, cond, ◌||◌, List, [], Option, Some, None, is_some, Ok, Err, refl, ap, sym, ◌∙◌, arith}
+use Rattle.std.proofs.Common.{◌≡◌, ◌<◌, ◌≤◌, ◌*◌, ◌+◌, ◌/◌, ◌%◌, ℕ, ℤ, pos, ◌*ℤ◌, Bool, true, false, cond, List, [], Option, Some, None, is_some, Ok, Err, refl, ap, sym, ◌∙◌, arith}
 use Rattle.std.specs.Prelude.{nat_le, unsigned_abs}
 use Rattle.std.specs.Int.{is_negative}
 use Rattle.std.specs.Str.Parse.{digits_value}
@@ -11,14 +11,11 @@ use Rattle.nc_number.specs.Conversions.{thousandths_of}
 use Rattle.nc_number.specs.Literals.{IsLiteral, significant, behind_sign, whole_part, fraction_part, has_minus, has_point, has_too_many_digits, size_of_parts, literal_micro, with_sign, word_literal}
 use Rattle.nc_number.specs.Range.{InRange}
 use Rattle.nc_number.specs.Spelling.{digits_behind}
+use Rattle.nc_number.proofs.Bools.{neither}
 use Rattle.nc_number.proofs.DecimalDigits.{size_below, value-significant, all_digits-significant}
 use Rattle.nc_number.proofs.NearestQuotient.{size_with_sign, signed_times, signed_size}
 use Rattle.nc_number.proofs.Spellings.{written_literal, fraction_of, parts_of_written}
 use Rattle.nc_number.proofs.WordLiterals.{whole_digits, fraction_digits}
-
-neither : (a b : Bool) → (a || b) ≡ false → (a ≡ false) × (b ≡ false)
-neither true b no_one = cc
-neither false b no_one = (refl, no_one)
 
 -- what a text reads as, where it has not too many digits
 reads_as : (text : List ℕ) (literal : Literal) → word_literal text ≡ Ok literal

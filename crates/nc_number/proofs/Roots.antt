@@ -61,3 +61,7 @@ root_next n = elim (cases_lt n ((square_root n + 1) * (square_root n + 1))) [
       let greater = root_is_greatest n n (square_root n + 1) (omega arith) within in
       absurd (omega arith))
 ]
+
+-- roots compare as their squares do
+pub root_le : (a b : ℕ) → a * a ≤ b * b → a ≤ b
+root_le a b squares = grind arith

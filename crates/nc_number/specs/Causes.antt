@@ -1,5 +1,5 @@
 -- The numbers and the printed names of refusals, alarms and faults of the journal.
-use Rattle.std.specs.Prelude.{ℕ, List, [], ◌∷◌, codes}
+use Rattle.std.specs.Prelude.{ℕ, ◌==◌, List, [], ◌∷◌, Option, find, codes}
 use Rattle.nc_number.specs.declared.cause.Cause.{Cause}
 use Rattle.nc_number.specs.declared.fault.NumberFault.{NumberFault}
 use Rattle.nc_number.specs.declared.fault.NumberFault.TheVariants as fault
@@ -126,6 +126,10 @@ every_cause =
     LoopMismatch ∷ IntoLoop ∷ NotFixed ∷ UnknownCode ∷ WaitNotAlone ∷ WaitPaths ∷ TwoM ∷ ProgramTwice ∷
     BadCall ∷ AxisTwice ∷ RanOff ∷ WordRange ∷ BranchAtWait ∷ WaitTooDeep ∷ TooManyLabels ∷ WaitMismatch ∷
     WaitDiffers ∷ BadRecord ∷ DiskFault ∷ NoRun ∷ RunThere ∷ Cut ∷ JournalFull ∷ BadSetting ∷ []
+
+-- the cause of a number, if there is one
+abbrev pub cause_of : ℕ → Option Cause
+cause_of number = find (λ cause. cause_number cause == number) every_cause
 
 -- the alarm or refusal that a fault of numbers is
 abbrev pub cause_of_number_fault : NumberFault → Cause

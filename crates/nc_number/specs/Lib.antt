@@ -4,6 +4,7 @@ pub mod Axes
 pub mod Both
 pub mod Causes
 pub mod Conversions
+pub mod Distances
 pub mod Faults
 pub mod Literals
 pub mod Options

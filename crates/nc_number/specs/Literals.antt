@@ -1,6 +1,6 @@
 -- A literal of the tape is an optional sign, digits, and optionally a point and digits, with a
 -- digit in all.
-use Rattle.std.specs.Prelude.{ℕ, ◌+◌, ◌-◌, ◌*◌, ◌^◌, Bool, false, not, ◌==◌, ◌&&◌, ◌||◌, nat_lt, if◌then◌else◌, List, [], ◌∷◌, length, drop, ℤ, IsTrue, Result, Ok, Err}
+use Rattle.std.specs.Prelude.{ℕ, ◌+◌, ◌-◌, ◌*◌, ◌^◌, Bool, false, not, ◌==◌, ◌&&◌, ◌||◌, nat_lt, if◌then◌else◌, List, [], ◌∷◌, length, drop, ℤ, IsTrue, Option, Some, None, Result, Ok, Err}
 use Rattle.std.specs.Char.{is_ascii_digit}
 use Rattle.std.specs.List.{list_any, list_all, position_or_len, before_first, after_first}
 use Rattle.std.specs.Str.Parse.{digits_value}
@@ -69,3 +69,8 @@ abbrev pub word_literal : List ℕ → Result Literal NumberFault
 word_literal text =
     if has_too_many_digits text then Err TooManyDigits
     else Ok (record { value = literal_micro text; point = has_point text })
+
+-- the millionths that were read, if they were
+abbrev pub value_of_literal : Result Literal NumberFault → Option ℤ
+value_of_literal (Ok literal) = Some literal.value
+value_of_literal (Err fault) = None

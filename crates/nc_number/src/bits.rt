@@ -18,6 +18,7 @@ fn whole(a: Value) -> Option<u32>
     }
 }
 
+/// The units of two whole numbers that have bits.
 fn both(a: Value, b: Value) -> Result<(u32, u32), NumberFault>
     ensures whole { result ≡ (if has_bits a && has_bits b then Ok (units a, units b) else Err NumberFault.NotWhole) }
 {
@@ -27,6 +28,7 @@ fn both(a: Value, b: Value) -> Result<(u32, u32), NumberFault>
     }
 }
 
+/// The value of so many units.
 fn of_units(units: u32) -> Result<Value, NumberFault>
     ensures { result ≡ checked (pos (units * 1000000)) }
 {

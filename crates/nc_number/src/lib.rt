@@ -17,6 +17,7 @@ mod laws;
 mod limits;
 mod list_of;
 mod literal;
+mod options;
 mod path;
 mod point;
 mod printing;
@@ -42,7 +43,8 @@ pub use limits::{
     MOST_RECORDS,
 };
 pub use list_of::ListOf;
-pub use literal::{Literal, is_literal, parse_word};
+pub use literal::{Literal, is_literal, parse_word, unsigned};
+pub use options::lesser;
 pub use path::Path;
 pub use point::{Point, TOOL_OFFSETS, TRAVEL};
 pub use printing::{length_text, text};

@@ -70,7 +70,7 @@ const FRACTION_DIGITS: usize = 6;
 const MILLION: u64 = 1_000_000;
 
 /// The text without the sign that it may begin with.
-fn unsigned(text: &[u8]) -> &[u8]
+pub fn unsigned(text: &[u8]) -> &[u8]
     ensures { result.now ≡ behind_sign text.now }
 {
     match text {
@@ -79,6 +79,7 @@ fn unsigned(text: &[u8]) -> &[u8]
     }
 }
 
+/// Whether the text begins with a minus.
 fn is_negative(text: &[u8]) -> bool
     ensures { result ≡ has_minus text.now }
 {
@@ -107,6 +108,7 @@ fn parts(digits: &[u8]) -> (&[u8], &[u8])
     }
 }
 
+/// Whether all bytes are digits.
 fn are_digits(bytes: &[u8]) -> bool
     ensures { result ≡ all_digits bytes.now }
 {

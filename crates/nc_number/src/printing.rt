@@ -23,6 +23,7 @@ fn put(into: &mut [u8; 24], at: usize, piece: &[u8]) -> usize
     end
 }
 
+/// Writes `-` where the number is negative. It gives the end of what is written.
 fn put_sign(into: &mut [u8; 24], negative: bool) -> usize
     ensures end { result ≡ length (sign_text negative) }
     ensures short { result ≤ 1 }
@@ -31,6 +32,7 @@ fn put_sign(into: &mut [u8; 24], negative: bool) -> usize
     if negative { put(into, 0, b"-") } else { 0 }
 }
 
+/// Writes the digits of a number behind what is written. It gives their end.
 fn put_whole(into: &mut [u8; 24], at: usize, number: u64) -> usize
     requires { at + length (decimal number) ≤ 24 }
     ensures end { result ≡ at + length (decimal number) }
@@ -47,12 +49,14 @@ fn digit(number: u64) -> u8
     b'0' + (number % 10) as u8
 }
 
+/// The last three digits, with their leading zeros.
 fn three_digits(number: u64) -> [u8; 3]
     ensures { result ≡ last_digits 3 number }
 {
     [digit(number / 10 / 10), digit(number / 10), digit(number)]
 }
 
+/// The last six digits, with their leading zeros.
 fn six_digits(number: u64) -> [u8; 6]
     ensures { result ≡ last_digits 6 number }
 {
@@ -78,6 +82,8 @@ fn trimmed(digits: &[u8]) -> &[u8]
     }
 }
 
+/// Writes a point and the fraction behind what is written, or nothing where the fraction is 0. It
+/// gives the end.
 fn put_fraction(into: &mut [u8; 24], at: usize, millionths: u64) -> usize
     requires { at ≤ 17 }
     ensures end { result ≡ at + length (fraction_text millionths) }

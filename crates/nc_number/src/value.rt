@@ -123,6 +123,7 @@ impl Value {
         }
     }
 
+    /// The value with the other sign.
     pub(crate) fn negated(self) -> Self
         ensures { result ≡ neg_ℤ self }
     {

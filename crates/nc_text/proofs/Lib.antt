@@ -4,3 +4,4 @@ pub mod Standing
 pub mod Deciding
 pub mod Growing
 pub mod Shaping
+pub mod RefusedAtEnd

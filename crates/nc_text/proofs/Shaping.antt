@@ -17,15 +17,18 @@ use Rattle.nc_text.specs.ReadShape.{RiseTo, IsReadShape}
 
 -- Rising numbers.
 
-rise_on : (ns : List ℕ) (low high more : ℕ) → RiseTo low ns high → high ≤ more → RiseTo low ns more
+-- up to a later line too
+pub rise_on : (ns : List ℕ) (low high more : ℕ) → RiseTo low ns high → high ≤ more → RiseTo low ns more
 rise_on [] low high more h later = let low-is : low ≤ high = h in omega arith
 rise_on (n ∷ ns) low high more h later = (h.0, rise_on ns n high more h.1 later)
 
-rise_last : (ns : List ℕ) (low high n : ℕ) → RiseTo low ns high → high < n → RiseTo low (ns ++ n ∷ []) n
+-- with one line more, which is above the others
+pub rise_last : (ns : List ℕ) (low high n : ℕ) → RiseTo low ns high → high < n → RiseTo low (ns ++ n ∷ []) n
 rise_last [] low high n h above = let low-is : low ≤ high = h in (omega arith, omega arith)
 rise_last (m ∷ ns) low high n h above = (h.0, rise_last ns m high n h.1 above)
 
-rise_from : (ns : List ℕ) (low high : ℕ) → RiseTo low ns high → RiseFrom low ns
+-- whatever the last line is
+pub rise_from : (ns : List ℕ) (low high : ℕ) → RiseTo low ns high → RiseFrom low ns
 rise_from [] low high h = tt
 rise_from (n ∷ ns) low high h = (h.0, rise_from ns n high h.1)
 
@@ -34,7 +37,8 @@ rise_from (n ∷ ns) low high h = (h.0, rise_from ns n high h.1)
 lines_last : (programs : List Program) (program : Program) → lines_in (programs ++ program ∷ []) ≡ lines_in programs ++ lines_of_program program
 lines_last programs program = flat_map-append lines_of_program programs (program ∷ []) ∙ ap (λ (ns : List ℕ). lines_in programs ++ ns) (append-nil (lines_of_program program))
 
-blocks_last : (programs : List Program) (program : Program) → blocks_in (programs ++ program ∷ []) ≡ blocks_in programs ++ program.blocks
+-- the blocks with one program more
+pub blocks_last : (programs : List Program) (program : Program) → blocks_in (programs ++ program ∷ []) ≡ blocks_in programs ++ program.blocks
 blocks_last programs program = flat_map-append (λ (p : Program). p.blocks) programs (program ∷ []) ∙ ap (λ (bs : List Block). blocks_in programs ++ bs) (append-nil program.blocks)
 
 abbrev with_more : Program → Block → Program

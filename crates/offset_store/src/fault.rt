@@ -15,6 +15,7 @@ pub struct OffsetFault {
 impl OffsetFault {
     ghost use Rattle.offset_store.specs.Faults.{fault};
 
+    /// The fault with the alarm number of a cause.
     pub(crate) fn of(cause: Cause) -> Self
         ensures { result ≡ fault cause }
     {

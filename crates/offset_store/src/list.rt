@@ -37,6 +37,7 @@ impl<const N: usize> OffsetList<N> {
         }
     }
 
+    /// The offset with this number, in 0.001 mm.
     pub(crate) fn at(&self, n: u8) -> Point
         requires { n < N }
         ensures offset { result ≡ offset_at self.now n }
@@ -45,6 +46,7 @@ impl<const N: usize> OffsetList<N> {
         self.points[n as usize]
     }
 
+    /// Gives the offset with this number another value, in 0.001 mm.
     pub(crate) fn put(&mut self, n: u8, to: Point)
         requires number { n < N }
         requires position { IsPosition to }

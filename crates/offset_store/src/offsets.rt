@@ -172,6 +172,7 @@ impl Offsets {
     }
 }
 
+/// The shift along one axis, from what each offset adds along it, in 0.001 mm.
 fn sum_of(external: i64, workpiece: i64, geometry: i64, wear: i64) -> i64
     requires external { unsigned_abs external ≤ TRAVEL }
     requires workpiece { unsigned_abs workpiece ≤ TRAVEL }

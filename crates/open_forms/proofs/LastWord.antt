@@ -5,7 +5,7 @@ use Rattle.std.proofs.lemmas.List.{take_more}
 use Rattle.code_tables.specs.Codes.{last_of}
 use Rattle.line_text.specs.declared.body.Word.{Word}
 use Rattle.block_words.specs.Words.{is_one_of}
-use Rattle.block_words.proofs.LastWord.{last_of_push}
+use Rattle.code_tables.proofs.LastOfGroup.{last_of_push}
 use Rattle.open_forms.specs.Words.{words_of, number, number_of_last, last_number}
 
 last_number_push : (letters : List ℕ) (words : List Word) (word : Word) → last_number letters (words ++ word ∷ []) ≡ cond (is_one_of letters word.letter) (number word) (last_number letters words)

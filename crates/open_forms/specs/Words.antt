@@ -1,11 +1,9 @@
 -- The words of a block as they stand on the tape, of which only those are read that its control
 -- hangs on.
-use Rattle.std.specs.Prelude.{ℕ, Bool, not, ◌&&◌, List, Option, Some, None, ℤ, Result, Ok, Err, filter, if◌then◌else◌}
+use Rattle.std.specs.Prelude.{ℕ, Bool, not, ◌&&◌, List, Option, Some, None, ℤ, filter, if◌then◌else◌}
 use Rattle.std.specs.List.{list_any, filter_map}
-use Rattle.nc_number.specs.declared.fault.NumberFault.{NumberFault}
-use Rattle.nc_number.specs.declared.literal.Literal.{Literal}
 use Rattle.nc_number.specs.Arithmetic.{whole_of}
-use Rattle.nc_number.specs.Literals.{is_literal, has_too_many_digits, word_literal}
+use Rattle.nc_number.specs.Literals.{is_literal, has_too_many_digits, value_of_literal, word_literal}
 use Rattle.code_tables.specs.Codes.{last_of}
 use Rattle.line_text.specs.declared.body.Word.{Word}
 use Rattle.block_words.specs.Words.{is_one_of}
@@ -18,10 +16,6 @@ words_of letters words = filter (λ word. is_one_of letters word.letter) words
 -- a word of one of these letters is there
 abbrev pub has : List ℕ → List Word → Bool
 has letters words = list_any (λ word. is_one_of letters word.letter) words
-
-abbrev pub value_of_literal : Result Literal NumberFault → Option ℤ
-value_of_literal (Ok literal) = Some literal.value
-value_of_literal (Err fault) = None
 
 -- the millionths of a number that is written out, with not too many digits; an expression is not
 -- looked into

@@ -10,9 +10,11 @@ use Rattle.std.proofs.lemmas.Bool.{cases_lt}
 use Rattle.std.proofs.lemmas.Bool.Decides.{Decides-int_eq}
 use Rattle.nc_number.specs.declared.point.Point.{Point}
 use Rattle.rough_cycle.specs.Contour.{Descends}
-use Rattle.rough_cycle.specs.Inside.{apart, holds, is_below, is_below_line, some_holds, is_below_each, is_inside_from}
+use Rattle.nc_number.specs.Distances.{distance}
+use Rattle.rough_cycle.specs.Inside.{holds, is_below, is_below_line, some_holds, is_below_each, is_inside_from}
 use Rattle.rough_cycle.specs.Roughing.{end_at}
-use Rattle.rough_cycle.proofs.Orders.{le_is, not_le_is, is_lt}
+use Rattle.nc_number.proofs.Integers.{le_is}
+use Rattle.rough_cycle.proofs.Orders.{not_le_is, is_lt}
 use Rattle.rough_cycle.proofs.Products.{part_below}
 use Rattle.rough_cycle.proofs.NothingInside.{holds_between, behind_end, not_inside, held, end_is_low}
 
@@ -24,10 +26,10 @@ negative_below (negsuc m) (pos v) d n negative wide deep =
     let some : 1 * d ≤ suc m * d = mul-le-mul_right d (omega arith) in
     rw (negsuc-*ℤ-pos m d) (is_lt (neg_ℤ (pos (suc m * d))) (pos (v * n)) (omega (arith, ints)))
 
-apart_some : (a b : ℤ) → int_eq a b ≡ false → 0 < apart b a
-apart_some a b differ = go (cases_lt 0 (apart b a))
+apart_some : (a b : ℤ) → int_eq a b ≡ false → 0 < distance b a
+apart_some a b differ = go (cases_lt 0 (distance b a))
   where
-    go : (0 < apart b a) ⊎ (apart b a ≤ 0) → 0 < apart b a
+    go : (0 < distance b a) ⊎ (distance b a ≤ 0) → 0 < distance b a
     go (inl some) = some
     go (inr none) =
         let same : a ≡ b = omega (arith, ints) in
@@ -40,7 +42,7 @@ below_left p q at rises left = go (int_eq p.z q.z) refl
   where
     go : (b : Bool) → int_eq p.z q.z ≡ b → cond b (int_lt at.x p.x && int_lt at.x q.x) (is_below_line p q at) ≡ true
     go true e = rw (is_lt at.x p.x left, is_lt at.x q.x (omega (arith, ints))) refl
-    go false e = negative_below (at.x -ℤ p.x) (q.x -ℤ p.x) (apart q.z p.z) (apart at.z p.z) (omega (arith, ints)) (omega (arith, ints)) (apart_some p.z q.z e)
+    go false e = negative_below (at.x -ℤ p.x) (q.x -ℤ p.x) (distance q.z p.z) (distance at.z p.z) (omega (arith, ints)) (omega (arith, ints)) (apart_some p.z q.z e)
 
 or_true : (b c : Bool) → c ≡ true → (not b || c) ≡ true
 or_true true c e = e
@@ -58,21 +60,21 @@ products_before a l k w some past =
     let scaled : suc (l * k / w) * w ≤ a * w = mul-le-mul_right w past in
     omega (arith, split, rest, scaled)
 
-below_before : (p q at : Point) → p.x ≤ℤ at.x → at.x <ℤ q.x → at.z <ℤ (p.z -ℤ pos (apart p.z q.z * apart at.x p.x / apart q.x p.x)) → q.z ≤ℤ at.z → is_below p q at ≡ true
+below_before : (p q at : Point) → p.x ≤ℤ at.x → at.x <ℤ q.x → at.z <ℤ (p.z -ℤ pos (distance p.z q.z * distance at.x p.x / distance q.x p.x)) → q.z ≤ℤ at.z → is_below p q at ≡ true
 unfolding is_below
 below_before p q at above below before low = go (int_eq p.z q.z) refl
   where
     go : (b : Bool) → int_eq p.z q.z ≡ b → cond b (int_lt at.x p.x && int_lt at.x q.x) (is_below_line p q at) ≡ true
     go true e = let same = (Decides-int_eq p.z q.z).0 e in absurd (omega (arith, ints))
     go false e =
-        let across : (at.x -ℤ p.x) ≡ pos (apart at.x p.x) = omega (arith, ints) in
-        let width : (q.x -ℤ p.x) ≡ pos (apart q.x p.x) = omega (arith, ints) in
-        let past : apart p.z q.z * apart at.x p.x / apart q.x p.x < apart at.z p.z = omega (arith, ints) in
-        let products = products_before (apart at.z p.z) (apart p.z q.z) (apart at.x p.x) (apart q.x p.x) (omega (arith, ints)) past in
-        let along : apart p.z q.z ≡ apart q.z p.z = omega (arith, ints) in
-        let turned : apart p.z q.z * apart at.x p.x < apart q.x p.x * apart at.z p.z = products in
-        let less : apart at.x p.x * apart q.z p.z < apart q.x p.x * apart at.z p.z = subst (λ l. apart at.x p.x * l < apart q.x p.x * apart at.z p.z) along (omega (arith, turned)) in
-        rw (across, width) (is_lt (pos (apart at.x p.x * apart q.z p.z)) (pos (apart q.x p.x * apart at.z p.z)) (omega (arith, ints, less)))
+        let across : (at.x -ℤ p.x) ≡ pos (distance at.x p.x) = omega (arith, ints) in
+        let width : (q.x -ℤ p.x) ≡ pos (distance q.x p.x) = omega (arith, ints) in
+        let past : distance p.z q.z * distance at.x p.x / distance q.x p.x < distance at.z p.z = omega (arith, ints) in
+        let products = products_before (distance at.z p.z) (distance p.z q.z) (distance at.x p.x) (distance q.x p.x) (omega (arith, ints)) past in
+        let along : distance p.z q.z ≡ distance q.z p.z = omega (arith, ints) in
+        let turned : distance p.z q.z * distance at.x p.x < distance q.x p.x * distance at.z p.z = products in
+        let less : distance at.x p.x * distance q.z p.z < distance q.x p.x * distance at.z p.z = subst (λ l. distance at.x p.x * l < distance q.x p.x * distance at.z p.z) along (omega (arith, turned)) in
+        rw (across, width) (is_lt (pos (distance at.x p.x * distance q.z p.z)) (pos (distance q.x p.x * distance at.z p.z)) (omega (arith, ints, less)))
 
 pub least : (p : Point) (points : List Point) (at : Point) → Descends p points → p.x ≤ℤ at.x → at.z <ℤ end_at at.x p points → is_below_each p points at ≡ true
 least p [] at falls above before = refl
@@ -85,7 +87,7 @@ least p (q ∷ points) at (rises, falls, later) above before = go (int_le q.x at
     first true h below = or_true (holds p q at.z) (is_below p q at) (below h)
     first false h below = rw h refl
 
-    go : (b : Bool) → int_le q.x at.x ≡ b → at.z <ℤ cond b (end_at at.x q points) (p.z -ℤ pos (apart p.z q.z * apart at.x p.x / apart q.x p.x))
+    go : (b : Bool) → int_le q.x at.x ≡ b → at.z <ℤ cond b (end_at at.x q points) (p.z -ℤ pos (distance p.z q.z * distance at.x p.x / distance q.x p.x))
         → (q.x ≤ℤ at.x → at.z <ℤ end_at at.x q points → is_below_each q points at ≡ true)
         → ((not (holds p q at.z) || is_below p q at) && is_below_each q points at) ≡ true
     go true t past rest =
@@ -98,12 +100,12 @@ least p (q ∷ points) at (rises, falls, later) above before = go (int_le q.x at
 pub reached : (x : ℤ) (p q : Point) (points : List Point) → Descends p (q ∷ points) → p.x ≤ℤ x → some_holds p (q ∷ points) (end_at x p (q ∷ points)) ≡ true
 reached x p q [] (rises, falls, later) above = go (int_le q.x x) refl
   where
-    go : (b : Bool) → int_le q.x x ≡ b → (holds p q (cond b q.z (p.z -ℤ pos (apart p.z q.z * apart x p.x / apart q.x p.x))) || false) ≡ true
+    go : (b : Bool) → int_le q.x x ≡ b → (holds p q (cond b q.z (p.z -ℤ pos (distance p.z q.z * distance x p.x / distance q.x p.x))) || false) ≡ true
     go true t = rw (holds_between p q q.z (omega (arith, ints)) falls) refl
     go false t =
         let less = not_le_is q.x x t in
-        let part = part_below (apart p.z q.z) (apart x p.x) (apart q.x p.x) (omega (arith, ints)) (omega (arith, ints)) in
-        rw (holds_between p q (p.z -ℤ pos (apart p.z q.z * apart x p.x / apart q.x p.x)) (omega (arith, ints)) (omega (arith, ints))) refl
+        let part = part_below (distance p.z q.z) (distance x p.x) (distance q.x p.x) (omega (arith, ints)) (omega (arith, ints)) in
+        rw (holds_between p q (p.z -ℤ pos (distance p.z q.z * distance x p.x / distance q.x p.x)) (omega (arith, ints)) (omega (arith, ints))) refl
 reached x p q (r ∷ points) (rises, falls, later) above = go (int_le q.x x) refl (reached x q r points later)
   where
     or_second : (b c : Bool) → c ≡ true → (b || c) ≡ true
@@ -111,12 +113,12 @@ reached x p q (r ∷ points) (rises, falls, later) above = go (int_le q.x x) ref
     or_second false c e = e
 
     go : (b : Bool) → int_le q.x x ≡ b → (q.x ≤ℤ x → some_holds q (r ∷ points) (end_at x q (r ∷ points)) ≡ true)
-        → (holds p q (cond b (end_at x q (r ∷ points)) (p.z -ℤ pos (apart p.z q.z * apart x p.x / apart q.x p.x))) || some_holds q (r ∷ points) (cond b (end_at x q (r ∷ points)) (p.z -ℤ pos (apart p.z q.z * apart x p.x / apart q.x p.x)))) ≡ true
+        → (holds p q (cond b (end_at x q (r ∷ points)) (p.z -ℤ pos (distance p.z q.z * distance x p.x / distance q.x p.x))) || some_holds q (r ∷ points) (cond b (end_at x q (r ∷ points)) (p.z -ℤ pos (distance p.z q.z * distance x p.x / distance q.x p.x)))) ≡ true
     go true t rest = or_second _ _ (rest (le_is q.x x t))
     go false t rest =
         let less = not_le_is q.x x t in
-        let part = part_below (apart p.z q.z) (apart x p.x) (apart q.x p.x) (omega (arith, ints)) (omega (arith, ints)) in
-        rw (holds_between p q (p.z -ℤ pos (apart p.z q.z * apart x p.x / apart q.x p.x)) (omega (arith, ints)) (omega (arith, ints))) refl
+        let part = part_below (distance p.z q.z) (distance x p.x) (distance q.x p.x) (omega (arith, ints)) (omega (arith, ints)) in
+        rw (holds_between p q (p.z -ℤ pos (distance p.z q.z * distance x p.x / distance q.x p.x)) (omega (arith, ints)) (omega (arith, ints))) refl
 
 pub at_the_end : (first : Point) (points : List Point) (at : Point) → Descends first points → first.x ≤ℤ at.x → end_at at.x first points ≡ at.z → is_inside_from first points at ≡ false
 at_the_end first points at falls above is =

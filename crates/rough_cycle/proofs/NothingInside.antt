@@ -9,10 +9,12 @@ use Rattle.std.proofs.Math.Nat.{mul-le-mul, mul-le-mul_left, mul-le-mul_right}
 use Rattle.nc_number.specs.declared.point.Point.{Point}
 use Rattle.rough_cycle.specs.declared.block.PlainBlock.{PlainBlock}
 use Rattle.rough_cycle.specs.Contour.{Descends, last_of, moved_point, moved}
-use Rattle.rough_cycle.specs.Inside.{apart, holds, is_below, some_holds, is_below_each, is_inside_from}
+use Rattle.nc_number.specs.Distances.{distance}
+use Rattle.rough_cycle.specs.Inside.{holds, is_below, some_holds, is_below_each, is_inside_from}
 use Rattle.rough_cycle.specs.Roughing.{end_at, Rough, IsForm, IsFinishStart, first_moved, points_moved, x_of_pass, pass_of, is_made, passes_from, across_to, along_to, straight_to, pass_blocks, contour_blocks, rough_blocks, finish_blocks}
 use Rattle.nc_number.proofs.Bools.{both, only_false}
-use Rattle.rough_cycle.proofs.Orders.{lt_is, le_is, not_le_is, is_le}
+use Rattle.nc_number.proofs.Integers.{lt_is, le_is}
+use Rattle.rough_cycle.proofs.Orders.{not_le_is, is_le}
 use Rattle.rough_cycle.proofs.Products.{quotient_below, part_below}
 use Rattle.rough_cycle.specs.Moves.{IsOn, after, after_all, IsClear, AreClear}
 
@@ -26,28 +28,28 @@ not_before_least z a b to_a to_b = go (int_lt b a)
 -- one segment
 
 -- no product of the segment is past that of the point, so the point is not below
-not_below : (p q at : Point) → p.x ≤ℤ q.x → p.x ≤ℤ at.x → apart q.x p.x * apart at.z p.z ≤ apart at.x p.x * apart q.z p.z → is_below p q at ≡ true → ⊥
+not_below : (p q at : Point) → p.x ≤ℤ q.x → p.x ≤ℤ at.x → distance q.x p.x * distance at.z p.z ≤ distance at.x p.x * distance q.z p.z → is_below p q at ≡ true → ⊥
 unfolding is_below
 not_below p q at rises right products = go (int_eq p.z q.z)
   where
-    across : (at.x -ℤ p.x) ≡ pos (apart at.x p.x)
+    across : (at.x -ℤ p.x) ≡ pos (distance at.x p.x)
     across = omega (arith, ints)
 
-    width : (q.x -ℤ p.x) ≡ pos (apart q.x p.x)
+    width : (q.x -ℤ p.x) ≡ pos (distance q.x p.x)
     width = omega (arith, ints)
 
-    go : (b : Bool) → cond b (int_lt at.x p.x && int_lt at.x q.x) (int_lt ((at.x -ℤ p.x) *ℤ pos (apart q.z p.z)) ((q.x -ℤ p.x) *ℤ pos (apart at.z p.z))) ≡ true → ⊥
+    go : (b : Bool) → cond b (int_lt at.x p.x && int_lt at.x q.x) (int_lt ((at.x -ℤ p.x) *ℤ pos (distance q.z p.z)) ((q.x -ℤ p.x) *ℤ pos (distance at.z p.z))) ≡ true → ⊥
     go true e = let less = lt_is at.x p.x (both _ _ e).0 in omega (arith, ints)
     go false e =
-        let less : int_lt (pos (apart at.x p.x) *ℤ pos (apart q.z p.z)) (pos (apart q.x p.x) *ℤ pos (apart at.z p.z)) ≡ true = rw (across, width) at e in
-        let past : apart at.x p.x * apart q.z p.z < apart q.x p.x * apart at.z p.z = grind (arith, ints) in
+        let less : int_lt (pos (distance at.x p.x) *ℤ pos (distance q.z p.z)) (pos (distance q.x p.x) *ℤ pos (distance at.z p.z)) ≡ true = rw (across, width) at e in
+        let past : distance at.x p.x * distance q.z p.z < distance q.x p.x * distance at.z p.z = grind (arith, ints) in
         omega (arith, past, products)
 
 -- right of both ends
 not_below_right : (p q at : Point) → p.x ≤ℤ q.x → q.x ≤ℤ at.x → q.z ≤ℤ at.z → at.z ≤ℤ p.z → is_below p q at ≡ true → ⊥
 not_below_right p q at rises right low high =
-    let wide : apart q.x p.x ≤ apart at.x p.x = omega (arith, ints) in
-    let deep : apart at.z p.z ≤ apart q.z p.z = omega (arith, ints) in
+    let wide : distance q.x p.x ≤ distance at.x p.x = omega (arith, ints) in
+    let deep : distance at.z p.z ≤ distance q.z p.z = omega (arith, ints) in
     not_below p q at rises (omega (arith, ints)) (mul-le-mul wide deep)
 
 -- on the segment
@@ -65,13 +67,13 @@ products_behind a l k m w near right =
     let far : l * k ≤ l * m = mul-le-mul_left l right in
     omega (arith, scaled, reached, far)
 
-not_below_behind : (p q at : Point) (x : ℤ) → p.x ≤ℤ x → x <ℤ q.x → x ≤ℤ at.x → (p.z -ℤ pos (apart p.z q.z * apart x p.x / apart q.x p.x)) ≤ℤ at.z → at.z ≤ℤ p.z → is_below p q at ≡ true → ⊥
+not_below_behind : (p q at : Point) (x : ℤ) → p.x ≤ℤ x → x <ℤ q.x → x ≤ℤ at.x → (p.z -ℤ pos (distance p.z q.z * distance x p.x / distance q.x p.x)) ≤ℤ at.z → at.z ≤ℤ p.z → is_below p q at ≡ true → ⊥
 not_below_behind p q at x above below right behind high =
-    let along : apart p.z q.z ≡ apart q.z p.z = omega (arith, ints) in
-    let near : apart at.z p.z ≤ apart p.z q.z * apart x p.x / apart q.x p.x = omega (arith, ints) in
-    let across : apart x p.x ≤ apart at.x p.x = omega (arith, ints) in
-    let products = products_behind (apart at.z p.z) (apart p.z q.z) (apart x p.x) (apart at.x p.x) (apart q.x p.x) near across in
-    not_below p q at (omega (arith, ints)) (omega (arith, ints)) (subst (λ l. apart q.x p.x * apart at.z p.z ≤ apart at.x p.x * l) along products)
+    let along : distance p.z q.z ≡ distance q.z p.z = omega (arith, ints) in
+    let near : distance at.z p.z ≤ distance p.z q.z * distance x p.x / distance q.x p.x = omega (arith, ints) in
+    let across : distance x p.x ≤ distance at.x p.x = omega (arith, ints) in
+    let products = products_behind (distance at.z p.z) (distance p.z q.z) (distance x p.x) (distance at.x p.x) (distance q.x p.x) near across in
+    not_below p q at (omega (arith, ints)) (omega (arith, ints)) (subst (λ l. distance q.x p.x * distance at.z p.z ≤ distance at.x p.x * l) along products)
 
 -- which Z a segment holds
 
@@ -130,7 +132,7 @@ behind_end x p (q ∷ points) at (rises, falls, later) above right = go (int_le 
   where
     go : (b : Bool) → int_le q.x x ≡ b
         → (q.x ≤ℤ x → x ≤ℤ at.x → end_at x q points ≤ℤ at.z → some_holds q points at.z ≡ true → is_below_each q points at ≡ true → ⊥)
-        → cond b (end_at x q points) (p.z -ℤ pos (apart p.z q.z * apart x p.x / apart q.x p.x)) ≤ℤ at.z
+        → cond b (end_at x q points) (p.z -ℤ pos (distance p.z q.z * distance x p.x / distance q.x p.x)) ≤ℤ at.z
         → some_holds p (q ∷ points) at.z ≡ true → is_below_each p (q ∷ points) at ≡ true → ⊥
     go true t rest behind =
         let reached = le_is q.x x t in
@@ -142,7 +144,7 @@ behind_end x p (q ∷ points) at (rises, falls, later) above right = go (int_le 
         step p q at points
         (λ h. let z = held p q at.z falls h in not_below_behind p q at x above less right behind z.1)
         (λ h s. let low = held_low q points at.z later s in
-        let part = part_below (apart p.z q.z) (apart x p.x) (apart q.x p.x) (omega (arith, ints)) (omega (arith, ints)) in
+        let part = part_below (distance p.z q.z) (distance x p.x) (distance q.x p.x) (omega (arith, ints)) (omega (arith, ints)) in
         let same : q.z ≤ℤ at.z = omega (arith, ints) in
         let holds_it = holds_between p q at.z same (omega (arith, ints)) in
         absurd (let wrong : false ≡ true = sym h ∙ holds_it in cc))
@@ -152,7 +154,7 @@ pub end_is_low : (x : ℤ) (p : Point) (points : List Point) → Descends p poin
 end_is_low x p [] falls = omega (arith, ints)
 end_is_low x p (q ∷ points) (rises, falls, later) = go (int_le q.x x) (end_is_low x q points later)
   where
-    go : (b : Bool) → end_at x q points ≤ℤ q.z → cond b (end_at x q points) (p.z -ℤ pos (apart p.z q.z * apart x p.x / apart q.x p.x)) ≤ℤ p.z
+    go : (b : Bool) → end_at x q points ≤ℤ q.z → cond b (end_at x q points) (p.z -ℤ pos (distance p.z q.z * distance x p.x / distance q.x p.x)) ≤ℤ p.z
     go true low = omega (arith, ints)
     go false low = omega (arith, ints)
 

@@ -3,7 +3,8 @@ use Rattle.std.proofs.Common.{◌≡◌, ℕ, suc, ◌*◌, ◌/◌, ◌<◌, �
 use Rattle.std.specs.Int.{w64, w128}
 use Rattle.std.specs.Prelude.{unsigned_abs, int_lt, ◌-ℤ◌}
 use Rattle.nc_number.specs.declared.point.Point.{Point}
-use Rattle.rough_cycle.specs.Inside.{apart, is_below_line}
+use Rattle.nc_number.specs.Distances.{distance}
+use Rattle.rough_cycle.specs.Inside.{is_below_line}
 use Rattle.std.proofs.lemmas.Int.{ints, unsigned_abs-mul, fits_signed_from_abs, to_z-of_z}
 use Rattle.std.proofs.lemmas.Nat.{div-add-mod'}
 use Rattle.std.proofs.lemmas.Bool.{cases_lt}
@@ -46,7 +47,7 @@ product_fits_stored a x y b la lb x_is y_is =
 
 -- a test of products that are stored
 pub below_stored : (p q at : Point) (m n : ℤ)
-    → m ≡ ((at.x -ℤ p.x) *ℤ pos (apart q.z p.z)) → n ≡ ((q.x -ℤ p.x) *ℤ pos (apart at.z p.z))
+    → m ≡ ((at.x -ℤ p.x) *ℤ pos (distance q.z p.z)) → n ≡ ((q.x -ℤ p.x) *ℤ pos (distance at.z p.z))
     → FitsSigned w128 m → FitsSigned w128 n
     → int_lt (to_z w128 (of_z w128 m)) (to_z w128 (of_z w128 n)) ≡ is_below_line p q at
 below_stored p q at m n m_is n_is m_fits n_fits = rw (to_z-of_z w128 m m_fits, to_z-of_z w128 n n_fits, m_is, n_is) refl

@@ -1,7 +1,6 @@
 -- What was pushed in turn.
 use Rattle.std.proofs.Common.{◌≡◌, ◌<ℤ◌, ◌≤ℤ◌, List, [], ◌∷◌, ◌++◌, ℤ, refl, ap, ◌∙◌, append_assoc}
 use Rattle.std.specs.Int.{int_min}
-use Rattle.nc_number.specs.declared.point.Point.{Point}
 use Rattle.rough_cycle.proofs.Orders.{is_lt, is_not_lt}
 
 pub four_pushed : {A : Type 0} (old b c d e : List A) (w x y z : A) → b ≡ old ++ w ∷ [] → c ≡ b ++ x ∷ [] → d ≡ c ++ y ∷ [] → e ≡ d ++ z ∷ [] → e ≡ old ++ w ∷ x ∷ y ∷ z ∷ []
@@ -16,11 +15,6 @@ lines_pushed old b c d e f w x y z lines is_b is_c is_d is_e is_f =
     ∙ ap (λ l. l ++ y ∷ z ∷ []) is_d ∙ append_assoc c lines (y ∷ z ∷ [])
     ∙ ap (λ l. l ++ (lines ++ y ∷ z ∷ [])) is_c ∙ append_assoc b (x ∷ []) (lines ++ y ∷ z ∷ [])
     ∙ ap (λ l. l ++ x ∷ (lines ++ y ∷ z ∷ [])) is_b ∙ append_assoc old (w ∷ []) (x ∷ (lines ++ y ∷ z ∷ []))
-
-pub same_point : (p q : Point) → p.x ≡ q.x → p.z ≡ q.z → p ≡ q
-same_point p q x z =
-    let at : ℤ → ℤ → Point = λ a b. record { x = a; z = b } in
-    ap (λ a. at a p.z) x ∙ ap (λ b. at q.x b) z
 
 pub min_second : (a b : ℤ) → b <ℤ a → int_min a b ≡ b
 min_second a b less = rw (is_lt b a less) refl

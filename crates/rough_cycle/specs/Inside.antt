@@ -1,11 +1,8 @@
 -- What lies inside a contour.
-use Rattle.std.specs.Prelude.{ℕ, ◌≤◌, Bool, true, false, not, ◌&&◌, ◌||◌, List, [], ◌∷◌, ℤ, pos, ◌-ℤ◌, ◌*ℤ◌, unsigned_abs, int_lt, int_le, if◌then◌else◌}
+use Rattle.std.specs.Prelude.{◌≤◌, Bool, true, false, not, ◌&&◌, ◌||◌, List, [], ◌∷◌, ℤ, pos, ◌-ℤ◌, ◌*ℤ◌, unsigned_abs, int_lt, int_le, if◌then◌else◌}
 use Rattle.std.specs.Ordering.{int_eq}
 use Rattle.nc_number.specs.declared.point.Point.{Point}
-
--- how far two lengths are apart
-abbrev pub apart : ℤ → ℤ → ℕ
-apart a b = unsigned_abs (a -ℤ b)
+use Rattle.nc_number.specs.Distances.{distance}
 
 -- z lies between the ends' Z, the ends included
 unfoldable pub holds : Point → Point → ℤ → Bool
@@ -13,7 +10,7 @@ holds p q z = (int_le q.z z && int_le z p.z) || (int_le p.z z && int_le z q.z)
 
 -- X is strictly below the line through p and q, in cross products; Z lies between theirs
 abbrev pub is_below_line : Point → Point → Point → Bool
-is_below_line p q at = int_lt ((at.x -ℤ p.x) *ℤ pos (apart q.z p.z)) ((q.x -ℤ p.x) *ℤ pos (apart at.z p.z))
+is_below_line p q at = int_lt ((at.x -ℤ p.x) *ℤ pos (distance q.z p.z)) ((q.x -ℤ p.x) *ℤ pos (distance at.z p.z))
 
 -- X is strictly below the segment from p to q: below the line where the ends differ in Z, else
 -- below both ends

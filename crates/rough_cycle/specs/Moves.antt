@@ -1,18 +1,15 @@
 -- The moves of blocks, and the whole points on them.
-use Rattle.std.specs.Prelude.{◌≡◌, ◌*◌, false, List, [], ◌∷◌, ◌⊎◌, ℤ, ◌≤ℤ◌, unwrap_or}
+use Rattle.std.specs.Prelude.{◌≡◌, ◌*◌, false, List, [], ◌∷◌, unwrap_or}
 use Rattle.nc_number.specs.declared.point.Point.{Point}
+use Rattle.nc_number.specs.Distances.{distance, IsBetween}
 use Rattle.rough_cycle.specs.declared.block.PlainBlock.{PlainBlock}
-use Rattle.rough_cycle.specs.Inside.{apart, is_inside_from}
-
--- b lies between a and c
-abbrev pub IsBetween : ℤ → ℤ → ℤ → Type 0
-IsBetween a b c = ((a ≤ℤ b) × (b ≤ℤ c)) ⊎ ((c ≤ℤ b) × (b ≤ℤ a))
+use Rattle.rough_cycle.specs.Inside.{is_inside_from}
 
 -- the point lies on the line from one point to another
 pub record IsOn (from to at : Point) : Type 0 where
   pub across : IsBetween from.x at.x to.x
   pub along : IsBetween from.z at.z to.z
-  pub line : apart at.x from.x * apart to.z from.z ≡ apart to.x from.x * apart at.z from.z
+  pub line : distance at.x from.x * distance to.z from.z ≡ distance to.x from.x * distance at.z from.z
 
 -- where a block leads
 abbrev pub after : Point → PlainBlock → Point

@@ -5,7 +5,7 @@ use Rattle.std.specs.Int.{int_min}
 use Rattle.nc_number.specs.declared.point.Point.{Point}
 use Rattle.rough_cycle.specs.declared.block.PlainBlock.{PlainBlock}
 use Rattle.rough_cycle.specs.Contour.{Descends, last_of, moved_point, moved}
-use Rattle.rough_cycle.specs.Inside.{apart}
+use Rattle.nc_number.specs.Distances.{distance}
 
 -- the least Z at which the contour has X at most x, rounded up to a whole number
 abbrev pub end_at : ℤ → Point → List Point → ℤ
@@ -13,7 +13,7 @@ end_at x p [] = p.z
 end_at x p (q ∷ points) =
     if int_le q.x x
     then end_at x q points
-    else p.z -ℤ pos (apart p.z q.z * apart x p.x / apart q.x p.x)
+    else p.z -ℤ pos (distance p.z q.z * distance x p.x / distance q.x p.x)
 
 -- what a G71 form says: its start, the depth of a cut, the retreat, the allowances, and the contour
 pub record Rough : Type 0 where

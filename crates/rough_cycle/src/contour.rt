@@ -1,6 +1,7 @@
 //! What lies inside a contour of lines.
 ghost use Rattle.std.specs.Prelude.{◌≡◌, ◌≤ℤ◌, ◌<ℤ◌, ◌<◌, ◌≤◌, ◌*◌, ◌/◌, ◌-ℤ◌, ◌*ℤ◌, pos, unsigned_abs, All};
-ghost use Rattle.rough_cycle.specs.Inside.{apart, holds, is_below, is_below_line, some_holds, is_below_each, is_inside, IsNear};
+ghost use Rattle.nc_number.specs.Distances.{distance};
+ghost use Rattle.rough_cycle.specs.Inside.{holds, is_below, is_below_line, some_holds, is_below_each, is_inside, IsNear};
 ghost use Rattle.rough_cycle.specs.Roughing.{end_at};
 
 use nc_number::Point;
@@ -116,7 +117,8 @@ fn part_way(x: i64, p: &Point, q: &Point) -> i64
     requires p { IsNear p.now }
     requires q { IsNear q.now }
     ensures near { unsigned_abs result ≤ 4000000000000 }
-    ensures part { result ≡ p.now.z -ℤ pos (apart p.now.z q.now.z * apart x p.now.x / apart q.now.x p.now.x) }
+    ensures part { result
+        ≡ p.now.z -ℤ pos (distance p.now.z q.now.z * distance x p.now.x / distance q.now.x p.now.x) }
 {
     p.z - share(p.z.abs_diff(q.z), x.abs_diff(p.x), q.x.abs_diff(p.x)) as i64
 }

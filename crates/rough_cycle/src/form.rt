@@ -129,7 +129,8 @@ impl RoughForm {
     fn push_passes(&self, passes: &[Point], blocks: &mut Vec<PlainBlock>) -> Result<(), AllocError>
         requires near { IsNearForm (rough_of self.now) }
         requires passes { All IsNearPass passes.now }
-        ensures ok { OnOk result (blocks.new.items ≡ blocks.old.items ++ flat_map (pass_blocks (rough_of self.now)) passes.now) }
+        ensures ok { OnOk result
+            (blocks.new.items ≡ blocks.old.items ++ flat_map (pass_blocks (rough_of self.now)) passes.now) }
     {
         for pass in passes {
             self.push_pass(pass, blocks)?;

@@ -19,8 +19,8 @@ pub fn no_move_enters_the_contour()
 /// pass's.
 #[tactic(auto, using(crate::proofs::LeastEnd::least, crate::proofs::LeastEnd::reached, crate::proofs::LeastEnd::at_the_end))]
 pub fn an_end_is_the_least()
-    ensures held { (x : ℤ) (first second : Point) (points : List Point) → Descends first (second ∷ points) → first.x ≤ℤ x
-        → some_holds first (second ∷ points) (end_at x first (second ∷ points)) ≡ true }
+    ensures held { (x : ℤ) (first second : Point) (points : List Point) → Descends first (second ∷ points)
+        → first.x ≤ℤ x → some_holds first (second ∷ points) (end_at x first (second ∷ points)) ≡ true }
     ensures reached { (first : Point) (points : List Point) (at : Point) → Descends first points → first.x ≤ℤ at.x
         → end_at at.x first points ≡ at.z → is_inside_from first points at ≡ false }
     ensures least { (first : Point) (points : List Point) (at : Point) → Descends first points → first.x ≤ℤ at.x

@@ -29,7 +29,7 @@ no_header (body ∷ bodies) offset some here none =
     subst (λ (n : ℕ). IsBadRun (body ∷ bodies) n NoHeader) five (unheaded body bodies refl none)
 
 -- what a file keeps is on the disk
-kept_settled : (bodies : List (List ℕ)) (disk : DiskState) (end : ℕ) (bytes : List ℕ) → Keeps bodies disk end → Reads disk bytes → Only bytes disk.image
+pub kept_settled : (bodies : List (List ℕ)) (disk : DiskState) (end : ℕ) (bytes : List ℕ) → Keeps bodies disk end → Reads disk bytes → Only bytes disk.image
 kept_settled bodies disk end bytes keeps reads =
     let both : Some keeps.bytes ≡ Some bytes = sym keeps.reads ∙ reads in
     let same : keeps.bytes ≡ bytes = cc in

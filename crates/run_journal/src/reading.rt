@@ -150,6 +150,7 @@ fn read_batch(
     }
 }
 
+/// The fault of a body at this offset without a count from 1 to 64.
 fn wrong_count(at: u64) -> JournalFault
     ensures { result ≡ JournalFault.BadRecord at BadRecord.WrongCount }
 {

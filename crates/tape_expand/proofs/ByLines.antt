@@ -4,19 +4,16 @@ use Rattle.std.proofs.lemmas.Bool.Decides.{nat_tests}
 use Rattle.nc_text.specs.Lines.{Line, lines_of, onto_line}
 use Rattle.tape_expand.specs.declared.edits.Edit.{Edit}
 use Rattle.tape_expand.specs.Splice.{edited, spliced, is_due, first_new}
+use Rattle.tape_expand.proofs.Splicing.{none, replaced, dropped}
 
 -- a byte of a line, if an edit names the line or none does
-dropped : (n : ℕ) (edits : List Edit) (b : ℕ) (lines : List Line) → is_due n edits ≡ true → edited n edits (onto_line b lines) ≡ edited n edits lines
-dropped n edits b [] due = rw due refl
-dropped n edits b (line ∷ lines) due = rw due refl
+left_out : (n : ℕ) (edits : List Edit) (b : ℕ) (lines : List Line) → is_due n edits ≡ true → edited n edits (onto_line b lines) ≡ edited n edits lines
+left_out n edits b [] due = rw due refl
+left_out n edits b (line ∷ lines) due = rw due refl
 
 kept : (n : ℕ) (edits : List Edit) (b : ℕ) (lines : List Line) → is_due n edits ≡ false → edited n edits (onto_line b lines) ≡ b ∷ edited n edits lines
 kept n edits b [] due = rw due refl
 kept n edits b (line ∷ lines) due = rw due refl
-
-none : (n : ℕ) (edits : List Edit) → spliced n edits [] ≡ []
-unfolding spliced
-none n edits = refl
 
 line_feed : (b : ℕ) → (b == 10) ≡ true → b ≡ 10
 line_feed b end = grind (arith, nat_tests)
@@ -35,16 +32,6 @@ other_end : (n : ℕ) (edits : List Edit) (lines : List Line) → is_due n edits
     → edited n edits (record { bytes = []; ended = true } ∷ lines) ≡ 10 ∷ edited (n + 1) edits lines
 other_end n edits lines due = rw due refl
 
-named_feed : (n : ℕ) (edits : List Edit) (b : ℕ) (bs : List ℕ) → is_due n edits ≡ true → (b == 10) ≡ true
-    → spliced n edits (b ∷ bs) ≡ first_new edits ++ spliced (n + 1) (drop 1 edits) bs
-unfolding spliced
-named_feed n edits b bs due end = rw (due, end) refl
-
-named_byte : (n : ℕ) (edits : List Edit) (b : ℕ) (bs : List ℕ) → is_due n edits ≡ true → (b == 10) ≡ false
-    → spliced n edits (b ∷ bs) ≡ spliced n edits bs
-unfolding spliced
-named_byte n edits b bs due other = rw (due, other) refl
-
 other_feed : (n : ℕ) (edits : List Edit) (b : ℕ) (bs : List ℕ) → is_due n edits ≡ false → (b == 10) ≡ true
     → spliced n edits (b ∷ bs) ≡ b ∷ spliced (n + 1) edits bs
 unfolding spliced
@@ -61,10 +48,10 @@ one_byte : (n : ℕ) (edits : List Edit) (b : ℕ) (bs : List ℕ) (is_named is_
     → spliced (n + 1) (drop 1 edits) bs ≡ edited (n + 1) (drop 1 edits) (lines_of bs)
     → spliced n edits (b ∷ bs) ≡ edited n edits (lines_of (b ∷ bs))
 one_byte n edits b bs true true due end here next behind =
-    named_feed n edits b bs due end ∙ ap (λ l. first_new edits ++ l) behind
+    replaced n edits b bs due end ∙ ap (λ l. first_new edits ++ l) behind
     ∙ sym (named_end n edits (lines_of bs) due) ∙ ap (edited n edits) (sym (end_is b bs end))
 one_byte n edits b bs true false due end here next behind =
-    named_byte n edits b bs due end ∙ here ∙ sym (dropped n edits b (lines_of bs) due) ∙ ap (edited n edits) (sym (byte_is b bs end))
+    dropped n edits b bs due end ∙ here ∙ sym (left_out n edits b (lines_of bs) due) ∙ ap (edited n edits) (sym (byte_is b bs end))
 one_byte n edits b bs false true due end here next behind =
     other_feed n edits b bs due end ∙ ap (λ x. x ∷ spliced (n + 1) edits bs) (line_feed b end) ∙ ap (λ l. 10 ∷ l) next
     ∙ sym (other_end n edits (lines_of bs) due) ∙ ap (edited n edits) (sym (end_is b bs end))

@@ -4,15 +4,15 @@ use Rattle.std.proofs.lemmas.List.{drop_more}
 use Rattle.tape_expand.specs.declared.edits.Edit.{Edit}
 use Rattle.tape_expand.specs.Splice.{spliced, is_due, first_new, line_behind}
 
-none : (n : ℕ) (edits : List Edit) → spliced n edits [] ≡ []
+pub none : (n : ℕ) (edits : List Edit) → spliced n edits [] ≡ []
 unfolding spliced
 none n edits = refl
 
-replaced : (n : ℕ) (edits : List Edit) (b : ℕ) (bytes : List ℕ) → is_due n edits ≡ true → (b == 10) ≡ true → spliced n edits (b ∷ bytes) ≡ first_new edits ++ spliced (n + 1) (drop 1 edits) bytes
+pub replaced : (n : ℕ) (edits : List Edit) (b : ℕ) (bytes : List ℕ) → is_due n edits ≡ true → (b == 10) ≡ true → spliced n edits (b ∷ bytes) ≡ first_new edits ++ spliced (n + 1) (drop 1 edits) bytes
 unfolding spliced
 replaced n edits b bytes due end = rw (due, end) refl
 
-dropped : (n : ℕ) (edits : List Edit) (b : ℕ) (bytes : List ℕ) → is_due n edits ≡ true → (b == 10) ≡ false → spliced n edits (b ∷ bytes) ≡ spliced n edits bytes
+pub dropped : (n : ℕ) (edits : List Edit) (b : ℕ) (bytes : List ℕ) → is_due n edits ≡ true → (b == 10) ≡ false → spliced n edits (b ∷ bytes) ≡ spliced n edits bytes
 unfolding spliced
 dropped n edits b bytes due end = rw (due, end) refl
 

@@ -1,5 +1,5 @@
 //! Lines of a text, replaced.
-ghost use Rattle.std.specs.Prelude.{◌≡◌, ◌<◌, ◌^◌, ◌++◌, ◌∷◌, [], IfOk, OnOk, length, drop};
+ghost use Rattle.std.specs.Prelude.{◌≡◌, ◌<◌, ◌^◌, ◌++◌, ◌∷◌, [], IfOk, OnOk, drop};
 ghost use Rattle.nc_text.specs.Lines.{lines_of};
 ghost use Rattle.tape_expand.specs.Splice.{edited, spliced, is_due, first_new, line_behind};
 

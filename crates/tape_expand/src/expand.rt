@@ -50,7 +50,8 @@ fn count_blocks(tape: &[Program]) -> usize
 
 /// A text that is no tape has no cycles.
 fn unread(fault: Failing<TextFault>) -> Failing<ExpandFault>
-    ensures { (text : List ℕ) (tape : Result (List Program) TextFault) → Fails fault tape → Fails result (of_tape text tape) }
+    ensures { (text : List ℕ) (tape : Result (List Program) TextFault)
+        → Fails fault tape → Fails result (of_tape text tape) }
 {
     match fault {
         Failing::Fault(fault) => Failing::Fault(ExpandFault::Unreadable(fault)),

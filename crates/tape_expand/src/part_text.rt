@@ -2,7 +2,7 @@
 ghost use Rattle.std.specs.Prelude.{◌≡◌, ◌++◌, ◌∷◌, [], Some, IfOk, OnOk, map};
 ghost use Rattle.std.specs.List.{flat_map};
 ghost use Rattle.tape_expand.specs.BlockText.{code_text, axis_text, feed_text, block_text, blocks_text, part_text};
-ghost use Rattle.tape_expand.specs.Replaced.{removed, replaced, edits_of};
+ghost use Rattle.tape_expand.specs.Replaced.{removed, edits_of};
 
 use crate::edits::{Edit, push_all};
 use cycle_form::Part;

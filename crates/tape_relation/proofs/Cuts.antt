@@ -13,6 +13,7 @@ use Rattle.line_text.specs.declared.piece.Piece.{Piece}
 use Rattle.line_text.specs.Pieces.{Group, Cut, is_comment, depth_behind, begins_word, add_to_cut, cut_at, bytes_of, value_part, piece_of, pieces_of, value_len, end_of}
 use Rattle.line_text.specs.Values.{closes, is_variable, is_reference, is_value}
 use Rattle.line_text.specs.Said.{is_sound}
+use Rattle.line_text.proofs.Cutting.{depth_stays}
 use Rattle.tape_relation.specs.Words.{IsWord, AreWords}
 use Rattle.tape_relation.specs.Cut.{IsCut}
 use Rattle.tape_relation.proofs.Values.{value_is, is_a_value}
@@ -130,12 +131,8 @@ pass_comments (sign ∷ comments) rest e =
     let P : ℕ → Type 0 = λ b. is_plain b ≡ true in
     pass_one sign comments rest (subst P (sym (eqb-true sign.byte 40 p.0)) refl) (pass_comments comments rest p.1)
 
--- a letter opens and closes nothing
-letter_depth : (b : ℕ) → is_ascii_uppercase b ≡ true → depth_behind 0 b ≡ 0
-letter_depth b letter = grind (arith, nat_tests)
-
 pub at_letter : (letter : Sign) (rest : List Sign) → is_ascii_uppercase letter.byte ≡ true → cut_at (letter ∷ rest) 0 ≡ add_to_cut true letter (cut_at rest 0)
-at_letter letter rest is = rw (letter_depth letter.byte is, is) refl
+at_letter letter rest is = rw (depth_stays letter.byte is, is) refl
 
 -- what stands before the first comment is the value
 before_comments : (value comments : List Sign) → list_any is_comment value ≡ false → list_all is_comment comments ≡ true → position_or_len is_comment (value ++ comments) ≡ length value

@@ -20,6 +20,7 @@ impl Model for Told {
 unsafe impl Send for Told {}
 
 impl Told {
+    /// What a turret got that was not called yet.
     pub(crate) fn nothing() -> Told
         ensures { result.got ≡ [] }
     {

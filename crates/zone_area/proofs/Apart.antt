@@ -1,20 +1,19 @@
 -- What lies in clear areas lies apart.
 use Rattle.std.proofs.Common.{◌≡◌, ℕ, ◌≤◌, Bool, true, false, List, ℤ, pos, neg_ℤ, ◌+ℤ◌, ◌-ℤ◌, ◌*ℤ◌, ◌≤ℤ◌, ◌<ℤ◌, arith, inl, inr, if◌then◌else◌}
-use Rattle.std.specs.Prelude.{int_lt}
 use Rattle.std.proofs.lemmas.Int.{ints}
 use Rattle.nc_number.proofs.Bools.{either}
 use Rattle.nc_number.specs.declared.point.Point.{Point}
 use Rattle.nc_moves.specs.declared.motion.Move.{Move}
 use Rattle.zone_area.specs.declared.area.Area.{Area}
 use Rattle.zone_area.specs.declared.frame.Frame.{Frame}
-use Rattle.zone_area.specs.Passing.{distance, MayPassSome, IsInside, AreApart, mirrored, point_in_cell}
+use Rattle.nc_number.specs.Distances.{distance}
+use Rattle.nc_number.proofs.Integers.{lt_is}
+use Rattle.nc_number.specs.Signs.{signed}
+use Rattle.zone_area.specs.Passing.{MayPassSome, IsInside, AreApart, point_in_cell}
 use Rattle.zone_area.specs.Area.{area_of, area_in_cell, is_beyond, is_clear}
 use Rattle.zone_area.proofs.Scaled.{scaled_lt, scaled_add, scaled_neg}
 use Rattle.zone_area.proofs.InArea.{all_inside}
 use Rattle.zone_area.proofs.Least.{area_holds}
-
-lt_is : (a b : ℤ) → int_lt a b ≡ true → a <ℤ b
-lt_is a b e = grind (arith, ints)
 
 -- the frame of a path moves a point and an area alike
 
@@ -26,8 +25,8 @@ shifted d low high shift q l h =
     (omega (arith, ints, low_is, l), omega (arith, ints, high_is, h))
 
 across : (d : ℕ) (mirror : Bool) (low high shift q : ℤ) → (pos d *ℤ low) ≤ℤ q → q ≤ℤ (pos d *ℤ high)
-    → ((pos d *ℤ (mirrored mirror (if mirror then high else low) +ℤ shift)) ≤ℤ (mirrored mirror q +ℤ pos d *ℤ shift))
-    × ((mirrored mirror q +ℤ pos d *ℤ shift) ≤ℤ (pos d *ℤ (mirrored mirror (if mirror then low else high) +ℤ shift)))
+    → ((pos d *ℤ (signed mirror (if mirror then high else low) +ℤ shift)) ≤ℤ (signed mirror q +ℤ pos d *ℤ shift))
+    × ((signed mirror q +ℤ pos d *ℤ shift) ≤ℤ (pos d *ℤ (signed mirror (if mirror then low else high) +ℤ shift)))
 across d false low high shift q l h = shifted d low high shift q l h
 across d true low high shift q l h =
     let low_is = scaled_neg d low in

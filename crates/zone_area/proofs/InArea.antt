@@ -10,10 +10,12 @@ use Rattle.zone_area.specs.declared.area.Area.{Area}
 use Rattle.nc_moves.specs.Motion.{end_of}
 use Rattle.motion_track.specs.Circle.{place_of, square_between}
 use Rattle.motion_track.specs.Within.{centre_in}
-use Rattle.zone_area.specs.Passing.{distance, IsBetween, in_parts, middle_of, square_of, place_after, MayPassTo, MayPass, MayPassSome, IsInside}
+use Rattle.nc_number.specs.Distances.{distance, IsBetween}
+use Rattle.zone_area.specs.Passing.{in_parts, middle_of, square_of, place_after, MayPassTo, MayPass, MayPassSome, IsInside}
 use Rattle.zone_area.specs.Area.{reach_of, Holds, HoldsAround, HoldsEnd, HoldsAll}
 use Rattle.zone_area.proofs.Scaled.{scaled_le, scaled_add, scaled_sub}
-use Rattle.zone_area.proofs.LeastRoot.{root_reaches, root_le}
+use Rattle.nc_number.proofs.Roots.{root_le}
+use Rattle.zone_area.proofs.LeastRoot.{root_reaches}
 
 -- a whole point that is held
 held : (d : ℕ) (area : Area) (p q : Point) → Holds area p → q ≡ in_parts d p → IsInside d area q

@@ -2,6 +2,7 @@
 use Rattle.std.proofs.Common.{◌≡◌, ◌<◌, ◌≤◌, ◌*◌, ◌+◌, ℕ, zero, suc, Bool, true, false, cond, refl, arith, inl, inr, nat_le}
 use Rattle.std.proofs.lemmas.Bool.{cases_lt, leb-true, leb-false}
 use Rattle.std.proofs.Math.Nat.{le-mul_of_pos_right, mul-le-mul}
+use Rattle.nc_number.proofs.Roots.{root_le}
 use Rattle.zone_area.specs.Range.{far_squares}
 use Rattle.zone_area.specs.Roots.{least_root_below, least_root}
 
@@ -38,9 +39,6 @@ pub root_is_least : (n k : ℕ) → n ≤ k * k → least_root n ≤ k
 root_is_least n k square = root_below_is_least n n k square
 
 -- of two numbers the one with the smaller square is the smaller
-pub root_le : (a b : ℕ) → a * a ≤ b * b → a ≤ b
-root_le a b squares = grind arith
-
 -- it is the one number whose square is at least n while that of the number before is less
 pub least_root_is : (n s : ℕ) → n ≤ s * s → ((k : ℕ) → s ≡ k + 1 → k * k < n) → least_root n ≡ s
 least_root_is n zero reaches before = let least = root_is_least n 0 reaches in omega arith

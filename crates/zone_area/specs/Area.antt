@@ -10,7 +10,8 @@ use Rattle.motion_track.specs.Within.{centre_in}
 use Rattle.zone_area.specs.declared.area.Area.{Area}
 use Rattle.zone_area.specs.declared.frame.Frame.{Frame}
 use Rattle.zone_area.specs.Roots.{least_root}
-use Rattle.zone_area.specs.Passing.{middle_of, square_of, place_after, mirrored}
+use Rattle.nc_number.specs.Signs.{signed}
+use Rattle.zone_area.specs.Passing.{middle_of, square_of, place_after}
 
 -- how far an arc may reach from its middle, in 0.0005 mm
 abbrev pub reach_of : Point → Point → Centre → ℕ
@@ -103,11 +104,11 @@ area_of at moves = (swept_along (swept_at at) moves).area
 abbrev pub area_in_cell : Frame → Area → Area
 area_in_cell frame area = record {
   low = record {
-    x = mirrored frame.mirror (if frame.mirror then area.high.x else area.low.x) +ℤ frame.shift.x;
+    x = signed frame.mirror (if frame.mirror then area.high.x else area.low.x) +ℤ frame.shift.x;
     z = area.low.z +ℤ frame.shift.z;
   };
   high = record {
-    x = mirrored frame.mirror (if frame.mirror then area.low.x else area.high.x) +ℤ frame.shift.x;
+    x = signed frame.mirror (if frame.mirror then area.low.x else area.high.x) +ℤ frame.shift.x;
     z = area.high.z +ℤ frame.shift.z;
   };
 }

@@ -1,7 +1,9 @@
 -- The points that a move may pass. They are counted in parts of a count of 0.001 mm, d parts to a
 -- count: a law for every d leaves out no point between the whole counts.
-use Rattle.std.specs.Prelude.{◌≡◌, ℕ, ◌*◌, ◌≤◌, max, Bool, List, [], ◌∷◌, ◌⊎◌, Option, Some, None, unwrap_or, ℤ, pos, neg_ℤ, ◌+ℤ◌, ◌-ℤ◌, ◌*ℤ◌, ◌≤ℤ◌, ◌<ℤ◌, unsigned_abs, if◌then◌else◌}
+use Rattle.std.specs.Prelude.{◌≡◌, ℕ, ◌*◌, ◌≤◌, max, List, [], ◌∷◌, ◌⊎◌, Option, Some, None, unwrap_or, ℤ, pos, ◌+ℤ◌, ◌*ℤ◌, ◌≤ℤ◌, ◌<ℤ◌, unsigned_abs}
 use Rattle.nc_number.specs.declared.point.Point.{Point}
+use Rattle.nc_number.specs.Distances.{distance, IsBetween}
+use Rattle.nc_number.specs.Signs.{signed}
 use Rattle.nc_moves.specs.declared.motion.Centre.{Centre}
 use Rattle.nc_moves.specs.declared.motion.Centre.TheVariants.{Offset, Radius}
 use Rattle.nc_moves.specs.declared.motion.Move.{Move}
@@ -10,10 +12,6 @@ use Rattle.motion_track.specs.Circle.{place_of, centre_from, square_between}
 use Rattle.motion_track.specs.Within.{centre_in}
 use Rattle.zone_area.specs.declared.area.Area.{Area}
 use Rattle.zone_area.specs.declared.frame.Frame.{Frame}
-
--- b lies between a and c
-abbrev pub IsBetween : ℤ → ℤ → ℤ → Type 0
-IsBetween a b c = ((a ≤ℤ b) × (b ≤ℤ c)) ⊎ ((c ≤ℤ b) × (b ≤ℤ a))
 
 -- a point of whole counts, in parts
 abbrev pub in_parts : ℕ → Point → Point
@@ -61,20 +59,12 @@ pub record IsInside (d : ℕ) (area : Area) (q : Point) : Type 0 where
   pub below : (in_parts d area.low).z ≤ℤ q.z
   pub above : q.z ≤ℤ (in_parts d area.high).z
 
--- X, or under `mirror` its negative
-abbrev pub mirrored : Bool → ℤ → ℤ
-mirrored mirror x = if mirror then neg_ℤ x else x
-
--- a point in parts, as it lies in the cell
+-- a point in parts, as it lies in the cell: X is negated under `mirror`
 abbrev pub point_in_cell : ℕ → Frame → Point → Point
 point_in_cell d frame q = record {
-  x = mirrored frame.mirror q.x +ℤ (in_parts d frame.shift).x;
+  x = signed frame.mirror q.x +ℤ (in_parts d frame.shift).x;
   z = q.z +ℤ (in_parts d frame.shift).z;
 }
-
--- how far two lengths are apart
-abbrev pub distance : ℤ → ℤ → ℕ
-distance a b = unsigned_abs (a -ℤ b)
 
 -- two points in parts differ by more than the gap in X or in Z
 abbrev pub AreApart : ℕ → Point → Point → Point → Type 0

@@ -47,6 +47,7 @@ impl Area {
     }
 }
 
+/// The lesser of two lengths.
 fn lesser(a: i64, b: i64) -> i64
     requires a { unsigned_abs a ≤ far_corner }
     requires b { unsigned_abs b ≤ far_corner }
@@ -56,6 +57,7 @@ fn lesser(a: i64, b: i64) -> i64
     if b < a { b } else { a }
 }
 
+/// The greater of two lengths.
 fn greater(a: i64, b: i64) -> i64
     requires a { unsigned_abs a ≤ far_corner }
     requires b { unsigned_abs b ≤ far_corner }

@@ -1,7 +1,7 @@
 //! How the points of a path lie in the cell.
 ghost use Rattle.std.specs.Prelude.{◌≡◌, ◌≤◌, ◌+ℤ◌, unsigned_abs, if◌then◌else◌};
 ghost use Rattle.nc_number.specs.Position.{travel, IsPosition};
-ghost use Rattle.zone_area.specs.Passing.{mirrored};
+ghost use Rattle.nc_number.specs.Signs.{signed};
 ghost use Rattle.zone_area.specs.Area.{area_in_cell};
 ghost use Rattle.zone_area.specs.Range.{far_corner, far_in_cell, IsNearArea, IsInCell};
 
@@ -42,7 +42,7 @@ fn edge(mirror: bool, edge: i64, other: i64, shift: i64) -> i64
     requires edge { unsigned_abs edge ≤ far_corner }
     requires other { unsigned_abs other ≤ far_corner }
     requires shift { unsigned_abs shift ≤ travel }
-    ensures edge { result ≡ mirrored mirror (if mirror then other else edge) +ℤ shift }
+    ensures edge { result ≡ signed mirror (if mirror then other else edge) +ℤ shift }
     ensures near { unsigned_abs result ≤ far_in_cell }
 {
     if mirror { shift - other } else { edge + shift }

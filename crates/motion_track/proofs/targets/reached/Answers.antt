@@ -1,4 +1,5 @@
-use Rattle.motion_track.proofs.Places.{same_point, stored_part}
+use Rattle.nc_number.proofs.Points.{same_point}
+use Rattle.motion_track.proofs.Places.{stored_part}
 use Rattle.motion_track.proofs.targets.reached.Goals as goal
 
 pub returns : goal.returns

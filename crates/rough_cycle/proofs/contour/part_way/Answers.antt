@@ -1,6 +1,6 @@
 use Rattle.std.proofs.Common.{◌≡◌, ◌*◌, ◌/◌, arith, ◌∙◌}
 use Rattle.std.proofs.lemmas.Int.{ints}
-use Rattle.rough_cycle.specs.Inside.{apart}
+use Rattle.nc_number.specs.Distances.{distance}
 use Rattle.rough_cycle.proofs.Products.{same_share}
 use Rattle.rough_cycle.proofs.contour.part_way.Goals as goal
 
@@ -18,7 +18,7 @@ returns-clause-part c =
     let q = c.requires.q in
     let bound = c.share.ensures.bound in
     let along = c.abs_diff.ensures in
-    let part : c.share.result ≡ apart c.args.p.now.z c.args.q.now.z * apart c.args.x c.args.p.now.x / apart c.args.q.now.x c.args.p.now.x =
+    let part : c.share.result ≡ distance c.args.p.now.z c.args.q.now.z * distance c.args.x c.args.p.now.x / distance c.args.q.now.x c.args.p.now.x =
     same_share _ _ _ _ _ _ _ c.share.ensures.share (along ∙ omega (arith, ints)) (c.abs_diff-2.ensures ∙ omega (arith, ints)) (c.abs_diff-3.ensures ∙ omega (arith, ints)) in
     omega (arith, ints)
 

@@ -4,7 +4,7 @@ use Rattle.nc_moves.specs.declared.motion.Centre.TheVariants.{Offset}
 use Rattle.zone_area.specs.Passing.{middle_of}
 use Rattle.motion_track.specs.declared.targets.TheConstants.{LONGEST}
 use Rattle.motion_track.specs.Centre.{IsCentreWithin}
-use Rattle.motion_track.proofs.Places.{same_point}
+use Rattle.nc_number.proofs.Points.{same_point}
 use Rattle.zone_area.proofs.arc.middle_of.Goals as goal
 
 pub returns-in-Offset-clause-middle : goal.returns-in-Offset-clause-middle

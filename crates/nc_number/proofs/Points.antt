@@ -1,0 +1,15 @@
+-- Facts of points that the proofs of every crate need.
+use Rattle.std.proofs.Common.{◌≡◌, true, ℤ, ap, ◌∙◌, arith}
+use Rattle.std.proofs.lemmas.Bool.Decides.{nat_tests}
+use Rattle.nc_number.specs.declared.point.Point.{Point}
+use Rattle.nc_number.specs.Position.{is_position, IsPosition}
+
+-- points with equal parts are equal
+pub same_point : (p q : Point) → p.x ≡ q.x → p.z ≡ q.z → p ≡ q
+same_point p q x z =
+    let at : ℤ → ℤ → Point = λ a b. record { x = a; z = b } in
+    ap (λ a. at a p.z) x ∙ ap (λ b. at q.x b) z
+
+-- what passes the test is a position
+pub tested_position : (p : Point) → is_position p ≡ true → IsPosition p
+tested_position p test = grind (arith, nat_tests)
