@@ -6,6 +6,7 @@ use Rattle.block_order.specs.declared.program.ControlProgram.{ControlProgram}
 use Rattle.block_order.specs.Order.{blocks, main_number, control_at}
 use Rattle.block_order.specs.Loud.{loud}
 use Rattle.block_order.specs.Labels.{counts, IsUnforked, Chain}
+use Rattle.block_order.specs.Faults.{IsReachedBy}
 use Rattle.block_order.specs.Steps.{IsPlace}
 use Rattle.block_order.proofs.LoudReaches.{AreLoud}
 
@@ -16,22 +17,16 @@ pub counts_below : (tape : List ControlProgram) → AreLoud tape → (g : Frame)
 counts_below tape are g [] q r is noisy = refl
 counts_below tape are g (h ∷ stack) q r is noisy = are.calls g.program g.block q r is noisy
 
--- n calls of loud programs lead from the one to the other
-abbrev pub IsCalledFrom : List ControlProgram → ℕ → ℕ → ℕ → Type 0
-IsCalledFrom tape zero p q = p ≡ q
-IsCalledFrom tape (suc n) p q =
-    (mid block r : ℕ) × IsCalledFrom tape n p mid × (control_at (blocks tape mid) block ≡ Some (Call q r))
-    × (loud tape q ≡ true)
-
 pub place_calling : (tape : List ControlProgram) → AreLoud tape → (f : Frame) (stack : List Frame)
     → IsPlace tape (f ∷ stack) → counts tape f.program stack ≡ true
-    → IsCalledFrom tape (length stack) (main_number tape) f.program
+    → IsReachedBy tape (length stack) (main_number tape) f.program
 place_calling tape are f [] place e = sym place.0
 place_calling tape are f (g ∷ stack) place e =
     let below = counts_below tape are g stack f.program place.0 place.1 e in
     (g.program, g.block, place.0, place_calling tape are g stack place.3 below, place.1, e)
 
-pub chain_before : (tape : List ControlProgram) (n m p q : ℕ) → IsCalledFrom tape n p q → Chain tape m q
+-- calls that lead to a program, and a chain that begins in it, are one chain
+pub chain_before : (tape : List ControlProgram) (n m p q : ℕ) → IsReachedBy tape n p q → Chain tape m q
     → Chain tape (n + m) p
 chain_before tape zero m p q c chain =
     let e : m ≡ 0 + m = omega arith in subst (λ k. Chain tape k p) e (subst (Chain tape m) (sym c) chain)
@@ -50,7 +45,7 @@ chain_less tape (suc k) n p chain =
     chain_less tape k n p (chain_front tape (k + n) p (subst (λ k. Chain tape k p) e chain))
 
 -- a circle of calls is a chain of any length
-pub chain_round : (tape : List ControlProgram) (d m p : ℕ) → IsCalledFrom tape (suc d) p p → Chain tape m p
+pub chain_round : (tape : List ControlProgram) (d m p : ℕ) → IsReachedBy tape (suc d) p p → Chain tape m p
 chain_round tape d zero p c = tt
 chain_round tape d (suc m) p c =
     let e : suc d + m ≡ d + suc m = omega arith in
@@ -63,4 +58,4 @@ pub main_below : (tape : List ControlProgram) → AreLoud tape → IsUnforked ta
 main_below tape are un f g stack place noisy e =
     let main = main_number tape in
     let from_main = place_calling tape are f (g ∷ stack) place noisy in
-    un.chains (chain_round tape (length stack) 9 main (subst (IsCalledFrom tape (suc (length stack)) main) e from_main))
+    un.chains (chain_round tape (length stack) 9 main (subst (IsReachedBy tape (suc (length stack)) main) e from_main))

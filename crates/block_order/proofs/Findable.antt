@@ -20,6 +20,7 @@ use Rattle.block_order.specs.Found.{JumpFault, BlockFault, jumps, calls, IsFault
 use Rattle.block_order.specs.ProgramPlaces.{place_from, place_of}
 use Rattle.block_order.proofs.Lines.{rise-programs, rise-own, block-order, block-in}
 use Rattle.block_order.proofs.Located.{clear-new}
+use Rattle.block_order.proofs.Programs.{found_stands}
 
 numbered-within : (bs : List ControlBlock) (p n t : ℕ) → first_numbered bs p n ≡ Some t → (p ≤ t) × (t < p + length bs)
 numbered-within [] p n t e = absurd cc
@@ -107,17 +108,6 @@ blocks-more tape p n b at here clear place other cause l there fault =
     (λ (ne : place ≢ n). clear place other cause (omega arith) there fault)
     (cases_eq place n)
 
--- the program of a number that a stage without fault has once
-find-index : (tape : List ControlProgram) (q : ℕ) (p : ControlProgram) → program_of tape q ≡ Some p
-    → (i : ℕ) × (slice_get tape i ≡ Some p) × (p.number ≡ q)
-find-index [] q p e = absurd cc
-find-index (t ∷ ts) q p e = go (λ f. find-index ts q p f) (eqb t.number q) refl e where
-  go : (program_of ts q ≡ Some p → (i : ℕ) × (slice_get ts i ≡ Some p) × (p.number ≡ q)) → (v : Bool) → eqb t.number q ≡ v
-      → cond v (Some t) (program_of ts q) ≡ Some p → (i : ℕ) × (slice_get (t ∷ ts) i ≡ Some p) × (p.number ≡ q)
-  go rest true test f =
-      let k : t ≡ p = cc in (0, ap (λ x. Some x) k, ap (λ x. x.number) (sym k) ∙ eqb-true t.number q test)
-  go rest false test f = let w = rest f in (suc w.0, w.1, w.2)
-
 -- where the faults of the second stage lie
 abbrev pub Found : List ControlProgram → Stage → ℕ → Cause → Type 0
 Found tape Fitting line cause = Unit {0}
@@ -137,7 +127,7 @@ stands-in tape program place b s = go (program_of tape program) refl where
   go None e =
       let f : slice_get {X = ControlBlock} [] place ≡ Some b = sym (ap (λ o. slice_get (blocks_of o) place) e) ∙ s in absurd cc
   go (Some p) e =
-      let w = find-index tape program p e in
+      let w = found_stands tape program p e in
       (w.0, p, w.1, sym (ap (λ o. slice_get (blocks_of o) place) e) ∙ s, w.2, ap blocks_of e)
 
 found-jump : (tape : List ControlProgram) (program place n : ℕ) (b : ControlBlock) (cause : Cause)
@@ -183,9 +173,10 @@ find-first (t ∷ ts) (suc i) p e new =
       go rest true test = absurd (new (0, omega arith, eqb-true t.number p.number test))
       go rest false test = rw test rest
 
-own-blocks : (tape : List ControlProgram) (i : ℕ) (p : ControlProgram) → IsClear tape Fitting → slice_get tape i ≡ Some p
+-- a program of a tape whose programs fit together has its own blocks
+pub own_blocks : (tape : List ControlProgram) (i : ℕ) (p : ControlProgram) → IsClear tape Fitting → slice_get tape i ≡ Some p
     → blocks tape p.number ≡ p.blocks
-own-blocks tape i p clear at = ap blocks_of (find-first tape i p at (clear-new tape i p clear at))
+own_blocks tape i p clear at = ap blocks_of (find-first tape i p at (clear-new tape i p clear at))
 
 block-has : (tape : List ControlProgram) (p : ControlProgram) (place : ℕ) (b : ControlBlock) (cause : Cause)
     → blocks tape p.number ≡ p.blocks → slice_get p.blocks place ≡ Some b → BlockFault tape p place b.control cause
@@ -262,7 +253,7 @@ found-first tape n p line cause listed fits at clear w =
     let P : ℕ → Type 0 = λ line.
     HasFault tape Finding line cause
     × ((l : ℕ) (other : Cause) → HasFault tape Finding l other → IsNoLater line cause l other) in
-    subst P w.3 (block-has tape p w.0 b cause (own-blocks tape n p fits at) w.2 w.4, λ l other fault. later l other fault)
+    subst P w.3 (block-has tape p w.0 b cause (own_blocks tape n p fits at) w.2 w.4, λ l other fault. later l other fault)
   where
     at-place : (l : ℕ) (other : Cause) (i : ℕ) (q : ControlProgram) (place : ℕ) (b : ControlBlock) → slice_get tape i ≡ Some q
         → slice_get q.blocks place ≡ Some b → l ≡ b.line → BlockFault tape q place b.control other

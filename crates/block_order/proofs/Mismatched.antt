@@ -7,12 +7,13 @@ use Rattle.std.proofs.lemmas.Bool.Decides.{nat_tests}
 use Rattle.std.proofs.lemmas.List.{take_all}
 use Rattle.nc_number.proofs.Bools.{or_right, not_true}
 use Rattle.nc_number.proofs.Counts.{some_is}
+use Rattle.nc_number.specs.Options.{lesser}
 use Rattle.block_order.specs.declared.control.Control.{Control}
 use Rattle.block_order.specs.declared.control.Control.TheVariants.{Next, Goto, While, Do, EndLoop, Wait, End, Call, Back, BackTo}
 use Rattle.block_order.specs.declared.program.ControlBlock.{ControlBlock}
 use Rattle.block_order.specs.Order.{control_at, head_name, or_else}
 use Rattle.block_order.specs.Loops.{Open, closed, open_behind, open_after, open_before, names, places, latest, IsMismatch, unclosed, unopened, nested, overlap}
-use Rattle.block_order.specs.Misplaced.{has_name, is_latest, is_misplaced, first_misplaced, earliest, lesser, IsFirstMismatch}
+use Rattle.block_order.specs.Misplaced.{has_name, is_latest, is_misplaced, first_misplaced, earliest, IsFirstMismatch}
 use Rattle.block_order.proofs.Opened.{within_control, Kind, opening, closing, plain, kind}
 
 -- no block of these is misplaced, or the one at k is the first

@@ -1,6 +1,6 @@
 -- A program of the tape stands at the place that is kept of its number.
-use Rattle.std.proofs.Common.{◌≡◌, ℕ, zero, suc, ◌+◌, ◌<◌, Bool, true, false, ◌==◌, List, [], ◌∷◌, length, find, Option, Some, None, slice_get, slice_index_or, refl, ap, sym, ◌∙◌, arith}
-use Rattle.std.proofs.lemmas.Bool.Decides.{nat_tests}
+use Rattle.std.proofs.Common.{◌≡◌, ℕ, zero, suc, ◌+◌, ◌<◌, Bool, true, false, cond, ◌==◌, List, [], ◌∷◌, length, find, Option, Some, None, slice_get, slice_index_or, refl, ap, sym, ◌∙◌, arith}
+use Rattle.nc_number.proofs.Counts.{equal}
 use Rattle.block_order.specs.declared.program.ControlBlock.{ControlBlock}
 use Rattle.block_order.specs.declared.program.ControlProgram.{ControlProgram}
 use Rattle.block_order.specs.Order.{program_of, blocks_of, blocks}
@@ -14,9 +14,6 @@ record IsThere (ps : List ControlProgram) (place q i : ℕ) : Type 0 where
   is : find (λ p. p.number == q) ps ≡ slice_get ps behind
   named : (p : ControlProgram) → slice_get ps behind ≡ Some p → p.number ≡ q
 
-test : (m n : ℕ) → (m == n) ≡ true → m ≡ n
-test m n e = grind (arith, nat_tests)
-
 there : (ps : List ControlProgram) (place q i : ℕ) → place_from ps place q ≡ Some i → IsThere ps place q i
 there [] place q i e = absurd cc
 there (p ∷ ps) place q i e = go (λ h. there ps (suc place) q i h) (p.number == q) refl
@@ -25,7 +22,7 @@ there (p ∷ ps) place q i e = go (λ h. there ps (suc place) q i h) (p.number =
     go rest true y =
         let both : Some place ≡ Some i = rw y at e in
         let same : place ≡ i = cc in
-        record { behind = 0; at = omega arith; within = omega arith; is = rw y refl; named = λ r e'. (let both : Some p ≡ Some r = e' in let same : p ≡ r = cc in sym (ap (λ x. x.number) same) ∙ test p.number q y) }
+        record { behind = 0; at = omega arith; within = omega arith; is = rw y refl; named = λ r e'. (let both : Some p ≡ Some r = e' in let same : p ≡ r = cc in sym (ap (λ x. x.number) same) ∙ equal p.number q y) }
     go rest false y =
         let r = rest (rw y at e) in
         record {
@@ -76,6 +73,17 @@ no_blocks_there tape q e = sym (ap (λ o. blocks_of o) (not_there tape 0 q (sym 
 
 pub place_within : (tape : List ControlProgram) (q i : ℕ) → Some i ≡ place_of tape q → i < length tape
 place_within tape q i e = let r = there tape 0 q i (sym e) in let at = r.at in let within = r.within in omega arith
+
+-- whoever is found in the tape stands there
+pub found_stands : (tape : List ControlProgram) (q : ℕ) (p : ControlProgram) → program_of tape q ≡ Some p
+    → (i : ℕ) × (slice_get tape i ≡ Some p) × (p.number ≡ q)
+found_stands [] q p e = absurd cc
+found_stands (t ∷ ts) q p e = go (λ f. found_stands ts q p f) (t.number == q) refl e
+  where
+    go : (program_of ts q ≡ Some p → (i : ℕ) × (slice_get ts i ≡ Some p) × (p.number ≡ q)) → (v : Bool) → (t.number == q) ≡ v
+        → cond v (Some t) (program_of ts q) ≡ Some p → (i : ℕ) × (slice_get (t ∷ ts) i ≡ Some p) × (p.number ≡ q)
+    go rest true is f = let same : t ≡ p = cc in (0, ap (λ x. Some x) same, ap (λ x. x.number) (sym same) ∙ equal t.number q is)
+    go rest false is f = let w = rest f in (suc w.0, w.1, w.2)
 
 -- two numbers with one place are one
 pub one_place : (tape : List ControlProgram) (q r i : ℕ) → place_of tape q ≡ Some i → place_of tape r ≡ Some i → q ≡ r

@@ -4,11 +4,12 @@ use Rattle.std.proofs.lemmas.Bool.Decides.{nat_tests}
 use Rattle.nc_number.specs.declared.cause.Cause.{Cause}
 use Rattle.nc_number.specs.declared.cause.Cause.TheVariants.{IntoLoop}
 use Rattle.nc_number.proofs.Bools.{both, both_true}
+use Rattle.nc_number.specs.Options.{is_some_of}
 use Rattle.nc_number.proofs.Counts.{equal, lt_true, true_lt, true_le, last_or_before, some_is}
 use Rattle.block_order.specs.declared.control.Control.{Control}
 use Rattle.block_order.specs.declared.control.Control.TheVariants.{EndLoop}
 use Rattle.block_order.specs.declared.program.ControlBlock.{ControlBlock}
-use Rattle.block_order.specs.Order.{control_at, seek, IsLoop, IsPermitted, Leads, head_name, is_end_of, first_end, end_named, end_of_loop, is_at, head_below, head_of_loop, is_up_to, holds, permits_below, permits, permitted_target}
+use Rattle.block_order.specs.Order.{control_at, seek, IsLoop, IsPermitted, Leads, head_name, is_end_of, first_end, end_named, end_of_loop, head_below, head_of_loop, is_up_to, holds, permits_below, permits, permitted_target}
 use Rattle.block_order.specs.LoopFacts.{LoopFacts, IsHeldToo}
 
 true_same : (a b : ℕ) → a ≡ b → (a == b) ≡ true
@@ -205,23 +206,23 @@ pub leads_to : (bs : List ControlBlock) (block n target : ℕ) → seek bs block
     → Leads bs block n target
 leads_to bs block n target found may = rw (found, may) refl
 
-is_at-true : (place : ℕ) (o : Option ℕ) → is_at place o ≡ true → o ≡ Some place
-is_at-true place None e = absurd cc
-is_at-true place (Some own) e = ap (λ k. Some k) (equal own place e)
+some_of : (place : ℕ) (o : Option ℕ) → is_some_of place o ≡ true → o ≡ Some place
+some_of place None e = absurd cc
+some_of place (Some own) e = ap (λ k. Some k) (equal own place e)
 
 -- the head that the search finds is one of a loop that ends there
 below-loop : (n : ℕ) (bs : List ControlBlock) (close head : ℕ) → head_below n bs close ≡ Some head
     → IsLoop bs head close
 below-loop zero bs close head e = absurd cc
 below-loop (suc n) bs close head e =
-    go (λ h. below-loop n bs close head h) (is_at close (end_of_loop bs n)) refl
+    go (λ h. below-loop n bs close head h) (is_some_of close (end_of_loop bs n)) refl
   where
     go : (head_below n bs close ≡ Some head → IsLoop bs head close) → (x : Bool)
-        → is_at close (end_of_loop bs n) ≡ x → IsLoop bs head close
+        → is_some_of close (end_of_loop bs n) ≡ x → IsLoop bs head close
     go rest true y =
         let some : Some n ≡ Some head = rw y at e in
         let same : n ≡ head = cc in
-        subst (λ k. IsLoop bs k close) same (is_at-true close (end_of_loop bs n) y)
+        subst (λ k. IsLoop bs k close) same (some_of close (end_of_loop bs n) y)
     go rest false y = rest (rw y at e)
 
 pub head_is_of_loop : (bs : List ControlBlock) (close head : ℕ) → head_of_loop bs close ≡ Some head
@@ -233,20 +234,20 @@ below-found : (n : ℕ) (bs : List ControlBlock) (close head : ℕ) → IsLoop b
     → (found : ℕ) × (head_below n bs close ≡ Some found)
 below-found zero bs close head loop lt = absurd (omega arith)
 below-found (suc n) bs close head loop lt =
-    go (λ h. below-found n bs close head loop h) (is_at close (end_of_loop bs n)) refl
+    go (λ h. below-found n bs close head loop h) (is_some_of close (end_of_loop bs n)) refl
   where
-    other : is_at close (end_of_loop bs n) ≡ false → head < n
+    other : is_some_of close (end_of_loop bs n) ≡ false → head < n
     other y = elim (last_or_before head n (omega arith)) [
       | inl e ↦
-          let at : is_at close (end_of_loop bs n) ≡ true =
-          ap (λ o. is_at close o) (subst (λ k. IsLoop bs k close) e loop)
+          let at : is_some_of close (end_of_loop bs n) ≡ true =
+          ap (λ o. is_some_of close o) (subst (λ k. IsLoop bs k close) e loop)
           ∙ true_same close close refl
           in absurd cc
       | inr less ↦ less
     ]
 
     go : (head < n → (found : ℕ) × (head_below n bs close ≡ Some found)) → (x : Bool)
-        → is_at close (end_of_loop bs n) ≡ x
+        → is_some_of close (end_of_loop bs n) ≡ x
         → (found : ℕ) × (head_below (suc n) bs close ≡ Some found)
     go rest true y = (n, rw y refl)
     go rest false y = let r = rest (other y) in (r.0, rw y (r.1))

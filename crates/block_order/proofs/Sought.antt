@@ -8,13 +8,10 @@ use Rattle.std.specs.Option.{option_or}
 use Rattle.std.proofs.lemmas.Option.{slice_get-get_or}
 use Rattle.std.specs.List.{slice_get}
 use Rattle.std.proofs.lemmas.Bool.Decides.{nat_tests}
+use Rattle.nc_number.proofs.Counts.{le_or_lt, lt_false, lt_true}
 use Rattle.block_order.specs.declared.program.ControlBlock.{ControlBlock}
 use Rattle.block_order.specs.Order.{has_sequence, first_numbered, or_else, seek}
 use Rattle.block_order.specs.Places.{places_from, places_of, IsNumbered, IsFinder}
-
-abbrev pub first_of : List ℕ → Option ℕ
-first_of [] = None
-first_of (x ∷ xs) = Some x
 
 -- the first number above this one
 abbrev pub first_above : ℕ → List ℕ → Option ℕ
@@ -26,17 +23,11 @@ abbrev pub Rises : ℕ → List ℕ → Type 0
 Rises low [] = Unit {0}
 Rises low (x ∷ xs) = (low ≤ x) × Rises (suc x) xs
 
-lt_false : (a b : ℕ) → b ≤ a → nat_lt a b ≡ false
-lt_false a b h = grind (arith, nat_tests)
-
-lt_true : (a b : ℕ) → a < b → nat_lt a b ≡ true
-lt_true a b h = grind (arith, nat_tests)
-
-first-numbered : (bs : List ControlBlock) (p n : ℕ) → first_numbered bs p n ≡ first_of (places_from bs p n)
+first-numbered : (bs : List ControlBlock) (p n : ℕ) → first_numbered bs p n ≡ slice_get (places_from bs p n) 0
 first-numbered [] p n = refl
 first-numbered (b ∷ bs) p n =
     elim (has_sequence n b.sequence)
-    as (λ v. cond v (Some p) (first_numbered bs (suc p) n) ≡ first_of (cond v (p ∷ places_from bs (suc p) n) (places_from bs (suc p) n)))
+    as (λ v. cond v (Some p) (first_numbered bs (suc p) n) ≡ slice_get (cond v (p ∷ places_from bs (suc p) n) (places_from bs (suc p) n)) 0)
     [ true ↦ refl | false ↦ first-numbered bs (suc p) n ]
 
 rises-lower : (low : ℕ) (xs : List ℕ) → Rises (suc low) xs → Rises low xs
@@ -51,7 +42,7 @@ pub places-rise : (bs : List ControlBlock) (p n : ℕ) → Rises p (places_from 
 places-rise [] p n = tt
 places-rise (b ∷ bs) p n = rises-cond (has_sequence n b.sequence) p (places_from bs (suc p) n) (places-rise bs (suc p) n)
 
-above-low : (low p : ℕ) (xs : List ℕ) → low < p → Rises p xs → first_above low xs ≡ first_of xs
+above-low : (low p : ℕ) (xs : List ℕ) → low < p → Rises p xs → first_above low xs ≡ slice_get xs 0
 above-low low p [] h r = refl
 above-low low p (x ∷ xs) h r = rw (lt_true low x (omega arith)) refl
 
@@ -74,7 +65,7 @@ sought-above (b ∷ bs) (suc k) p n m e =
 
 -- the search, as a search among the places of the number
 pub seek-places : (bs : List ControlBlock) (from n : ℕ)
-    → seek bs from n ≡ or_else (first_above from (places_of bs n)) (first_of (places_of bs n))
+    → seek bs from n ≡ or_else (first_above from (places_of bs n)) (slice_get (places_of bs n) 0)
 unfolding places_of
 seek-places bs from n = rw (sought-above bs from 0 n from (omega arith), first-numbered bs 0 n) refl
 
@@ -102,12 +93,6 @@ above_at (x ∷ xs) low zero below here h = rw (lt_true low x (here (omega arith
 above_at (x ∷ xs) low (suc i) below here h =
     rw (lt_false low x (below 0 (omega arith)))
     (above_at xs low i (λ k l. below (suc k) (omega arith)) (λ l. here (omega arith)) (omega arith))
-
-le_or_lt : (a b : ℕ) → (a ≤ b) ⊎ (b < a)
-le_or_lt a b = go (nat_lt b a) refl where
-  go : (v : Bool) → nat_lt b a ≡ v → (a ≤ b) ⊎ (b < a)
-  go true e = inr (grind (arith, nat_tests))
-  go false e = inl (grind (arith, nat_tests))
 
 -- no number of the list is above this one, or the one at j is the first
 abbrev Above : ℕ → List ℕ → Type 0
@@ -200,13 +185,13 @@ rises-order p xs r i j d h l =
 pub rises-non-decreasing : (p : ℕ) (xs : List ℕ) → Rises p xs → IsNonDecreasingBy (λ x. x) xs
 rises-non-decreasing p xs r i j d h l = rises-order p xs r i j d h l
 
-first_of-head : (xs : List ℕ) → 0 < length xs → first_of xs ≡ Some (get_or xs 0 0)
-first_of-head [] h = absurd (omega arith)
-first_of-head (x ∷ xs) h = refl
+first_is : (xs : List ℕ) → 0 < length xs → slice_get xs 0 ≡ Some (get_or xs 0 0)
+first_is [] h = absurd (omega arith)
+first_is (x ∷ xs) h = refl
 
 -- where a search from here leads, among the places of a number
 abbrev pub found : ℕ → List ℕ → Option ℕ
-found from xs = or_else (first_above from xs) (first_of xs)
+found from xs = or_else (first_above from xs) (slice_get xs 0)
 
 -- to the first place: from before it, and from the last place on
 pub finders_first : (xs : List ℕ) (t b : ℕ) → Rises 0 xs → 0 < length xs → get_or xs 0 0 ≡ t
@@ -215,11 +200,11 @@ finders_first xs t b r some first = go (above_cases b xs) where
   go : Above b xs → (found b xs ≡ Some t) ↔ ((b < t) ⊎ (get_or xs (length xs - 1) 0 ≤ b))
   go (inl w) = (
     λ _. inr (w.1 (length xs - 1) (omega arith)),
-    λ _. rw w.0 (first_of-head xs some ∙ ap (λ x. Some x) first),
+    λ _. rw w.0 (first_is xs some ∙ ap (λ x. Some x) first),
   )
   go (inr w) = (
     λ e.
-        let at : Some (get_or xs w.0 0) ≡ Some t = sym (ap (λ o. or_else o (first_of xs)) w.2) ∙ e in
+        let at : Some (get_or xs w.0 0) ≡ Some t = sym (ap (λ o. or_else o (slice_get xs 0)) w.2) ∙ e in
         let same : get_or xs w.0 0 ≡ t = cc in
         inl (omega (arith, w.3)),
     λ side. rw w.2 (ap (λ x. Some x) (back side)),
@@ -240,14 +225,14 @@ finders_next xs t b i r within at = go (above_cases b xs) where
   go : Above b xs → (found b xs ≡ Some t) ↔ ((get_or xs i 0 ≤ b) × (b < t))
   go (inl w) = (
     λ e.
-        let start : Some (get_or xs 0 0) ≡ Some t = sym (rw w.0 (first_of-head xs (omega arith))) ∙ e in
+        let start : Some (get_or xs 0 0) ≡ Some t = sym (rw w.0 (first_is xs (omega arith))) ∙ e in
         let same : get_or xs 0 0 ≡ t = cc in
         absurd (omega (arith, at, rises-apart 0 xs r 0 (i + 1) 0 (omega arith) within)),
     λ side. absurd (omega (arith, at, side.1, w.1 (i + 1) within)),
   )
   go (inr w) = (
     λ e.
-        let here : Some (get_or xs w.0 0) ≡ Some t = sym (ap (λ o. or_else o (first_of xs)) w.2) ∙ e in
+        let here : Some (get_or xs w.0 0) ≡ Some t = sym (ap (λ o. or_else o (slice_get xs 0)) w.2) ∙ e in
         let same : get_or xs w.0 0 ≡ t = cc in (
           ⊎_elim
               (λ (l : w.0 ≤ i). absurd (omega (arith, at, rises-apart 0 xs r w.0 (i + 1) 0 (omega arith) within)))
@@ -305,10 +290,6 @@ partition-place xs t p i r within at below above =
     (le_or_lt i p))
     (λ (l : i < p). absurd (omega (arith, at, below i l)))
     (le_or_lt p i)
-
-pub first_of-get : (xs : List ℕ) → first_of xs ≡ slice_get xs 0
-first_of-get [] = refl
-first_of-get (x ∷ xs) = refl
 
 pub leb-true : {a b : ℕ} → leb a b ≡ true → a ≤ b
 leb-true {a} {b} e = grind (arith, nat_tests)

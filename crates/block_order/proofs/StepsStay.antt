@@ -58,7 +58,8 @@ pub next_stays : (tape : List ControlProgram) (from : List Frame) → IsPlace ta
 next_stays tape [] place = absurd place
 next_stays tape (f ∷ stack) place = place_moves tape f stack (suc f.block) place
 
-wait_counts : (tape : List ControlProgram) → AreLoud tape → (f : Frame) (stack : List Frame) (code : ℕ)
+-- whoever waits counts
+pub wait_counts : (tape : List ControlProgram) → AreLoud tape → (f : Frame) (stack : List Frame) (code : ℕ)
     → control_at (blocks tape f.program) f.block ≡ Some (Wait code) → counts tape f.program stack ≡ true
 wait_counts tape are f [] code is = refl
 wait_counts tape are f (g ∷ stack) code is = are.waits f.program f.block code is

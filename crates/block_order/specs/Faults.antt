@@ -75,6 +75,10 @@ pub data HasFault (tape : List ControlProgram) : Stage → ℕ → Cause → Typ
       → Stands tape program place block → block.control ≡ Call called repeats → loud tape called ≡ true
       → HasFault tape Waiting block.line WaitTooDeep
 
+-- no block has this fault of waits
+abbrev pub IsFreeOf : List ControlProgram → Cause → Type 0
+IsFreeOf tape cause = (line : ℕ) → HasFault tape Waiting line cause → ⊥
+
 -- nothing is wrong in a stage
 abbrev pub IsClear : List ControlProgram → Stage → Type 0
 IsClear tape stage = (line : ℕ) (cause : Cause) → HasFault tape stage line cause → ⊥

@@ -1,5 +1,5 @@
 -- How the first block of a program that doesn't fit is found in one pass.
-use Rattle.std.specs.Prelude.{ℕ, suc, ◌<◌, ◌≤◌, ◌==◌, Bool, false, not, List, [], ◌∷◌, length, map, reverse, min, Option, Some, None, if◌then◌else◌}
+use Rattle.std.specs.Prelude.{ℕ, suc, ◌<◌, ◌≤◌, ◌==◌, Bool, false, not, List, [], ◌∷◌, length, map, reverse, Option, Some, None, if◌then◌else◌}
 use Rattle.std.specs.List.{list_any}
 use Rattle.block_order.specs.declared.control.Control.{Control}
 use Rattle.block_order.specs.declared.control.Control.TheVariants.{While, Do, EndLoop}
@@ -40,11 +40,6 @@ first_misplaced place loops (b ∷ bs) =
 abbrev pub earliest : List Open → Option ℕ
 earliest [] = None
 earliest (loop ∷ loops) = or_else (earliest loops) (Some loop.place)
-
-abbrev pub lesser : Option ℕ → Option ℕ → Option ℕ
-lesser None other = other
-lesser (Some place) None = Some place
-lesser (Some place) (Some other) = Some (min place other)
 
 -- the first mismatch of a program, if it has one
 abbrev pub IsFirstMismatch : List ControlBlock → Option ℕ → Type 0

@@ -4,6 +4,7 @@
 use Rattle.std.specs.Prelude.{◌≡◌, ℕ, zero, suc, Bool, true, false, not, ◌==◌, ◌&&◌, ◌||◌, nat_lt, nat_le, List, [], ◌∷◌, drop, find, Option, Some, None, Result, Ok, Err, slice_get, if◌then◌else◌}
 use Rattle.nc_number.specs.declared.cause.Cause.{Cause}
 use Rattle.nc_number.specs.declared.cause.Cause.TheVariants.{NoSequence, IntoLoop}
+use Rattle.nc_number.specs.Options.{is_some_of}
 use Rattle.block_order.specs.declared.control.Control.{Control}
 use Rattle.block_order.specs.declared.control.Control.TheVariants.{While, Do, EndLoop}
 use Rattle.block_order.specs.declared.program.ControlBlock.{ControlBlock}
@@ -75,14 +76,10 @@ end_named bs head (Some name) = first_end name (drop (suc head) bs) (suc head)
 abbrev pub end_of_loop : List ControlBlock → ℕ → Option ℕ
 end_of_loop bs head = end_named bs head (head_name (control_at bs head))
 
-abbrev pub is_at : ℕ → Option ℕ → Bool
-is_at place None = false
-is_at place (Some own) = own == place
-
 -- the latest of so many first blocks whose loop ends at the block
 abbrev pub head_below : ℕ → List ControlBlock → ℕ → Option ℕ
 head_below zero bs close = None
-head_below (suc head) bs close = if is_at close (end_of_loop bs head) then Some head else head_below head bs close
+head_below (suc head) bs close = if is_some_of close (end_of_loop bs head) then Some head else head_below head bs close
 
 -- the head of the loop that ends at the block
 abbrev pub head_of_loop : List ControlBlock → ℕ → Option ℕ

@@ -10,15 +10,30 @@ use std::alloc::Global;
 
 /// From an O number to those of the programs that call it, once for each call.
 #[derive(Drop)]
-pub(crate) struct Callers {
+pub struct Callers {
     numbers: IndexMap<u16, Vec<u16>>,
 }
 
 impl Callers {
-    pub(crate) fn of(alloc: Global, programs: &[ControlProgram]) -> Result<Callers, NoMemory> {
-        let mut callers = Callers {
+    /// No call is noted yet.
+    pub fn new(alloc: Global) -> Callers {
+        Callers {
             numbers: IndexMap::new(alloc),
-        };
+        }
+    }
+
+    /// Notes a call: the O numbers of the program that is called and of the one that calls it.
+    pub fn note(&mut self, alloc: Global, called: u16, caller: u16) -> Result<(), NoMemory> {
+        self.numbers
+            .entry(called)?
+            .or_insert(Vec::new(alloc))
+            .push(caller)?;
+        Ok(())
+    }
+
+    /// All calls of these programs.
+    pub(crate) fn of(alloc: Global, programs: &[ControlProgram]) -> Result<Callers, NoMemory> {
+        let mut callers = Callers::new(alloc);
         for program in programs {
             callers.note_calls(alloc, program.number, program.blocks.as_slice())?;
         }
@@ -38,17 +53,14 @@ impl Callers {
                 repeats: _,
             } = block.control
             {
-                self.numbers
-                    .entry(program)?
-                    .or_insert(Vec::new(alloc))
-                    .push(number)?;
+                self.note(alloc, program, number)?;
             }
         }
         Ok(())
     }
 
     /// The O numbers of the programs that call this one.
-    pub(crate) fn of_program(&self, number: u16) -> &[u16] {
+    pub fn of_program(&self, number: u16) -> &[u16] {
         match self.numbers.get(&number) {
             Some(callers) => callers.as_slice(),
             None => &[],

@@ -32,5 +32,6 @@ pub fn a_tape_without_faults_is_unforked()
 /// where every loop that holds its target holds it too.
 pub fn a_loop_ends_at_its_nearest_end()
     ensures ends { (bs : List ControlBlock) (head close : ℕ) → IsLoop bs head close ↔ LoopFacts bs head close }
-    ensures jumps { (bs : List ControlBlock) (block target : ℕ) → IsPermitted bs block target ↔ IsHeldToo bs block target }
+    ensures jumps { (bs : List ControlBlock) (block target : ℕ)
+        → IsPermitted bs block target ↔ IsHeldToo bs block target }
 {}

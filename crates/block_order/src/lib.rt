@@ -27,6 +27,7 @@ mod program;
 mod sequence;
 mod tables;
 
+pub use callers::Callers;
 pub use control::Control;
 pub use draft::DraftOrder;
 pub use fault::OrderFault;

@@ -1,10 +1,10 @@
 //! Which programs are loud: they reach a wait or an end.
-ghost use Rattle.std.specs.Prelude.{◌≡◌, [], ℕ, Bool, true, map, IfOk};
+ghost use Rattle.std.specs.Prelude.{◌≡◌, [], true, map, IfOk};
 ghost use Rattle.block_order.specs.Loud.{is_loud_block, has_loud_block, known_loud, loud};
 ghost use Rattle.block_order.specs.Order.{blocks};
 ghost use Rattle.block_order.specs.ProgramPlaces.{flagged};
 ghost use Rattle.block_order.specs.Numbers.{place_known, KnowsPlaces};
-ghost use Rattle.block_order.specs.Heard.{heard, flag_known};
+ghost use Rattle.block_order.specs.Heard.{heard, flag_known, AreOnlyLoud};
 
 use crate::callers::Callers;
 use crate::control::Control;
@@ -20,6 +20,7 @@ pub struct LoudPrograms {
     flags: Vec<bool>,
 }
 
+/// The flag, at its place, of the program with this O number.
 fn flag_of(numbers: &ProgramNumbers, flags: &[bool], number: u16) -> bool
     ensures { result ≡ flag_known numbers.now flags.now number }
 {
@@ -29,6 +30,7 @@ fn flag_of(numbers: &ProgramNumbers, flags: &[bool], number: u16) -> bool
     }
 }
 
+/// Whether a block of this control is loud, by what is known so far.
 fn is_loud_control(numbers: &ProgramNumbers, flags: &[bool], control: &Control) -> bool
     ensures { result ≡ is_loud_block (flag_known numbers.now flags.now) control.now }
 {
@@ -42,6 +44,7 @@ fn is_loud_control(numbers: &ProgramNumbers, flags: &[bool], control: &Control) 
     }
 }
 
+/// Whether one of the blocks is loud, by what is known so far.
 fn any_is_loud(numbers: &ProgramNumbers, flags: &[bool], blocks: &[ControlBlock]) -> bool
     ensures { result ≡ has_loud_block (flag_known numbers.now flags.now) blocks.now }
 {
@@ -69,12 +72,15 @@ fn look_again(
         .collect(alloc)
 }
 
+/// What is known before any look: no program is loud.
 fn none_loud(alloc: Global, programs: &[ControlProgram]) -> Result<Vec<bool>, AllocError>
-    ensures { IfOk result (λ flags. flags.items ≡ map (λ p. has_loud_block (known_loud programs.now 0) []) programs.now) }
+    ensures { IfOk result (λ flags. flags.items
+        ≡ map (λ p. has_loud_block (known_loud programs.now 0) []) programs.now) }
 {
     programs.iter().map(|_| false).collect(alloc)
 }
 
+/// Whether both lists flag the same programs.
 fn are_same(these: &[bool], those: &[bool]) -> bool
     ensures { result ≡ true → these.now ≡ those.now }
 {
@@ -90,8 +96,8 @@ fn hear(
     number: u16,
 ) -> bool
     requires known { KnowsPlaces programs.now numbers.now }
-    requires sound { (q : ℕ) → flagged programs.now flags.old q ≡ true → loud programs.now q ≡ true }
-    ensures sound { (q : ℕ) → flagged programs.now flags.new q ≡ true → loud programs.now q ≡ true }
+    requires sound { AreOnlyLoud programs.now flags.old }
+    ensures sound { AreOnlyLoud programs.now flags.new }
 {
     if flag_of(numbers, flags, number)
         || !any_is_loud(numbers, flags, numbers.blocks_of(programs, number))
@@ -117,8 +123,8 @@ fn hear_each(
     fresh: &mut Vec<u16>,
 ) -> Result<(), NoMemory>
     requires known { KnowsPlaces programs.now numbers.now }
-    requires sound { (q : ℕ) → flagged programs.now flags.old q ≡ true → loud programs.now q ≡ true }
-    ensures sound { (q : ℕ) → flagged programs.now flags.new q ≡ true → loud programs.now q ≡ true }
+    requires sound { AreOnlyLoud programs.now flags.old }
+    ensures sound { AreOnlyLoud programs.now flags.new }
 {
     for number in these {
         if hear(programs, numbers, flags, *number) {
@@ -136,8 +142,8 @@ fn hear_all(
     flags: &mut [bool],
 ) -> Result<(), NoMemory>
     requires known { KnowsPlaces programs.now numbers.now }
-    requires sound { (q : ℕ) → flagged programs.now flags.old q ≡ true → loud programs.now q ≡ true }
-    ensures sound { (q : ℕ) → flagged programs.now flags.new q ≡ true → loud programs.now q ≡ true }
+    requires sound { AreOnlyLoud programs.now flags.old }
+    ensures sound { AreOnlyLoud programs.now flags.new }
 {
     let callers = Callers::of(alloc, programs)?;
     let all: Vec<u16> = programs
@@ -168,7 +174,7 @@ fn heard_first(
     programs: &[ControlProgram],
 ) -> Result<Vec<bool>, NoMemory>
     requires { KnowsPlaces programs.now numbers.now }
-    ensures { IfOk result (λ flags. (q : ℕ) → flagged programs.now flags.items q ≡ true → loud programs.now q ≡ true) }
+    ensures { IfOk result (λ flags. AreOnlyLoud programs.now flags.items) }
 {
     let mut flags = none_loud(alloc, programs)?;
     hear_all(alloc, programs, numbers, &mut flags)?;

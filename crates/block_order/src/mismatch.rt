@@ -1,11 +1,11 @@
 //! The first block of a program that shows that its loops don't fit together.
-ghost use Rattle.std.specs.Prelude.{◌≡◌, ◌≤◌, length, IfOk, OnOk, OnErr};
+ghost use Rattle.std.specs.Prelude.{◌≡◌, ◌≤◌, length, IfOk, OnOk};
 ghost use Rattle.block_order.specs.Loops.{closed, open_behind};
-ghost use Rattle.block_order.specs.Misplaced.{seen, has_name, is_latest, is_misplaced, earliest, lesser, IsFirstMismatch};
+ghost use Rattle.block_order.specs.Misplaced.{seen, has_name, is_latest, is_misplaced, earliest, IsFirstMismatch};
 
 use crate::control::Control;
 use crate::program::ControlBlock;
-use nc_number::NoMemory;
+use nc_number::{NoMemory, lesser};
 use std::alloc::Global;
 
 /// A loop that is open: the place of its head, and its name.
@@ -97,15 +97,4 @@ fn earliest(stack: &[OpenLoop]) -> Option<u32>
 {
     let head = stack.first()?;
     Some(head.place)
-}
-
-/// The lesser place of two, where there are two.
-fn lesser(one: Option<u32>, other: Option<u32>) -> Option<u32>
-    ensures { result ≡ lesser one other }
-{
-    match (one, other) {
-        (Some(place), Some(further)) => Some(place.min(further)),
-        (Some(place), None) => Some(place),
-        (None, further) => further,
-    }
 }

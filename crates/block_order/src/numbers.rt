@@ -1,5 +1,5 @@
 //! From O numbers to places on the tape.
-ghost use Rattle.std.specs.Prelude.{◌≡◌, ◌==◌, ◌<◌, ℕ, List, Some, None, length, OnOk, IfOk, if◌then◌else◌};
+ghost use Rattle.std.specs.Prelude.{◌≡◌, ◌==◌, ◌<◌, ℕ, Some, None, length, OnOk, IfOk, if◌then◌else◌};
 ghost use Rattle.block_order.specs.Order.{blocks, or_else};
 ghost use Rattle.block_order.specs.ProgramPlaces.{place_of};
 ghost use Rattle.block_order.specs.Numbers.{place_kept, place_known, KnowsPlaces};
@@ -40,6 +40,7 @@ fn note_place(places: &mut Vec<Option<usize>>, number: u16, place: usize) -> Res
 }
 
 impl ProgramNumbers {
+    /// The places of these programs.
     pub(crate) fn of(alloc: Global, programs: &[ControlProgram]) -> Result<Self, NoMemory>
         ensures { IfOk result (KnowsPlaces programs.now) }
     {

@@ -78,6 +78,7 @@ impl BlockOrder {
         self.loud.blocks_of(&self.programs, program)
     }
 
+    /// The tables of the first program with this O number, if the tape has one.
     fn tables_of(&self, program: u16) -> Option<&ProgramTables>
         ensures some { IfSome result (λ tables. IsProgramTables (blocks self.now program) tables.now) }
         ensures none { result ≡ None → blocks self.now program ≡ [] }

@@ -3,9 +3,10 @@ use Rattle.std.proofs.Common.{◌≡◌, ℕ, ◌<◌, ◌≤◌, ◌⊎◌, inl
 use Rattle.nc_number.specs.declared.cause.Cause.{Cause}
 use Rattle.nc_number.specs.Causes.{cause_number}
 use Rattle.nc_number.proofs.CauseTable.{number_has_one_cause}
+use Rattle.nc_number.proofs.Counts.{same_or_below}
 use Rattle.block_order.specs.declared.program.ControlProgram.{ControlProgram}
-use Rattle.block_order.specs.Faults.{Stage, Fitting, Finding, Waiting, HasFault, IsClear, IsClearBefore, IsSound, IsNoLater, IsFirst}
-use Rattle.flow_laws.specs.Answers.{CantBothFail}
+use Rattle.block_order.specs.Faults.{Stage, Fitting, Finding, Waiting, HasFault, IsClear, IsClearBefore, IsNoLater, IsFirst}
+use Rattle.flow_laws.specs.Answers.{HasOneFirst, HasSomeFirst}
 use Rattle.flow_laws.proofs.Least.{none_at_all}
 
 -- what is no later than the other both ways is the same
@@ -45,16 +46,12 @@ in_its_stage : (tape : List ControlProgram) (line : ℕ) (cause : Cause) → (fi
     → IsFirstIn tape first.stage line cause
 in_its_stage tape line cause first = record { before = first.before; holds = first.holds; least = first.least }
 
-pub one_first : (tape : List ControlProgram) (line other_line : ℕ) (cause other : Cause) → IsFirst tape line cause
-    → IsFirst tape other_line other → (line ≡ other_line) × (cause ≡ other)
+pub one_first : HasOneFirst
 one_first tape line other_line cause other a b =
     one_of_stages tape a.stage b.stage line other_line cause other (in_its_stage tape line cause a)
     (in_its_stage tape other_line other b)
 
 -- Some first fault.
-
-at_or_behind : (n m : ℕ) → n ≤ m → (n < m) ⊎ (m ≡ n)
-at_or_behind n m h = grind arith
 
 -- a cause of a fault of the line, by its number
 abbrev HasNumber : List ControlProgram → Stage → ℕ → ℕ → Type 0
@@ -63,12 +60,12 @@ HasNumber tape stage line n = (cause : Cause) × HasFault tape stage line cause 
 no_later_than : (tape : List ControlProgram) (stage : Stage) (line other_line n : ℕ) (cause other : Cause) → cause_number cause ≡ n
     → ((m : ℕ) → HasNumber tape stage line m → n ≤ m) → HasFault tape stage other_line other → line ≤ other_line
     → IsNoLater line cause other_line other
-no_later_than tape stage line other_line n cause other own least fault le = elim (at_or_behind line other_line le) [
-  | inl less ↦ inl less
-  | inr same ↦
+no_later_than tape stage line other_line n cause other own least fault le = elim (same_or_below line other_line le) [
+  | inl same ↦
       let no_less : n ≤ cause_number other =
-      least (cause_number other) (other, subst (λ l. HasFault tape stage l other) same fault, refl) in
-      inr (sym same, omega (arith, own, no_less))
+      least (cause_number other) (other, subst (λ l. HasFault tape stage l other) (sym same) fault, refl) in
+      inr (same, omega (arith, own, no_less))
+  | inr less ↦ inl less
 ]
 
 -- a stage without a first fault is clear, if those before it are
@@ -91,8 +88,7 @@ clear_stage tape stage none before line cause fault =
     (cause_number some.0) (some.0, some.1, refl))
     line (cause, fault)
 
-pub sound_or_first : (tape : List ControlProgram)
-    → CantBothFail (IsSound tape) ((line : ℕ) × (cause : Cause) × IsFirst tape line cause)
+pub sound_or_first : HasSomeFirst
 sound_or_first tape unsound none =
     let fits : IsClear tape Fitting = clear_stage tape Fitting none tt in
     let finds : IsClear tape Finding = clear_stage tape Finding none fits in

@@ -1,6 +1,5 @@
 -- A tape has one answer: its programs, or one refusal.
-use Rattle.std.proofs.Common.{◌≡◌, ℕ, zero, suc, ◌<◌, ◌≤◌, ◌⊎◌, inl, inr, List, [], ◌∷◌, map, Option, Some, None, Result, Ok, Err, Contains, refl, ap, sym, subst, ◌∙◌, arith}
-use Rattle.nc_number.specs.declared.cause.Cause.{Cause}
+use Rattle.std.proofs.Common.{◌≡◌, ℕ, zero, suc, ◌<◌, ◌≤◌, ◌⊎◌, inl, inr, List, [], ◌∷◌, map, Some, None, Result, Ok, Err, Contains, refl, ap, sym, subst, ◌∙◌, arith}
 use Rattle.nc_number.specs.Causes.{cause_number}
 use Rattle.nc_text.specs.declared.tape.Block.{Block}
 use Rattle.nc_text.specs.declared.tape.Program.{Program}
@@ -8,8 +7,7 @@ use Rattle.nc_number.specs.Rising.{RiseFrom}
 use Rattle.nc_text.specs.Shape.{blocks_in}
 use Rattle.block_words.specs.declared.dialect.Dialect.{Dialect}
 use Rattle.block_forms.specs.Forms.{BlockForm, block_or_refusal}
-use Rattle.block_order.specs.declared.program.ControlProgram.{ControlProgram}
-use Rattle.block_order.specs.Faults.{IsFirst, IsSound}
+use Rattle.block_order.specs.Faults.{IsFirst}
 use Rattle.tape_flow.specs.declared.fault.FlowFault.{FlowFault}
 use Rattle.tape_flow.specs.Forms.{ProgramForm, at_line, programs_read}
 use Rattle.tape_flow.specs.Controls.{controls}
@@ -17,16 +15,8 @@ use Rattle.tape_flow.specs.Exact.{HasBlockFault, IsAccepted, IsRefused}
 use Rattle.tape_flow.specs.Exact.IsRefused.{block, order}
 use Rattle.tape_flow.proofs.FirstRefused.{refusal_or, first_refusal, programs_tell, comes_to}
 use Rattle.tape_flow.proofs.Accepted.{nothing_found}
-use Rattle.flow_laws.specs.Answers.{CantBothFail, HasRisingBlocks}
+use Rattle.flow_laws.specs.Answers.{CantBothFail, HasOneFirst, HasSomeFirst, HasRisingBlocks}
 use Rattle.flow_laws.proofs.Least.{none_at_all}
-
--- the law of the first fault
-abbrev pub HasOneFirst : Type 0
-HasOneFirst = (tape : List ControlProgram) (line other_line : ℕ) (cause other : Cause) → IsFirst tape line cause
-    → IsFirst tape other_line other → (line ≡ other_line) × (cause ≡ other)
-
-abbrev pub HasSomeFirst : Type 0
-HasSomeFirst = (tape : List ControlProgram) → CantBothFail (IsSound tape) ((line : ℕ) × (cause : Cause) × IsFirst tape line cause)
 
 -- One block on each line.
 

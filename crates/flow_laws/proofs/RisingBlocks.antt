@@ -1,9 +1,8 @@
 -- The blocks of a tape that was read stand on rising lines: an invariant of each line that is read.
-use Rattle.std.proofs.Common.{◌≡◌, ℕ, ◌+◌, ◌<◌, ◌≤◌, Bool, true, false, List, [], ◌∷◌, ◌++◌, length, map, Option, Some, None, Result, Ok, Err, refl, ap, sym, subst, ◌∙◌, arith, append_assoc, if◌then◌else◌}
+use Rattle.std.proofs.Common.{◌≡◌, ℕ, ◌+◌, Bool, true, false, List, [], ◌∷◌, ◌++◌, length, map, Option, Some, None, Result, Ok, Err, refl, ap, sym, subst, ◌∙◌, arith, append_assoc, if◌then◌else◌}
 use Rattle.std.specs.Prelude.{IfOk}
 use Rattle.std.specs.Option.{option_to_list, is_none}
 use Rattle.std.proofs.lemmas.List.{append-nil, map-append}
-use Rattle.std.proofs.lemmas.Grind.{flat_map-append}
 use Rattle.nc_text.specs.declared.tape.Block.{Block}
 use Rattle.nc_text.specs.declared.tape.Program.{Program}
 use Rattle.line_text.specs.declared.refusal.Refusal.{Refusal}
@@ -11,10 +10,10 @@ use Rattle.line_text.specs.declared.said.Said.{Said}
 use Rattle.line_text.specs.declared.said.Said.TheVariants as said
 use Rattle.nc_text.specs.Lines.{Line, lines_of, is_percent}
 use Rattle.line_text.specs.Said.{line_says}
-use Rattle.nc_number.specs.Rising.{RiseFrom}
 use Rattle.nc_text.specs.Shape.{blocks_in}
 use Rattle.nc_text.specs.ReadShape.{RiseTo}
 use Rattle.nc_text.specs.Tape.{Before, Answer, nothing_read, programs_of, next, with_said, with_block, program_at, block_at, said_refusal, percent_refusal, outer_refusal, unless_refused, after_said, goes_on, in_rest, in_body, in_leader, begun, tape_of}
+use Rattle.nc_text.proofs.Shaping.{blocks_last, rise_from, rise_last, rise_on}
 use Rattle.flow_laws.specs.Answers.{HasRisingBlocks}
 
 abbrev lines : List Program → List ℕ
@@ -27,22 +26,6 @@ Rises before = RiseTo 0 (lines (programs_of before)) before.lines
 -- so does the tape, if there is one
 abbrev AnswerRises : Answer → Type 0
 AnswerRises answer = IfOk answer HasRisingBlocks
-
-later : (ns : List ℕ) (low high more : ℕ) → RiseTo low ns high → high ≤ more → RiseTo low ns more
-later [] low high more h le = let own : low ≤ high = h in omega arith
-later (n ∷ ns) low high more h le = (h.0, later ns n high more h.1 le)
-
-one_more : (ns : List ℕ) (low high n : ℕ) → RiseTo low ns high → high < n → RiseTo low (ns ++ n ∷ []) n
-one_more [] low high n h above = let own : low ≤ high = h in (omega arith, omega arith)
-one_more (m ∷ ns) low high n h above = (h.0, one_more ns m high n h.1 above)
-
-rise_from : (ns : List ℕ) (low high : ℕ) → RiseTo low ns high → RiseFrom low ns
-rise_from [] low high h = tt
-rise_from (n ∷ ns) low high h = (h.0, rise_from ns n high h.1)
-
-blocks_last : (programs : List Program) (program : Program) → blocks_in (programs ++ program ∷ []) ≡ blocks_in programs ++ program.blocks
-blocks_last programs program =
-    flat_map-append (λ p. p.blocks) programs (program ∷ []) ∙ ap (λ bs. blocks_in programs ++ bs) (append-nil program.blocks)
 
 -- an O number adds no block
 lines_with_program : (programs : List Program) (line number : ℕ) → lines (programs ++ program_at line number ∷ []) ≡ lines programs
@@ -61,14 +44,14 @@ lines_with_block programs program block =
 
 -- one line more, which says nothing
 line_more : (before : Before) (len : ℕ) (ended : Bool) → Rises before → Rises (next before len ended)
-line_more before len ended h = later (lines (programs_of before)) 0 before.lines (before.lines + 1) h (omega arith)
+line_more before len ended h = rise_on (lines (programs_of before)) 0 before.lines (before.lines + 1) h (omega arith)
 
 block_more : (done : List Program) (current : Option Program) (block : Block) (n : ℕ) → block.line ≡ n + 1
     → RiseTo 0 (lines (done ++ option_to_list current)) n
     → RiseTo 0 (lines (done ++ option_to_list (with_block block current))) (n + 1)
-block_more done None block n at h = later (lines (done ++ [])) 0 n (n + 1) h (omega arith)
+block_more done None block n at h = rise_on (lines (done ++ [])) 0 n (n + 1) h (omega arith)
 block_more done (Some program) block n at h =
-    rw (lines_with_block done program block, at) (one_more (lines (done ++ program ∷ [])) 0 n (n + 1) h (omega arith))
+    rw (lines_with_block done program block, at) (rise_last (lines (done ++ program ∷ [])) 0 n (n + 1) h (omega arith))
 
 said_more : (before : Before) (what : Said) (len : ℕ) (ended : Bool) → Rises before → Rises (next (with_said before what) len ended)
 said_more before said.Nothing len ended h = line_more before len ended h

@@ -1,12 +1,24 @@
 -- How the laws of answers are said.
-use Rattle.std.specs.Prelude.{List, map}
+use Rattle.std.specs.Prelude.{◌≡◌, ℕ, List, map}
+use Rattle.nc_number.specs.declared.cause.Cause.{Cause}
 use Rattle.nc_text.specs.declared.tape.Program.{Program}
 use Rattle.nc_number.specs.Rising.{RiseFrom}
+use Rattle.block_order.specs.declared.program.ControlProgram.{ControlProgram}
+use Rattle.block_order.specs.Faults.{IsFirst, IsSound}
 use Rattle.nc_text.specs.Shape.{blocks_in}
 
 -- one of the two holds: it can't be that neither does
 abbrev pub CantBothFail : Type 0 → Type 0 → Type 0
 CantBothFail One Other = (One → ⊥) → (Other → ⊥) → ⊥
+
+-- the first fault of a tape is one line and one cause
+abbrev pub HasOneFirst : Type 0
+HasOneFirst = (tape : List ControlProgram) (line other_line : ℕ) (cause other : Cause) → IsFirst tape line cause
+    → IsFirst tape other_line other → (line ≡ other_line) × (cause ≡ other)
+
+-- no tape is neither sound nor has a first fault
+abbrev pub HasSomeFirst : Type 0
+HasSomeFirst = (tape : List ControlProgram) → CantBothFail (IsSound tape) ((line : ℕ) × (cause : Cause) × IsFirst tape line cause)
 
 -- each block stands on a later line than the one before it
 abbrev pub HasRisingBlocks : List Program → Type 0

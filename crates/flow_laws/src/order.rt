@@ -1,9 +1,7 @@
 //! The faults of the order of blocks.
-ghost use Rattle.std.specs.Prelude.{◌≡◌, ℕ, List};
-ghost use Rattle.nc_number.specs.declared.cause.Cause.{Cause};
+ghost use Rattle.std.specs.Prelude.{List};
 ghost use Rattle.block_order.specs.declared.program.ControlProgram.{ControlProgram};
-ghost use Rattle.block_order.specs.Faults.{IsFirst, IsSound};
-ghost use Rattle.flow_laws.specs.Answers.{CantBothFail};
+ghost use Rattle.flow_laws.specs.Answers.{HasOneFirst, HasSomeFirst};
 ghost use Rattle.flow_laws.specs.Waits.{AreWaitFaultsExact};
 
 /// A law: a tape has no fault of waits exactly if it has one list of labels, whatever its variables
@@ -18,13 +16,10 @@ pub fn a_tape_has_one_list_where_no_wait_is_at_fault()
 
 /// A law: the first fault of a tape is one line and one cause.
 pub fn a_tape_has_one_first_fault()
-    ensures { (tape : List ControlProgram) (line other_line : ℕ) (cause other : Cause)
-        → IsFirst tape line cause → IsFirst tape other_line other
-        → (line ≡ other_line) × (cause ≡ other) }
+    ensures { HasOneFirst }
 {}
 
 /// A law: no tape is neither sound nor has a first fault.
 pub fn no_tape_is_unsound_without_a_fault()
-    ensures { (tape : List ControlProgram)
-        → CantBothFail (IsSound tape) ((line : ℕ) × (cause : Cause) × IsFirst tape line cause) }
+    ensures { HasSomeFirst }
 {}

@@ -15,7 +15,8 @@ pub fn labels_are_those_of_the_blocks()
 /// The labels of a program do not hang on how many calls may follow in it, where no chain of calls
 /// of loud programs is too long.
 pub fn labels_hang_on_no_number_of_calls()
-    ensures { (tape : List ControlProgram) (n m program : ℕ) (back : ℕ → List Labelled) → IsShort tape n program → n ≤ m
+    ensures { (tape : List ControlProgram) (n m program : ℕ) (back : ℕ → List Labelled)
+        → IsShort tape n program → n ≤ m
         → whole tape n program back ≡ whole tape m program back }
 {}
 

@@ -1,5 +1,5 @@
 //! The list of labels of a flow: each program's once, joined by the calls.
-ghost use Rattle.std.specs.Prelude.{◌≡◌, ℕ, ◌≤◌, ◌++◌, ◌∷◌, [], Some, length, IfOk, IfErr, IfSome, IfNone, OnOk};
+ghost use Rattle.std.specs.Prelude.{◌≡◌, ◌≤◌, ◌++◌, ◌∷◌, [], Some, length, IfOk, IfErr, OnOk};
 ghost use Rattle.nc_number.specs.declared.limits.TheConstants.{MOST_LABELS};
 ghost use Rattle.block_order.specs.declared.control.Control.TheVariants as Control;
 ghost use Rattle.block_order.specs.declared.label.Label.TheVariants as Label;

@@ -1,3 +1,4 @@
+//! The one list of labels that all runs of an order come to.
 ghost use Rattle.block_order.specs.Labels.{IsUnforked};
 
 use block_order::{BlockOrder, a_tape_without_faults_is_unforked};

@@ -3,7 +3,6 @@
 use Rattle.std.proofs.Common.{◌≡◌, ℕ, ◌+◌, Bool, List, [], ◌∷◌, ◌++◌, length, map, refl, ap, sym, ◌∙◌, arith, Result, Ok, Err, IfOk, append_assoc, length-append, subst}
 use Rattle.std.proofs.lemmas.List.{map-append, length-map, append-nil}
 use Rattle.std.proofs.lemmas.Grind.{flat_map-append}
-use Rattle.nc_number.specs.Results.{◌>>=◌}
 use Rattle.nc_text.specs.declared.tape.Block.{Block}
 use Rattle.nc_text.specs.declared.tape.Program.{Program}
 use Rattle.nc_number.specs.Rising.{RiseFrom}
@@ -16,7 +15,7 @@ use Rattle.block_order.specs.Shape as order
 use Rattle.block_order.specs.Shape.{IsListed}
 use Rattle.block_forms.specs.declared.fault.FormFault.{FormFault}
 use Rattle.open_forms.specs.Controls.{open_control, numbered}
-use Rattle.tape_flow.proofs.Listed.{bound}
+use Rattle.tape_flow.proofs.Listed.{bound, text_lines}
 use Rattle.open_order.specs.declared.premises.Premises.{Premises}
 use Rattle.open_order.specs.Reading.{Basis, gone_from, at_line, block_read, blocks_from, program_read, programs_from, programs_read}
 
@@ -31,9 +30,6 @@ line_kept basis block =
 
 abbrev control_lines : List ControlBlock → List ℕ
 control_lines blocks = map (λ block. block.line) blocks
-
-abbrev text_lines : List Block → List ℕ
-text_lines blocks = map (λ block. block.line) blocks
 
 one_line_more : (done : List ControlBlock) (read : ControlBlock) (block : Block) (blocks : List Block) (whole : List ℕ)
     → read.line ≡ block.line → control_lines done ++ text_lines (block ∷ blocks) ≡ whole

@@ -1,5 +1,5 @@
 -- Which tapes have an order of waits, and the one refusal of every other tape.
-use Rattle.std.specs.Prelude.{◌≡◌, ℕ, List, Ok, Err, Option, Some, None}
+use Rattle.std.specs.Prelude.{◌≡◌, ℕ, List, Ok, Err, Some, None}
 use Rattle.nc_text.specs.declared.tape.Program.{Program}
 use Rattle.block_order.specs.declared.program.ControlProgram.{ControlProgram}
 use Rattle.block_order.specs.Faults.{IsSound}

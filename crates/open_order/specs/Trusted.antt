@@ -18,7 +18,6 @@ use Rattle.block_words.specs.Codes.{row_of_number, is_waiting}
 use Rattle.open_forms.specs.Words.{written, number}
 use Rattle.open_forms.specs.Controls.{open_control, numbered}
 use Rattle.open_order.specs.declared.premises.Premises.{Premises}
-use Rattle.open_order.specs.Gone.{is_gone}
 use Rattle.open_order.specs.Contours.{has_code, is_macro_code}
 use Rattle.open_order.specs.Reading.{Basis, gone_from}
 use Rattle.open_order.specs.declared.code.Code.{Code}

@@ -1,15 +1,15 @@
 -- Two paths over tapes whose lists of labels are equal: the labels ahead of both agree, and each
 -- step leaves it so.
-use Rattle.std.proofs.Common.{◌≡◌, ℕ, ◌⊎◌, inl, inr, List, [], ◌∷◌, Some, refl, sym, subst, ◌∙◌}
+use Rattle.std.proofs.Common.{◌≡◌, ℕ, ◌⊎◌, inl, inr, List, [], ◌∷◌, refl, sym, subst, ◌∙◌}
 use Rattle.block_order.specs.declared.control.Control.{Control}
 use Rattle.block_order.specs.declared.control.Control.TheVariants as control
 use Rattle.block_order.specs.declared.frame.Frame.{Frame}
 use Rattle.block_order.specs.declared.label.Label.{Label}
 use Rattle.block_order.specs.declared.label.Label.TheVariants as label
 use Rattle.block_order.specs.declared.program.ControlProgram.{ControlProgram}
-use Rattle.block_order.specs.Labels.{ahead, list, start}
-use Rattle.block_order.specs.Steps.{Step, IsPlace, standing, place_behind, Kept, KeepsLabels}
-use Rattle.pair_order.specs.Pairs.{Paths, IsAtWait, IsAtEnd, Goes, one, two, meet, IsBeginning, AreMet, none, one_more, anew, IsFree, IsReached, begun, gone, IsNeverStuck}
+use Rattle.block_order.specs.Labels.{ahead, list}
+use Rattle.block_order.specs.Steps.{Step, IsPlace, place_behind, Kept, KeepsLabels}
+use Rattle.pair_order.specs.Pairs.{Paths, IsAtWait, Goes, one, two, meet, IsBeginning, AreMet, none, one_more, anew, IsFree, IsReached, begun, gone, IsNeverStuck}
 
 -- the labels ahead are the same, or one path has gone back to its start and the other is about to
 abbrev pub Agree : List Label → List Label → List Label → Type 0

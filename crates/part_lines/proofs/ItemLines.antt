@@ -11,9 +11,9 @@ use Rattle.block_order.specs.Order.{blocks, main_number}
 use Rattle.block_order.specs.Loud.{loud, mark_of, marks}
 use Rattle.part_order.specs.Parts.{Item, Stretch, Meets, Anew, items, path_items, waits_in}
 use Rattle.part_order.specs.Parts as parts
-use Rattle.part_lines.specs.Least.{earlier}
+use Rattle.nc_number.specs.Options.{lesser}
 use Rattle.part_lines.specs.Lines.{Lines, with_first, times, seen_line, block_lines, blocks_lines, whole}
-use Rattle.part_lines.proofs.Earlier.{earlier_none, with_both}
+use Rattle.part_lines.proofs.Lesser.{lesser_none, with_both}
 use Rattle.part_lines.proofs.StretchLines.{next_number, stretch_line, none_behind}
 use Rattle.part_lines.proofs.Segments.{ends_anew}
 
@@ -76,12 +76,12 @@ module _ (ld : ℕ → Bool) (quiet : ℕ → Option ℕ) (line : ℕ → Option
   abbrev IsSameFrom : Control → List ControlBlock → ℕ → ℕ → Type 0
   IsSameFrom c bs i t =
       with_first (seen i c) (block_lines ld given back c (lines_behind bs i))
-      ≡ with_first (earlier (if t == t then seen i c else None) (stretch_line ld seen bs (suc i) (next_number (mark_of ld c) t) t))
+      ≡ with_first (lesser (if t == t then seen i c else None) (stretch_line ld seen bs (suc i) (next_number (mark_of ld c) t) t))
       (item_lines own end (items_behind (mark_of ld c) bs t))
 
   abbrev AreAheadFrom : Control → List ControlBlock → ℕ → ℕ → Type 0
   AreAheadFrom c bs i t = (s : ℕ) → t < s
-      → own p s ≡ earlier (if t == s then seen i c else None) (stretch_line ld seen bs (suc i) (next_number (mark_of ld c) t) s)
+      → own p s ≡ lesser (if t == s then seen i c else None) (stretch_line ld seen bs (suc i) (next_number (mark_of ld c) t) s)
 
   ahead_after : (c : Control) (bs : List ControlBlock) (i t u : ℕ) → AreAheadFrom c bs i t → next_number (mark_of ld c) t ≡ u
       → (s : ℕ) → t < s → own p s ≡ stretch_line ld seen bs (suc i) u s
@@ -104,7 +104,7 @@ module _ (ld : ℕ → Bool) (quiet : ℕ → Option ℕ) (line : ℕ → Option
       → block_lines ld given back c (lines_behind bs i) ≡ item_lines own end (items_behind (m ∷ []) bs t) → IsSameFrom c bs i t
   marked c bs i t m one on =
       rw (same_first t, one, none_behind ld seen bs (suc i) (suc t) t (omega arith))
-      (ap (with_first (seen i c)) on ∙ ap (λ o. with_first o (item_lines own end (items_behind (m ∷ []) bs t))) (sym (earlier_none (seen i c))))
+      (ap (with_first (seen i c)) on ∙ ap (λ o. with_first o (item_lines own end (items_behind (m ∷ []) bs t))) (sym (lesser_none (seen i c))))
 
   -- the lines from the next stretch on
   next_lines : (c : Control) (bs : List ControlBlock) (i t : ℕ) → next_number (mark_of ld c) t ≡ suc t → AreAheadFrom c bs i t

@@ -1,4 +1,4 @@
-mod Earlier
+mod Lesser
 mod Segments
 mod InParts
 mod StretchLines

@@ -1,7 +1,6 @@
 -- What was found of programs and what they open, as it grows, and when it is the least.
-use Rattle.std.proofs.Common.{◌≡◌, ◌==◌, ℕ, ◌≤◌, min, ◌⊎◌, inl, inr, Bool, true, false, List, [], ◌∷◌, Option, Some, None, slice_get, get_or, length, zero, suc, ◌+◌, ◌<◌, refl, ap, sym, subst, ◌∙◌, arith, if◌then◌else◌}
-use Rattle.std.proofs.lemmas.Bool.{eqb-true}
-use Rattle.nc_number.proofs.Counts.{last_or_before}
+use Rattle.std.proofs.Common.{◌≡◌, ℕ, ◌≤◌, ◌⊎◌, inl, inr, Bool, true, false, List, Option, Some, None, slice_get, get_or, length, ◌+◌, ◌<◌, refl, sym, subst, ◌∙◌, arith, if◌then◌else◌}
+use Rattle.nc_number.proofs.Counts.{last_or_before, lesser_is}
 use Rattle.block_order.specs.declared.control.Control.{Control}
 use Rattle.block_order.specs.declared.control.Control.TheVariants.{Next, Goto, While, Do, EndLoop, Wait, End, Call, Back, BackTo}
 use Rattle.block_order.specs.declared.program.ControlBlock.{ControlBlock}
@@ -10,7 +9,9 @@ use Rattle.block_order.specs.Order.{blocks, program_of, control_at}
 use Rattle.block_order.specs.Loud.{loud}
 use Rattle.block_order.proofs.NotedEnds.{control-get}
 use Rattle.block_order.proofs.Opened.{within_control}
-use Rattle.part_lines.specs.Least.{earlier, IsLeast}
+use Rattle.block_order.proofs.Programs.{found_stands}
+use Rattle.nc_number.specs.Options.{lesser}
+use Rattle.part_lines.specs.Least.{IsLeast}
 use Rattle.part_lines.specs.Lines.{called_line, seen_line, IsOpened, itself, calls, LineFrom}
 use Rattle.part_lines.specs.Pieces.{IsBelow, AreFound, IsClosedAt, IsClosed, AreQuietLines}
 use Rattle.part_lines.proofs.InParts.{block_from}
@@ -26,24 +27,11 @@ below_on (Some a) None (Some c) one two = absurd two
 below_on None (Some b) (Some c) one two = absurd one
 below_on (Some a) (Some b) (Some c) one two = omega arith
 
-below_parts : (x a b : Option ℕ) → IsBelow x (earlier a b) → IsBelow x a × IsBelow x b
+below_parts : (x a b : Option ℕ) → IsBelow x (lesser a b) → IsBelow x a × IsBelow x b
 below_parts x None b below = (tt, below)
 below_parts x (Some a) None below = (below, tt)
 below_parts None (Some a) (Some b) below = absurd below
 below_parts (Some x) (Some a) (Some b) below = (omega arith, omega arith)
-
--- one of the two is the earlier one
-pub either_is : (a b : Option ℕ) (k : ℕ) → earlier a b ≡ Some k → (a ≡ Some k) ⊎ (b ≡ Some k)
-either_is None b k is = inr is
-either_is (Some a) None k is = inl is
-either_is (Some a) (Some b) k is = go (order a b)
-  where
-    order : (a b : ℕ) → (min a b ≡ a) ⊎ (min a b ≡ b)
-    order a b = grind arith
-
-    go : (min a b ≡ a) ⊎ (min a b ≡ b) → (Some a ≡ Some k) ⊎ (Some b ≡ Some k)
-    go (inl e) = inl (ap Some (sym e) ∙ is)
-    go (inr e) = inr (ap Some (sym e) ∙ is)
 
 module _ (tape : List ControlProgram) (line : ℕ → ℕ → Option ℕ) (found : ℕ → Option ℕ) where
   opened_below : IsClosed tape line found → (p q : ℕ) → IsOpened tape p q → IsBelow (found p) (found q)
@@ -69,7 +57,7 @@ module _ (tape : List ControlProgram) (line : ℕ → ℕ → Option ℕ) (found
   -- what is seen of a block is a line of its program
   pub seen_from : AreFound tape line found → (p b : ℕ) (c : Control) → control_at (blocks tape p) b ≡ Some c
       → (k : ℕ) → seen_line (loud tape) found (line p b) c ≡ Some k → LineFrom tape line p k
-  seen_from are p b c is k e = go (either_is (line p b) (called_line (loud tape) found c) k e)
+  seen_from are p b c is k e = go (lesser_is (line p b) (called_line (loud tape) found c) k e)
     where
       called : (c : Control) → control_at (blocks tape p) b ≡ Some c → called_line (loud tape) found c ≡ Some k → LineFrom tape line p k
       called (Call q r) is e = by (loud tape q) refl e
@@ -90,21 +78,6 @@ module _ (tape : List ControlProgram) (line : ℕ → ℕ → Option ℕ) (found
       go : (line p b ≡ Some k) ⊎ (called_line (loud tape) found c ≡ Some k) → LineFrom tape line p k
       go (inl own) = block_from tape line p b c k is (inl own)
       go (inr other) = called c is other
-
--- whoever is found in the tape stands there
-found_stands : (tape : List ControlProgram) (q : ℕ) (p : ControlProgram) → program_of tape q ≡ Some p
-    → (j : ℕ) × (slice_get tape j ≡ Some p) × (p.number ≡ q)
-found_stands [] q p is = absurd cc
-found_stands (x ∷ tape) q p is = go (x.number == q) refl is (found_stands tape q p)
-  where
-    next : (j : ℕ) × (slice_get tape j ≡ Some p) × (p.number ≡ q) → (j : ℕ) × (slice_get (x ∷ tape) j ≡ Some p) × (p.number ≡ q)
-    next (j, at, e) = (suc j, at, e)
-
-    go : (b : Bool) → (x.number == q) ≡ b → (if b then Some x else program_of tape q) ≡ Some p
-        → (program_of tape q ≡ Some p → (j : ℕ) × (slice_get tape j ≡ Some p) × (p.number ≡ q))
-        → (j : ℕ) × (slice_get (x ∷ tape) j ≡ Some p) × (p.number ≡ q)
-    go true e is further = let same : x ≡ p = cc in (0, ap Some same, ap (λ (y : ControlProgram). y.number) (sym same) ∙ eqb-true x.number q e)
-    go false e is further = next (further is)
 
 -- where each program of the tape is closed, all are
 pub all_closed : (tape : List ControlProgram) (line : ℕ → ℕ → Option ℕ) (found : ℕ → Option ℕ)
@@ -137,8 +110,3 @@ below_more least seen bs i d within before here block c less is = go (last_or_be
 pub all_below : (least : Option ℕ) (seen : ℕ → Control → Option ℕ) (bs : List ControlBlock) (i : ℕ) → length bs ≤ i
     → AreBelow least seen bs i → (block : ℕ) (c : Control) → control_at bs block ≡ Some c → IsBelow least (seen block c)
 all_below least seen bs i past before block c is = before block c (let within = within_control bs block c is in omega arith) is
-
-pub get_within : (tape : List ControlProgram) (j : ℕ) (p : ControlProgram) → slice_get tape j ≡ Some p → j < length tape
-get_within [] j p is = absurd cc
-get_within (x ∷ tape) zero p is = omega arith
-get_within (x ∷ tape) (suc j) p is = let rest = get_within tape j p is in omega arith

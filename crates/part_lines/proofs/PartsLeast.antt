@@ -7,12 +7,13 @@ use Rattle.part_order.specs.Parts.{Item, Stretch, Meets, Anew, path_items, path_
 use Rattle.part_lines.specs.declared.piece.Ending.{Ending}
 use Rattle.part_lines.specs.declared.piece.Ending.TheVariants.{Stops, Returns}
 use Rattle.part_lines.specs.declared.piece.PieceLines.{PieceLines}
-use Rattle.part_lines.specs.Least.{earlier, IsLeast}
+use Rattle.nc_number.specs.Options.{lesser}
+use Rattle.part_lines.specs.Least.{IsLeast}
 use Rattle.part_lines.specs.PartLines.{LineInPart, AreLeastLines}
 use Rattle.part_lines.specs.Lines.{Lines, with_first}
 use Rattle.loud_calls.specs.Calls.{IsShort}
 use Rattle.part_lines.specs.Pieces.{coming, first_of, closed, IsPiece, AreQuietLines}
-use Rattle.part_lines.proofs.Earlier.{earlier_none, least_either, least_same}
+use Rattle.part_lines.proofs.Lesser.{lesser_none, least_either, least_same}
 use Rattle.part_lines.proofs.Segments.{Seg, ends_anew, stands, seg_listed, anew_listed}
 use Rattle.part_lines.proofs.InParts.{StretchLine, ListedLine, part_listed, listed_part}
 use Rattle.part_lines.proofs.StretchLines.{stretch_least}
@@ -36,9 +37,9 @@ module _ (tape : List ControlProgram) (line : ℕ → ℕ → Option ℕ) (quiet
       → (n : ℕ) (o : Option ℕ) → slice_get (with_first (own p s) lines) n ≡ Some o → IsLeast (SegLine tape line (Stretch p s ∷ xs) n) o
   stretch_have p s xs [] e have n o is = absurd cc
   stretch_have p s xs (first ∷ lines) e have zero o is =
-      let same : earlier (own p s) first ≡ o = cc in
+      let same : lesser (own p s) first ≡ o = cc in
       subst (IsLeast (SegLine tape line (Stretch p s ∷ xs) 0)) same
-      (least_same (λ k. StretchLine tape line p s k ⊎ SegLine tape line xs 0 k) (SegLine tape line (Stretch p s ∷ xs) 0) (earlier (own p s) first)
+      (least_same (λ k. StretchLine tape line p s k ⊎ SegLine tape line xs 0 k) (SegLine tape line (Stretch p s ∷ xs) 0) (lesser (own p s) first)
       to from
       (least_either (StretchLine tape line p s) (SegLine tape line xs 0) (own p s) first (stretch_least tape line quiet are p s)
       (have 0 first (rw e refl))))
@@ -90,10 +91,10 @@ module _ (tape : List ControlProgram) (line : ℕ → ℕ → Option ℕ) (quiet
   last_least : (first last : Option ℕ) → ends_anew (path_items tape) ≡ true
       → slice_get (item_lines own (None ∷ []) (path_items tape)) 0 ≡ Some first
       → slice_get (item_lines own (None ∷ []) (path_items tape)) (path_waits tape) ≡ Some last
-      → IsLeast (LineInPart tape line (path_waits tape)) (earlier last first)
+      → IsLeast (LineInPart tape line (path_waits tape)) (lesser last first)
   last_least first last anew is_first is_last =
       least_same (λ k. SegLine tape line (path_items tape) (path_waits tape) k ⊎ SegLine tape line (path_items tape) 0 k)
-      (LineInPart tape line (path_waits tape)) (earlier last first) to
+      (LineInPart tape line (path_waits tape)) (lesser last first) to
       (λ k inside. from k (part_listed tape line (path_waits tape) k inside))
       (least_either (SegLine tape line (path_items tape) (path_waits tape)) (SegLine tape line (path_items tape) 0) last first
       (items_have (path_items tape) (path_waits tape) last is_last) (items_have (path_items tape) 0 first is_first))
@@ -125,8 +126,8 @@ module _ (tape : List ControlProgram) (line : ℕ → ℕ → Option ℕ) (quiet
     path_closed = path_is (None ∷ []) ∙ go ending
       where
         go : (e : Ending) → coming lines (Some e) (None ∷ []) [] ≡ lines.done.items ++ lines.last ∷ []
-        go Stops = ap (λ o. lines.done.items ++ o ∷ []) (earlier_none lines.last)
-        go Returns = ap (λ o. lines.done.items ++ o ∷ []) (earlier_none lines.last)
+        go Stops = ap (λ o. lines.done.items ++ o ∷ []) (lesser_none lines.last)
+        go Returns = ap (λ o. lines.done.items ++ o ∷ []) (lesser_none lines.last)
 
     waits_are : length lines.done.items ≡ path_waits tape
     waits_are =
@@ -209,7 +210,7 @@ closed_least tape line quiet are lines ending short piece = record {
     many : (e : Ending) → length (closed lines e) ≡ suc (path_waits tape)
     many Stops = let long = length-append lines.done.items (lines.last ∷ []) in let w = waits in omega arith
     many Returns =
-        let long = length-append lines.done.items (earlier lines.last (first_of lines.done.items) ∷ []) in let w = waits in omega arith
+        let long = length-append lines.done.items (lesser lines.last (first_of lines.done.items) ∷ []) in let w = waits in omega arith
 
     less_or_same : (n m : ℕ) → (n < m) ⊎ ((n ≡ m) ⊎ (m < n))
     less_or_same n m = grind arith
@@ -219,7 +220,7 @@ closed_least tape line quiet are lines ending short piece = record {
     front Stops n o less is =
         middle_least tape line quiet are n o (let w = waits in omega arith) (λ e _. let w = waits in omega arith) (ap (λ xs. slice_get xs n) same ∙ is)
     front Returns n o less is =
-        let there = get_front lines.done.items (earlier lines.last (first_of lines.done.items)) n less in
+        let there = get_front lines.done.items (lesser lines.last (first_of lines.done.items)) n less in
         let here = get_front lines.done.items lines.last n less in
         middle_least tape line quiet are n o (let w = waits in omega arith) (λ e _. let w = waits in omega arith)
         (ap (λ xs. slice_get xs n) same ∙ (here ∙ (sym there ∙ is)))
@@ -238,20 +239,20 @@ closed_least tape line quiet are lines ending short piece = record {
         (ap (λ xs. slice_get xs (path_waits tape)) same ∙ subst (λ i. slice_get (lines.done.items ++ lines.last ∷ []) i ≡ Some o) waits at)
     end Returns is o at =
         let anew = (anew_is tape line quiet are lines ending short piece Returns is).1 refl in
-        let own_end : earlier lines.last (first_of lines.done.items) ≡ o =
-        (let a = get_end lines.done.items (earlier lines.last (first_of lines.done.items)) in cc) in
+        let own_end : lesser lines.last (first_of lines.done.items) ≡ o =
+        (let a = get_end lines.done.items (lesser lines.last (first_of lines.done.items)) in cc) in
         subst (IsLeast (LineInPart tape line (path_waits tape))) own_end (by_length lines.done.items refl anew)
       where
         by_length : (xs : Lines) → lines.done.items ≡ xs → ends_anew (path_items tape) ≡ true
-            → IsLeast (LineInPart tape line (path_waits tape)) (earlier lines.last (first_of lines.done.items))
+            → IsLeast (LineInPart tape line (path_waits tape)) (lesser lines.last (first_of lines.done.items))
         by_length [] e anew =
             let none : path_waits tape ≡ 0 = (let w = waits in let l = ap length e in omega arith) in
             let first : slice_get (item_lines (own_line tape line quiet) (None ∷ []) (path_items tape)) 0 ≡ Some lines.last =
             subst (λ i. slice_get (item_lines (own_line tape line quiet) (None ∷ []) (path_items tape)) i ≡ Some lines.last) none last_is in
-            rw (ap first_of e) (subst (IsLeast (LineInPart tape line (path_waits tape))) (again lines.last ∙ sym (earlier_none lines.last))
+            rw (ap first_of e) (subst (IsLeast (LineInPart tape line (path_waits tape))) (again lines.last ∙ sym (lesser_none lines.last))
             (last_least tape line quiet are lines.last lines.last anew first last_is))
           where
-            again : (a : Option ℕ) → earlier a a ≡ a
+            again : (a : Option ℕ) → lesser a a ≡ a
             again None = refl
             again (Some a) = let e : min a a ≡ a = omega arith in ap Some e
         by_length (x ∷ xs) e anew =

@@ -10,16 +10,16 @@ use Rattle.block_order.specs.Loud.{loud}
 use Rattle.part_lines.specs.declared.piece.Ending.{Ending}
 use Rattle.part_lines.specs.declared.piece.Ending.TheVariants.{Stops, Returns}
 use Rattle.part_lines.specs.declared.piece.PieceLines.{PieceLines}
-use Rattle.part_lines.specs.Least.{earlier}
+use Rattle.nc_number.specs.Options.{lesser}
 use Rattle.part_lines.specs.Lines.{Lines, with_first, times, seen_line, block_lines, blocks_lines, whole}
 use Rattle.loud_calls.specs.Calls.{IsShort, IsShortCall}
 use Rattle.part_lines.specs.Pieces.{shown, coming, stop_of, IsSeen, AreJoined, AreAdded, IsPiece, IsTaken, IsSoFar, from_block}
-use Rattle.part_lines.proofs.Earlier.{earlier_none, with_none, with_both, with_again}
+use Rattle.part_lines.proofs.Lesser.{lesser_none, with_none, with_both, with_again}
 
 pub new_shown : (lines : PieceLines) → lines.done.items ≡ [] → lines.last ≡ None → (behind : Lines) → shown lines behind ≡ behind
 new_shown lines none last behind = rw (none, last) (with_none behind)
 
-pub seen_shown : (old new : PieceLines) (line : Option ℕ) → new.done.items ≡ old.done.items → new.last ≡ earlier old.last line
+pub seen_shown : (old new : PieceLines) (line : Option ℕ) → new.done.items ≡ old.done.items → new.last ≡ lesser old.last line
     → IsSeen old new line
 seen_shown old new line done last behind =
     rw (done, last) (ap (λ xs. old.done.items ++ xs) (with_both old.last line behind))
@@ -28,7 +28,7 @@ pub passed_shown : (old new : PieceLines) → new.done.items ≡ old.done.items 
     → (behind : Lines) → shown new behind ≡ shown old (None ∷ behind)
 passed_shown old new done last behind =
     rw (done, last) (append_assoc old.done.items (old.last ∷ []) (with_first None behind)
-    ∙ ap (λ xs. old.done.items ++ xs) (ap (λ xs. old.last ∷ xs) (with_none behind) ∙ ap (λ o. o ∷ behind) (sym (earlier_none old.last))))
+    ∙ ap (λ xs. old.done.items ++ xs) (ap (λ xs. old.last ∷ xs) (with_none behind) ∙ ap (λ o. o ∷ behind) (sym (lesser_none old.last))))
 
 -- the same line many times is the line once
 pub times_again : (n : ℕ) (line : Option ℕ) (behind : Lines) → 0 < n → times n (with_first line) behind ≡ with_first line behind
@@ -60,7 +60,7 @@ joined_next old now seen next more bs i line within one two so behind =
     let own : drop i bs ≡ get_or bs i line ∷ drop (i + 1) bs = drop-cons bs i line within ∙ ap (λ k. get_or bs i line ∷ drop k bs) e in
     two rest
     ∙ (one (None ∷ rest)
-    ∙ (ap (λ o. shown now (o ∷ rest)) (earlier_none (get_or bs i line))
+    ∙ (ap (λ o. shown now (o ∷ rest)) (lesser_none (get_or bs i line))
     ∙ (ap (λ xs. shown now (xs ++ with_first more.last behind)) (sym own) ∙ so behind)))
 
 pub empty_is : (xs : Lines) → length xs ≡ 0 → xs ≡ []

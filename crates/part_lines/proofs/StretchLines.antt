@@ -10,10 +10,11 @@ use Rattle.block_order.specs.declared.program.ControlBlock.{ControlBlock}
 use Rattle.block_order.specs.declared.program.ControlProgram.{ControlProgram}
 use Rattle.block_order.specs.Order.{blocks, control_at}
 use Rattle.block_order.specs.Loud.{loud, mark_of, marks, stretch}
-use Rattle.part_lines.specs.Least.{earlier, IsLeast}
+use Rattle.nc_number.specs.Options.{lesser}
+use Rattle.part_lines.specs.Least.{IsLeast}
 use Rattle.part_lines.specs.Lines.{called_line, seen_line, LineFrom}
 use Rattle.part_lines.specs.Pieces.{AreQuietLines}
-use Rattle.part_lines.proofs.Earlier.{least_either, least_same, least_one}
+use Rattle.part_lines.proofs.Lesser.{least_either, least_same, least_one}
 use Rattle.part_lines.proofs.InParts.{CalledLine, BlockLine, StretchLine}
 
 -- the number of the next stretch behind these marks
@@ -25,7 +26,7 @@ next_number (m ∷ ms) t = suc t
 abbrev pub stretch_line : (ℕ → Bool) → (ℕ → Control → Option ℕ) → List ControlBlock → ℕ → ℕ → ℕ → Option ℕ
 stretch_line ld seen [] i t s = None
 stretch_line ld seen (b ∷ bs) i t s =
-    earlier (if t == s then seen i b.control else None) (stretch_line ld seen bs (suc i) (next_number (mark_of ld b.control) t) s)
+    lesser (if t == s then seen i b.control else None) (stretch_line ld seen bs (suc i) (next_number (mark_of ld b.control) t) s)
 
 one_mark : (ld : ℕ → Bool) (c : Control) → (mark_of ld c ≡ []) ⊎ ((m : Mark) × (mark_of ld c ≡ m ∷ []))
 one_mark ld Next = inl refl

@@ -1,10 +1,5 @@
 -- The least of some lines, of which there may be none.
-use Rattle.std.specs.Prelude.{ℕ, ◌≤◌, min, Option, Some, None}
-
-abbrev pub earlier : Option ℕ → Option ℕ → Option ℕ
-earlier None other = other
-earlier (Some a) None = Some a
-earlier (Some a) (Some b) = Some (min a b)
+use Rattle.std.specs.Prelude.{ℕ, ◌≤◌, Option, Some, None}
 
 -- it is one of the lines, and none is less; or there is none
 abbrev pub IsLeast : (ℕ → Type 0) → Option ℕ → Type 0

@@ -7,7 +7,7 @@ use Rattle.block_order.specs.declared.program.ControlBlock.{ControlBlock}
 use Rattle.block_order.specs.declared.program.ControlProgram.{ControlProgram}
 use Rattle.block_order.specs.Order.{blocks, main_number, control_at}
 use Rattle.block_order.specs.Loud.{loud}
-use Rattle.part_lines.specs.Least.{earlier}
+use Rattle.nc_number.specs.Options.{lesser}
 
 -- the least line of each part, from the one in which they begin
 abbrev pub Lines : Type 0
@@ -16,7 +16,7 @@ Lines = List (Option ℕ)
 -- with a line in the part in which they begin
 abbrev pub with_first : Option ℕ → Lines → Lines
 with_first line [] = []
-with_first line (own ∷ lines) = earlier line own ∷ lines
+with_first line (own ∷ lines) = lesser line own ∷ lines
 
 -- what the program gives n times, one after another
 abbrev pub times : ℕ → (Lines → Lines) → Lines → Lines
@@ -30,7 +30,7 @@ called_line loud quiet other = None
 
 -- the line of a block, or of what it calls
 abbrev pub seen_line : (ℕ → Bool) → (ℕ → Option ℕ) → Option ℕ → Control → Option ℕ
-seen_line loud quiet own control = earlier own (called_line loud quiet control)
+seen_line loud quiet own control = lesser own (called_line loud quiet control)
 
 -- What comes behind a block of this control. A loud program that it calls comes before what is
 -- behind the call; back is what follows an M99; behind an end nothing comes.

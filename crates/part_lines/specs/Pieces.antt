@@ -14,7 +14,8 @@ use Rattle.part_lines.specs.declared.piece.Ending.TheVariants.{Stops, Returns}
 use Rattle.part_lines.specs.declared.piece.Piece.{Piece}
 use Rattle.part_lines.specs.declared.piece.PieceLines.{PieceLines}
 use Rattle.part_lines.specs.declared.quiet.QuietLines.{QuietLines}
-use Rattle.part_lines.specs.Least.{earlier, IsLeast}
+use Rattle.nc_number.specs.Options.{lesser}
+use Rattle.part_lines.specs.Least.{IsLeast}
 use Rattle.part_lines.specs.Lines.{Lines, with_first, times, seen_line, block_lines, blocks_lines, whole, LineFrom}
 
 -- the lines of a piece, and what comes behind them
@@ -107,4 +108,4 @@ first_of (line ∷ lines) = line
 -- the lines of a whole path; where it begins anew its last part has the first one's blocks too
 abbrev pub closed : PieceLines → Ending → Lines
 closed lines Stops = lines.done.items ++ lines.last ∷ []
-closed lines Returns = lines.done.items ++ earlier lines.last (first_of lines.done.items) ∷ []
+closed lines Returns = lines.done.items ++ lesser lines.last (first_of lines.done.items) ∷ []

@@ -5,7 +5,6 @@
 #![tactic(auto)]
 
 mod callers;
-mod least;
 mod lines;
 mod listing;
 mod piece;

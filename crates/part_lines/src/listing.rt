@@ -1,18 +1,17 @@
 //! The least lines of a path: each program's once, joined by the calls.
-ghost use Rattle.std.specs.Prelude.{◌≡◌, [], Some, None, Option, IfOk, OnOk};
+ghost use Rattle.std.specs.Prelude.{◌≡◌, Some, None, Option, IfOk, OnOk};
 ghost use Rattle.block_order.specs.declared.control.Control.TheVariants as Control;
 ghost use Rattle.loud_calls.specs.Calls.{IsReady, IsShort, IsShortCall};
 ghost use Rattle.loud_calls.specs.Known.{piece_known};
 ghost use Rattle.part_lines.specs.PartLines.{AreLeastLines};
 ghost use Rattle.part_lines.specs.Pieces.{closed, quiet_known, AreKnown, IsPiece, IsTaken};
 
-use crate::least::earlier;
 use crate::lines::BlockLines;
 use crate::piece::{Ending, Piece, PieceLines};
 use crate::quiet::{QuietLines, quiet_lines};
 use block_order::{BlockOrder, Control, MOST_CALLS};
 use loud_calls::{KnownPrograms, runs_have_one_list, unknown_call};
-use nc_number::NoMemory;
+use nc_number::{NoMemory, lesser};
 use std::alloc::Global;
 
 /// Adds the lines of a call; how the calling program ends there, if it does.
@@ -27,7 +26,8 @@ fn take_call<L: BlockLines>(
 ) -> Result<Option<Ending>, NoMemory>
     requires known { AreKnown order.now (L.line lines.now) (quiet_known quiet.now) known.now }
     requires ready { IsReady order.now (piece_known known.now) (Control.Call program repeats) }
-    ensures { IfOk result (IsTaken order.now (L.line lines.now) (quiet_known quiet.now) (Control.Call program repeats) own.old own.new) }
+    ensures { IfOk result (IsTaken order.now (L.line lines.now) (quiet_known quiet.now)
+        (Control.Call program repeats) own.old own.new) }
 {
     if repeats == 0 || !order.is_loud(program) {
         return Ok(None);
@@ -107,7 +107,8 @@ fn piece_of<L: BlockLines>(
     requires known { AreKnown order.now (L.line lines.now) (quiet_known quiet.now) known.old }
     requires short { IsShort order.now left number }
     ensures known { OnOk result (AreKnown order.now (L.line lines.now) (quiet_known quiet.now) known.new) }
-    ensures piece { IfOk result (λ piece. IsPiece order.now (L.line lines.now) (quiet_known quiet.now) number piece.lines piece.ending) }
+    ensures piece { IfOk result
+        (λ piece. IsPiece order.now (L.line lines.now) (quiet_known quiet.now) number piece.lines piece.ending) }
 {
     let mut own = PieceLines::new(alloc);
     let blocks = order.blocks(number);
@@ -134,7 +135,7 @@ fn closed(piece: Piece) -> Result<Vec<Option<u32>>, NoMemory>
     let Piece { lines, ending } = piece;
     let PieceLines { mut done, last } = lines;
     let end = match ending {
-        Ending::Returns => earlier(last, done.first().copied().flatten()),
+        Ending::Returns => lesser(last, done.first().copied().flatten()),
         Ending::Stops => last,
     };
     done.push(end)?;

@@ -3,8 +3,7 @@ ghost use Rattle.std.specs.Prelude.{◌≡◌, ◌<◌, ◌∷◌, None, OnOk, I
 ghost use Rattle.part_lines.specs.Lines.{Lines};
 ghost use Rattle.part_lines.specs.Pieces.{shown, stop_of, IsSeen, AreJoined, AreAdded};
 
-use crate::least::earlier;
-use nc_number::NoMemory;
+use nc_number::{NoMemory, lesser};
 use std::alloc::Global;
 
 /// What comes behind the lines of a program.
@@ -45,7 +44,7 @@ impl PieceLines {
     pub(crate) fn see(&mut self, line: Option<u32>)
         ensures { IsSeen self.old self.new line }
     {
-        self.last = earlier(self.last, line);
+        self.last = lesser(self.last, line);
     }
 
     /// Takes a wait.

@@ -2,20 +2,17 @@
 //!
 //! A path may come to any block of a quiet program that it calls, and none of them waits: all that
 //! is opened from a block is in the part of that block.
-ghost use Rattle.std.specs.Prelude.{◌≡◌, ◌≢◌, ◌↔◌, ℕ, true, Some, None, Option, IsTrue, Contains, IfOk, OnOk, map};
-ghost use Rattle.std.specs.Option.{option_copied};
+ghost use Rattle.std.specs.Prelude.{◌≡◌, ◌≢◌, ◌↔◌, ℕ, true, Some, None, Option, IsTrue, IfOk, OnOk};
 ghost use Rattle.block_order.specs.Loud.{loud};
 ghost use Rattle.block_order.specs.Order.{blocks};
-ghost use Rattle.part_lines.specs.Least.{earlier};
-ghost use Rattle.part_lines.specs.Lines.{called_line, seen_line, LineFrom};
+ghost use Rattle.part_lines.specs.Lines.{seen_line};
 ghost use Rattle.part_lines.specs.Pieces.{quiet_known, AreFound, AreQuietLines, IsBelow, IsClosed, IsClosedAt};
 
-use crate::callers::Callers;
-use crate::least::earlier;
+use crate::callers::quiet_callers;
 use crate::lines::BlockLines;
-use block_order::{BlockOrder, Control};
+use block_order::{BlockOrder, Callers, Control};
 use indexmap::IndexMap;
-use nc_number::NoMemory;
+use nc_number::{NoMemory, lesser};
 use std::alloc::Global;
 
 /// The least line that was found of each program that has one.
@@ -60,7 +57,7 @@ impl QuietLines {
         ensures { result ≡ seen_line (loud order.now) (quiet_known self.now) own control.now }
     {
         match *control {
-            Control::Call { program, .. } if !order.is_loud(program) => earlier(
+            Control::Call { program, .. } if !order.is_loud(program) => lesser(
                 own,
                 self.get(program),
             ),
@@ -127,7 +124,7 @@ fn lower<L: BlockLines>(
     let blocks = order.blocks(program);
     for place in 0..blocks.len() {
         let block = &blocks[place];
-        least = earlier(
+        least = lesser(
             least,
             found.seen(order, lines.line(program, place), &block.control),
         );
@@ -220,7 +217,7 @@ fn found_in_order<L: BlockLines>(
 ) -> Result<QuietLines, NoMemory>
     ensures { IfOk result (λ found. AreFound order.now (L.line lines.now) (quiet_known found)) }
 {
-    let callers = Callers::of(alloc, order)?;
+    let callers = quiet_callers(alloc, order)?;
     let mut found = QuietLines::new(alloc);
     let mut fresh: Vec<u16> = Vec::new(alloc);
     for program in order.as_slice() {

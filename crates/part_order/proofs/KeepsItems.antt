@@ -13,6 +13,7 @@ use Rattle.block_order.proofs.LoudReaches.{AreLoud}
 use Rattle.block_order.proofs.CallChains.{counts_below, main_below}
 use Rattle.block_order.proofs.KeepsLabels.{Counts-from}
 use Rattle.block_order.proofs.Searches.{loop_facts}
+use Rattle.block_order.proofs.StepsStay.{wait_counts}
 use Rattle.block_order.proofs.Moved.{jump_leads, exit_leads, head_leads, call_leads}
 use Rattle.part_order.specs.Parts.{Stretch, Meets, Anew, Follows, behind_stretch, behind_wait, anew, stretch_at, behind, ahead, path_items}
 use Rattle.part_order.proofs.ItemsAhead.{ahead-counts, ahead-quiet, moves_kept, unmarked_next, call_opens, repeat_begins, last_returns, wait_begins}
@@ -167,11 +168,6 @@ goes_stands tape are un n f (g ∷ stack) place Back is to e s =
     subst (Stands tape n) (sym e) (back_stands tape are n f g stack place is f.left refl s)
 goes_stands tape are un n f stack place (BackTo k) is to e s =
     same tape n (f ∷ stack) to (back_to_kept tape are un f stack place k is to e) s
-
-wait_counts : (tape : List ControlProgram) → AreLoud tape → (f : Frame) (stack : List Frame) (code : ℕ)
-    → control_at (blocks tape f.program) f.block ≡ Some (Wait code) → counts tape f.program stack ≡ true
-wait_counts tape are f [] code is = refl
-wait_counts tape are f (g ∷ stack) code is = are.waits f.program f.block code is
 
 pub passed_stands : (tape : List ControlProgram) → AreLoud tape → (n code : ℕ) (place : List Frame)
     → standing tape place ≡ Some (Wait code) → Stands tape n place → Stands tape (suc n) (place_behind place)

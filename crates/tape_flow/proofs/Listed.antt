@@ -33,7 +33,8 @@ line_kept dialect block = line_kept_at block (form_or_refusal dialect block.body
 abbrev form_lines : List BlockForm → List ℕ
 form_lines forms = map (λ form. form.line) forms
 
-abbrev text_lines : List Block → List ℕ
+-- the lines of blocks of the text
+abbrev pub text_lines : List Block → List ℕ
 text_lines blocks = map (λ block. block.line) blocks
 
 one_line_more : (done : List BlockForm) (form : BlockForm) (block : Block) (blocks : List Block) (whole : List ℕ)

@@ -4,7 +4,7 @@ ghost use Rattle.std.specs.Option.{option_copied, option_map};
 ghost use Rattle.block_forms.specs.Blocks.{block_form};
 ghost use Rattle.block_order.specs.Labels.{start};
 ghost use Rattle.block_order.specs.Loud.{loud, mark_of};
-ghost use Rattle.block_order.specs.Order.{blocks, control_at, main_number, program_of, seek};
+ghost use Rattle.block_order.specs.Order.{blocks, control_at, main_number, seek};
 ghost use Rattle.tape_flow.specs.Controls.{control_block};
 ghost use Rattle.tape_flow.specs.Places.{flow_program, flow_blocks, flow_block, last_line, line_in, line_at};
 ghost use Rattle.tape_flow.specs.Places.{label_of, label_at, only, mark_of_block, mark_at};

@@ -29,7 +29,8 @@ pub(crate) fn control_of(block: &FlowBlock) -> ControlBlock
 
 /// As many blocks, on the same lines.
 fn controls_of(alloc: Global, blocks: &[FlowBlock]) -> Result<Vec<ControlBlock>, NoMemory>
-    ensures { IfOk result (λ controls. controls.items ≡ map (λ block. control_block (block_form block)) blocks.now) }
+    ensures { IfOk result (λ controls. controls.items
+        ≡ map (λ block. control_block (block_form block)) blocks.now) }
 {
     let mut controls = Vec::with_capacity(alloc, blocks.len())?;
     for block in blocks {
@@ -55,7 +56,8 @@ fn control_programs(
     alloc: Global,
     programs: &[FlowProgram],
 ) -> Result<Vec<ControlProgram>, NoMemory>
-    ensures { IfOk result (λ made. made.items ≡ map (λ program. control_program (program_form program)) programs.now) }
+    ensures { IfOk result (λ made. made.items
+        ≡ map (λ program. control_program (program_form program)) programs.now) }
 {
     let mut controls = Vec::with_capacity(alloc, programs.len())?;
     for program in programs {

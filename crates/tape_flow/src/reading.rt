@@ -1,5 +1,5 @@
 //! The blocks of a tape, each read by itself.
-ghost use Rattle.std.specs.Prelude.{◌≡◌, ◌≤◌, [], map};
+ghost use Rattle.std.specs.Prelude.{◌≤◌, [], map};
 ghost use Rattle.nc_number.specs.Answers.{Gives};
 ghost use Rattle.nc_text.specs.Shape.{IsTapeShape};
 ghost use Rattle.block_forms.specs.Blocks.{block_form};

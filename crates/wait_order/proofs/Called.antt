@@ -16,7 +16,7 @@ use Rattle.wait_order.proofs.Counted.{on_tape}
 use Rattle.wait_order.proofs.Leading.{stands_at}
 use Rattle.block_order.proofs.Faultless.{block_of_control}
 use Rattle.wait_order.proofs.Strayed.{control_of_block}
-use Rattle.wait_order.proofs.Elsewhere.{control_within}
+use Rattle.block_order.proofs.Opened.{within_control}
 
 pub flag_loud : (tape : List ControlProgram) (flags : List Bool) (control : Control) (number repeats place : ℕ)
     → control ≡ Call number repeats → loud tape number ≡ true → place_of tape number ≡ Some place → place < length flags
@@ -142,7 +142,7 @@ reached_more tape reached next n before called = record {
     back : (q : ℕ) → IsReachedBy tape (suc n) (main_number tape) q
         → (caller : ℕ) × (flagged tape reached caller ≡ true) × HasLoudCall tape (blocks tape caller) q
     back q (caller, k, r, before', at, l) =
-        (caller, (before.each caller).1 before', (k, r, control_within (blocks tape caller) k (Call q r) at, at, l))
+        (caller, (before.each caller).1 before', (k, r, within_control (blocks tape caller) k (Call q r) at, at, l))
 
 none_flagged : (n i : ℕ) → slice_index_or (replicate n false) i false ≡ false
 none_flagged zero i = refl

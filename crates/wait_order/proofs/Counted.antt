@@ -7,7 +7,8 @@ use Rattle.block_order.specs.Order.{blocks}
 use Rattle.block_order.specs.Labels.{Counts}
 use Rattle.block_order.specs.Faults.{Strays, jump, loop, back}
 use Rattle.wait_order.specs.TapeFaults.{IsStrayLineBelow, IsTapeStrayLine}
-use Rattle.wait_order.specs.Waiting.{IsStrayLine, IsLeast, sooner}
+use Rattle.wait_order.specs.Waiting.{IsStrayLine, IsLeast}
+use Rattle.nc_number.specs.Options.{lesser}
 use Rattle.wait_order.proofs.Least.{least_same, least_none, least_either}
 
 -- labels hang on each program in which a block may pass a wait
@@ -25,7 +26,7 @@ least_uncounted tape program not_so = least_none {P = IsStrayLine tape program} 
 
 -- one program more
 pub least_program : (tape : List ControlProgram) (i : ℕ) (p : ControlProgram) (a b : Option ℕ) → slice_get tape i ≡ Some p
-    → IsLeast (IsStrayLineBelow tape i) a → IsLeast (IsStrayLine tape p.number) b → IsLeast (IsStrayLineBelow tape (i + 1)) (sooner a b)
+    → IsLeast (IsStrayLineBelow tape i) a → IsLeast (IsStrayLine tape p.number) b → IsLeast (IsStrayLineBelow tape (i + 1)) (lesser a b)
 least_program tape i p a b at l r =
     least_either {R = IsStrayLineBelow tape (i + 1)} a b l r (λ n h. (let below = h.2 in (h.0, h.1, omega arith, h.3, h.4)))
     (λ n h. (i, p, omega arith, at, h)) either

@@ -8,18 +8,14 @@ use Rattle.wait_order.specs.Deep.{IsCallLine, IsReachedLine, IsDeepBelow, IsDeep
 use Rattle.wait_order.specs.Depth.{IsLoudCall, AreReached}
 use Rattle.block_order.specs.ProgramPlaces.{flagged}
 use Rattle.wait_order.specs.TapeFaults.{AreProgramsOf}
-use Rattle.wait_order.specs.Waiting.{HasRisingLines, IsLeast, sooner}
+use Rattle.wait_order.specs.Waiting.{HasRisingLines, IsLeast}
+use Rattle.nc_number.specs.Options.{lesser}
+use Rattle.nc_number.proofs.Counts.{last_or_before, le_or_lt}
 use Rattle.wait_order.proofs.Counted.{on_tape}
 use Rattle.wait_order.proofs.Leading.{stands_at}
 use Rattle.wait_order.proofs.Least.{least_same, least_none, least_either}
 use Rattle.wait_order.proofs.Strayed.{control_of_block}
-use Rattle.wait_order.proofs.Elsewhere.{control_within}
-
-last : (t n : ℕ) → t < n + 1 → (t ≡ n) ⊎ (t < n)
-last t n h = grind arith
-
-below_or_not : (k i : ℕ) → (k < i) ⊎ (i ≤ k)
-below_or_not k i = grind arith
+use Rattle.block_order.proofs.Opened.{within_control}
 
 -- none of the first blocks is a call of a loud program
 abbrev pub NoneBelow : List ControlProgram → List ControlBlock → ℕ → Type 0
@@ -41,15 +37,15 @@ call_here tape bs i d within rising call none = record {
 }
   where
     below : (n : ℕ) → IsCallLine tape bs n → (slice_index_or bs i d).line ≤ n
-    below n (k, b, q, at, l, e) = elim (below_or_not k i) [
-      | inl less ↦ absurd (none k q b less at l)
-      | inr le ↦ subst (λ m. (slice_index_or bs i d).line ≤ m) e (rising i k (slice_index_or bs i d) b le (stands_at bs i d within) at)
+    below n (k, b, q, at, l, e) = elim (le_or_lt i k) [
+      | inl le ↦ subst (λ m. (slice_index_or bs i d).line ≤ m) e (rising i k (slice_index_or bs i d) b le (stands_at bs i d within) at)
+      | inr less ↦ absurd (none k q b less at l)
     ]
 
 pub none_more : (tape : List ControlProgram) (bs : List ControlBlock) (i : ℕ) (d : ControlBlock) (is : Bool) → i < length bs
     → IsTrue is ↔ ((q : ℕ) × IsLoudCall tape (slice_index_or bs i d).control q) → is ≡ false → NoneBelow tape bs i
     → NoneBelow tape bs (i + 1)
-none_more tape bs i d is within means not_so none k q b below at l = elim (last k i below) [
+none_more tape bs i d is within means not_so none k q b below at l = elim (last_or_before k i below) [
   | inl e ↦
       let both : Some b ≡ Some (slice_index_or bs i d) = sym at ∙ (ap (λ j. slice_get bs j) e ∙ stands_at bs i d within) in
       let same : b ≡ slice_index_or bs i d = cc in
@@ -64,12 +60,12 @@ call_nowhere tape bs n all none = least_none {P = IsCallLine tape bs} no_line
   where
     no_line : (m : ℕ) → IsCallLine tape bs m → ⊥
     no_line m (k, b, q, at, l, e) =
-        none k q b (let within = control_within bs k b.control (control_of_block bs k b at) in omega arith) at l
+        none k q b (let within = within_control bs k b.control (control_of_block bs k b at) in omega arith) at l
 
 -- one program more
 pub deep_more : (tape : List ControlProgram) (reached : List Bool) (i : ℕ) (p : ControlProgram) (a b : Option ℕ) → slice_get tape i ≡ Some p
     → IsLeast (IsDeepBelow tape reached i) a → IsLeast (IsReachedLine tape reached p) b
-    → IsLeast (IsDeepBelow tape reached (i + 1)) (sooner a b)
+    → IsLeast (IsDeepBelow tape reached (i + 1)) (lesser a b)
 deep_more tape reached i p a b at l r =
     least_either {R = IsDeepBelow tape reached (i + 1)} a b l r (λ n h. (let below = h.2 in (h.0, h.1, omega arith, h.3, h.4)))
     (λ n h. (i, p, omega arith, at, h)) either
@@ -81,7 +77,7 @@ deep_more tape reached i p a b at l r =
         subst (λ x. IsReachedLine tape reached x n) same h
 
     either : (n : ℕ) → IsDeepBelow tape reached (i + 1) n → IsDeepBelow tape reached i n ⊎ IsReachedLine tape reached p n
-    either n (t, q, below, is, h) = elim (last t i below) [
+    either n (t, q, below, is, h) = elim (last_or_before t i below) [
       | inl e ↦ inr (here n t q is h e)
       | inr less ↦ inl (t, q, less, is, h)
     ]

@@ -1,11 +1,10 @@
 -- Tests of the code and what they say of stretches.
-use Rattle.std.proofs.Common.{◌≡◌, ◌≢◌, ◌↔◌, ℕ, ◌-◌, ◌<◌, Bool, true, false, not, nat_eq, List, [], ◌∷◌, length, Option, Some, None, Result, Ok, Err, slice_index, zero, suc, sym, refl, ap, ◌∙◌, arith, zero-add}
+use Rattle.std.proofs.Common.{◌≡◌, ◌≢◌, ◌↔◌, ℕ, ◌-◌, ◌<◌, Bool, true, false, not, nat_eq, List, length, Option, Some, None, Result, Ok, Err, slice_index, sym, refl, ap, ◌∙◌, arith, zero-add}
 use Rattle.std.specs.Prelude.{IsTrue}
 use Rattle.std.proofs.lemmas.Bool.Decides.{nat_tests}
 use Rattle.nc_number.specs.declared.cause.Cause.{Cause}
-use Rattle.block_order.specs.declared.control.Control.{Control}
 use Rattle.block_order.specs.declared.program.ControlBlock.{ControlBlock}
-use Rattle.block_order.specs.Order.{control_at, target_of, IsLoop, Leads}
+use Rattle.block_order.specs.Order.{target_of, IsLoop, Leads}
 use Rattle.block_order.specs.Loud.{stretch}
 use Rattle.wait_order.specs.Waiting.{LeadsElsewhere, ClosesElsewhere}
 use Rattle.wait_order.specs.Stretches.{stretches_from}
@@ -61,12 +60,6 @@ leads_nowhere ld bs block n cause nowhere = (λ t. absurd cc, λ l. absurd (back
   where
     back : LeadsElsewhere ld bs block n → ⊥
     back (other, leads, differs) = let clash : ◌≡◌ {A = Result ℕ Cause} (Ok other) (Err cause) = sym leads ∙ nowhere in cc
-
--- a place with a control lies within the program
-pub control_within : (bs : List ControlBlock) (i : ℕ) (c : Control) → control_at bs i ≡ Some c → i < length bs
-control_within [] i c e = absurd cc
-control_within (b ∷ bs) zero c e = omega arith
-control_within (b ∷ bs) (suc i) c e = let within = control_within bs i c e in omega arith
 
 -- the loop that ends here begins at one head
 pub closes_where : (ld : ℕ → Bool) (bs : List ControlBlock) (head close : ℕ) (apart : Bool)

@@ -7,7 +7,8 @@ use Rattle.block_order.specs.declared.sequence.Finders.{Finders}
 use Rattle.block_order.specs.Order.{seek, IsPermitted, Leads}
 use Rattle.block_order.specs.Places.{IsFinder, IsNumbered}
 use Rattle.block_order.specs.Table.{IsWithin}
-use Rattle.wait_order.specs.Waiting.{IsLedTo, IsOtherIn, MayLeadTo, MayLeadBelow, IsSearchStray, IsLeast, sooner}
+use Rattle.wait_order.specs.Waiting.{IsLedTo, IsOtherIn, MayLeadTo, MayLeadBelow, IsSearchStray, IsLeast}
+use Rattle.nc_number.specs.Options.{lesser}
 use Rattle.wait_order.proofs.Least.{least_same, least_none, least_either}
 use Rattle.block_order.proofs.Searches.{led, leads_to}
 use Rattle.block_order.proofs.Targets.{seek_stands}
@@ -34,7 +35,7 @@ around_leads ld q bs n target low high finders reach known around b (from, to, w
 pub least_around : (ld : ℕ → Bool) (q : Control → Bool) (bs : List ControlBlock) (n target low high : ℕ) (finders : Finders) (reach : Reach) (a b : Option ℕ)
     → Known ld bs n target finders reach → finders.around ≡ Some low → 20000 < high
     → IsLeast (IsOtherIn ld q bs finders.low finders.high reach target) a → IsLeast (IsOtherIn ld q bs low high reach target) b
-    → IsLeast (IsLedTo ld q bs n target) (sooner a b)
+    → IsLeast (IsLedTo ld q bs n target) (lesser a b)
 least_around ld q bs n target low high finders reach a b known around wide first second =
     least_either {R = IsLedTo ld q bs n target} a b first second (ahead_leads ld q bs n target finders reach known)
     (around_leads ld q bs n target low high finders reach known around) either
@@ -126,7 +127,7 @@ least_unnumbered ld q may bs target sequence is e = least_none {P = MayLeadTo ld
 
 -- one target more
 pub least_more : (ld : ℕ → Bool) (q : Control → Bool) (may : ℕ → Bool) (bs : List ControlBlock) (n : ℕ) (a b : Option ℕ) → IsLeast (MayLeadBelow ld q may bs n) a
-    → IsLeast (MayLeadTo ld q may bs n) b → IsLeast (MayLeadBelow ld q may bs (n + 1)) (sooner a b)
+    → IsLeast (MayLeadTo ld q may bs n) b → IsLeast (MayLeadBelow ld q may bs (n + 1)) (lesser a b)
 least_more ld q may bs n a b first second =
     least_either {R = MayLeadBelow ld q may bs (n + 1)} a b first second (λ k h. (let below = h.1 in (h.0, omega arith, h.2)))
     (λ k h. (n, omega arith, h)) either
@@ -160,7 +161,7 @@ pub target_step : (ld : ℕ → Bool) (q : Control → Bool) (may : ℕ → Bool
     → i < length bs → place ≡ i → IsLeast (MayLeadBelow ld q may bs i) first
     → (place < length bs → ((n : ℕ) → IsNumbered bs place n ↔ ((slice_index_or bs i d).sequence ≡ Some n))
     → IsLeast (MayLeadTo ld q may bs place) nearest)
-    → IsLeast (MayLeadBelow ld q may bs (i + 1)) (sooner first nearest)
+    → IsLeast (MayLeadBelow ld q may bs (i + 1)) (lesser first nearest)
 target_step ld q may bs i place d first nearest within at before here =
     least_more ld q may bs i first nearest before
     (subst (λ k. IsLeast (MayLeadTo ld q may bs k) nearest) at

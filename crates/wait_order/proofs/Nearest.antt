@@ -11,7 +11,7 @@ use Rattle.block_order.specs.declared.loops.Reach.{Reach}
 use Rattle.wait_order.specs.Waiting.{IsOtherIn, IsLeast}
 use Rattle.wait_order.proofs.Least.{least_none}
 use Rattle.wait_order.proofs.Stretched.{stretch_behind, stretches_are, stretch_rises}
-use Rattle.wait_order.proofs.Elsewhere.{control_within}
+use Rattle.block_order.proofs.Opened.{within_control}
 
 pub control_drop : (bs : List ControlBlock) (n i : ℕ) → control_at (drop n bs) i ≡ control_at bs (n + i)
 control_drop bs zero i = ap (λ k. control_at bs k) (omega arith)
@@ -39,7 +39,7 @@ searcher_ahead : (q : Control → Bool) (bs : List ControlBlock) (n i k : ℕ) �
 searcher_ahead q bs n i k e (c, at, is) = (c, control_drop bs n i ∙ (ap (λ j. control_at bs j) e ∙ at), is)
 
 pub searcher_within : (q : Control → Bool) (bs : List ControlBlock) (k : ℕ) → IsSearcherAt q bs k → k < length bs
-searcher_within q bs k (c, at, is) = control_within bs k c at
+searcher_within q bs k (c, at, is) = within_control bs k c at
 
 not_searcher : (q : Control → Bool) (b : ControlBlock) (bs : List ControlBlock) → q b.control ≡ false → IsSearcherAt q (b ∷ bs) 0 → ⊥
 not_searcher q b bs e (c, at, is) =

@@ -4,6 +4,8 @@ use Rattle.std.proofs.Common.{◌≡◌, ℕ, zero, suc, ◌+◌, ◌<◌, ◌�
 use Rattle.std.specs.List.{list_any}
 use Rattle.std.proofs.lemmas.Bool.Decides.{nat_tests}
 use Rattle.std.proofs.Math.Seq.{drop-cons}
+use Rattle.nc_number.proofs.Bools.{or_true}
+use Rattle.nc_number.proofs.Counts.{equal, last_or_before}
 use Rattle.block_order.specs.declared.control.Control.{Control}
 use Rattle.block_order.specs.declared.control.Control.TheVariants.{Next, Goto, While, Do, EndLoop, Wait, End, Call, Back, BackTo}
 use Rattle.block_order.specs.declared.program.ControlBlock.{ControlBlock}
@@ -13,16 +15,9 @@ use Rattle.wait_order.specs.declared.search.Search.TheVariants.{Computed}
 use Rattle.block_order.specs.Order.{blocks, control_at}
 use Rattle.wait_order.specs.Searchers.{is_searcher, is_sought, is_computed, is_call_of, is_back_to, has_back_to, IsSearcherAt}
 use Rattle.wait_order.specs.Searches.{IsLongQuiet, IsCallSearch, IsReturnSearch, HasReturnSearch, AreSearchesBelow, IsSearchStrayBelow}
-use Rattle.wait_order.specs.Waiting.{HasBack, IsSearchStray, IsLeast, sooner}
+use Rattle.wait_order.specs.Waiting.{HasBack, IsSearchStray, IsLeast}
+use Rattle.nc_number.specs.Options.{lesser}
 use Rattle.wait_order.proofs.Least.{least_none, least_either}
-
-or_true : (x : Bool) → (x || true) ≡ true
-or_true true = refl
-or_true false = refl
-
-or_false : (x : Bool) → (x || false) ≡ x
-or_false true = refl
-or_false false = refl
 
 or_or : (x y z : Bool) → ((x || y) || z) ≡ (x || (y || z))
 or_or true y z = refl
@@ -41,11 +36,8 @@ computed_is (Call p r) e = absurd cc
 computed_is Back e = absurd cc
 computed_is (BackTo n) e = absurd cc
 
-same_numbers : (a b : ℕ) → (a == b) ≡ true → a ≡ b
-same_numbers a b e = grind (arith, nat_tests)
-
 pub call_is : (called : ℕ) (c : Control) → is_call_of called c ≡ true → (repeats : ℕ) × (c ≡ Call called repeats)
-call_is called (Call p r) e = (r, ap (λ k. Call k r) (same_numbers p called e))
+call_is called (Call p r) e = (r, ap (λ k. Call k r) (equal p called e))
 call_is called (Goto n) e = absurd cc
 call_is called Next e = absurd cc
 call_is called (While m) e = absurd cc
@@ -57,7 +49,7 @@ call_is called Back e = absurd cc
 call_is called (BackTo n) e = absurd cc
 
 back_is : (n : ℕ) (c : Control) → is_back_to n c ≡ true → c ≡ BackTo n
-back_is n (BackTo own) e = ap (λ k. BackTo k) (sym (same_numbers n own e))
+back_is n (BackTo own) e = ap (λ k. BackTo k) (sym (equal n own e))
 back_is n (Call p r) e = absurd cc
 back_is n (Goto m) e = absurd cc
 back_is n Next e = absurd cc
@@ -91,11 +83,6 @@ back_has (b ∷ bs) n zero e =
 back_has (b ∷ bs) n (suc inner) e =
     let rest : has_back_to bs n ≡ true = back_has bs n inner e in
     rw rest (or_true (is_back_to n b.control))
-
-pub get_within : {X : Type 0} (xs : List X) (i : ℕ) (x : X) → slice_get xs i ≡ Some x → i < length xs
-get_within [] i x e = absurd cc
-get_within (y ∷ ys) zero x e = omega arith
-get_within (y ∷ ys) (suc i) x e = let within = get_within ys i x e in omega arith
 
 pub any_searcher : (q : Control → Bool) (bs : List ControlBlock) (place : ℕ) → IsSearcherAt q bs place
     → list_any (λ b. q b.control) bs ≡ true
@@ -134,9 +121,6 @@ get_kept (z ∷ xs) y x (suc i) e = get_kept xs y x i e
 get_last : {X : Type 0} (xs : List X) (y : X) → slice_get (xs ++ y ∷ []) (length xs) ≡ Some y
 get_last [] y = refl
 get_last (z ∷ xs) y = get_last xs y
-
-last_or_before : (i n : ℕ) → i < n + 1 → (i ≡ n) ⊎ (i < n)
-last_or_before i n h = grind arith
 
 same_program : (tape : List ControlProgram) (i n : ℕ) (p q : ControlProgram) → slice_get tape n ≡ Some p → slice_get tape i ≡ Some q
     → i ≡ n → q ≡ p
@@ -199,7 +183,7 @@ searches_none tape = record {
 pub least_search : (ld : ℕ → Bool) (bs : List ControlBlock) (searches : List Search) (i : ℕ) (s : Search) (a b : Option ℕ)
     → slice_get searches i ≡ Some s → IsLeast (IsSearchStrayBelow ld searches i bs) a
     → IsLeast (IsSearchStray ld (is_searcher s) (is_sought s) bs) b
-    → IsLeast (IsSearchStrayBelow ld searches (i + 1) bs) (sooner a b)
+    → IsLeast (IsSearchStrayBelow ld searches (i + 1) bs) (lesser a b)
 least_search ld bs searches i s a b at l r =
     least_either {R = IsSearchStrayBelow ld searches (i + 1) bs} a b l r (λ n h. (let below = h.2 in (h.0, h.1, omega arith, h.3, h.4)))
     (λ n h. (i, s, omega arith, at, h)) either

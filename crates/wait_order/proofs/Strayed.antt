@@ -1,6 +1,7 @@
 -- A block that may lead to another stretch does so by one of the tape's searches, or by its one
 -- number or few returns.
 use Rattle.std.proofs.Common.{◌≡◌, ◌≢◌, IsTrue, ℕ, ◌+◌, ◌<◌, ◌≤◌, ◌⊎◌, inl, inr, false, List, length, Option, Some, None, slice_get, slice_index_or, refl, ap, sym, subst, ◌∙◌, arith}
+use Rattle.std.proofs.lemmas.Option.{slice_get_within}
 use Rattle.nc_number.proofs.Counts.{last_or_before}
 use Rattle.block_order.specs.declared.control.Control.{Control}
 use Rattle.block_order.specs.declared.control.Control.TheVariants.{Next, Goto, While, Do, EndLoop, Wait, End, Call, Back, BackTo}
@@ -14,14 +15,15 @@ use Rattle.block_order.specs.Labels.{IsTarget, Counts}
 use Rattle.block_order.specs.Faults.{Stands, Strays, jump, loop, back}
 use Rattle.wait_order.specs.Searchers.{is_searcher, is_sought}
 use Rattle.wait_order.specs.Searches.{IsLongQuiet, IsReturnSearch, AreSearches, IsSearchStrayBelow}
-use Rattle.wait_order.specs.Waiting.{LeadsElsewhere, IsSearchStray, IsFixedStray, IsFixedStrayAt, IsStray, IsStrayLine, HasRisingLines, IsLeast, sooner}
+use Rattle.wait_order.specs.Waiting.{LeadsElsewhere, IsSearchStray, IsFixedStray, IsFixedStrayAt, IsStray, IsStrayLine, HasRisingLines, IsLeast}
+use Rattle.nc_number.specs.Options.{lesser}
 use Rattle.block_order.proofs.Faultless.{block_of_control}
 use Rattle.block_order.proofs.Searches.{loop_facts}
 use Rattle.wait_order.proofs.Counted.{on_tape}
 use Rattle.wait_order.proofs.Least.{least_none, least_either}
 use Rattle.wait_order.proofs.Leading.{stands_at}
-use Rattle.wait_order.proofs.Searching.{computed_is, call_is, same_as_itself, has_back, back_has, get_within}
-use Rattle.wait_order.proofs.Elsewhere.{control_within}
+use Rattle.wait_order.proofs.Searching.{computed_is, call_is, same_as_itself, has_back, back_has}
+use Rattle.block_order.proofs.Opened.{within_control}
 
 pub control_of_block : (bs : List ControlBlock) (place : ℕ) (b : ControlBlock) → slice_get bs place ≡ Some b
     → control_at bs place ≡ Some b.control
@@ -81,7 +83,7 @@ call_searched tape searches program place called repeats are at long quiet n inn
     let search = subst (λ k. IsReturnSearch tape k has.1) on.number has.3 in (
       has.0,
       has.1,
-      get_within searches has.0 has.1 has.2,
+      slice_get_within searches has.0 has.1 has.2,
       has.2,
       (
         (Call called repeats, at, search.serves.calls (Call called repeats) ∙ same_as_itself called),
@@ -98,7 +100,7 @@ split_jump : (tape : List ControlProgram) (searches : List Search) (program plac
     → IsFixedStrayAt tape program place ⊎ IsSearchStrayBelow (loud tape) searches (length searches) (blocks tape program) place
 split_jump tape searches program place target (Goto None) are at (number, may, leads) apart =
     let is = are.computed in
-    inr (is.0, Computed, get_within searches is.0 Computed is.1, is.1, ((Goto None, at, refl), number, refl, (target, leads, apart)))
+    inr (is.0, Computed, slice_get_within searches is.0 Computed is.1, is.1, ((Goto None, at, refl), number, refl, (target, leads, apart)))
 split_jump tape searches program place target (Goto (Some n)) are at (number, may, leads) apart =
     inl (Goto (Some n), at, (target, subst (λ k. Leads (blocks tape program) place k target) (sym may) leads, apart))
 split_jump tape searches program place target (BackTo n) are at (main, leads) apart = inl (BackTo n, at, inr (main, (target, leads, apart)))
@@ -125,11 +127,11 @@ split_strays tape searches program place b are stands (loop head counts is apart
 split_strays tape searches program place b are stands (back n is_loud other e) =
     inl (BackTo n, control_of_block (blocks tape program) place b stands ∙ ap (λ c. Some c) e, inl other)
 
--- the sooner of the first blocks of both kinds is the first one that may lead to another stretch
+-- the lesser of the first blocks of both kinds is the first one that may lead to another stretch
 pub least_stray : (tape : List ControlProgram) (searches : List Search) (program : ℕ) (fixed searching : Option ℕ) → Counts tape program
     → AreSearches tape searches → IsLeast (IsFixedStrayAt tape program) fixed
     → IsLeast (IsSearchStrayBelow (loud tape) searches (length searches) (blocks tape program)) searching
-    → IsLeast (IsStray tape program) (sooner fixed searching)
+    → IsLeast (IsStray tape program) (lesser fixed searching)
 least_stray tape searches program fixed searching counts are p q =
     least_either {R = IsStray tape program} fixed searching p q left right
     (λ k h. split_strays tape searches program k h.0 are h.1 h.2)
@@ -190,7 +192,7 @@ stray_within tape program place bs own least = go (least.holds place refl)
     go : IsStray tape program place → place < length bs
     go (b, stands, strays) =
         subst (λ xs. place < length xs) own
-        (control_within (blocks tape program) place b.control (control_of_block (blocks tape program) place b stands))
+        (within_control (blocks tape program) place b.control (control_of_block (blocks tape program) place b stands))
 
 pub stands_there : (bs : List ControlBlock) (place : ℕ) (b : ControlBlock) → place < length bs → b ≡ slice_index_or bs place b
     → slice_get bs place ≡ Some b

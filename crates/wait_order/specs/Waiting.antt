@@ -1,5 +1,5 @@
 -- The faults of stage Waiting, place by place.
-use Rattle.std.specs.Prelude.{◌≡◌, ◌≢◌, ◌⊎◌, ◌<◌, ◌≤◌, min, ℕ, Bool, true, false, List, length, Option, Some, None, slice_get}
+use Rattle.std.specs.Prelude.{◌≡◌, ◌≢◌, ◌⊎◌, ◌<◌, ◌≤◌, ℕ, Bool, true, false, List, length, Option, Some, None, slice_get}
 use Rattle.block_order.specs.declared.control.Control.{Control}
 use Rattle.block_order.specs.declared.control.Control.TheVariants.{Goto, Call, EndLoop, BackTo}
 use Rattle.block_order.specs.declared.program.ControlBlock.{ControlBlock}
@@ -67,12 +67,6 @@ IsAtMost (Some m) n = m ≤ n
 pub record IsLeast (P : ℕ → Type 0) (found : Option ℕ) : Type 0 where
   pub holds : (n : ℕ) → found ≡ Some n → P n
   pub least : (n : ℕ) → P n → IsAtMost found n
-
--- the lesser one, or the one that there is
-abbrev pub sooner : Option ℕ → Option ℕ → Option ℕ
-sooner None other = other
-sooner (Some n) None = Some n
-sooner (Some n) (Some m) = Some (min n m)
 
 -- a block between two places that searches, within reach of the target and in another stretch
 abbrev pub IsOtherIn : (ℕ → Bool) → (Control → Bool) → List ControlBlock → ℕ → ℕ → Reach → ℕ → ℕ → Type 0

@@ -1,5 +1,5 @@
 //! The first call that is a ninth one of a chain of calls of loud programs.
-ghost use Rattle.std.specs.Prelude.{◌≡◌, ◌↔◌, ℕ, IsTrue, List};
+ghost use Rattle.std.specs.Prelude.{◌↔◌, ℕ, IsTrue, List};
 ghost use Rattle.wait_order.specs.Deep.{IsCallLine, IsReachedLine, IsDeepLine};
 ghost use Rattle.wait_order.specs.Depth.{IsLoudCall, AreReached};
 ghost use Rattle.block_order.specs.Heard.{IsKnown};
@@ -7,9 +7,10 @@ ghost use Rattle.wait_order.specs.TapeFaults.{AreProgramsOf};
 ghost use Rattle.wait_order.specs.Waiting.{HasRisingLines, IsLeast};
 ghost use Rattle.block_order.specs.declared.program.ControlProgram.{ControlProgram};
 
-use crate::search_strays::sooner;
 use block_order::{Control, ControlBlock, ControlProgram, LoudPrograms};
+use nc_number::lesser;
 
+/// Whether the control is a call of a loud program.
 fn is_loud_call(loud: &LoudPrograms, control: &Control) -> bool
     ensures { (tape : List ControlProgram) → IsKnown tape loud.now
         → IsTrue result ↔ ((q : ℕ) × IsLoudCall tape control.now q) }
@@ -63,7 +64,7 @@ pub(crate) fn deep_line(
     let mut first = None;
     for program in programs {
         let line = reached_line(loud, reached, program);
-        first = sooner(first, line);
+        first = lesser(first, line);
     }
     first
 }

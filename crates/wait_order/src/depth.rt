@@ -1,5 +1,5 @@
 //! Which programs are reached by eight calls of loud programs from the main one.
-ghost use Rattle.std.specs.Prelude.{◌≡◌, ◌↔◌, ◌⊎◌, ◌<◌, ℕ, Bool, true, List, IfOk, length};
+ghost use Rattle.std.specs.Prelude.{◌≡◌, ◌↔◌, ◌⊎◌, ◌<◌, ℕ, true, List, IfOk, length};
 ghost use Rattle.wait_order.specs.Depth.{IsLoudCall, HasLoudCall, IsCalledBelow, IsCalledFrom, AreReached};
 ghost use Rattle.block_order.specs.ProgramPlaces.{flagged};
 ghost use Rattle.block_order.specs.Heard.{IsKnown};
@@ -30,9 +30,11 @@ fn flag_called(flags: &mut [bool], loud: &LoudPrograms, control: &Control)
     }
 }
 
+/// Flags besides the loud programs that these blocks call.
 fn flag_calls(flags: &mut [bool], loud: &LoudPrograms, blocks: &[ControlBlock])
     ensures { (tape : List ControlProgram) → IsKnown tape loud.now → length flags.old ≡ length tape
-        → (q : ℕ) → (flagged tape flags.new q ≡ true) ↔ ((flagged tape flags.old q ≡ true) ⊎ HasLoudCall tape blocks.now q) }
+        → (q : ℕ)
+        → (flagged tape flags.new q ≡ true) ↔ ((flagged tape flags.old q ≡ true) ⊎ HasLoudCall tape blocks.now q) }
 {
     for block in blocks {
         flag_called(flags, loud, &block.control);

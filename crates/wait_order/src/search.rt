@@ -17,6 +17,7 @@ pub(crate) enum Search {
     Calls(u16, IndexSet<u32>),
 }
 
+/// Whether the control is a GOTO to a computed number.
 fn is_computed(control: &Control) -> bool
     ensures { result ≡ is_computed control.now }
 {
@@ -26,6 +27,7 @@ fn is_computed(control: &Control) -> bool
     }
 }
 
+/// Whether the control is a call of that program.
 fn is_call_of(called: u16, control: &Control) -> bool
     ensures { result ≡ is_call_of called control.now }
 {

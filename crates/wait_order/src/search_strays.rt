@@ -2,8 +2,8 @@
 ghost use Rattle.std.specs.Prelude.{◌≡◌, ◌↔◌, Some, ◌<◌, ◌≤◌, ℕ, Bool, length};
 ghost use Rattle.wait_order.specs.Ahead.{AreAhead};
 ghost use Rattle.block_order.specs.Places.{IsNumbered};
-ghost use Rattle.wait_order.specs.Searchers.{is_searcher, is_sought};
-ghost use Rattle.wait_order.specs.Waiting.{IsLedTo, IsOtherIn, MayLeadTo, IsSearchStray, IsLeast, sooner};
+ghost use Rattle.wait_order.specs.Searchers.{is_sought};
+ghost use Rattle.wait_order.specs.Waiting.{IsLedTo, IsOtherIn, MayLeadTo, IsSearchStray, IsLeast};
 ghost use Rattle.wait_order.specs.Ways.{AreWays};
 ghost use Rattle.block_order.specs.declared.control.Control.{Control};
 
@@ -11,17 +11,7 @@ use crate::search::Search;
 use crate::searchers::SearchersAhead;
 use crate::ways::ProgramWays;
 use block_order::Reach;
-
-/// The lesser of two places, or the one that there is.
-pub(crate) fn sooner(one: Option<u32>, other: Option<u32>) -> Option<u32>
-    ensures { result ≡ sooner one other }
-{
-    match (one, other) {
-        (Some(place), Some(second)) => Some(place.min(second)),
-        (Some(place), None) => Some(place),
-        (None, _) => other,
-    }
-}
+use nc_number::lesser;
 
 /// The first block that searches from `low` on, before `high`, from where the target is within
 /// reach and lies in another stretch.
@@ -66,7 +56,7 @@ fn first_to(ways: &ProgramWays, ahead: &SearchersAhead, number: u32, target: u32
     match finders.around {
         Some(low) => {
             let around = first_in(ways, ahead, low, u32::MAX, reach, target);
-            sooner(before, around)
+            lesser(before, around)
         }
         None => before,
     }
@@ -113,7 +103,7 @@ pub(crate) fn first_search_stray(
     let mut place: u32 = 0;
     for block in ways.blocks {
         let nearest = first_of_block(ways, ahead, search, block.sequence, place);
-        first = sooner(first, nearest);
+        first = lesser(first, nearest);
         place += 1;
     }
     first

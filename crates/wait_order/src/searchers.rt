@@ -1,5 +1,5 @@
 //! The blocks of a program that search alike, ahead of each of its places.
-ghost use Rattle.std.specs.Prelude.{◌≡◌, ◌+◌, ◌<◌, ◌≤◌, ℕ, Bool, List, IfOk, length, slice_index, drop};
+ghost use Rattle.std.specs.Prelude.{◌≡◌, ◌+◌, ◌<◌, ◌≤◌, ℕ, Bool, List, IfOk, length, slice_index};
 ghost use Rattle.block_order.specs.declared.control.Control.{Control};
 ghost use Rattle.wait_order.specs.Searchers.{is_searcher, behind_marks, AreNext, AreLater};
 ghost use Rattle.block_order.specs.Heard.{heard};
@@ -10,6 +10,7 @@ use block_order::{ControlBlock, LoudPrograms};
 use nc_number::NoMemory;
 use std::alloc::{AllocError, Global};
 
+/// A list for each place of so many blocks and the one behind them, with that last place everywhere.
 fn places_behind(alloc: Global, len: usize) -> Result<Vec<usize>, NoMemory>
     requires { len ≤ 20000 }
     ensures { IfOk result (λ places. (length places.items ≡ len + 1) × (slice_index places.items len ≡ len)) }
@@ -41,6 +42,7 @@ fn next_searchers(
     Ok(next)
 }
 
+/// The next place where the block has a mark, and the later one where it has none.
 fn behind_marks(marks: usize, next: usize, later: usize) -> usize
     ensures { result ≡ behind_marks marks next later }
 {
@@ -77,6 +79,7 @@ pub(crate) struct SearchersAhead {
     later: Vec<usize>,
 }
 
+/// The number that is listed for a place.
 fn value_at(list: &[usize], place: usize) -> usize
     ensures { result ≡ slice_index list.now place }
 {
@@ -90,6 +93,7 @@ impl SearchersAhead {
     ghost use Rattle.block_order.specs.declared.control.Control.{Control};
     ghost use Rattle.block_order.specs.declared.program.ControlBlock.{ControlBlock};
 
+    /// Those of these blocks.
     pub(crate) fn of(
         alloc: Global,
         loud: &LoudPrograms,

@@ -1,5 +1,5 @@
 //! What searches on a tape for any of several numbers.
-ghost use Rattle.std.specs.Prelude.{◌≡◌, ◌↔◌, ◌+◌, ℕ, List, Some, IsTrue, IfOk, OnOk, length, slice_get};
+ghost use Rattle.std.specs.Prelude.{◌≡◌, ◌↔◌, ◌+◌, ℕ, List, Some, IsTrue, IfOk, OnOk, slice_get};
 ghost use Rattle.wait_order.specs.Waiting.{IsShort};
 ghost use Rattle.wait_order.specs.Searches.{IsLongQuiet, AreSearches, AreSearchesBelow};
 ghost use Rattle.block_order.specs.Heard.{IsKnown};
@@ -47,6 +47,7 @@ fn note_calls(
     Ok(())
 }
 
+/// The searches of a tape without programs: the computed GOTOs alone.
 fn computed_alone(alloc: Global) -> Result<Vec<Search>, NoMemory>
     ensures { (tape : List ControlProgram) → IfOk result (λ searches. AreSearchesBelow tape 0 searches.items) }
 {

@@ -1,17 +1,16 @@
 //! One program of a tape that counts for the order of waits.
-ghost use Rattle.std.specs.Prelude.{◌≡◌, ◌↔◌, ◌<◌, ℕ, Bool, IsTrue, length};
+ghost use Rattle.std.specs.Prelude.{◌↔◌, ◌<◌, ℕ, Bool, IsTrue, length};
 ghost use Rattle.block_order.specs.Order.{blocks};
-ghost use Rattle.block_order.specs.Numbers.{KnowsPlaces};
 ghost use Rattle.wait_order.specs.Waiting.{ReturnsElsewhere};
 ghost use Rattle.wait_order.specs.Ways.{AreWays};
 
 use crate::search::Search;
-use crate::search_strays::{first_search_stray, sooner};
+use crate::search_strays::first_search_stray;
 use crate::searchers::SearchersAhead;
 use crate::searches::is_short;
 use crate::ways::ProgramWays;
 use block_order::{Control, ControlBlock, ControlProgram, LoudPrograms};
-use nc_number::NoMemory;
+use nc_number::{NoMemory, lesser};
 use std::alloc::Global;
 
 /// A program, among the programs of its tape.
@@ -132,7 +131,7 @@ impl ProgramView<'_> {
         let mut first = None;
         for search in searches {
             let place = self.first_of_search(alloc, search)?;
-            first = sooner(first, place);
+            first = lesser(first, place);
         }
         Ok(first)
     }
@@ -147,7 +146,7 @@ impl ProgramView<'_> {
     {
         let fixed = self.first_fixed_stray();
         let searching = self.first_of_searches(alloc, searches)?;
-        let first = sooner(fixed, searching);
+        let first = lesser(fixed, searching);
         Ok(first)
     }
 

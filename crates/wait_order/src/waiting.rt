@@ -1,5 +1,5 @@
 //! The faults of waits: a jump that may pass a wait, and a chain of calls that is too deep for one.
-ghost use Rattle.std.specs.Prelude.{◌≡◌, ◌<◌, ◌≤◌, ℕ, IfOk, List, Contains, length};
+ghost use Rattle.std.specs.Prelude.{◌≡◌, ◌<◌, IfOk, List};
 ghost use Rattle.block_order.specs.Labels.{Counts};
 ghost use Rattle.block_order.specs.Loud.{loud};
 ghost use Rattle.block_order.specs.Order.{main_number};
@@ -18,13 +18,12 @@ ghost use Rattle.nc_number.specs.declared.cause.Cause.{Cause};
 use crate::deep::deep_line;
 use crate::depth::reached_by_eight;
 use crate::search::Search;
-use crate::search_strays::sooner;
 use crate::searches::searches;
 use crate::stretch::stretches;
 use crate::view::ProgramView;
 use crate::ways::ProgramWays;
 use block_order::{ControlProgram, LoudPrograms, OrderFault, ProgramTables};
-use nc_number::{Cause, NoMemory};
+use nc_number::{Cause, NoMemory, lesser};
 use std::alloc::Global;
 
 /// The O number of the main program.
@@ -110,11 +109,12 @@ fn stray_line(
     for (at, program) in programs.iter().enumerate() {
         let own = &tables[at];
         let line = counted_line(alloc, programs, loud, &searches, own, program)?;
-        first = sooner(first, line);
+        first = lesser(first, line);
     }
     Ok(first)
 }
 
+/// 65 at a line.
 fn branch_at_wait(line: u32) -> OrderFault
     ensures line { result.line ≡ line }
     ensures cause { result.cause ≡ Cause.BranchAtWait }
@@ -125,6 +125,7 @@ fn branch_at_wait(line: u32) -> OrderFault
     }
 }
 
+/// 66 at a line.
 fn wait_too_deep(line: u32) -> OrderFault
     ensures line { result.line ≡ line }
     ensures cause { result.cause ≡ Cause.WaitTooDeep }

@@ -16,6 +16,7 @@ impl ProgramWays<'_> {
     ghost use Rattle.block_order.specs.Loud.{stretch};
     ghost use Rattle.wait_order.specs.Ways.{AreWays};
 
+    /// The stretch of the block at a place.
     pub(crate) fn stretch_at(&self, place: u32) -> usize
         ensures { result ≡ slice_index self.now.stretches.now place }
     {
@@ -40,10 +41,12 @@ impl ProgramWays<'_> {
         self.last_stretch() == 0
     }
 
+    /// Whether two blocks lie in different stretches.
     fn are_apart(&self, one: u32, other: u32) -> bool
         ensures { (loud : ℕ → Bool) → AreWays loud self.now
             → one < length self.now.blocks.now → other < length self.now.blocks.now
-            → IsTrue result ↔ (stretch loud self.now.blocks.now one ≢ stretch loud self.now.blocks.now other) }
+            → IsTrue result
+            ↔ (stretch loud self.now.blocks.now one ≢ stretch loud self.now.blocks.now other) }
     {
         self.stretch_at(one) != self.stretch_at(other)
     }

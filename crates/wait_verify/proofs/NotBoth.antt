@@ -1,6 +1,5 @@
 -- No pair is both accepted and refused.
-use Rattle.std.proofs.Common.{◌≡◌, ℕ, ◌↔◌, List, Result, Ok, Err, Option, Some, None, sym, subst, ◌∙◌, arith}
-use Rattle.nc_number.specs.declared.cause.Cause.{Cause}
+use Rattle.std.proofs.Common.{◌≡◌, ℕ, List, Result, Ok, Err, Option, Some, None, sym, subst, ◌∙◌}
 use Rattle.nc_number.specs.declared.path.Path.{Path}
 use Rattle.nc_number.specs.declared.path.Path.TheVariants.{One, Two}
 use Rattle.nc_text.specs.declared.fault.TextFault.{TextFault}
@@ -8,15 +7,11 @@ use Rattle.nc_text.specs.declared.tape.Program.{Program}
 use Rattle.nc_text.specs.Tape.{tape_of}
 use Rattle.cell_settings.specs.Cell.{Cell, settings_of}
 use Rattle.block_order.specs.declared.program.ControlProgram.{ControlProgram}
-use Rattle.block_order.specs.Faults.{Stage, Fitting, Finding, Waiting, HasFault, IsSound}
-use Rattle.block_order.specs.Labels.{IsUnforked}
 use Rattle.tape_flow.specs.declared.fault.FlowFault.{FlowFault}
 use Rattle.tape_flow.specs.Exact.{IsOrderFault}
-use Rattle.label_list.specs.Accepted.{AgreeOnLabels, IsAcceptedPair}
-use Rattle.label_list.specs.Lists.{path_labels}
+use Rattle.tape_flow.proofs.Accepted.{no_fault}
 use Rattle.nc_verify.specs.declared.refusal.Refusal.{Refusal}
 use Rattle.nc_verify.specs.Verdict.{skips_of, IsPairRefusal}
-use Rattle.nc_verify.specs.Verdict.IsPairRefusal.{one, two, differ}
 use Rattle.nc_verify.proofs.NotBoth.{one_cell, one_tape, not_both_pair}
 use Rattle.nc_verify.proofs.SomeAnswer.{ByLists}
 use Rattle.open_order.specs.declared.premises.Premises.{Premises}
@@ -25,18 +20,12 @@ use Rattle.open_order.specs.Contours.{contour_fault}
 use Rattle.open_order.specs.Exact.{refusal, IsOrdered, IsRefused}
 use Rattle.open_order.specs.Exact.IsRefused.{block, order, contour}
 use Rattle.open_order.specs.Reading.{programs_read}
-use Rattle.wait_verify.specs.Verdict.{premises_of, IsOrderOf, IsTapeRefusal, IsLeftOrder, IsRightOrder, Judged, AreOrders, AreAccepted, IsRefusalOf}
+use Rattle.wait_verify.specs.Verdict.{premises_of, IsOrderOf, IsTapeRefusal, IsLeftOrder, IsRightOrder, Judged, AreAccepted, IsRefusalOf}
 use Rattle.wait_verify.specs.Verdict.IsTapeRefusal.{reading as tape_reading, order as tape_order}
 use Rattle.wait_verify.specs.Verdict.IsRefusalOf.{settings, left, right, pair}
 
 pub one_order : (a b : List ControlProgram) (r : Result (List ControlProgram) FlowFault) → r ≡ Ok a → r ≡ Ok b → a ≡ b
 one_order a b r p q = let e : ◌≡◌ {A = Result (List ControlProgram) FlowFault} (Ok a) (Ok b) = sym p ∙ q in cc
-
-pub no_fault : (tape : List ControlProgram) (stage : Stage) (line : ℕ) (cause : Cause) → IsSound tape
-    → HasFault tape stage line cause → ⊥
-no_fault tape Fitting line cause sound fault = sound.fits line cause fault
-no_fault tape Finding line cause sound fault = sound.finds line cause fault
-no_fault tape Waiting line cause sound fault = sound.waits line cause fault
 
 -- no tape has an order and is refused
 pub not_both_order : (premises : Premises) (programs : List Program) (own : List ControlProgram) (line number : ℕ)

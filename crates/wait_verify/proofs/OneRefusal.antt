@@ -1,6 +1,5 @@
 -- A pair has one refusal at most.
-use Rattle.std.proofs.Common.{◌≡◌, ℕ, zero, suc, ◌<◌, ◌⊎◌, inl, inr, List, [], ◌∷◌, take, slice_get, Option, Some, None, Result, Ok, Err, refl, ap, sym, subst, ◌∙◌, arith}
-use Rattle.nc_number.specs.declared.cause.Cause.{Cause}
+use Rattle.std.proofs.Common.{◌≡◌, ℕ, List, Option, Some, Result, Ok, Err, ap, sym, subst, ◌∙◌}
 use Rattle.nc_number.specs.Causes.{cause_number}
 use Rattle.nc_number.specs.declared.path.Path.{Path}
 use Rattle.nc_number.specs.declared.path.Path.TheVariants.{One, Two}
@@ -9,35 +8,26 @@ use Rattle.nc_text.specs.declared.tape.Program.{Program}
 use Rattle.nc_text.specs.Tape.{tape_of}
 use Rattle.cell_settings.specs.Cell.{Cell, settings_of}
 use Rattle.block_order.specs.declared.program.ControlProgram.{ControlProgram}
-use Rattle.block_order.specs.Faults.{IsFirst, IsSound}
+use Rattle.block_order.specs.Faults.{IsSound}
 use Rattle.tape_flow.specs.declared.fault.FlowFault.{FlowFault}
 use Rattle.tape_flow.specs.Exact.{IsOrderFault}
-use Rattle.label_list.specs.declared.fault.PairFault.{PairFault}
-use Rattle.label_list.specs.declared.labelled.Labelled.{Labelled}
-use Rattle.label_list.specs.Faults as labels
-use Rattle.label_list.specs.Faults.{IsMismatch}
-use Rattle.label_list.specs.Lists.{path_labels}
+use Rattle.tape_flow.proofs.Accepted.{no_fault}
+use Rattle.flow_laws.specs.Answers.{HasOneFirst}
 use Rattle.nc_verify.specs.declared.refusal.Refusal.{Refusal}
-use Rattle.nc_verify.specs.Refusals.{at_setting, at_line, mismatch}
-use Rattle.nc_verify.specs.Verdict.{skips_of, AreRefusedSettings, IsPairRefusal}
-use Rattle.nc_verify.specs.Verdict.IsPairRefusal.{one, two, differ}
+use Rattle.nc_verify.specs.Refusals.{at_line}
+use Rattle.nc_verify.specs.Verdict.{skips_of, IsPairRefusal}
 use Rattle.nc_verify.proofs.NotBoth.{one_cell, one_tape}
 use Rattle.nc_verify.proofs.OneRefusal.{one_of_settings, one_of_pair, not_both_read, not_both_settings}
 use Rattle.open_order.specs.declared.premises.Premises.{Premises}
 use Rattle.wait_verify.specs.Asked.{Asked, opened}
 use Rattle.open_order.specs.Contours.{contour_fault}
-use Rattle.open_order.specs.Exact.{refusal, IsOrdered, IsRefused}
+use Rattle.open_order.specs.Exact.{refusal, IsRefused}
 use Rattle.open_order.specs.Exact.IsRefused.{block, order, contour}
 use Rattle.open_order.specs.Reading.{programs_read}
 use Rattle.wait_verify.specs.Verdict.{premises_of, IsOrderOf, IsTapeRefusal, IsLeftOrder, IsRightOrder, Judged, AreOrders, IsRefusalOf}
 use Rattle.wait_verify.specs.Verdict.IsTapeRefusal.{reading as tape_reading, order as tape_order}
 use Rattle.wait_verify.specs.Verdict.IsRefusalOf.{settings, left, right, pair}
-use Rattle.wait_verify.proofs.NotBoth.{one_order, no_fault, same_order, not_both_tape}
-
--- the law of a first fault
-abbrev pub OneFirst : Type 0
-OneFirst = (tape : List ControlProgram) (line other_line : ℕ) (cause other : Cause) → IsFirst tape line cause
-    → IsFirst tape other_line other → (line ≡ other_line) × (cause ≡ other)
+use Rattle.wait_verify.proofs.NotBoth.{one_order, same_order, not_both_tape}
 
 -- The tape of a path.
 
@@ -56,7 +46,7 @@ read_or_not : (r : Result (List ControlProgram) FlowFault) (own : List ControlPr
 read_or_not r own fault p q =
     absurd (let e : ◌≡◌ {A = Result (List ControlProgram) FlowFault} (Ok own) (Err fault) = sym p ∙ q in cc)
 
-one_of_orders : OneFirst → (own : List ControlProgram) (line number other_line other : ℕ) → IsOrderFault own line number
+one_of_orders : HasOneFirst → (own : List ControlProgram) (line number other_line other : ℕ) → IsOrderFault own line number
     → IsOrderFault own other_line other → (line ≡ other_line) × (number ≡ other)
 one_of_orders law own line number other_line other x y =
     let same = law own line other_line x.0 y.0 x.1 y.1 in
@@ -65,7 +55,7 @@ one_of_orders law own line number other_line other x y =
 faulty_is_unsound : (own : List ControlProgram) (line number : ℕ) → IsSound own → IsOrderFault own line number → ⊥
 faulty_is_unsound own line number sound fault = no_fault own fault.1.stage line fault.0 sound fault.1.holds
 
-one_of_refused : OneFirst → (premises : Premises) (programs : List Program) (line number other_line other : ℕ)
+one_of_refused : HasOneFirst → (premises : Premises) (programs : List Program) (line number other_line other : ℕ)
     → IsRefused premises programs line number → IsRefused premises programs other_line other
     → (line ≡ other_line) × (number ≡ other)
 one_of_refused law premises programs line number other_line other (block x) (block y) =
@@ -94,7 +84,7 @@ one_of_refused law premises programs line number other_line other (contour own r
     (same_some (contour_fault own' programs) (refusal line number) (refusal other_line other)
     (subst (λ o. contour_fault o programs ≡ Some (refusal line number)) same fault) fault')
 
-one_of_tape : OneFirst → (premises : Premises) (skips : ℕ) (path : Path) (text : List ℕ) (a b : Refusal)
+one_of_tape : HasOneFirst → (premises : Premises) (skips : ℕ) (path : Path) (text : List ℕ) (a b : Refusal)
     → IsTapeRefusal premises skips path text a → IsTapeRefusal premises skips path text b → a ≡ b
 one_of_tape law premises skips path text a b (tape_reading fault e is) (tape_reading other f own) =
     let both : ◌≡◌ {A = Result (List Program) TextFault} (Err fault) (Err other) = sym e ∙ f in
@@ -128,7 +118,7 @@ not_both_path asked path text cell other programs own told read again ordered re
     not_both_tape (premises_of asked other) (skips_of path other) path text programs own told
     (subst (λ c. IsPathOrder asked path text c programs own) same ordered) refused
 
-one_of_path : OneFirst → (asked : Asked) (path : Path) (text : List ℕ) (cell other : Cell) (a b : Refusal)
+one_of_path : HasOneFirst → (asked : Asked) (path : Path) (text : List ℕ) (cell other : Cell) (a b : Refusal)
     → settings_of asked.texts.settings ≡ Ok cell → settings_of asked.texts.settings ≡ Ok other
     → IsPathRefusal asked path text cell a → IsPathRefusal asked path text other b → a ≡ b
 one_of_path law asked path text cell other a b read again x y =
@@ -150,7 +140,7 @@ one_of_two asked one' other a b orders others x y =
     one_of_pair other.left other.right a b
     (subst (λ z. IsPairRefusal other.left z a) rr (subst (λ z. IsPairRefusal z one'.right a) ll x)) y
 
-pub one_refusal : OneFirst → (asked : Asked) (a b : Refusal) → IsRefusalOf asked a → IsRefusalOf asked b → a ≡ b
+pub one_refusal : HasOneFirst → (asked : Asked) (a b : Refusal) → IsRefusalOf asked a → IsRefusalOf asked b → a ≡ b
 one_refusal law asked a b (settings x) (settings y) = one_of_settings asked.texts.settings a b x y
 one_refusal law asked a b (settings x) (left cell read y) = absurd (not_both_settings asked.texts.settings cell a x read)
 one_refusal law asked a b (settings x) (right cell programs own read first y) =

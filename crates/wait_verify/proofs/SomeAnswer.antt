@@ -1,31 +1,19 @@
 -- No pair is neither accepted nor refused.
-use Rattle.std.proofs.Common.{◌≡◌, ◌≢◌, ℕ, suc, ◌<◌, ◌≤◌, ◌⊎◌, inl, inr, List, [], ◌∷◌, length, take, slice_get, Option, Some, None, Result, Ok, Err, refl, ap, sym, ◌∙◌, arith}
-use Rattle.nc_number.specs.declared.cause.Cause.{Cause}
+use Rattle.std.proofs.Common.{◌≡◌, ℕ, List, Option, Some, None, Result, Ok, Err, refl}
 use Rattle.nc_number.specs.Causes.{cause_number}
 use Rattle.nc_number.specs.declared.path.Path.{Path}
 use Rattle.nc_number.specs.declared.path.Path.TheVariants.{One, Two}
-use Rattle.nc_number.specs.declared.limits.TheConstants.{MOST_LABELS}
 use Rattle.nc_text.specs.declared.fault.TextFault.{TextFault}
 use Rattle.nc_text.specs.declared.tape.Program.{Program}
 use Rattle.nc_text.specs.Tape.{tape_of}
 use Rattle.cell_settings.specs.Cell.{Cell, settings_of}
-use Rattle.block_order.specs.declared.label.Label.{Label}
-use Rattle.block_order.specs.declared.label.Label.TheVariants as label
 use Rattle.block_order.specs.declared.program.ControlProgram.{ControlProgram}
-use Rattle.block_order.specs.Faults.{IsClear, IsFirst, IsSound, Waiting}
-use Rattle.block_order.specs.Labels.{IsUnforked}
+use Rattle.block_order.specs.Faults.{IsSound}
 use Rattle.tape_flow.specs.declared.fault.FlowFault.{FlowFault}
-use Rattle.flow_laws.specs.Answers.{CantBothFail}
-use Rattle.label_list.specs.declared.labelled.Labelled.{Labelled}
-use Rattle.label_list.specs.Accepted.{IsAcceptedPair}
-use Rattle.label_list.specs.Faults as labels
-use Rattle.label_list.specs.Faults.{IsMismatch}
-use Rattle.label_list.specs.Lists.{path_labels, bare, ended_by, IsEnded}
-use Rattle.label_list.proofs.Ended.{path_ended}
+use Rattle.flow_laws.specs.Answers.{CantBothFail, HasSomeFirst}
 use Rattle.nc_verify.specs.declared.refusal.Refusal.{Refusal}
-use Rattle.nc_verify.specs.Refusals.{at_setting, at_line, too_long, mismatch}
-use Rattle.nc_verify.specs.Verdict.{skips_of, IsPairRefusal}
-use Rattle.nc_verify.specs.Verdict.IsPairRefusal.{one, two, differ}
+use Rattle.nc_verify.specs.Refusals.{at_setting, at_line}
+use Rattle.nc_verify.specs.Verdict.{skips_of}
 use Rattle.nc_verify.proofs.SomeAnswer.{ByLists, OneList, pair_answer}
 use Rattle.open_order.specs.declared.premises.Premises.{Premises}
 use Rattle.wait_verify.specs.Asked.{Asked, opened}
@@ -33,13 +21,9 @@ use Rattle.open_order.specs.Contours.{contour_fault}
 use Rattle.open_order.specs.Exact.{IsOrdered, IsRefused}
 use Rattle.open_order.specs.Exact.IsRefused.{block, order, contour}
 use Rattle.open_order.specs.Reading.{programs_read}
-use Rattle.wait_verify.specs.Verdict.{premises_of, IsOrderOf, IsTapeRefusal, IsLeftOrder, IsRightOrder, Judged, AreOrders, AreAccepted, IsRefusalOf}
+use Rattle.wait_verify.specs.Verdict.{premises_of, IsOrderOf, IsTapeRefusal, Judged, AreOrders, AreAccepted, IsRefusalOf}
 use Rattle.wait_verify.specs.Verdict.IsTapeRefusal.{reading as tape_reading, order as tape_order}
 use Rattle.wait_verify.specs.Verdict.IsRefusalOf.{settings, left, right, pair}
-
--- the law of an order's answers
-abbrev pub SoundOrFirst : Type 0
-SoundOrFirst = (own : List ControlProgram) → CantBothFail (IsSound own) ((line : ℕ) × (cause : Cause) × IsFirst own line cause)
 
 -- The tape of a path.
 
@@ -52,7 +36,7 @@ contours_answer premises programs own reads sound unordered unrefused = go (cont
     go None is = unordered (record { reads = reads; sound = sound; contours = is })
     go (Some fault) is = unrefused (fault.line, fault.number, contour own reads sound is)
 
-order_answer : SoundOrFirst → (premises : Premises) (programs : List Program)
+order_answer : HasSomeFirst → (premises : Premises) (programs : List Program)
     → CantBothFail ((own : List ControlProgram) × IsOrdered premises programs own)
     ((line : ℕ) × (number : ℕ) × IsRefused premises programs line number)
 order_answer law premises programs unordered unrefused = go (programs_read premises programs) refl
@@ -64,7 +48,7 @@ order_answer law premises programs unordered unrefused = go (programs_read premi
         (λ sound. contours_answer premises programs own is sound (λ ordered. unordered (own, ordered)) unrefused)
         (λ first. unrefused (first.0, cause_number first.1, order own is (first.1, first.2, refl)))
 
-tape_answer : SoundOrFirst → (premises : Premises) (skips : ℕ) (path : Path) (text : List ℕ)
+tape_answer : HasSomeFirst → (premises : Premises) (skips : ℕ) (path : Path) (text : List ℕ)
     → CantBothFail ((programs : List Program) × (own : List ControlProgram) × IsOrderOf premises skips text programs own)
     ((told : Refusal) × IsTapeRefusal premises skips path text told)
 tape_answer law premises skips path text unordered unrefused = go (tape_of skips (opened text)) refl
@@ -86,7 +70,7 @@ orders_answer unforked lists asked judged orders unaccepted unrefused =
     (λ own. unaccepted (record { orders = orders; pair = own }))
     (λ own. unrefused (own.0, pair judged orders own.1))
 
-pub some_answer : SoundOrFirst → OneList → ByLists → (asked : Asked)
+pub some_answer : HasSomeFirst → OneList → ByLists → (asked : Asked)
     → CantBothFail ((judged : Judged) × AreAccepted asked judged) ((told : Refusal) × IsRefusalOf asked told)
 some_answer law unforked lists asked unaccepted unrefused = go (settings_of asked.texts.settings) refl
   where

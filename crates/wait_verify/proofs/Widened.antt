@@ -1,12 +1,11 @@
 -- A pair that the verdict on a run accepts is accepted for its waits.
 use Rattle.std.proofs.Common.{◌≡◌, ℕ, suc, ◌*◌, Bool, true, false, not, ◌&&◌, ◌||◌, cond, codes, List, [], ◌∷◌, ◌++◌, map, Option, Some, None, Result, Ok, Err, refl, ap, sym, ◌∙◌, subst, All, ℤ, pos}
-use Rattle.std.specs.List.{list_any, filter_map, cons_option}
+use Rattle.std.specs.List.{list_any, filter_map}
 use Rattle.std.proofs.lemmas.List.{map-append}
 use Rattle.std.proofs.lemmas.List.Elements.{All-nil, All-cons, All-head, All-tail}
 use Rattle.nc_number.specs.Results.{◌>>=◌}
 use Rattle.code_tables.specs.declared.row.Row.{Row}
 use Rattle.code_tables.specs.declared.system.System.{System}
-use Rattle.nc_number.specs.declared.cause.Cause.{Cause}
 use Rattle.nc_number.specs.declared.path.Path.{Path}
 use Rattle.nc_number.specs.declared.path.Path.TheVariants.{One, Two}
 use Rattle.cell_settings.specs.Cell.{Cell}
@@ -28,8 +27,7 @@ use Rattle.block_words.specs.declared.purpose.Purpose.TheVariants as purpose
 use Rattle.block_words.specs.declared.dialect.Dialect.{Dialect}
 use Rattle.block_words.specs.declared.word.FlowWord.{FlowWord}
 use Rattle.block_words.specs.Codes.{gives, is_macro_call, purpose_of}
-use Rattle.block_forms.specs.Forms as closed_forms
-use Rattle.block_forms.specs.Forms.{BlockForm, Form, all_words, block_or_refusal, block_at, form_at, form_of_words, form_or_refusal, control_of_form, has_many_variables, with_refusal, words_or_refusal}
+use Rattle.block_forms.specs.Forms.{BlockForm, Form, block_or_refusal, block_at, form_at, form_of_words, form_or_refusal, control_of_form, words_or_refusal}
 use Rattle.block_words.specs.Purposes as asked
 use Rattle.block_forms.specs.Refusals as closed
 use Rattle.block_words.specs.Words as read
@@ -40,6 +38,7 @@ use Rattle.open_forms.proofs.Accepts.{IsAccepted, accepted}
 use Rattle.nc_number.proofs.Bools.{neither}
 use Rattle.open_forms.proofs.AmongLetters.{fewer_computed, one_among}
 use Rattle.open_forms.proofs.ReadWords.{AreSaid, are_said, same_words_of}
+use Rattle.open_forms.proofs.Widened.{judged_words}
 use Rattle.open_forms.proofs.TableRows.{in_each, macro_is, no_such_g, same_kind}
 use Rattle.open_forms.specs.Controls.{open_control, numbered}
 use Rattle.open_forms.specs.Widening.{AreClean, IsClean, IsCleanTape, IsWidened as IsWidenedBlock}
@@ -52,8 +51,7 @@ use Rattle.nc_verify.specs.Verdict.{IsFlowOf, Texts, skips_of, dialect_in}
 use Rattle.open_order.specs.Contours.{blocks_fault, contour_fault, contour_in, has_code, is_cycle_code, is_macro_code}
 use Rattle.wait_verify.specs.Verdict.{IsOrderOf}
 use Rattle.wait_verify.specs.Widening.{ArePlain, IsPlainBlock, IsPlainText, IsWidened}
-use Rattle.open_order.specs.declared.premises.Premises.{Premises}
-use Rattle.open_order.specs.Reading.{Basis, gone_from, settled, at_line, block_read, blocks_from, program_read, programs_from, programs_read}
+use Rattle.open_order.specs.Reading.{Basis, settled, at_line, block_read, blocks_from, program_read, programs_from}
 
 -- the law of blocks
 abbrev pub BlockLaw : Type 0
@@ -183,23 +181,6 @@ any_of_g is_it none (word ∷ words) = go (is_one_of (codes "G") word.letter) (w
     go false micro is rest = rest
     go true None is rest = rw (is, none) rest
     go true (Some z) is rest = rw is (ap (λ b. is_it (Some z) || b) rest)
-
--- words that are not refused
-judged_words : (dialect : Dialect) (texts : List Word) (words : List FlowWord) → words_or_refusal dialect texts ≡ Ok words
-    → (all_words texts ≡ Ok words) × (closed.refusal_of dialect words ≡ None)
-judged_words dialect texts words reads = go (all_words texts) (has_many_variables texts) reads
-  where
-    refused : (own : List FlowWord) (r : Option Cause) → with_refusal r own ≡ Ok words → (own ≡ words) × (r ≡ None)
-    refused own (Some cause) e = absurd cc
-    refused own None e = (cc, refl)
-
-    go : (read : Result (List FlowWord) ℕ) (many : Bool) → closed_forms.judged dialect many read ≡ Ok words
-        → (read ≡ Ok words) × (closed.refusal_of dialect words ≡ None)
-    go (Err number) many e = absurd cc
-    go (Ok own) true e = absurd cc
-    go (Ok own) false e =
-        let both = refused own (closed.refusal_of dialect own) e in
-        (ap (λ ws. Ok ws) both.0, subst (λ ws. closed.refusal_of dialect ws ≡ None) both.0 both.1)
 
 -- G words are written out
 g_plain : (dialect : Dialect) (words : List FlowWord) → closed.is_not_fixed dialect words ≡ false

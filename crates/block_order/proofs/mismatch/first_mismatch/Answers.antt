@@ -1,8 +1,9 @@
 use Rattle.std.proofs.Common.{◌≡◌, [], ◌∙◌, drop, refl, sym, ap, arith, subst}
 use Rattle.std.proofs.lemmas.List.{drop_all}
+use Rattle.nc_number.specs.Options.{lesser}
 use Rattle.block_order.specs.Order.{or_else}
 use Rattle.block_order.specs.Loops.{open_after}
-use Rattle.block_order.specs.Misplaced.{seen, first_misplaced, earliest, lesser, IsFirstMismatch}
+use Rattle.block_order.specs.Misplaced.{seen, first_misplaced, earliest, IsFirstMismatch}
 use Rattle.block_order.proofs.Seen.{seen-none}
 use Rattle.block_order.proofs.Mismatched.{mismatch-found, or-else-none}
 use Rattle.block_order.proofs.mismatch.first_mismatch.Goals as goal

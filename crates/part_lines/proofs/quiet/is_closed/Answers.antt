@@ -1,6 +1,7 @@
 use Rattle.std.proofs.Common.{◌≡◌, ◌≤◌, length, slice_get, Some, subst, sym, arith, rules}
+use Rattle.std.proofs.lemmas.Option.{slice_get_within}
 use Rattle.part_lines.specs.Pieces.{quiet_known}
-use Rattle.part_lines.proofs.Opened.{all_closed, get_within}
+use Rattle.part_lines.proofs.Opened.{all_closed}
 use Rattle.part_lines.proofs.quiet.is_closed.Goals as goal
 
 pub returns : goal.returns
@@ -11,4 +12,4 @@ returns g c is_true =
     let past : length items ≤ c.loop-program.program-index = search rules in
     all_closed order (g.L.BlockLines.line c.args.lines.now) (quiet_known c.args.found.now)
     (λ j p at. let there = subst (λ xs. slice_get xs j ≡ Some p) (sym same) at in
-    c.loop-program.invariant j p (let within = get_within items j p there in omega arith) there)
+    c.loop-program.invariant j p (let within = slice_get_within items j p there in omega arith) there)

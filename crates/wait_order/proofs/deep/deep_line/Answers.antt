@@ -9,7 +9,7 @@ loop-program-preserved c =
     let i = c.loop-program.program-index in
     let p = c.program-item.result in
     let at : slice_get tape i ≡ Some p = stands tape i p (omega arith) ∙ ap (λ x. Some x) (sym c.program-item.is) in
-    rw c.sooner-first.ensures
+    rw c.lesser-first.ensures
     (deep_more tape c.args.reached.now i p c.loop-program.first c.reached_line-line.result at c.loop-program.invariant
     (c.reached_line-line.ensures tape c.requires.known (c.requires.own i p at).rising))
 

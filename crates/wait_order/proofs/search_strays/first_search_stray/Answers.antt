@@ -8,7 +8,7 @@ use Rattle.wait_order.proofs.search_strays.first_search_stray.Goals as goal
 pub loop-block-preserved : goal.loop-block-preserved
 loop-block-preserved c = record {
   place = omega arith;
-  first = λ loud searches ways ahead. rw c.sooner-first.ensures
+  first = λ loud searches ways ahead. rw c.lesser-first.ensures
       (target_step loud searches (is_sought c.args.search.now) c.args.ways.now.blocks.now c.loop-block.block-index c.loop-block.place
       (record { line = 0; sequence = None; control = Next }) c.loop-block.first c.first_of_block-nearest.result (omega arith)
       c.loop-block.invariant.place (c.loop-block.invariant.first loud searches ways ahead)

@@ -12,7 +12,7 @@ returns-in-Some c loud searches ways ahead within numbered =
       finds = c.finders-finders.ensures bs ways.tables.index numbered;
       reaches = λ block l. c.reach-reach.ensures bs ways.tables.loops within block (omega (arith, ways.few));
     }) c.in-Some.is (omega arith) (c.first_in-before.ensures loud searches ways ahead within) (c.first_in-around.ensures loud searches ways ahead within) in
-    rw c.sooner.ensures least
+    rw c.lesser.ensures least
 
 pub returns-in-None : goal.returns-in-None
 returns-in-None c loud searches ways ahead within numbered =

@@ -31,7 +31,7 @@ loop-at-preserved c =
     let tape = c.args.programs.now in
     let i = c.loop-at.at in
     let p = c.index-programs-at.result in
-    rw c.sooner-first.ensures
+    rw c.lesser-first.ensures
     (least_program tape i p c.loop-at.first c.in_ok-line.line
     (stands tape i p (omega arith) ∙ ap (λ x. Some x) (sym c.index-programs-at.is)) c.loop-at.invariant c.in_ok-line.ensures)
 

@@ -3,7 +3,7 @@ use Rattle.std.proofs.lemmas.List.Sorted.{IsPartitionPoint-from_clause, IsPartit
 use Rattle.std.specs.List.{slice_get}
 use Rattle.block_order.specs.Order.{seek}
 use Rattle.block_order.proofs.Items.{got_copied}
-use Rattle.block_order.proofs.Sought.{seek-places, places_of-rise, first_above, first_of, first_of-get, leb-true, leb-false, option_or-or_else, rises-non-decreasing, above_at, Rises, found}
+use Rattle.block_order.proofs.Sought.{seek-places, places_of-rise, first_above, leb-true, leb-false, option_or-or_else, rises-non-decreasing, above_at, Rises, found}
 use Rattle.block_order.proofs.sequence.SequenceIndex.seek.Goals as goal
 
 pub returns : goal.returns
@@ -18,7 +18,6 @@ returns c = λ bs h.
     (λ k l. leb-true (point.0 k 0 (omega arith) l)) (λ l. leb-false (point.1 _ 0 (omega arith) l)) c.partition_point-behind.ensures.bound in
     let sought : seek bs c.args.from c.args.number ≡ found c.args.from xs =
     seek-places bs c.args.from c.args.number ∙ ap (found c.args.from) (sym places) in
-    let start : first_of xs ≡ slice_get xs 0 = first_of-get xs in
     let next = c.copied.ensures ∙ got_copied c.get.result xs _ c.get.ensures.lookup.3 ∙ sym there in
-    let else_first = c.copied-2.ensures ∙ c.first.ensures.value ∙ sym start in
-    c.or.ensures ∙ rw (next, else_first) (option_or-or_else (first_above c.args.from xs) (first_of xs)) ∙ sym sought
+    let else_first = c.copied-2.ensures ∙ c.first.ensures.value in
+    c.or.ensures ∙ rw (next, else_first) (option_or-or_else (first_above c.args.from xs) (slice_get xs 0)) ∙ sym sought

@@ -1,8 +1,6 @@
 -- The order keeps the place of each program of the flow.
-use Rattle.std.proofs.Common.{Some, None, ◌≡◌, map, ap, sym, ◌∙◌, slice_get}
+use Rattle.std.proofs.Common.{ap, sym, ◌∙◌, slice_get}
 use Rattle.block_order.specs.ProgramPlaces.{place_of}
-use Rattle.tape_flow.specs.Forms.{program_form}
-use Rattle.tape_flow.specs.Controls.{controls}
 use Rattle.tape_flow.proofs.Seen.{program_there, no_program_there}
 use Rattle.tape_flow.proofs.flow.Flow.program.Goals as goal
 

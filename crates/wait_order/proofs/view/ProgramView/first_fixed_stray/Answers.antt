@@ -2,7 +2,7 @@ use Rattle.std.proofs.Common.{◌≡◌, Some, None, sym, ap, ◌∙◌, arith}
 use Rattle.block_order.specs.declared.control.Control.TheVariants.{Next}
 use Rattle.block_order.specs.Order.{control_at}
 use Rattle.wait_order.specs.Waiting.{IsFixedStray, IsFixedStrayAt}
-use Rattle.wait_order.proofs.Elsewhere.{control_within}
+use Rattle.block_order.proofs.Opened.{within_control}
 use Rattle.wait_order.proofs.Least.{least_none}
 use Rattle.wait_order.proofs.Strayed.{none_more}
 use Rattle.wait_order.proofs.view.ProgramView.first_fixed_stray.Goals as goal
@@ -24,5 +24,5 @@ returns c =
     let bs = c.args.self.now.ways.blocks.now in
     least_none {P = IsFixedStrayAt tape c.args.self.now.number} (λ k h.
     let at : control_at bs k ≡ Some h.0 = sym (ap (λ these. control_at these k) c.requires.view.own_blocks) ∙ h.1 in
-    let within = control_within bs k h.0 at in
+    let within = within_control bs k h.0 at in
     c.loop-block.invariant.none k h.0 (omega (arith, within)) at h.2)

@@ -9,7 +9,7 @@ loop-search-preserved c =
     let searches = c.args.searches.now in
     let i = c.loop-search.search-index in
     let s = c.search-item.result in
-    rw c.sooner-first.ensures
+    rw c.lesser-first.ensures
     (least_search (loud c.args.self.now.programs.now) c.args.self.now.ways.blocks.now searches i s c.loop-search.first c.in_ok-place.place
     (slice_get_read searches (length searches) i s refl c.loop-search-test.true c.search-item.is) c.loop-search.invariant
     c.in_ok-place.ensures)

@@ -10,7 +10,7 @@ returns c =
     let tape = c.args.self.now.programs.now in
     let searches = c.args.searches.now in
     let own = c.requires.view.own_blocks in
-    rw c.sooner-first.ensures
+    rw c.lesser-first.ensures
     (least_stray tape searches c.args.self.now.number c.first_fixed_stray-fixed.result c.in_ok-searching.searching c.requires.counts
     c.requires.searches c.first_fixed_stray-fixed.ensures
     (subst (λ bs. IsLeast (IsSearchStrayBelow (loud tape) searches (length searches) bs) c.in_ok-searching.searching) (sym own)

@@ -1,37 +1,38 @@
 -- The least of some lines.
 use Rattle.std.proofs.Common.{◌≡◌, ℕ, ◌≤◌, min, ◌⊎◌, inl, inr, [], ◌∷◌, Option, Some, None, refl, ap, arith}
-use Rattle.part_lines.specs.Least.{earlier, IsLeast}
+use Rattle.nc_number.specs.Options.{lesser}
+use Rattle.part_lines.specs.Least.{IsLeast}
 use Rattle.part_lines.specs.Lines.{Lines, with_first}
 
-pub earlier_none : (a : Option ℕ) → earlier a None ≡ a
-earlier_none None = refl
-earlier_none (Some a) = refl
+pub lesser_none : (a : Option ℕ) → lesser a None ≡ a
+lesser_none None = refl
+lesser_none (Some a) = refl
 
-pub earlier_assoc : (a b c : Option ℕ) → earlier (earlier a b) c ≡ earlier a (earlier b c)
-earlier_assoc None b c = refl
-earlier_assoc (Some a) None c = refl
-earlier_assoc (Some a) (Some b) None = refl
-earlier_assoc (Some a) (Some b) (Some c) = let e : min (min a b) c ≡ min a (min b c) = omega arith in ap Some e
+pub lesser_assoc : (a b c : Option ℕ) → lesser (lesser a b) c ≡ lesser a (lesser b c)
+lesser_assoc None b c = refl
+lesser_assoc (Some a) None c = refl
+lesser_assoc (Some a) (Some b) None = refl
+lesser_assoc (Some a) (Some b) (Some c) = let e : min (min a b) c ≡ min a (min b c) = omega arith in ap Some e
 
-pub earlier_again : (a b : Option ℕ) → earlier a (earlier a b) ≡ earlier a b
-earlier_again None b = refl
-earlier_again (Some a) None = let e : min a a ≡ a = omega arith in ap Some e
-earlier_again (Some a) (Some b) = let e : min a (min a b) ≡ min a b = omega arith in ap Some e
+pub lesser_again : (a b : Option ℕ) → lesser a (lesser a b) ≡ lesser a b
+lesser_again None b = refl
+lesser_again (Some a) None = let e : min a a ≡ a = omega arith in ap Some e
+lesser_again (Some a) (Some b) = let e : min a (min a b) ≡ min a b = omega arith in ap Some e
 
 pub with_none : (lines : Lines) → with_first None lines ≡ lines
 with_none [] = refl
 with_none (own ∷ lines) = refl
 
-pub with_both : (a b : Option ℕ) (lines : Lines) → with_first (earlier a b) lines ≡ with_first a (with_first b lines)
+pub with_both : (a b : Option ℕ) (lines : Lines) → with_first (lesser a b) lines ≡ with_first a (with_first b lines)
 with_both a b [] = refl
-with_both a b (own ∷ lines) = ap (λ x. x ∷ lines) (earlier_assoc a b own)
+with_both a b (own ∷ lines) = ap (λ x. x ∷ lines) (lesser_assoc a b own)
 
 pub with_again : (a : Option ℕ) (lines : Lines) → with_first a (with_first a lines) ≡ with_first a lines
 with_again a [] = refl
-with_again a (own ∷ lines) = ap (λ x. x ∷ lines) (earlier_again a own)
+with_again a (own ∷ lines) = ap (λ x. x ∷ lines) (lesser_again a own)
 
 -- the least of some lines and of others
-pub least_either : (P Q : ℕ → Type 0) (a b : Option ℕ) → IsLeast P a → IsLeast Q b → IsLeast (λ k. P k ⊎ Q k) (earlier a b)
+pub least_either : (P Q : ℕ → Type 0) (a b : Option ℕ) → IsLeast P a → IsLeast Q b → IsLeast (λ k. P k ⊎ Q k) (lesser a b)
 least_either P Q None None p q = λ k either. go k either
   where
     go : (k : ℕ) → P k ⊎ Q k → ⊥
