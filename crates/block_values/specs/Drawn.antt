@@ -1,7 +1,9 @@
 -- What the code's own structs are as records of the definitions.
-use Rattle.std.specs.Prelude.{ℕ, Some, unwrap_or, Result, Ok, Err}
+use Rattle.std.specs.Prelude.{ℕ, List, Some, unwrap_or, Result, Ok, Err}
 use Rattle.motion_track.specs.Centre.{IsLengthWithin}
+use Rattle.nc_moves.specs.declared.motion.Move.{Move}
 use Rattle.block_values.specs.declared.motion.Motion.{Motion as Drawn}
+use Rattle.block_values.specs.declared.motion.MotionStep.{MotionStep}
 use Rattle.block_values.specs.declared.motion.MotionWords.{MotionWords}
 use Rattle.block_values.specs.Motion.{Motion}
 use Rattle.block_values.specs.Values.{Values, nothing_said}
@@ -51,3 +53,12 @@ motion_view motion = record { moves = motion.moves; cycle = motion.cycle; offset
 abbrev pub seen : {F : Type 0} → Result Drawn F → Result Motion F
 seen (Ok motion) = Ok (motion_view motion)
 seen (Err fault) = Err fault
+
+-- a motion whose moves stand apart
+abbrev pub step_motion : MotionStep → List Move → Motion
+step_motion step moves = record { moves = moves; cycle = step.cycle; offset = step.offset }
+
+-- the motion of a block whose moves stand apart, or why there is none
+abbrev pub step_seen : {F : Type 0} → Result MotionStep F → List Move → Result Motion F
+step_seen (Ok step) moves = Ok (step_motion step moves)
+step_seen (Err fault) moves = Err fault

@@ -1,6 +1,5 @@
 pub mod Outcomes
 pub mod Readings
-pub mod Purposes
 pub mod Values
 pub mod Arguments
 pub mod Operands

@@ -22,7 +22,7 @@ mod words;
 
 pub use arguments::arguments_taken;
 pub use modal::modal_behind;
-pub use motion::{Motion, motion_behind};
+pub use motion::{MotionStep, motion_behind};
 pub use moves::{last_end, moves_behind};
 pub use operands::{condition_taken, length_of, sequence_taken, value_taken, variable_taken};
 pub use outcome::Stop;
@@ -34,6 +34,6 @@ pub use words::words_taken;
 // For users of the library: the parts of these calls.
 pub use arguments::{argument, local_of};
 pub use modal::modal_after;
-pub use motion::{MotionWords, motion_of, setting};
+pub use motion::{Motion, MotionWords, motion_of, setting};
 pub use moves::all_moves;
 pub use values::taken;

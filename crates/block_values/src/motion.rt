@@ -11,7 +11,7 @@ ghost use Rattle.block_words.specs.Words.{has};
 ghost use Rattle.block_values.specs.Seen.{values_seen};
 ghost use Rattle.block_values.specs.Within.{longest_said, AreLengthsSaid};
 ghost use Rattle.block_values.specs.Motion.{motion_kind, axis_under, form_of, setting_of, block_motion, cut_motion, motion_of};
-ghost use Rattle.block_values.specs.Drawn.{seen, motion_said, motion_part, AreLengthsWithin};
+ghost use Rattle.block_values.specs.Drawn.{seen, step_seen, motion_said, motion_part, AreLengthsWithin};
 ghost use Rattle.block_values.specs.Values.{Values};
 ghost use Rattle.code_tables.specs.declared.kind.CodeKind.{CodeKind};
 
@@ -72,8 +72,18 @@ pub struct Motion {
     pub offset: Option<(Slot, Point)>,
 }
 
+/// What the motion of a block comes to, its moves apart: they stand in a list that was lent.
+#[derive(Debug, Drop)]
+pub struct MotionStep {
+    /// Where the cycle in force ends from then on.
+    pub cycle: Option<Point>,
+    /// The offset that is set, and to what.
+    pub offset: Option<(Slot, Point)>,
+}
+
 /// The motion of a block of these words, where this is in force behind its codes and words: by its
-/// one-shot code if it has one, else by the motion code in force.
+/// one-shot code if it has one, else by the motion code in force. Its moves are put into the list,
+/// which is empty.
 ///
 /// Alarms: those of [`motion_of`].
 #[tactic(auto, using(crate::proofs::Hanging::motion_hangs))]
@@ -84,20 +94,22 @@ pub fn motion_behind(
     offsets: &Offsets,
     words: &FlowWords,
     values: &Values,
-) -> Result<Motion, u8>
+    moves: &mut MoveList,
+) -> Result<MotionStep, u8>
     requires position { IsPosition position }
     requires home { IsPosition home }
     requires lengths { AreLengthsSaid values.now }
-    ensures motion { seen result ≡ motion_of home position offsets.now modal.now
+    requires empty { moves.old ≡ [] }
+    ensures motion { step_seen result moves.new ≡ motion_of home position offsets.now modal.now
         (motion_kind modal.now (one_shot words.now.dialect.system words.now.words))
         (has (codes "L") words.now.words) (values_seen values.now) }
-    ensures few { IfOk result (λ motion. length motion.moves ≤ 4) }
-    ensures within { IfOk result (λ motion. AreMovesWithin LONGEST motion.moves) }
-    ensures cycle { IfOk result (λ motion. IfSome motion.cycle IsPosition) }
-    ensures offset { IfOk result (λ motion. IfSome motion.offset (λ set. IsPosition set.1)) }
+    ensures few { length moves.new ≤ 4 }
+    ensures within { AreMovesWithin LONGEST moves.new }
+    ensures cycle { IfOk result (λ step. IfSome step.cycle IsPosition) }
+    ensures offset { IfOk result (λ step. IfSome step.offset (λ set. IsPosition set.1)) }
 {
     let kind = words.one_shot.unwrap_or(modal.motion());
-    motion_of(
+    motion_step(
         position,
         home,
         modal,
@@ -105,6 +117,7 @@ pub fn motion_behind(
         kind,
         words.has_l(),
         &MotionWords::of(values),
+        moves,
     )
 }
 
@@ -114,7 +127,6 @@ pub fn motion_behind(
 /// Alarms, as their numbers: 40 of an offset that does not exist, 41 past the range, 43 of an arc
 /// without a centre, 42 of one that ends off its circle, 44 of a cut without a feed; 56 of a rapid
 /// in machine coordinates while words are incremental, whatever words stand beside it.
-#[tactic(auto, using(crate::proofs::Ends::none_within))]
 pub fn motion_of(
     position: Point,
     home: Point,
@@ -132,11 +144,45 @@ pub fn motion_of(
     ensures cycle { IfOk result (λ motion. IfSome motion.cycle IsPosition) }
     ensures offset { IfOk result (λ motion. IfSome motion.offset (λ set. IsPosition set.1)) }
 {
+    let mut moves = MoveList::empty();
+    match motion_step(
+        position, home, modal, offsets, kind, has_l, words, &mut moves,
+    ) {
+        Ok(step) => Ok(Motion {
+            moves,
+            cycle: step.cycle,
+            offset: step.offset,
+        }),
+        Err(number) => Err(number),
+    }
+}
+
+/// The same with its moves put into the list, which is empty.
+#[tactic(auto, using(crate::proofs::Ends::none_within))]
+fn motion_step(
+    position: Point,
+    home: Point,
+    modal: &Modal,
+    offsets: &Offsets,
+    kind: CodeKind,
+    has_l: bool,
+    words: &MotionWords,
+    moves: &mut MoveList,
+) -> Result<MotionStep, u8>
+    requires position { IsPosition position }
+    requires lengths { AreLengthsWithin longest_said words.now }
+    requires empty { moves.old ≡ [] }
+    ensures motion { step_seen result moves.new
+        ≡ motion_of home position offsets.now modal.now kind has_l (motion_said words.now) }
+    ensures few { length moves.new ≤ 4 }
+    ensures within { IsPosition home → AreMovesWithin LONGEST moves.new }
+    ensures cycle { IfOk result (λ step. IfSome step.cycle IsPosition) }
+    ensures offset { IfOk result (λ step. IfSome step.offset (λ set. IsPosition set.1)) }
+{
     match kind {
-        CodeKind::Dwell => Ok(dwell(modal.cycle(), words.rest)),
+        CodeKind::Dwell => Ok(dwell(modal.cycle(), words.rest, moves)),
         CodeKind::Setting => match setting(offsets, modal, has_l, words) {
-            Ok(set) => Ok(Motion {
-                moves: MoveList::empty(),
+            Ok(set) => Ok(MotionStep {
                 cycle: modal.cycle(),
                 offset: Some(set),
             }),
@@ -145,8 +191,8 @@ pub fn motion_of(
         CodeKind::Machine if modal.is_incremental() => Err(Cause::UnknownCode.number()),
         _ => {
             let block = block_motion(position, home, modal, offsets, words);
-            match cut_motion(kind, modal.cycle(), &block) {
-                Ok(motion) => Ok(motion),
+            match cut_motion(kind, modal.cycle(), &block, moves) {
+                Ok(step) => Ok(step),
                 Err(fault) => Err(fault.number),
             }
         }
@@ -155,14 +201,14 @@ pub fn motion_of(
 
 /// A rest alone.
 #[tactic(auto, using(crate::proofs::Ends::dwell_within))]
-fn dwell(cycle: Option<Point>, ms: u64) -> Motion
-    ensures within { AreMovesWithin LONGEST result.moves }
-    ensures motion { result ≡ record { moves = Dwell ms ∷ []; cycle = cycle; offset = None } }
+fn dwell(cycle: Option<Point>, ms: u64, moves: &mut MoveList) -> MotionStep
+    requires { moves.old ≡ [] }
+    ensures moves { moves.new ≡ Dwell ms ∷ [] }
+    ensures within { AreMovesWithin LONGEST moves.new }
+    ensures step { result ≡ record { cycle = cycle; offset = None } }
 {
-    let mut moves = MoveList::empty();
     moves.push(Move::Dwell { ms });
-    Motion {
-        moves,
+    MotionStep {
         cycle,
         offset: None,
     }
@@ -242,34 +288,37 @@ fn block_motion(
     }
 }
 
-/// A cycle, or a line, an arc, a thread or a way home, or no motion at all.
+/// A cycle, or a line, an arc, a thread or a way home, or no motion at all. Its moves are put into
+/// the list, which is empty.
+#[tactic(auto, using(crate::proofs::Ends::none_within))]
 fn cut_motion(
     kind: CodeKind,
     kept: Option<Point>,
     block: &BlockMotion,
-) -> Result<Motion, MotionFault>
+    moves: &mut MoveList,
+) -> Result<MotionStep, MotionFault>
     requires kept { IfSome kept IsPosition }
     requires block { IsBlockWithin LONGEST block.now }
-    ensures motion { seen result ≡ cut_motion (cycle_kind_of kind) kind kept block.now }
-    ensures few { IfOk result (λ motion. length motion.moves ≤ 4) }
-    ensures within { IsPosition block.now.start → IsPosition block.now.home
-        → IfOk result (λ motion. AreMovesWithin LONGEST motion.moves) }
-    ensures cycle { IfOk result (λ motion. IfSome motion.cycle IsPosition) }
-    ensures no_offset { IfOk result (λ motion. motion.offset ≡ None) }
+    requires empty { moves.old ≡ [] }
+    ensures motion { step_seen result moves.new ≡ cut_motion (cycle_kind_of kind) kind kept block.now }
+    ensures few { length moves.new ≤ 4 }
+    ensures within { IsPosition block.now.start → IsPosition block.now.home → AreMovesWithin LONGEST moves.new }
+    ensures cycle { IfOk result (λ step. IfSome step.cycle IsPosition) }
+    ensures no_offset { IfOk result (λ step. step.offset ≡ None) }
 {
     match CycleKind::of(kind) {
         Some(cycle) => {
             let pass = cycle_pass(cycle, kept, block)?;
-            Ok(Motion {
-                moves: pass.moves,
+            moves.append(pass.moves.as_slice());
+            Ok(MotionStep {
                 cycle: pass.kept,
                 offset: None,
             })
         }
         None => {
-            let moves = track(kind, block)?;
-            Ok(Motion {
-                moves,
+            let tracked = track(kind, block)?;
+            moves.append(tracked.as_slice());
+            Ok(MotionStep {
                 cycle: kept,
                 offset: None,
             })

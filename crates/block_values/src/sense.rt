@@ -1,6 +1,6 @@
 //! What decides the meaning of a word.
 ghost use Rattle.std.specs.Prelude.{◌≡◌, false};
-ghost use Rattle.block_values.specs.Purposes.{is_macro_call};
+ghost use Rattle.block_words.specs.Codes.{is_macro};
 
 use block_words::Purpose;
 
@@ -12,5 +12,5 @@ pub struct Sense {
     pub arc: bool,
     /// The setting of an offset is given, beside which R is read and ignored.
     pub setting: bool,
-    ghost calls_no_macro: { is_macro_call purpose ≡ false },
+    ghost calls_no_macro: { is_macro purpose ≡ false },
 }

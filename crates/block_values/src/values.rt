@@ -1,6 +1,7 @@
 //! What the words of a block say.
-ghost use Rattle.std.specs.Prelude.{◌≡◌, ◌≤◌, true, unsigned_abs, Ok, Err, IfOk, IfErr, OnOk};
+ghost use Rattle.std.specs.Prelude.{◌≡◌, ◌≤◌, true, codes, unsigned_abs, Ok, Err, IfOk, IfErr, OnOk};
 ghost use Rattle.block_words.specs.Ranges.{fits, range_of};
+ghost use Rattle.block_words.specs.Words.{is_one_of};
 ghost use Rattle.block_words.specs.declared.range.Range.TheVariants.{Between};
 ghost use Rattle.nc_number.specs.Arithmetic.{whole_of};
 ghost use Rattle.block_words.specs.Codes.{natural};
@@ -142,15 +143,22 @@ fn is_dwell(sense: &Sense) -> bool
     matches!(sense.purpose, Purpose::Dwell)
 }
 
+/// Whether a word of this letter says a length, but for a dwell.
+fn is_length(letter: u8) -> bool
+    ensures { result ≡ is_one_of (codes "XZUWIKR") letter }
+{
+    matches!(letter, b'X' | b'Z' | b'U' | b'W' | b'I' | b'K' | b'R')
+}
+
 /// Puts a word into the values.
 fn set_word(sense: &Sense, letter: u8, literal: &Literal, values: &mut Values)
     requires { fits (range_of sense.now.purpose letter) literal.now ≡ true }
     ensures said { values_seen values.new ≡ with_word (sense_seen sense.now) letter literal.now (values_seen values.old) }
     ensures within { AreLengthsSaid values.old → AreLengthsSaid values.new }
 {
-    if is_one_of(b"XUZWP", letter) && is_dwell(sense) {
+    if is_dwell(sense) && is_one_of(b"XUZWP", letter) {
         set_rest(letter, literal, values);
-    } else if is_one_of(b"XZUWIKR", letter) {
+    } else if is_length(letter) {
         set_length(letter, literal.increments(), values);
     } else {
         set_setting(sense, letter, literal, values);

@@ -1,7 +1,6 @@
 use Rattle.std.specs.Prelude.{ℕ, Bool, true, false, ◌+◌, ◌-◌, List, Option, Some, None, unwrap_or, ◌==◌, if◌then◌else◌}
 use Rattle.std.specs.Option.{option_map, option_map_or}
 use Rattle.nc_number.specs.declared.value.Var.TheVariants.{Vacant}
-use Rattle.nc_number.specs.declared.point.Point.{Point}
 use Rattle.code_tables.specs.declared.kind.CodeKind.{CodeKind}
 use Rattle.code_tables.specs.declared.kind.CodeKind.TheVariants.{Rapid, Surface, PerRev, Incremental}
 use Rattle.code_tables.specs.declared.row.Row.{Row}

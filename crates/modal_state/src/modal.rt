@@ -1,9 +1,9 @@
 //! What is in force for a path.
-ghost use Rattle.std.specs.Prelude.{◌≡◌, ◌≤◌, IsTrue, IfSome, OnOk, OnErr};
+ghost use Rattle.std.specs.Prelude.{◌≡◌, ◌≤◌, ◌∷◌, [], IsTrue, IfSome, OnOk, OnErr};
 ghost use Rattle.std.specs.Result.{result_err};
 ghost use Rattle.nc_number.specs.Position.{IsPosition};
 ghost use Rattle.code_tables.specs.declared.group.TheConstants.{WORK_GROUP, SPINDLE_GROUP, ABSOLUTE_GROUP, FEED_GROUP};
-ghost use Rattle.code_tables.specs.Codes.{is_work_code, names_work_offsets};
+ghost use Rattle.code_tables.specs.Codes.{is_work_code, last_of_group, names_work_offsets};
 ghost use Rattle.modal_state.specs.Modal.{opening_modal, absolute_code, per_rev_code, in_force_after, work_after, motion_after, is_surface, is_per_rev, is_incremental, does_after, with_codes, code_of, work_of};
 ghost use Rattle.nc_number.specs.declared.point.TheConstants.{TOOL_OFFSETS};
 ghost use Rattle.modal_state.specs.Words.{with_words, tool_fault};
@@ -133,7 +133,7 @@ impl Modal {
     pub fn motion_after(&self, rows: &[Row]) -> CodeKind
         ensures { result ≡ motion_after self.now rows.now }
     {
-        last_of_group(rows, MOTION_GROUP).map_or(self.motion, |row| row.kind)
+        last_in(rows, MOTION_GROUP).map_or(self.motion, |row| row.kind)
     }
 
     /// Whether S is a constant surface speed.
@@ -284,18 +284,37 @@ fn per_rev_code(system: System) -> u16
     }
 }
 
+/// Of these rows the one of the group that counts. Most blocks have one row or none, of which
+/// there is no walk.
+fn last_in(rows: &[Row], group: u8) -> Option<Row>
+    ensures { result ≡ last_of_group rows.now group }
+{
+    match rows {
+        [] => None,
+        [row] => row_in(row, group),
+        _ => last_of_group(rows, group),
+    }
+}
+
+/// The row, where it is of the group.
+fn row_in(row: &Row, group: u8) -> Option<Row>
+    ensures { result ≡ last_of_group (row.now ∷ []) group }
+{
+    if row.group == group { Some(*row) } else { None }
+}
+
 /// The code of a group behind these rows, where this one was in force before them.
 fn in_force_after(rows: &[Row], group: u8, before: u16) -> u16
     ensures { result ≡ in_force_after rows.now group before }
 {
-    last_of_group(rows, group).map_or(before, |row| row.code)
+    last_in(rows, group).map_or(before, |row| row.code)
 }
 
 /// Whether S is a constant surface speed behind these rows, where it was so before them or not.
 fn surface_after(rows: &[Row], before: bool) -> bool
     ensures { result ≡ does_after is_surface rows.now SPINDLE_GROUP before }
 {
-    last_of_group(rows, SPINDLE_GROUP).map_or(before, |row| is_surface(row.kind))
+    last_in(rows, SPINDLE_GROUP).map_or(before, |row| is_surface(row.kind))
 }
 
 fn is_surface(kind: CodeKind) -> bool
@@ -308,7 +327,7 @@ fn is_surface(kind: CodeKind) -> bool
 fn per_rev_after(rows: &[Row], before: bool) -> bool
     ensures { result ≡ does_after is_per_rev rows.now FEED_GROUP before }
 {
-    last_of_group(rows, FEED_GROUP).map_or(before, |row| is_per_rev(row.kind))
+    last_in(rows, FEED_GROUP).map_or(before, |row| is_per_rev(row.kind))
 }
 
 fn is_per_rev(kind: CodeKind) -> bool
@@ -321,7 +340,7 @@ fn is_per_rev(kind: CodeKind) -> bool
 fn incremental_after(rows: &[Row], before: bool) -> bool
     ensures { result ≡ does_after is_incremental rows.now ABSOLUTE_GROUP before }
 {
-    last_of_group(rows, ABSOLUTE_GROUP).map_or(before, |row| is_incremental(row.kind))
+    last_in(rows, ABSOLUTE_GROUP).map_or(before, |row| is_incremental(row.kind))
 }
 
 fn is_incremental(kind: CodeKind) -> bool

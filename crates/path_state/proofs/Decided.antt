@@ -25,7 +25,7 @@ use Rattle.path_state.specs.declared.words_step.WordsTurn.{WordsTurn}
 use Rattle.path_state.specs.declared.words_step.WordsTurn.TheVariants as turn
 use Rattle.path_state.specs.declared.decision.Decision.{Decision}
 use Rattle.path_state.specs.declared.decision.Decision.TheVariants as decision
-use Rattle.block_values.specs.Purposes.{is_macro_call}
+use Rattle.block_words.specs.Codes.{is_macro}
 use Rattle.path_state.specs.Standing.{Standing, standing_of, standing_of_call, standing_behind}
 use Rattle.block_values.specs.Arguments.{arguments_with}
 use Rattle.path_state.specs.Effect.{Moved, alarm_of, of_values, of_arguments, controlled, done_by, macro_effect, block_of_words, of_purpose, words_effect}
@@ -66,7 +66,7 @@ arguments_said tape path words control reads arguments taken left e =
 
 -- a block of words that calls no macro, and stands at no wait
 pub plain : (tape : List ControlProgram) (fixed : Fixed) (path : PathView) (purpose : Purpose) (system : System) (words : List FlowWord) (control : Control) (reads : List Var)
-    → is_macro_call purpose ≡ false → of_purpose tape fixed path purpose system words control reads ≡ words_effect tape fixed path purpose system words control reads
+    → is_macro purpose ≡ false → of_purpose tape fixed path purpose system words control reads ≡ words_effect tape fixed path purpose system words control reads
 plain tape fixed path MacroCall system words control reads is = absurd cc
 plain tape fixed path Subprogram system words control reads is = refl
 plain tape fixed path Return system words control reads is = refl
@@ -76,7 +76,7 @@ plain tape fixed path Setting system words control reads is = refl
 plain tape fixed path Other system words control reads is = refl
 
 pub unwaiting : (tape : List ControlProgram) (fixed : Fixed) (path : PathView) (purpose : Purpose) (system : System) (words : List FlowWord) (control : Control) (reads : List Var)
-    → ((code : ℕ) → control ≢ AtWait code) → is_macro_call purpose ≡ false
+    → ((code : ℕ) → control ≢ AtWait code) → is_macro purpose ≡ false
     → block_of_words tape fixed path purpose system words control reads ≡ words_effect tape fixed path purpose system words control reads
 unwaiting tape fixed path purpose system words (AtWait n) reads is calls = absurd (is n refl)
 unwaiting tape fixed path purpose system words Next reads is calls = plain tape fixed path purpose system words Next reads calls

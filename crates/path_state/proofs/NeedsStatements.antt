@@ -1,5 +1,5 @@
 -- A statement asks for no more values than it names variables, and for shared ones alone.
-use Rattle.std.proofs.Common.{◌≡◌, ℕ, ◌+◌, ◌≤◌, Bool, true, false, List, [], ◌∷◌, ◌++◌, Result, Ok, Err, arith, if◌then◌else◌}
+use Rattle.std.proofs.Common.{ℕ, ◌+◌, ◌≤◌, Bool, true, false, List, [], ◌∷◌, ◌++◌, Result, Ok, Err, arith, if◌then◌else◌}
 use Rattle.nc_number.specs.declared.cause.Cause.{Cause}
 use Rattle.nc_number.specs.declared.point.Point.{Point}
 use Rattle.nc_number.specs.declared.value.Var.{Var}
@@ -11,6 +11,7 @@ use Rattle.offset_store.specs.declared.fault.OffsetFault.{OffsetFault}
 use Rattle.offset_store.specs.Changes.{in_range, point_at}
 use Rattle.block_order.specs.declared.program.ControlProgram.{ControlProgram}
 use Rattle.macro_expr.specs.Tree.{Tree, Named, Fixed as Numbered, Computed, Test, Aim, ToNumber, ToNumberOf, Sentence, Assign, Goto, IfGoto, IfThen, WhileDo, DoOnly, EndLoop, variables, variables_in, evaluated_name, evaluated_aim, evaluated as evaluated_in}
+use Rattle.macro_expr.proofs.Kept.{variables-append}
 use Rattle.macro_eval.specs.Meaning.{whole_number, variable_number}
 use Rattle.block_order.specs.declared.frame.Frame.{Frame}
 use Rattle.block_order.specs.Moves.{place_of_jump, place_behind_loop, place_of_head}
@@ -21,11 +22,6 @@ use Rattle.path_state.specs.Said.{evaluated}
 use Rattle.block_values.specs.Operands.{existing, number_named, length_of, sequence_number}
 use Rattle.path_state.specs.Statements.{After, along, with_offset, written_path, written, named, assigned, tested, aimed, move_effect, jump_effect, next_effect, assigned_next, statement_effect}
 use Rattle.path_state.proofs.NeedsShared.{Asks, then_asks, none_asks, tree_asks}
-
-append_variables : (first second : List Tree)
-    → variables_in (first ++ second) ≡ variables_in first + variables_in second
-append_variables [] second = omega arith
-append_variables (tree ∷ first) second = let rest = append_variables first second in omega arith
 
 module _ (fixed : Fixed) (path : PathView) where
   named_asks : (name : Named) (reads : List Var)
@@ -55,7 +51,7 @@ module _ (fixed : Fixed) (path : PathView) where
       → Asks fixed (variables_in (evaluated_name name ++ tree ∷ [])) reads
       (assigned fixed path name tree reads)
   assigned_asks name tree reads =
-      let all = append_variables (evaluated_name name) (tree ∷ []) in
+      let all = variables-append (evaluated_name name) (tree ∷ []) in
       then_asks fixed (variables_in (evaluated_name name)) (variables tree) _ (omega arith) reads
       (named fixed path name reads) _ (named_asks name reads)
       (λ v behind_name. then_asks fixed (variables tree) 0 _ (omega arith) behind_name

@@ -1,19 +1,15 @@
 -- Each block of a checked tape has a number for the one behind it.
-use Rattle.std.proofs.Common.{◌≡◌, ℕ, zero, suc, ◌<◌, ◌≤◌, ◌==◌, Bool, true, false, List, [], ◌∷◌, length, Option, Some, None, IsSome, option_map, slice_get, ap, sym, refl, arith}
+use Rattle.std.proofs.Common.{◌≡◌, ℕ, ◌≤◌, ◌==◌, Bool, true, false, List, [], ◌∷◌, length, Option, Some, None, IsSome, option_map, slice_get, ap, sym, refl, arith}
 use Rattle.std.proofs.lemmas.List.{length-append}
 use Rattle.block_order.specs.declared.control.Control.{Control}
 use Rattle.block_order.specs.declared.frame.Frame.{Frame}
 use Rattle.block_order.specs.declared.program.ControlBlock.{ControlBlock}
 use Rattle.block_order.specs.declared.program.ControlProgram.{ControlProgram}
-use Rattle.block_order.specs.Order.{blocks, control_at, control_of}
+use Rattle.block_order.specs.Order.{blocks, control_of}
 use Rattle.block_order.specs.Shape.{IsListed, blocks_in}
 use Rattle.block_order.specs.Steps.{standing}
 use Rattle.block_order.specs.Frames.{MayPass}
-
-within : (bs : List ControlBlock) (i : ℕ) (c : Control) → control_at bs i ≡ Some c → i < length bs
-within [] i c e = absurd cc
-within (b ∷ bs) zero c e = omega arith
-within (b ∷ bs) (suc i) c e = let r = within bs i c e in omega arith
+use Rattle.block_order.proofs.Opened.{within_control}
 
 few : (tape : List ControlProgram) (n : ℕ) → length (blocks tape n) ≤ length (blocks_in tape)
 few [] n = omega arith
@@ -26,7 +22,7 @@ few (p ∷ ps) n = go (p.number == n) refl (few ps n)
 pub may_pass : (tape : List ControlProgram) → IsListed tape → (place : List Frame) (c : Control) → standing tape place ≡ Some c → MayPass place
 may_pass tape listed [] c e = absurd cc
 may_pass tape listed (f ∷ stack) c e =
-    let inside = within (blocks tape f.program) f.block c e in
+    let inside = within_control (blocks tape f.program) f.block c e in
     let most = few tape f.program in
     let total = listed.few in
     omega arith

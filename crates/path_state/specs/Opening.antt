@@ -1,30 +1,21 @@
 -- A path as its tape begins.
-use Rattle.std.specs.Prelude.{ℕ, List, [], ◌∷◌, slice_index_or, if◌then◌else◌}
+use Rattle.std.specs.Prelude.{List, [], ◌∷◌, slice_index_or, if◌then◌else◌}
 use Rattle.nc_number.specs.declared.path.Path.{Path}
 use Rattle.nc_number.specs.declared.point.Point.{Point}
 use Rattle.nc_number.specs.Path.{index_of, is_same}
 use Rattle.nc_number.specs.Position.{origin}
 use Rattle.cell_settings.specs.declared.preset.Preset.{Preset}
-use Rattle.cell_settings.specs.declared.preset.PresetKind.{PresetKind}
-use Rattle.cell_settings.specs.declared.preset.PresetKind.TheVariants as kind
 use Rattle.cell_settings.specs.declared.settings.Settings.{Settings}
+use Rattle.cell_settings.specs.Slots.{preset_slot}
 use Rattle.common_vars.specs.Common.{none_written}
 use Rattle.local_levels.specs.Stack.{base_level}
 use Rattle.modal_state.specs.Modal.{opening_modal}
-use Rattle.offset_store.specs.declared.slot.Slot.{Slot}
-use Rattle.offset_store.specs.declared.slot.Slot.TheVariants.{Work, Geometry, Wear}
 use Rattle.offset_store.specs.Table.{OffsetTable}
 use Rattle.offset_store.specs.Offsets.{no_offsets}
 use Rattle.offset_store.specs.Changes.{with_point}
 use Rattle.block_order.specs.Labels.{start}
 use Rattle.tape_flow.specs.declared.flow.Flow.{Flow}
 use Rattle.path_state.specs.View.{PathView}
-
--- the offset that a setting speaks of
-abbrev pub preset_slot : PresetKind → ℕ → Slot
-preset_slot kind.Work n = Work n
-preset_slot kind.Geometry n = Geometry n
-preset_slot kind.Wear n = Wear n
 
 abbrev pub with_preset : Path → Preset → OffsetTable → OffsetTable
 with_preset path preset offsets =

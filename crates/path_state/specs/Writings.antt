@@ -1,7 +1,7 @@
 -- What a statement writes.
-use Rattle.std.specs.Prelude.{ℕ, Bool, ◌&&◌, ◌||◌, nat_le, Some, None}
+use Rattle.std.specs.Prelude.{Bool, ◌&&◌, nat_le, Some, None}
 use Rattle.nc_number.specs.Position.{is_position}
-use Rattle.common_vars.specs.Common.{with_value}
+use Rattle.common_vars.specs.Common.{is_common, with_value}
 use Rattle.local_levels.specs.Stack.{with_local}
 use Rattle.offset_store.specs.declared.number.TheConstants.{LAST_WORK}
 use Rattle.offset_store.specs.declared.slot.Slot.TheVariants as slot
@@ -10,10 +10,6 @@ use Rattle.path_state.specs.declared.writing.Change.{Change}
 use Rattle.path_state.specs.declared.writing.Change.TheVariants.{Local, Own, Shared, Work}
 use Rattle.path_state.specs.View.{PathView}
 use Rattle.path_state.specs.Statements.{After}
-
--- the number of a common variable
-abbrev pub is_common : ℕ → Bool
-is_common v = (nat_le 100 v && nat_le v 199) || (nat_le 500 v && nat_le v 999)
 
 -- the variable exists, and an offset may be at the point
 abbrev pub is_possible : Change → Bool

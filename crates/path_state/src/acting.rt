@@ -1,12 +1,12 @@
 //! What the words of a block do: its codes, its settings, its motion and all its moves.
-ghost use Rattle.std.specs.Prelude.{◌≡◌, ◌≤◌, Ok, IfOk, OnErr, IfSome, length, codes};
+ghost use Rattle.std.specs.Prelude.{◌≡◌, ◌≤◌, [], Ok, IfOk, OnErr, IfSome, length, codes};
 ghost use Rattle.nc_number.specs.Position.{IsPosition};
 ghost use Rattle.motion_track.specs.Within.{AreMovesWithin};
 ghost use Rattle.path_state.specs.Effect.{acted, moved_by};
 ghost use Rattle.block_words.specs.Codes.{one_shot};
 ghost use Rattle.block_words.specs.Words.{has};
 ghost use Rattle.block_values.specs.Motion.{motion_kind, motion_of};
-ghost use Rattle.block_values.specs.Drawn.{motion_view, seen};
+ghost use Rattle.block_values.specs.Drawn.{step_motion, step_seen};
 ghost use Rattle.path_state.specs.Decisions.{moved_seen};
 ghost use Rattle.path_state.specs.Advances.{AreFitMoves};
 ghost use Rattle.path_state.specs.Fits.{IsFit};
@@ -16,22 +16,30 @@ ghost use Rattle.block_values.specs.Within.{AreLengthsSaid};
 use crate::path::PathState;
 use crate::words_step::WordsStep;
 use block_forms::FlowWords;
-use block_values::{Motion, Values, last_end, modal_behind, motion_behind, moves_behind};
+use block_values::{MotionStep, Values, last_end, modal_behind, motion_behind, moves_behind};
 use modal_state::Modal;
 use motion_track::LONGEST;
 use nc_moves::MoveList;
 
 impl PathState {
-    /// The motion of a block of these words, where this is in force behind its codes and words.
-    fn motion(&self, modal: &Modal, words: &FlowWords, values: &Values) -> Result<Motion, u8>
-        requires { AreLengthsSaid values.now }
-        ensures motion { seen result ≡ motion_of self.now.fixed.home self.now.position self.now.offsets modal.now
-            (motion_kind modal.now (one_shot words.now.dialect.system words.now.words))
+    /// The motion of a block of these words, where this is in force behind its codes and words. Its
+    /// moves are put into the list, which is empty.
+    fn motion(
+        &self,
+        modal: &Modal,
+        words: &FlowWords,
+        values: &Values,
+        moves: &mut MoveList,
+    ) -> Result<MotionStep, u8>
+        requires lengths { AreLengthsSaid values.now }
+        requires empty { moves.old ≡ [] }
+        ensures motion { step_seen result moves.new ≡ motion_of self.now.fixed.home self.now.position self.now.offsets
+            modal.now (motion_kind modal.now (one_shot words.now.dialect.system words.now.words))
             (has (codes "L") words.now.words) (values_seen values.now) }
-        ensures few { IfOk result (λ motion. length motion.moves ≤ 4) }
-        ensures within { IfOk result (λ motion. AreMovesWithin LONGEST motion.moves) }
-        ensures cycle { IfOk result (λ motion. IfSome motion.cycle IsPosition) }
-        ensures offset { IfOk result (λ motion. IfSome motion.offset (λ set. IsPosition set.1)) }
+        ensures few { length moves.new ≤ 4 }
+        ensures within { AreMovesWithin LONGEST moves.new }
+        ensures cycle { IfOk result (λ step. IfSome step.cycle IsPosition) }
+        ensures offset { IfOk result (λ step. IfSome step.offset (λ set. IsPosition set.1)) }
     {
         motion_behind(
             self.position,
@@ -40,6 +48,7 @@ impl PathState {
             &self.offsets,
             words,
             values,
+            moves,
         )
     }
 
@@ -65,9 +74,10 @@ impl PathState {
             Ok(modal) => modal,
             Err(number) => return Err(number),
         };
-        match &self.motion(&modal, words, values) {
-            Ok(motion) => Ok(self.step_of(modal, motion, words, values, moves)),
-            Err(number) => Err(*number),
+        let mut motion = MoveList::empty();
+        match self.motion(&modal, words, values, &mut motion) {
+            Ok(step) => Ok(self.step_of(modal, step, &motion, words, values, moves)),
+            Err(number) => Err(number),
         }
     }
 
@@ -75,27 +85,28 @@ impl PathState {
     fn step_of(
         &self,
         modal: Modal,
-        motion: &Motion,
+        step: MotionStep,
+        motion: &MoveList,
         words: &FlowWords,
         values: &Values,
         moves: &mut MoveList,
     ) -> WordsStep
-        requires few { length motion.now.moves ≤ 4 }
-        requires within { AreMovesWithin LONGEST motion.now.moves }
-        requires cycle { IfSome motion.now.cycle IsPosition }
-        requires offset { IfSome motion.now.offset (λ set. IsPosition set.1) }
+        requires few { length motion.now ≤ 4 }
+        requires within { AreMovesWithin LONGEST motion.now }
+        requires cycle { IfSome step.cycle IsPosition }
+        requires offset { IfSome step.offset (λ set. IsPosition set.1) }
         ensures fit { IsFit result }
         ensures moved { moved_seen self.now (Ok result) moves.new ≡ Ok (moved_by self.now modal
-            words.now.dialect.system words.now.words (values_seen values.now) (motion_view motion.now)) }
+            words.now.dialect.system words.now.words (values_seen values.now) (step_motion step motion.now)) }
         ensures moves { AreFitMoves moves.new }
     {
-        moves_behind(words, values, &modal, &motion.moves, moves);
+        moves_behind(words, values, &modal, motion, moves);
         let position = last_end(self.position, moves.as_slice());
         let mut after = modal;
-        after.set_cycle(motion.cycle);
+        after.set_cycle(step.cycle);
         WordsStep {
             modal: after,
-            offset: motion.offset,
+            offset: step.offset,
             position,
         }
     }

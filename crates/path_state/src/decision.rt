@@ -7,7 +7,7 @@ ghost use Rattle.block_words.specs.declared.purpose.Purpose.TheVariants.{MacroCa
 ghost use Rattle.block_forms.specs.Controls.{control_of_words};
 ghost use Rattle.block_order.specs.declared.control.Control.{Control};
 ghost use Rattle.block_order.specs.declared.program.ControlProgram.{ControlProgram};
-ghost use Rattle.block_words.specs.Codes.{rows};
+ghost use Rattle.block_words.specs.Codes.{is_macro, rows};
 ghost use Rattle.code_tables.specs.Kinds.{is_arc};
 ghost use Rattle.modal_state.specs.Modal.{motion_after};
 ghost use Rattle.path_state.specs.View.{PathView};
@@ -19,7 +19,6 @@ ghost use Rattle.path_state.specs.Fits.{HasFitWords, IsFit, IsFitTurn};
 ghost use Rattle.nc_number.specs.declared.value.Var.{Var};
 ghost use Rattle.block_order.specs.declared.control.Control.TheVariants as Control;
 ghost use Rattle.path_state.specs.Said.{sense_of};
-ghost use Rattle.block_values.specs.Purposes.{is_macro_call};
 ghost use Rattle.block_values.specs.Seen.{sense_seen, values_seen};
 ghost use Rattle.block_values.specs.Within.{AreLengthsSaid};
 
@@ -115,7 +114,7 @@ pub(crate) fn macro_call(words: &FlowWords, control: Control) -> Option<(u16, u1
     requires { control ≡ control_of_words words.now.dialect words.now.words }
     ensures some { IfSome result
         (λ call. (words.now.purpose ≡ MacroCall) × (control ≡ Control.Call call.0 call.1)) }
-    ensures none { IsNone result → is_macro_call words.now.purpose ≡ false }
+    ensures none { IsNone result → is_macro words.now.purpose ≡ false }
 {
     match (words.purpose, control) {
         (Purpose::MacroCall, Control::Call { program, repeats }) => Some((program, repeats)),
@@ -126,7 +125,7 @@ pub(crate) fn macro_call(words: &FlowWords, control: Control) -> Option<(u16, u1
 impl PathState {
     /// What decides the meaning of the words of a block.
     fn sense_of(&self, words: &FlowWords) -> Sense
-        requires { is_macro_call words.now.purpose ≡ false }
+        requires { is_macro words.now.purpose ≡ false }
         ensures { sense_seen result ≡ sense_of self.now words.now.purpose words.now.dialect.system words.now.words }
     {
         Sense {
@@ -146,7 +145,7 @@ impl PathState {
     /// What the words of a block say, or why they say nothing.
     #[tactic(auto, using(crate::proofs::Decided::words_said))]
     fn values_said(&self, words: &FlowWords, reads: &[Var]) -> Result<Values, Stop>
-        requires { is_macro_call words.now.purpose ≡ false }
+        requires { is_macro words.now.purpose ≡ false }
         ensures within { IfOk result AreLengthsSaid }
         ensures said { (tape : List ControlProgram) (control : Control)
             → words_effect tape self.now.fixed self.now words.now.purpose words.now.dialect.system words.now.words
@@ -217,7 +216,7 @@ impl PathState {
         reads: &[Var],
         moves: &mut MoveList,
     ) -> WordsTurn
-        requires calls { is_macro_call words.now.purpose ≡ false }
+        requires calls { is_macro words.now.purpose ≡ false }
         requires empty { moves.old ≡ [] }
         ensures fit { IsFitTurn result }
         ensures decided { words_decided self.now result moves.new ≡ block_of_words order.now self.now.fixed self.now

@@ -1,5 +1,5 @@
 //! One path of the machine.
-ghost use Rattle.std.specs.Prelude.{◌≡◌, ◌≤◌, ◌+◌, ℕ, List, All, None, Some, IfOk, length};
+ghost use Rattle.std.specs.Prelude.{◌≡◌, ◌≤◌, ◌+◌, ℕ, List, All, Some, IfOk, length};
 ghost use Rattle.nc_number.specs.Path.{is_same};
 ghost use Rattle.nc_number.specs.Position.{IsPosition};
 ghost use Rattle.block_order.specs.declared.control.Control.TheVariants.{Wait};
@@ -13,16 +13,16 @@ ghost use Rattle.cell_settings.specs.Preset.{IsPreset};
 ghost use Rattle.offset_store.specs.Offsets.{no_offsets};
 ghost use Rattle.tape_flow.specs.Places.{line_at};
 ghost use Rattle.path_state.specs.Standing.{standing_of};
-ghost use Rattle.path_state.specs.Opening.{opening_path, preset_slot, with_preset, with_presets};
+ghost use Rattle.path_state.specs.Opening.{opening_path, with_preset, with_presets};
 
 use crate::standing::Standing;
 use block_order::{BlockOrder, Place};
-use cell_settings::{Preset, PresetKind, Settings};
+use cell_settings::{Preset, Settings, preset_slot};
 use common_vars::Own;
 use local_levels::LOCALS;
 use modal_state::Modal;
 use nc_number::{NoMemory, Path, Point, Var};
-use offset_store::{Offsets, Slot, ToolNumber, WorkNumber};
+use offset_store::Offsets;
 use std::alloc::Global;
 use std::marker::Model;
 use tape_flow::Flow;
@@ -69,18 +69,6 @@ pub(crate) fn blocks_have_next(order: &BlockOrder)
     ensures { (place : List Frame) (control : Control) → standing order.now place ≡ Some control → MayPass place }
 {
     let _ = order.as_slice();
-}
-
-/// The offset that a setting speaks of.
-fn preset_slot(preset: &Preset) -> Slot
-    requires { IsPreset preset.now }
-    ensures { result ≡ preset_slot preset.now.kind preset.now.number }
-{
-    match preset.kind {
-        PresetKind::Work => Slot::Work(WorkNumber::new(preset.number)),
-        PresetKind::Geometry => Slot::Geometry(ToolNumber::new(preset.number)),
-        PresetKind::Wear => Slot::Wear(ToolNumber::new(preset.number)),
-    }
 }
 
 /// Whether the setting is the path's.

@@ -2,7 +2,7 @@
 ghost use Rattle.std.specs.Prelude.{◌≡◌, false, [], List};
 ghost use Rattle.nc_moves.specs.declared.motion.Move.{Move};
 ghost use Rattle.block_order.specs.Frames.{MayPass};
-ghost use Rattle.block_values.specs.Purposes.{is_macro_call};
+ghost use Rattle.block_words.specs.Codes.{is_macro};
 ghost use Rattle.block_order.specs.declared.control.Control.TheVariants as Control;
 ghost use Rattle.tape_flow.specs.Places.{line_at};
 ghost use Rattle.path_state.specs.Advances.{effect_told, effect_seen, moves_of, path_after, StaysUnlessTold, StaysUnlessDone, AreFitMoves, AreMovesAt};
@@ -148,7 +148,7 @@ impl PathState {
         reads: &[Var],
         moves: &mut MoveList,
     ) -> BlockAnswer
-        requires calls { is_macro_call words.now.purpose ≡ false }
+        requires calls { is_macro words.now.purpose ≡ false }
         requires next { MayPass self.old.place }
         requires empty { moves.old ≡ [] }
         ensures effect { effect_told result moves.new self.new ≡ block_of_words order.now self.old.fixed self.old
