@@ -10,6 +10,7 @@ use Rattle.run_journal.specs.declared.fault.JournalFault.TheVariants as journal
 use Rattle.run_journal.specs.Batches.{Piece, a_batch, the_mark, bodies_of, records_of, ArePieces}
 use Rattle.run_journal.specs.Stands.{Holds}
 use Rattle.run_journal.specs.Opening.{RefusesRun, Found, FindsRun}
+use Rattle.run_journal.proofs.Openings.{kept_settled}
 use Rattle.nc_verify.specs.declared.verified.Verified.{Verified}
 use Rattle.nc_restart.specs.declared.fault.RestartFault.{RestartFault}
 use Rattle.nc_restart.specs.declared.fault.RestartFault.TheVariants.{DiskFault, NoRun, Cut, BadRecord, NoMemory}
@@ -40,12 +41,6 @@ uses_more count more old new less uses = record {
   untold = uses.untold;
   allows = uses.allows;
 }
-
-kept_settled : (bodies : List (List ℕ)) (disk : DiskState) (end : ℕ) (bytes : List ℕ) → Keeps bodies disk end → Reads disk bytes → Only bytes disk.image
-kept_settled bodies disk end bytes keeps reads =
-    let both : Some keeps.bytes ≡ Some bytes = sym keeps.reads ∙ reads in
-    let same : keeps.bytes ≡ bytes = cc in
-    subst (λ (l : List ℕ). Only l disk.image) same keeps.only
 
 refused_alike : (old new : DiskState) (fault : JournalFault) → RefusesRun fault old new → RefusesRecovery (fault_of fault) old new
 refused_alike old new journal.DiskFault refused = refused

@@ -53,7 +53,7 @@ same_pair texts pair other is also =
     let left = blocks_same pair.left ∙ ap blocks_by same.1 ∙ sym (blocks_same other.left) in
     let right = blocks_same pair.right ∙ ap blocks_by same.2 ∙ sym (blocks_same other.right) in
     record {
-      tapes = λ i. record { first = left i; second = right i };
+      tapes = λ i. record { one = left i; two = right i };
       opening = λ i. opening (opening_by (left_order i) (same.0 i) One) (opening_by (right_order i) (same.0 i) Two);
       records = ap (λ (c : Cell). c.records) same.0;
       left = same.1;

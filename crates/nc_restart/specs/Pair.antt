@@ -1,12 +1,11 @@
 -- The pair of tapes that a run is made with, and its machine.
 use Rattle.std.specs.Prelude.{◌≡◌, List, map}
-use Rattle.nc_number.specs.declared.path.Path.TheVariants.{One, Two}
 use Rattle.run_records.specs.Entries.{Entry}
 use Rattle.run_records.specs.declared.header.Header.{Header}
 use Rattle.cell_settings.specs.View.{view}
 use Rattle.tape_flow.specs.Forms.{program_form}
-use Rattle.path_state.specs.Opening.{opening_path}
-use Rattle.two_path.specs.Machine.{MachineView, opening}
+use Rattle.two_path.specs.Machine.{MachineView}
+use Rattle.two_path.specs.Start.{machine_at_start}
 use Rattle.two_path.specs.Turns.{Tapes, tapes_of}
 use Rattle.two_path.specs.Histories.{fold}
 use Rattle.nc_verify.specs.declared.verified.Verified.{Verified}
@@ -26,7 +25,7 @@ tapes_in pair = tapes_of pair.left pair.right
 
 -- its machine before the first turn
 abbrev pub opening_of : Verified → MachineView
-opening_of pair = opening (opening_path pair.left pair.settings One) (opening_path pair.right pair.settings Two)
+opening_of pair = machine_at_start pair.left pair.right pair.settings
 
 -- its machine behind these records
 abbrev pub machine_behind : Verified → List Entry → MachineView

@@ -7,6 +7,7 @@ ghost use Rattle.two_path.specs.Machine.{without_reads};
 ghost use Rattle.nc_restart.specs.Pair.{opening_of};
 ghost use Rattle.nc_restart.specs.History.{IsBehind, IsOutOfPlace, IsOutOfPlaceAt};
 
+use nc_moves::MoveList;
 use nc_verify::Verified;
 use run_records::{BadRecord, Entry, EntryList};
 use two_path::{Illegal, Machine, histories_are_runs};
@@ -19,8 +20,13 @@ pub(crate) struct OutOfPlace {
 }
 
 /// Does one record more again, where it may stand there: it is the machine's step, and the settings
-/// allow one record more.
-fn redo(machine: &mut Machine, pair: &Verified, entry: &Entry) -> Result<(), BadRecord>
+/// allow one record more. The list is lent for its moves, which nobody asks for.
+fn redo(
+    machine: &mut Machine,
+    pair: &Verified,
+    entry: &Entry,
+    moves: &mut MoveList,
+) -> Result<(), BadRecord>
     requires room { 0 < machine.old.room }
     requires few { machine.old.machine.count ≤ MOST_RECORDS }
     requires no_reads { without_reads machine.old.machine ≡ machine.old.machine }
@@ -33,9 +39,9 @@ fn redo(machine: &mut Machine, pair: &Verified, entry: &Entry) -> Result<(), Bad
 {
     histories_are_runs();
     let full = machine.count() >= pair.settings().records;
-    match machine.apply(pair.left(), pair.right(), entry) {
+    match machine.apply_into(pair.left(), pair.right(), entry, moves) {
         Err(Illegal) => Err(BadRecord::NotLegal),
-        Ok(_turn) => if full {
+        Ok(_answer) => if full {
             Err(BadRecord::TooManyRecords)
         } else {
             Ok(())
@@ -55,9 +61,10 @@ pub(crate) fn replay(
     ensures behind { OnOk result (IsBehind pair.now entries.now.items machine.new.machine) }
     ensures bad { IfErr result (λ bad. IsOutOfPlaceAt pair.now entries.now.items bad.index bad.cause) }
 {
+    let mut moves = MoveList::empty();
     for index in 0..entries.len() {
         let entry = entries.get(index);
-        if let Err(cause) = redo(machine, pair, &entry) {
+        if let Err(cause) = redo(machine, pair, &entry, &mut moves) {
             let cause: BadRecord = cause;
             return Err(OutOfPlace { index, cause });
         }

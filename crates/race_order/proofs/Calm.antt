@@ -13,46 +13,46 @@ use Rattle.two_path.specs.Histories.{TurnOf, behind_event, run, turns_of}
 
 -- an alarm leaves a path unfinished
 abbrev Leaves : MachineView → Type 0
-Leaves m = (a : Alarm) → m.alarm ≡ Some a → (m.first.finished ≡ false) ⊎ (m.second.finished ≡ false)
+Leaves m = (a : Alarm) → m.alarm ≡ Some a → (m.paths.one.finished ≡ false) ⊎ (m.paths.two.finished ≡ false)
 
 own_leaves : (b : Blocks) (path : Path) (m : MachineView) → Leaves m → Leaves (own_turn b path m).machine
-own_leaves b path m before = go m.alarm refl m.first.finished refl m.first.waiting
+own_leaves b path m before = go m.alarm refl m.paths.one.finished refl m.paths.one.waiting
   where
-    met : m.alarm ≡ None → m.first.finished ≡ false → (code : ℕ) (same : Bool)
-        → Leaves (if same then result (turn.Met code) (behind_meeting m) else alarm_result (crossed_waits path (b.line m.first.path.place)) m).machine
+    met : m.alarm ≡ None → m.paths.one.finished ≡ false → (code : ℕ) (same : Bool)
+        → Leaves (if same then result (turn.Met code) (behind_meeting m) else alarm_result (crossed_waits path (b.line m.paths.one.path.place)) m).machine
     met calm f code true a e = inl f
     met calm f code false a e = inl f
 
-    at_wait : m.alarm ≡ None → m.first.finished ≡ false → (code : ℕ) (there : Option ℕ)
-        → Leaves (result_at_wait path (b.line m.first.path.place) m code there).machine
+    at_wait : m.alarm ≡ None → m.paths.one.finished ≡ false → (code : ℕ) (there : Option ℕ)
+        → Leaves (result_at_wait path (b.line m.paths.one.path.place) m code there).machine
     at_wait calm f code None a e = inl f
     at_wait calm f code (Some there) a e = met calm f code (code == there) a e
 
-    block : m.alarm ≡ None → m.first.finished ≡ false → (e : Effect) → Leaves (result_by path (b.line m.first.path.place) m e).machine
+    block : m.alarm ≡ None → m.paths.one.finished ≡ false → (e : Effect) → Leaves (result_by path (b.line m.paths.one.path.place) m e).machine
     block calm f (effect.Need v) a e = inl f
     block calm f (effect.Done after None moves) a e = inl f
     block calm f (effect.Done after (Some w) moves) a e = inl f
-    block calm f (effect.AtWait code) a e = at_wait calm f code m.second.waiting a e
+    block calm f (effect.AtWait code) a e = at_wait calm f code m.paths.two.waiting a e
     block calm f (effect.AtEnd after moves) a e = absurd cc
     block calm f (effect.Alarm number value) a e = inl f
 
-    go : (o : Option Alarm) → m.alarm ≡ o → (f : Bool) → m.first.finished ≡ f → (w : Option ℕ) → Leaves (unless_idle m o f w (block_turn b path m)).machine
+    go : (o : Option Alarm) → m.alarm ≡ o → (f : Bool) → m.paths.one.finished ≡ f → (w : Option ℕ) → Leaves (unless_idle m o f w (block_turn b path m)).machine
     go (Some alarm) eo f ef w a e = before a e
     go None eo true ef w a e = before a e
     go None eo false ef (Some code) a e = before a e
-    go None eo false ef None a e = block eo ef (b.effect m.first.path m.first.values) a e
+    go None eo false ef None a e = block eo ef (b.effect m.paths.one.path m.paths.one.values) a e
 
 swap_leaves : (m : MachineView) → Leaves m → Leaves (own_first Two m)
 swap_leaves m before a e = go (before a e)
   where
-    go : (m.first.finished ≡ false) ⊎ (m.second.finished ≡ false) → (m.second.finished ≡ false) ⊎ (m.first.finished ≡ false)
+    go : (m.paths.one.finished ≡ false) ⊎ (m.paths.two.finished ≡ false) → (m.paths.two.finished ≡ false) ⊎ (m.paths.one.finished ≡ false)
     go (inl x) = inr x
     go (inr x) = inl x
 
 event_leaves : (tapes : Tapes) (path : Path) (m : MachineView) → Leaves m → Leaves (behind_event tapes (TurnOf path) m)
-event_leaves tapes One m before = own_leaves tapes.first One m before
+event_leaves tapes One m before = own_leaves tapes.one One m before
 event_leaves tapes Two m before =
-    swap_leaves (own_turn tapes.second Two (own_first Two m)).machine (own_leaves tapes.second Two (own_first Two m) (swap_leaves m before))
+    swap_leaves (own_turn tapes.two Two (own_first Two m)).machine (own_leaves tapes.two Two (own_first Two m) (swap_leaves m before))
 
 run_leaves : (tapes : Tapes) (m : MachineView) → Leaves m → (turns : List Path) → Leaves (run tapes m (turns_of turns))
 run_leaves tapes m before [] = before
@@ -60,7 +60,7 @@ run_leaves tapes m before (path ∷ turns) =
     run_leaves tapes (behind_event tapes (TurnOf path) m) (event_leaves tapes path m before) turns
 
 pub finished_calm : (tapes : Tapes) (first second : PathView) (turns : List Path)
-    → (run tapes (opening first second) (turns_of turns)).first.finished ≡ true → (run tapes (opening first second) (turns_of turns)).second.finished ≡ true
+    → (run tapes (opening first second) (turns_of turns)).paths.one.finished ≡ true → (run tapes (opening first second) (turns_of turns)).paths.two.finished ≡ true
     → (run tapes (opening first second) (turns_of turns)).alarm ≡ None
 finished_calm tapes first second turns here there =
     go (run tapes (opening first second) (turns_of turns)).alarm refl
@@ -69,7 +69,7 @@ finished_calm tapes first second turns here there =
     go None e = e
     go (Some a) e = not (run_leaves tapes (opening first second) (λ a e. absurd cc) turns a e)
       where
-        not : ((run tapes (opening first second) (turns_of turns)).first.finished ≡ false) ⊎ ((run tapes (opening first second) (turns_of turns)).second.finished ≡ false)
+        not : ((run tapes (opening first second) (turns_of turns)).paths.one.finished ≡ false) ⊎ ((run tapes (opening first second) (turns_of turns)).paths.two.finished ≡ false)
             → (run tapes (opening first second) (turns_of turns)).alarm ≡ None
         not (inl x) = absurd cc
         not (inr x) = absurd cc

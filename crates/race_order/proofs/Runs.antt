@@ -51,7 +51,7 @@ told_swapped m t u told = record {
 }
 
 abbrev tapes_with : Blocks → Blocks → Tapes
-tapes_with b d = record { first = b; second = d }
+tapes_with b d = record { one = b; two = d }
 
 turn_shown : (b d : Blocks) (k : Known b) (l : Known d) (x : Pair Var (path_of b k) (path_of d l)) (path : Path) (m : MachineView) (mine yours : List Moves)
     → IsShown b d k l x m mine yours → (turn_of (tapes_with b d) path m).machine.alarm ≡ None
@@ -97,10 +97,10 @@ halted m None a e f w r = absurd cc
 
 halted_event : (tapes : Tapes) (path : Path) (m : MachineView) (a : Alarm) → m.alarm ≡ Some a → (behind_event tapes (TurnOf path) m).alarm ≡ Some a
 halted_event tapes One m a e =
-    ap (λ (x : MachineView). x.alarm) (halted m m.alarm a e m.first.finished m.first.waiting (block_turn tapes.first One m)) ∙ e
+    ap (λ (x : MachineView). x.alarm) (halted m m.alarm a e m.paths.one.finished m.paths.one.waiting (block_turn tapes.one One m)) ∙ e
 halted_event tapes Two m a e =
     ap (λ (x : MachineView). x.alarm)
-    (halted (own_first Two m) m.alarm a e m.second.finished m.second.waiting (block_turn tapes.second Two (own_first Two m))) ∙ e
+    (halted (own_first Two m) m.alarm a e m.paths.two.finished m.paths.two.waiting (block_turn tapes.two Two (own_first Two m))) ∙ e
 
 halted_run : (tapes : Tapes) (m : MachineView) (a : Alarm) → m.alarm ≡ Some a → (turns : List Path) → (run tapes m (turns_of turns)).alarm ≡ Some a
 halted_run tapes m a e [] = e
@@ -137,10 +137,10 @@ same_part : (a b : Part) → a.path ≡ b.path → a.values ≡ b.values → a.w
 same_part a b path values waiting finished =
     λ i. record { path = path i; values = values i; stamps = []; waiting = waiting i; finished = finished i; since = 0 }
 
-same_machine : (m n : MachineView) → unstamped m.first ≡ unstamped n.first → unstamped m.second ≡ unstamped n.second
+same_machine : (m n : MachineView) → unstamped m.paths.one ≡ unstamped n.paths.one → unstamped m.paths.two ≡ unstamped n.paths.two
     → m.count ≡ n.count → m.alarm ≡ n.alarm → but_for_order m ≡ but_for_order n
 same_machine m n first second count alarm =
-    λ i. record { first = first i; second = second i; writes = []; count = count i; alarm = alarm i }
+    λ i. record { paths = record { one = first i; two = second i }; writes = []; count = count i; alarm = alarm i }
 
 -- what has finished does not wait
 done_waits : (part : Part) → IsFit part → part.finished ≡ true → part.waiting ≡ None
@@ -151,11 +151,11 @@ done_waits part fit done = go part.waiting refl
     go (Some code) e = let open_still = fit code e in absurd cc
 
 -- what both told is all that there is
-told_count : (m : MachineView) (t u : Told) → IsTold m t u → m.first.waiting ≡ None → m.second.waiting ≡ None
+told_count : (m : MachineView) (t u : Told) → IsTold m t u → m.paths.one.waiting ≡ None → m.paths.two.waiting ≡ None
     → m.count ≡ t.records + u.records
 told_count m t u told first second =
-    let one : waits m.first.waiting ≡ 0 = ap waits first in
-    let two : waits m.second.waiting ≡ 0 = ap waits second in
+    let one : waits m.paths.one.waiting ≡ 0 = ap waits first in
+    let two : waits m.paths.two.waiting ≡ 0 = ap waits second in
     let all = told.count in omega arith
 
 pub runs_agree : (b d : Blocks) (k : Known b) (l : Known d) → IsFree (path_of b k) (path_of d l) → (first second : PathView)
@@ -188,14 +188,14 @@ runs_agree b d k l free first second here there turns others done also =
     here there a.run o.run (rw done.first refl, rw done.second refl) (rw also.first refl, rw also.second refl) in
     let one : a.one_told ≡ o.one_told = ap (λ y. y.first.state.2) same in
     let two : a.two_told ≡ o.two_told = ap (λ y. y.second.state.2) same in
-    let rest = done_waits m.first a.first done.first in
-    let rest' = done_waits m.second a.second done.second in
-    let also_rest = done_waits n.first o.first also.first in
-    let also_rest' = done_waits n.second o.second also.second in
+    let rest = done_waits m.paths.one a.first done.first in
+    let rest' = done_waits m.paths.two a.second done.second in
+    let also_rest = done_waits n.paths.one o.first also.first in
+    let also_rest' = done_waits n.paths.two o.second also.second in
     record {
       machine = same_machine m n
-          (same_part m.first n.first (ap (λ y. y.first.state.0) same) (ap (λ y. y.first.values) same) (rest ∙ sym also_rest) (done.first ∙ sym also.first))
-          (same_part m.second n.second (ap (λ y. y.second.state.0) same) (ap (λ y. y.second.values) same) (rest' ∙ sym also_rest') (done.second ∙ sym also.second))
+          (same_part m.paths.one n.paths.one (ap (λ y. y.first.state.0) same) (ap (λ y. y.first.values) same) (rest ∙ sym also_rest) (done.first ∙ sym also.first))
+          (same_part m.paths.two n.paths.two (ap (λ y. y.second.state.0) same) (ap (λ y. y.second.values) same) (rest' ∙ sym also_rest') (done.second ∙ sym also.second))
           (told_count m a.one_told a.two_told a.told rest rest'
           ∙ (ap (λ (t : Told). t.records + a.two_told.records) one ∙ (ap (λ (t : Told). o.one_told.records + t.records) two
           ∙ sym (told_count n o.one_told o.two_told o.told also_rest also_rest'))))

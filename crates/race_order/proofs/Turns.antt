@@ -46,11 +46,11 @@ IsFit part = (code : ℕ) → part.waiting ≡ Some code → part.finished ≡ f
 abbrev pub shown : (b d : Blocks) (k : Known b) (l : Known d) → MachineView → List Moves → List Moves → Told → Told → (ℕ → Var)
     → Pair Var (path_of b k) (path_of d l)
 shown b d k l m mine yours t u env =
-    pair_at (path_of b k) (path_of d l) (half_of m.first mine t) (half_of m.second yours u) env
+    pair_at (path_of b k) (path_of d l) (half_of m.paths.one mine t) (half_of m.paths.two yours u) env
 
 -- what both paths told is what the machine holds
 pub record IsTold (m : MachineView) (t u : Told) : Type 0 where
-  pub count : m.count ≡ (t.records + u.records) + (waits m.first.waiting + waits m.second.waiting)
+  pub count : m.count ≡ (t.records + u.records) + (waits m.paths.one.waiting + waits m.paths.two.waiting)
   pub writes : AreMixed t.writes u.writes m.writes
 
 -- the pair leads to what shows the machine
@@ -61,8 +61,8 @@ pub record IsShown (b d : Blocks) (k : Known b) (l : Known d) (from : Pair Var (
   pub run : IsRun (path_of b k) (path_of d l) from (shown b d k l m mine yours one_told two_told env)
   pub told : IsTold m one_told two_told
   pub holds : Holds m env
-  pub first : IsFit m.first
-  pub second : IsFit m.second
+  pub first : IsFit m.paths.one
+  pub second : IsFit m.paths.two
 
 step_to : {V : Type 0} → (p q : PathOf V) (h to : Half p.S V) (g : Half q.S V) (env new : ℕ → V) → alone.turn p h env ≡ solo_at to new
     → IsRun p q (pair_at p q h g env) (pair_at p q to g new)
@@ -89,11 +89,11 @@ Shows b d k l m mine yours t u env r =
 
 -- a turn of the first path
 pub own_shown : (b d : Blocks) (k : Known b) (l : Known d) (path : Path) (m : MachineView) (mine yours : List Moves) (t u : Told)
-    (env : ℕ → Var) → Holds m env → IsTold m t u → IsFit m.first → IsFit m.second
+    (env : ℕ → Var) → Holds m env → IsTold m t u → IsFit m.paths.one → IsFit m.paths.two
     → (own_turn b path m).machine.alarm ≡ None
     → IsShown b d k l (shown b d k l m mine yours t u env) (own_turn b path m).machine (mine ++ moves_in (own_turn b path m).turn) yours
 own_shown b d k l path m mine yours t u env holds told fit fits calm =
-    go m.alarm refl m.first.finished refl m.first.waiting refl calm
+    go m.alarm refl m.paths.one.finished refl m.paths.one.waiting refl calm
   where
     idle : (answer : Turn) → moves_in answer ≡ []
         → IsShown b d k l (shown b d k l m mine yours t u env) m (mine ++ moves_in answer) yours
@@ -110,27 +110,27 @@ own_shown b d k l path m mine yours t u env holds told fit fits calm =
           second = fits;
         }
 
-    by : m.first.finished ≡ false → m.first.waiting ≡ None → (e : Effect) → b.effect m.first.path m.first.values ≡ e
-        → alone.turn (path_of b k) (half_of m.first mine t) env
-        ≡ alone.by_effect (half_of m.first mine t) env (seen b (m.first.path, mine, t) e)
+    by : m.paths.one.finished ≡ false → m.paths.one.waiting ≡ None → (e : Effect) → b.effect m.paths.one.path m.paths.one.values ≡ e
+        → alone.turn (path_of b k) (half_of m.paths.one mine t) env
+        ≡ alone.by_effect (half_of m.paths.one mine t) env (seen b (m.paths.one.path, mine, t) e)
     by f w e is = rw (f, w, is) refl
 
-    counted : m.first.waiting ≡ None → m.count ≡ (t.records + u.records) + waits m.second.waiting
-    counted w = let own : waits m.first.waiting ≡ 0 = ap waits w in let all = told.count in omega arith
+    counted : m.paths.one.waiting ≡ None → m.count ≡ (t.records + u.records) + waits m.paths.two.waiting
+    counted w = let own : waits m.paths.one.waiting ≡ 0 = ap waits w in let all = told.count in omega arith
 
-    met : m.first.finished ≡ false → m.first.waiting ≡ None → (code : ℕ) → b.effect m.first.path m.first.values ≡ effect.AtWait code
-        → (there : ℕ) → m.second.waiting ≡ Some there → (same : Bool)
-        → Shows b d k l m mine yours t u env (if same then result (turn.Met code) (behind_meeting m) else alarm_result (crossed_waits path (b.line m.first.path.place)) m)
+    met : m.paths.one.finished ≡ false → m.paths.one.waiting ≡ None → (code : ℕ) → b.effect m.paths.one.path m.paths.one.values ≡ effect.AtWait code
+        → (there : ℕ) → m.paths.two.waiting ≡ Some there → (same : Bool)
+        → Shows b d k l m mine yours t u env (if same then result (turn.Met code) (behind_meeting m) else alarm_result (crossed_waits path (b.line m.paths.one.path.place)) m)
     met f w code is there other true calm =
-        let g : m.second.finished ≡ false = fits there other in
-        let here = half_at (m.first.path, mine, t) [] Waiting in
-        let arrived : IsRun (path_of b k) (path_of d l) (shown b d k l m mine yours t u env) (pair_at (path_of b k) (path_of d l) here (half_of m.second yours u) env) =
-        step_to (path_of b k) (path_of d l) (half_of m.first mine t) here (half_of m.second yours u) env env (by f w (effect.AtWait code) is) in
-        let waits : (half_of m.second yours u).mode ≡ Waiting = rw (g, other) refl in
-        let on = gone (pair_at (path_of b k) (path_of d l) here (half_of m.second yours u) env)
-        (pair_at (path_of b k) (path_of d l) (behind_wait (path_of b k) here) (behind_wait (path_of d l) (half_of m.second yours u)) env)
+        let g : m.paths.two.finished ≡ false = fits there other in
+        let here = half_at (m.paths.one.path, mine, t) [] Waiting in
+        let arrived : IsRun (path_of b k) (path_of d l) (shown b d k l m mine yours t u env) (pair_at (path_of b k) (path_of d l) here (half_of m.paths.two yours u) env) =
+        step_to (path_of b k) (path_of d l) (half_of m.paths.one mine t) here (half_of m.paths.two yours u) env env (by f w (effect.AtWait code) is) in
+        let waits : (half_of m.paths.two yours u).mode ≡ Waiting = rw (g, other) refl in
+        let on = gone (pair_at (path_of b k) (path_of d l) here (half_of m.paths.two yours u) env)
+        (pair_at (path_of b k) (path_of d l) (behind_wait (path_of b k) here) (behind_wait (path_of d l) (half_of m.paths.two yours u)) env)
         arrived (meet refl waits) in
-        let same : pair_at (path_of b k) (path_of d l) (behind_wait (path_of b k) here) (behind_wait (path_of d l) (half_of m.second yours u)) env
+        let same : pair_at (path_of b k) (path_of d l) (behind_wait (path_of b k) here) (behind_wait (path_of d l) (half_of m.paths.two yours u)) env
         ≡ shown b d k l (behind_meeting m) (mine ++ []) yours (one_record t) (one_record u) env = rw (f, g, append-nil mine) refl in
         record {
           env = env;
@@ -143,19 +143,19 @@ own_shown b d k l path m mine yours t u env holds told fit fits calm =
           second = λ code waits. absurd (cc);
         }
       where
-        met_count : m.first.waiting ≡ None → (there : ℕ) → m.second.waiting ≡ Some there
+        met_count : m.paths.one.waiting ≡ None → (there : ℕ) → m.paths.two.waiting ≡ Some there
             → m.count + 1 ≡ ((t.records + 1) + (u.records + 1)) + (0 + 0)
-        met_count w there other = let own : waits m.second.waiting ≡ 1 = ap waits other in let all = counted w in omega arith
+        met_count w there other = let own : waits m.paths.two.waiting ≡ 1 = ap waits other in let all = counted w in omega arith
     met f w code is there other false calm = absurd cc
 
-    at_wait : m.first.finished ≡ false → m.first.waiting ≡ None → (code : ℕ) → b.effect m.first.path m.first.values ≡ effect.AtWait code
-        → (there : Option ℕ) → m.second.waiting ≡ there → Shows b d k l m mine yours t u env (result_at_wait path (b.line m.first.path.place) m code there)
+    at_wait : m.paths.one.finished ≡ false → m.paths.one.waiting ≡ None → (code : ℕ) → b.effect m.paths.one.path m.paths.one.values ≡ effect.AtWait code
+        → (there : Option ℕ) → m.paths.two.waiting ≡ there → Shows b d k l m mine yours t u env (result_at_wait path (b.line m.paths.one.path.place) m code there)
     at_wait f w code is None other calm = record {
       env = env;
       one_told = t;
       two_told = u;
-      run = step_to (path_of b k) (path_of d l) (half_of m.first mine t)
-          (half_at (m.first.path, mine ++ [], t) [] (mode_of m.first.finished (Some code))) (half_of m.second yours u) env env
+      run = step_to (path_of b k) (path_of d l) (half_of m.paths.one mine t)
+          (half_at (m.paths.one.path, mine ++ [], t) [] (mode_of m.paths.one.finished (Some code))) (half_of m.paths.two yours u) env env
           (by f w (effect.AtWait code) is ∙ rw (f, append-nil mine) refl);
       told = record { count = (let all = counted w in omega arith); writes = told.writes };
       holds = λ v i late. holds v i (omega arith);
@@ -164,18 +164,18 @@ own_shown b d k l path m mine yours t u env holds told fit fits calm =
     }
     at_wait f w code is (Some there) other calm = met f w code is there other (code == there) calm
 
-    ended : (e : Effect) → m.first.waiting ≡ None → m.count + 1 ≡ ((t.records + 1) + u.records) + (waits m.first.waiting + waits m.second.waiting)
-    ended e w = let own : waits m.first.waiting ≡ 0 = ap waits w in let all = counted w in omega arith
+    ended : (e : Effect) → m.paths.one.waiting ≡ None → m.count + 1 ≡ ((t.records + 1) + u.records) + (waits m.paths.one.waiting + waits m.paths.two.waiting)
+    ended e w = let own : waits m.paths.one.waiting ≡ 0 = ap waits w in let all = counted w in omega arith
 
-    block : m.first.finished ≡ false → m.first.waiting ≡ None → (e : Effect) → b.effect m.first.path m.first.values ≡ e
-        → Shows b d k l m mine yours t u env (result_by path (b.line m.first.path.place) m e)
+    block : m.paths.one.finished ≡ false → m.paths.one.waiting ≡ None → (e : Effect) → b.effect m.paths.one.path m.paths.one.values ≡ e
+        → Shows b d k l m mine yours t u env (result_by path (b.line m.paths.one.path.place) m e)
     block f w (effect.Need v) is calm = record {
       env = env;
       one_told = t;
       two_told = u;
-      run = step_to (path_of b k) (path_of d l) (half_of m.first mine t)
-          (half_at (m.first.path, mine ++ [], t) (m.first.values ++ value_after m.count v m.writes ∷ []) (mode_of m.first.finished m.first.waiting))
-          (half_of m.second yours u) env env
+      run = step_to (path_of b k) (path_of d l) (half_of m.paths.one mine t)
+          (half_at (m.paths.one.path, mine ++ [], t) (m.paths.one.values ++ value_after m.count v m.writes ∷ []) (mode_of m.paths.one.finished m.paths.one.waiting))
+          (half_of m.paths.two yours u) env env
           (by f w (effect.Need v) is ∙ rw (f, w, append-nil mine, holds v m.count (omega arith)) refl);
       told = record { count = told.count; writes = told.writes };
       holds = holds;
@@ -186,8 +186,8 @@ own_shown b d k l path m mine yours t u env holds told fit fits calm =
       env = env;
       one_told = one_record t;
       two_told = u;
-      run = step_to (path_of b k) (path_of d l) (half_of m.first mine t)
-          (half_at (logged b (m.first.path, mine, t) after moves) [] (mode_of m.first.finished m.first.waiting)) (half_of m.second yours u) env env
+      run = step_to (path_of b k) (path_of d l) (half_of m.paths.one mine t)
+          (half_at (logged b (m.paths.one.path, mine, t) after moves) [] (mode_of m.paths.one.finished m.paths.one.waiting)) (half_of m.paths.two yours u) env env
           (by f w (effect.Done after None moves) is ∙ rw (f, w) refl);
       told = record { count = ended (effect.Done after None moves) w; writes = told.writes };
       holds = λ v i late. holds v i (omega arith);
@@ -198,8 +198,8 @@ own_shown b d k l path m mine yours t u env holds told fit fits calm =
       env = set_at env write.variable write.value;
       one_told = one_write write t;
       two_told = u;
-      run = step_to (path_of b k) (path_of d l) (half_of m.first mine t)
-          (half_at (moved_on b (m.first.path, mine, t) after moves (one_write write t)) [] (mode_of m.first.finished m.first.waiting)) (half_of m.second yours u)
+      run = step_to (path_of b k) (path_of d l) (half_of m.paths.one mine t)
+          (half_at (moved_on b (m.paths.one.path, mine, t) after moves (one_write write t)) [] (mode_of m.paths.one.finished m.paths.one.waiting)) (half_of m.paths.two yours u)
           env (set_at env write.variable write.value)
           (by f w (effect.Done after (Some write) moves) is ∙ rw (f, w) refl);
       told = record {
@@ -210,13 +210,13 @@ own_shown b d k l path m mine yours t u env holds told fit fits calm =
       first = fit;
       second = fits;
     }
-    block f w (effect.AtWait code) is calm = at_wait f w code is m.second.waiting refl calm
+    block f w (effect.AtWait code) is calm = at_wait f w code is m.paths.two.waiting refl calm
     block f w (effect.AtEnd after moves) is calm = record {
       env = env;
       one_told = one_record t;
       two_told = u;
-      run = step_to (path_of b k) (path_of d l) (half_of m.first mine t)
-          (half_at (logged b (m.first.path, mine, t) after moves) [] Finished) (half_of m.second yours u) env env
+      run = step_to (path_of b k) (path_of d l) (half_of m.paths.one mine t)
+          (half_at (logged b (m.paths.one.path, mine, t) after moves) [] Finished) (half_of m.paths.two yours u) env env
           (by f w (effect.AtEnd after moves) is);
       told = record { count = ended (effect.AtEnd after moves) w; writes = told.writes };
       holds = λ v i late. holds v i (omega arith);
@@ -225,9 +225,9 @@ own_shown b d k l path m mine yours t u env holds told fit fits calm =
     }
     block f w (effect.Alarm number value) is calm = absurd cc
 
-    go : (a : Option Alarm) → m.alarm ≡ a → (f : Bool) → m.first.finished ≡ f → (w : Option ℕ) → m.first.waiting ≡ w
+    go : (a : Option Alarm) → m.alarm ≡ a → (f : Bool) → m.paths.one.finished ≡ f → (w : Option ℕ) → m.paths.one.waiting ≡ w
         → Shows b d k l m mine yours t u env (unless_idle m a f w (block_turn b path m))
     go (Some alarm) ea f ef w ew calm = idle (turn.Halted alarm) refl
     go None ea true ef w ew calm = idle turn.Finished refl
     go None ea false ef (Some code) ew calm = idle (turn.Waiting code) refl
-    go None ea false ef None ew calm = block ef ew (b.effect m.first.path m.first.values) refl calm
+    go None ea false ef None ew calm = block ef ew (b.effect m.paths.one.path m.paths.one.values) refl calm

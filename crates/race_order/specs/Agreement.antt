@@ -2,6 +2,7 @@
 use Rattle.std.specs.Prelude.{◌≡◌, ℕ, Bool, true, List, [], ◌∷◌, ◌++◌}
 use Rattle.nc_number.specs.declared.path.Path.{Path}
 use Rattle.nc_number.specs.declared.path.Path.TheVariants.{One, Two}
+use Rattle.nc_number.specs.Both.{both_of}
 use Rattle.nc_moves.specs.declared.motion.Moves.{Moves}
 use Rattle.common_vars.specs.declared.links.Write.{Write}
 use Rattle.common_vars.specs.Writes.{value_after}
@@ -45,8 +46,8 @@ moves_by tapes who m (path ∷ turns) =
 
 -- both paths have finished
 pub record AreDone (m : MachineView) : Type 0 where
-  pub first : m.first.finished ≡ true
-  pub second : m.second.finished ≡ true
+  pub first : m.paths.one.finished ≡ true
+  pub second : m.paths.two.finished ≡ true
 
 -- a path but for the numbers of records that it holds
 abbrev pub unstamped : Part → Part
@@ -54,7 +55,7 @@ unstamped part = record part { stamps = []; since = 0 }
 
 -- the machine but for the writes, and for those numbers
 abbrev pub but_for_order : MachineView → MachineView
-but_for_order m = record m { first = unstamped m.first; second = unstamped m.second; writes = [] }
+but_for_order m = record m { paths = both_of unstamped m.paths; writes = [] }
 
 -- these writes are those of the first path and those of the second, each in their order
 pub data AreMixed : List Written → List Written → List Write → Type 0 where

@@ -1,5 +1,5 @@
 -- A run whose paths take turns makes no record once it has ended, so it is one run.
-use Rattle.std.proofs.Common.{◌≡◌, ◌⊎◌, inl, inr, ℕ, zero, suc, ◌+◌, ◌-◌, ◌≤◌, ◌<◌, ◌&&◌, Bool, true, false, List, [], ◌∷◌, ◌++◌, length, refl, sym, ◌∙◌, ap, subst, arith, append_assoc, append-nil, length-append, Option, Some, None}
+use Rattle.std.proofs.Common.{◌≡◌, ℕ, zero, suc, ◌+◌, ◌-◌, ◌≤◌, ◌&&◌, Bool, true, false, List, [], ◌∷◌, ◌++◌, length, refl, sym, ◌∙◌, ap, subst, arith, append_assoc, append-nil, length-append, Option, Some, None}
 use Rattle.std.specs.Prelude.{nat_le}
 use Rattle.nc_number.specs.declared.path.Path.{Path}
 use Rattle.nc_number.specs.declared.path.Path.TheVariants.{One, Two}
@@ -8,11 +8,12 @@ use Rattle.nc_moves.specs.declared.alarm.Alarm.{Alarm}
 use Rattle.run_records.specs.Entries.{Entry}
 use Rattle.run_records.specs.declared.entry.EntryKind.{EntryKind}
 use Rattle.path_state.specs.View.{PathView}
-use Rattle.two_path.specs.Machine.{MachineView, own_first, opening, without_reads}
+use Rattle.two_path.specs.Machine.{MachineView, own_first, opening}
 use Rattle.two_path.specs.Turns.{Blocks, Tapes, TurnResult, unless_idle, block_turn, own_turn, turn_of, kind_of, entry_with, entry_of}
-use Rattle.two_path.specs.Histories.{HistoriesAreRuns, Event, TurnOf, fold, history, run, list_of, records_of, behind_event}
-use Rattle.turn_order.specs.declared.ending.TurnsEnd.{TurnsEnd}
-use Rattle.turn_order.specs.Ending.{end_by, end_of}
+use Rattle.two_path.specs.Histories.{HistoriesAreRuns, fold, history, run, list_of}
+use Rattle.nc_outside.specs.declared.reason.Reason.{Reason}
+use Rattle.nc_outside.specs.Reasons.{end_by}
+use Rattle.two_path.specs.Ending.{end_of}
 use Rattle.turn_order.specs.InTurn.{IsInTurn, in_turn}
 
 -- a machine that has ended: an alarm, or the ends of both paths
@@ -37,7 +38,7 @@ swap None false true over is = over refl
 swap None false false over is = over refl
 
 own_still : (blocks : Blocks) (path : Path) (m : MachineView) → IsOver m → IsStill m (own_turn blocks path m)
-own_still blocks path m over = still_by m m.alarm m.first.finished m.second.finished m.first.waiting (block_turn blocks path m) over
+own_still blocks path m over = still_by m m.alarm m.paths.one.finished m.paths.two.finished m.paths.one.waiting (block_turn blocks path m) over
 
 record IsPassed (tapes : Tapes) (path : Path) (m : MachineView) : Type 0 where
   same : (turn_of tapes path m).machine ≡ m
@@ -45,11 +46,11 @@ record IsPassed (tapes : Tapes) (path : Path) (m : MachineView) : Type 0 where
 
 passed : (tapes : Tapes) (path : Path) (m : MachineView) → IsOver m → IsPassed tapes path m
 passed tapes One m over =
-    let still = own_still tapes.first One m over in
-    record { same = still.same; none = ap (λ (k : Option EntryKind). list_of (entry_with One m.first.stamps k)) still.none }
+    let still = own_still tapes.one One m over in
+    record { same = still.same; none = ap (λ (k : Option EntryKind). list_of (entry_with One m.paths.one.stamps k)) still.none }
 passed tapes Two m over =
-    let still = own_still tapes.second Two (own_first Two m) (swap m.alarm m.first.finished m.second.finished over) in
-    record { same = ap (own_first Two) still.same; none = ap (λ (k : Option EntryKind). list_of (entry_with Two m.second.stamps k)) still.none }
+    let still = own_still tapes.two Two (own_first Two m) (swap m.alarm m.paths.one.finished m.paths.two.finished over) in
+    record { same = ap (own_first Two) still.same; none = ap (λ (k : Option EntryKind). list_of (entry_with Two m.paths.two.stamps k)) still.none }
 
 -- no turn makes a record once the run has ended
 none_more : (tapes : Tapes) (path : Path) (m : MachineView) (n : ℕ) → IsOver m → history tapes m (in_turn path n) ≡ []
@@ -112,13 +113,13 @@ module _ (tapes : Tapes) (first second : PathView) (limit : ℕ) (law : Historie
           ap (λ (es : List Entry). end_of (fold tapes (opening first second) es)) (sym is_one)
           ∙ ap end_of (law.run (in_turn One n)).folds
 
-      go : (o : Option TurnsEnd) → end_of (fold tapes (opening first second) one) ≡ o → one ≡ two
+      go : (o : Option Reason) → end_of (fold tapes (opening first second) one) ≡ o → one ≡ two
       go None is =
           whole (none_left one (further tapes (opening first second) One n more) limit (ended is)
           (subst (λ (es : List Entry). length es ≤ limit) parts within))
       go (Some end) is =
           whole (over_further tapes (opening first second) One n more
-          (λ none. let clash : ◌≡◌ {A = Option TurnsEnd} (Some end) None = sym is ∙ ends ∙ none in cc))
+          (λ none. let clash : ◌≡◌ {A = Option Reason} (Some end) None = sym is ∙ ends ∙ none in cc))
 
   pub one_run : (one two : List Entry) → IsInTurn tapes (opening first second) limit one → IsInTurn tapes (opening first second) limit two → one ≡ two
   one_run one two a b = go (nat_le a.turns b.turns) refl

@@ -1,18 +1,19 @@
 -- A run whose paths take turns, as far as it has come.
-use Rattle.std.proofs.Common.{◌≡◌, ℕ, zero, suc, ◌+◌, ◌≤◌, ◌<◌, ◌==◌, ◌&&◌, Bool, true, false, List, [], ◌∷◌, ◌++◌, length, refl, sym, ◌∙◌, ap, subst, arith, append_assoc, append-nil, length-append, Option, Some, None}
+use Rattle.std.proofs.Common.{◌≡◌, ℕ, suc, ◌+◌, ◌≤◌, ◌<◌, ◌==◌, Bool, true, false, List, [], ◌++◌, length, refl, sym, ◌∙◌, ap, arith, append_assoc, append-nil, Option, Some, None}
 use Rattle.std.specs.Prelude.{if◌then◌else◌, unwrap_or}
 use Rattle.nc_number.specs.declared.path.Path.{Path}
-use Rattle.nc_number.specs.declared.path.Path.TheVariants.{One, Two}
+use Rattle.nc_number.specs.declared.path.Path.TheVariants.{One}
 use Rattle.nc_number.specs.Path.{other_of}
 use Rattle.nc_moves.specs.declared.alarm.Alarm.{Alarm}
 use Rattle.run_records.specs.Entries.{Entry}
-use Rattle.path_state.specs.View.{PathView}
-use Rattle.two_path.specs.Machine.{MachineView, opening, without_reads}
+use Rattle.two_path.specs.Machine.{MachineView}
 use Rattle.two_path.specs.Turns.{Tapes, turn_of, entry_of}
 use Rattle.two_path.specs.Histories.{HistoriesAreRuns, IsKept, TurnOf, fold, history, list_of, behind_event, records_of}
-use Rattle.turn_order.specs.declared.ending.TurnsEnd.{TurnsEnd}
-use Rattle.turn_order.specs.declared.ending.TurnsEnd.TheVariants as ends
-use Rattle.turn_order.specs.Ending.{bound_by, end_at, end_before, end_by, end_of, end_or_bound, end_told}
+use Rattle.nc_outside.specs.declared.halt.Halt.{Halt}
+use Rattle.nc_outside.specs.declared.reason.Reason.{Reason}
+use Rattle.nc_outside.specs.Reasons.{end_by, end_or_bound}
+use Rattle.two_path.specs.Ending.{end_of}
+use Rattle.turn_order.specs.Ending.{halt_at, bound_by, end_at, end_told}
 use Rattle.turn_order.specs.InTurn.{IsInTurn, in_turn}
 
 -- After some turns the run has these records, stands at this machine, and this path is next: so it
@@ -70,43 +71,47 @@ not_ended None false is = (refl, refl)
 no_bound : (count limit most : ℕ) → bound_by count limit most ≡ None → count ≤ limit → count < limit
 no_bound count limit most = go (count == limit) refl
   where
-    go : (b : Bool) → (count == limit) ≡ b → (if b then Some (end_at count most) else None) ≡ None → count ≤ limit → count < limit
+    go : (b : Bool) → (count == limit) ≡ b → (if b then Some (halt_at count most) else None) ≡ None → count ≤ limit → count < limit
     go true e is le = absurd cc
     go false e is le = grind arith
 
-pub may_go_on : (end : Option TurnsEnd) (count limit most : ℕ) → end_or_bound end (bound_by count limit most) ≡ None → count ≤ limit → (end ≡ None) × (count < limit)
+pub may_go_on : (end : Option Reason) (count limit most : ℕ) → end_or_bound end (bound_by count limit most) ≡ None → count ≤ limit → (end ≡ None) × (count < limit)
 may_go_on (Some end) count limit most is le = absurd cc
-may_go_on None count limit most is le = (refl, no_bound count limit most is le)
+may_go_on None count limit most is le = (refl, no_bound count limit most (unbound (bound_by count limit most) is) le)
+  where
+    unbound : (bound : Option Halt) → end_or_bound None bound ≡ None → bound ≡ None
+    unbound None none = refl
+    unbound (Some why) none = absurd cc
 
-at_bound : (count limit most : ℕ) (end : TurnsEnd) → bound_by count limit most ≡ Some end → (count ≡ limit) × (end ≡ end_at count most)
+at_bound : (count limit most : ℕ) (end : Reason) → end_or_bound None (bound_by count limit most) ≡ Some end → (count ≡ limit) × (end ≡ end_at count most)
 at_bound count limit most end = go (count == limit) refl
   where
-    go : (b : Bool) → (count == limit) ≡ b → (if b then Some (end_at count most) else None) ≡ Some end → (count ≡ limit) × (end ≡ end_at count most)
+    go : (b : Bool) → (count == limit) ≡ b → end_or_bound None (if b then Some (halt_at count most) else None) ≡ Some end → (count ≡ limit) × (end ≡ end_at count most)
     go true e is = (grind arith, (cc))
     go false e is = absurd cc
 
 -- how a run ended
-pub record HasEnded (m : MachineView) (most limit : ℕ) (end : TurnsEnd) : Type 0 where
+pub record HasEnded (m : MachineView) (most limit : ℕ) (end : Reason) : Type 0 where
   pub told : end ≡ unwrap_or (end_of m) (end_at m.count most)
   pub at_limit : end_of m ≡ None → m.count ≡ limit
 
-pub ended_by : (m : MachineView) (limit most : ℕ) (end : TurnsEnd) (o : Option TurnsEnd) → end_of m ≡ o → end_or_bound o (bound_by m.count limit most) ≡ Some end
+pub ended_by : (m : MachineView) (limit most : ℕ) (end : Reason) (o : Option Reason) → end_of m ≡ o → end_or_bound o (bound_by m.count limit most) ≡ Some end
     → HasEnded m most limit end
 ended_by m limit most end (Some e) is told = record {
   told =
       let same : e ≡ end = cc in
-      sym same ∙ ap (λ (x : Option TurnsEnd). unwrap_or x (end_at m.count most)) (sym is);
-  at_limit = λ none. absurd (let clash : ◌≡◌ {A = Option TurnsEnd} (Some e) None = sym is ∙ none in cc);
+      sym same ∙ ap (λ (x : Option Reason). unwrap_or x (end_at m.count most)) (sym is);
+  at_limit = λ none. absurd (let clash : ◌≡◌ {A = Option Reason} (Some e) None = sym is ∙ none in cc);
 }
 ended_by m limit most end None is told =
     let at = at_bound m.count limit most end told in
     record {
-      told = at.1 ∙ ap (λ (x : Option TurnsEnd). unwrap_or x (end_at m.count most)) (sym is);
+      told = at.1 ∙ ap (λ (x : Option Reason). unwrap_or x (end_at m.count most)) (sym is);
       at_limit = λ none. at.0;
     }
 
 -- a run that has ended is one whose paths took turns
-pub in_turn_at_end : (tapes : Tapes) (start : MachineView) (path : Path) (m : MachineView) (entries : List Entry) (limit most : ℕ) (end : TurnsEnd)
+pub in_turn_at_end : (tapes : Tapes) (start : MachineView) (path : Path) (m : MachineView) (entries : List Entry) (limit most : ℕ) (end : Reason)
     → IsSoFar tapes start path m entries → IsKept tapes start entries m → m.count ≡ length entries → length entries ≤ limit → HasEnded m most limit end
     → IsInTurn tapes start limit entries
 in_turn_at_end tapes start path m entries limit most end so_far kept count within ended = record {
@@ -116,8 +121,8 @@ in_turn_at_end tapes start path m entries limit most end so_far kept count withi
   ended = λ none. sym count ∙ ended.at_limit (sym (same_end tapes start m entries kept) ∙ none);
 }
 
-pub told_at_end : (tapes : Tapes) (start m : MachineView) (entries : List Entry) (limit most : ℕ) (end : TurnsEnd)
+pub told_at_end : (tapes : Tapes) (start m : MachineView) (entries : List Entry) (limit most : ℕ) (end : Reason)
     → IsKept tapes start entries m → m.count ≡ length entries → HasEnded m most limit end → end ≡ end_told tapes start most entries
 told_at_end tapes start m entries limit most end kept count ended =
-    ended.told ∙ ap (λ (x : Option TurnsEnd). unwrap_or x (end_at m.count most)) (sym (same_end tapes start m entries kept))
+    ended.told ∙ ap (λ (x : Option Reason). unwrap_or x (end_at m.count most)) (sym (same_end tapes start m entries kept))
     ∙ ap (λ n. unwrap_or (end_of (fold tapes start entries)) (end_at n most)) count

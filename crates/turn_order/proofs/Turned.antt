@@ -8,6 +8,7 @@ use Rattle.nc_number.specs.declared.value.Var.{Var}
 use Rattle.nc_number.specs.Path.{other_of}
 use Rattle.nc_number.proofs.Bools.{only_false}
 use Rattle.nc_number.specs.declared.limits.TheConstants.{MOST_READS}
+use Rattle.nc_number.specs.Both.{of_path}
 use Rattle.nc_moves.specs.declared.alarm.Alarm.{Alarm}
 use Rattle.path_state.specs.View.{PathView}
 use Rattle.path_state.specs.Effect.{Effect, Need, Done, AtWait, AtEnd, effect_of}
@@ -24,13 +25,13 @@ use Rattle.two_path.specs.Stuck.{IsStuck}
 
 -- how many reads blocks have made that are not done
 abbrev pub reads_of : MachineView → ℕ
-reads_of m = length m.first.stamps + length m.second.stamps
+reads_of m = length m.paths.one.stamps + length m.paths.two.stamps
 
 -- So many turns come at most, the next one for this path: each makes a record, or one of 32 reads
 -- of its block, or is passed over, and of two turns one at most is.
 abbrev pub turns_left : ℕ → Path → MachineView → ℕ
 turns_left limit path m =
-    2 * (65 * ((limit - m.count) + 1) - reads_of m) + (if is_idle (own_first path m).first then 1 else 0)
+    2 * (65 * ((limit - m.count) + 1) - reads_of m) + (if is_idle (of_path m.paths path) then 1 else 0)
 
 -- a block makes 32 reads at most
 abbrev AsksFew : Blocks → Type 0
@@ -45,8 +46,8 @@ asks_few blocks most path writes values (stamp ∷ stamps) asks few =
     let rest = asks_few blocks most path writes (and_next blocks path writes stamp values) stamps asks.1 (omega (arith, less, one)) in
     omega (arith, one, rest)
 
-lawful_few : (blocks : Blocks) (m : MachineView) → AsksFew blocks → IsLawful blocks m → length m.first.stamps ≤ MOST_READS
-lawful_few blocks m most lawful = omega (arith, asks_few blocks most m.first.path m.writes [] m.first.stamps lawful.may.asks (omega arith))
+lawful_few : (blocks : Blocks) (m : MachineView) → AsksFew blocks → IsLawful blocks m → length m.paths.one.stamps ≤ MOST_READS
+lawful_few blocks m most lawful = omega (arith, asks_few blocks most m.paths.one.path m.writes [] m.paths.one.stamps lawful.may.asks (omega arith))
 
 flow_asks_few : ((flow : Flow) (path : PathView) (reads : List Var) → AsksForShared path reads (effect_of flow path reads)) → (flow : Flow) → AsksFew (blocks_of flow)
 flow_asks_few law flow path reads variable is = (subst (AsksForShared path reads) is (law flow path reads)).1
@@ -58,7 +59,7 @@ few_reads law left right m lawful =
 
 -- what a turn of the first path comes to
 data Went (m : MachineView) (r : TurnResult) : Type 0 where
-  over : is_idle m.first ≡ true → r.machine ≡ m → kind_of r.turn ≡ None → Went m r
+  over : is_idle m.paths.one ≡ true → r.machine ≡ m → kind_of r.turn ≡ None → Went m r
   read : kind_of r.turn ≡ None → reads_of r.machine ≡ reads_of m + 1 → r.machine.count ≡ m.count → Went m r
   made : (kind : EntryKind) → kind_of r.turn ≡ Some kind → r.machine.count ≡ m.count + 1 → Went m r
 
@@ -72,63 +73,63 @@ wait_went path line m code (Some there) = go (code == there) refl
 
 by_went : (path : Path) (line : ℕ) (m : MachineView) (e : Effect) → Went m (result_by path line m e)
 by_went path line m (Need variable) =
-    let one : length (m.first.stamps ++ m.count ∷ []) ≡ length m.first.stamps + 1 = length-append m.first.stamps (m.count ∷ []) in
+    let one : length (m.paths.one.stamps ++ m.count ∷ []) ≡ length m.paths.one.stamps + 1 = length-append m.paths.one.stamps (m.count ∷ []) in
     read refl (omega (arith, one)) refl
 by_went path line m (Done after write moves) = made kind.Did refl refl
-by_went path line m (AtWait code) = wait_went path line m code m.second.waiting
+by_went path line m (AtWait code) = wait_went path line m code m.paths.two.waiting
 by_went path line m (AtEnd after moves) = made kind.Ended refl refl
 by_went path line m (effect.Alarm number value) = made kind.Alarmed refl refl
 
-went_by : (m : MachineView) (a : Option Alarm) (f : Bool) (w : Option ℕ) (rest : TurnResult) → a ≡ None → m.first.finished ≡ f → m.first.waiting ≡ w
+went_by : (m : MachineView) (a : Option Alarm) (f : Bool) (w : Option ℕ) (rest : TurnResult) → a ≡ None → m.paths.one.finished ≡ f → m.paths.one.waiting ≡ w
     → Went m rest → Went m (unless_idle m a f w rest)
 went_by m (Some alarm) f w rest calm ends waits goes = absurd cc
-went_by m None true w rest calm ends waits goes = over (ap (λ b. b || is_some m.first.waiting) ends) refl refl
+went_by m None true w rest calm ends waits goes = over (ap (λ b. b || is_some m.paths.one.waiting) ends) refl refl
 went_by m None false (Some code) rest calm ends waits goes =
-    over (ap (λ b. b || is_some m.first.waiting) ends ∙ ap (λ (o : Option ℕ). is_some o) waits) refl refl
+    over (ap (λ b. b || is_some m.paths.one.waiting) ends ∙ ap (λ (o : Option ℕ). is_some o) waits) refl refl
 went_by m None false None rest calm ends waits goes = goes
 
 own_went : (blocks : Blocks) (path : Path) (m : MachineView) → m.alarm ≡ None → Went m (own_turn blocks path m)
 own_went blocks path m calm =
-    went_by m m.alarm m.first.finished m.first.waiting (block_turn blocks path m) calm refl refl
-    (by_went path (blocks.line m.first.path.place) m (blocks.effect m.first.path m.first.values))
+    went_by m m.alarm m.paths.one.finished m.paths.one.waiting (block_turn blocks path m) calm refl refl
+    (by_went path (blocks.line m.paths.one.path.place) m (blocks.effect m.paths.one.path m.paths.one.values))
 
 -- what a turn of either path comes to
 pub data Gave (path : Path) (before after : MachineView) (made : List Entry) : Type 0 where
-  passed : is_idle (own_first path before).first ≡ true → after ≡ before → length made ≡ 0 → Gave path before after made
+  passed : is_idle (of_path before.paths path) ≡ true → after ≡ before → length made ≡ 0 → Gave path before after made
   has_read : length made ≡ 0 → reads_of after ≡ reads_of before + 1 → after.count ≡ before.count → Gave path before after made
   recorded : length made ≡ 1 → after.count ≡ before.count + 1 → Gave path before after made
 
 made_by : (path : Path) (stamps : List ℕ) (k k' : Option EntryKind) → k ≡ k' → length (list_of (entry_with path stamps k)) ≡ length (list_of (entry_with path stamps k'))
 made_by path stamps k k' is = ap (λ (o : Option EntryKind). length (list_of (entry_with path stamps o))) is
 
-one_gave : (tapes : Tapes) (m : MachineView) → Went m (own_turn tapes.first One m)
+one_gave : (tapes : Tapes) (m : MachineView) → Went m (own_turn tapes.one One m)
     → Gave One m (turn_of tapes One m).machine (list_of (entry_of tapes One m))
-one_gave tapes m (over idle same none) = passed idle same (made_by One m.first.stamps _ None none)
-one_gave tapes m (read none more still) = has_read (made_by One m.first.stamps _ None none) more still
-one_gave tapes m (made kind is more) = recorded (made_by One m.first.stamps _ (Some kind) is) more
+one_gave tapes m (over idle same none) = passed idle same (made_by One m.paths.one.stamps _ None none)
+one_gave tapes m (read none more still) = has_read (made_by One m.paths.one.stamps _ None none) more still
+one_gave tapes m (made kind is more) = recorded (made_by One m.paths.one.stamps _ (Some kind) is) more
 
-two_gave : (tapes : Tapes) (m : MachineView) → Went (own_first Two m) (own_turn tapes.second Two (own_first Two m))
+two_gave : (tapes : Tapes) (m : MachineView) → Went (own_first Two m) (own_turn tapes.two Two (own_first Two m))
     → Gave Two m (turn_of tapes Two m).machine (list_of (entry_of tapes Two m))
-two_gave tapes m (over idle same none) = passed idle (ap (own_first Two) same) (made_by Two m.second.stamps _ None none)
-two_gave tapes m (read none more still) = has_read (made_by Two m.second.stamps _ None none) (omega (arith, more)) still
-two_gave tapes m (made kind is more) = recorded (made_by Two m.second.stamps _ (Some kind) is) more
+two_gave tapes m (over idle same none) = passed idle (ap (own_first Two) same) (made_by Two m.paths.two.stamps _ None none)
+two_gave tapes m (read none more still) = has_read (made_by Two m.paths.two.stamps _ None none) (omega (arith, more)) still
+two_gave tapes m (made kind is more) = recorded (made_by Two m.paths.two.stamps _ (Some kind) is) more
 
 pub gave : (tapes : Tapes) (path : Path) (m : MachineView) → m.alarm ≡ None
     → Gave path m (turn_of tapes path m).machine (list_of (entry_of tapes path m))
-gave tapes One m calm = one_gave tapes m (own_went tapes.first One m calm)
-gave tapes Two m calm = two_gave tapes m (own_went tapes.second Two (own_first Two m) calm)
+gave tapes One m calm = one_gave tapes m (own_went tapes.one One m calm)
+gave tapes Two m calm = two_gave tapes m (own_went tapes.two Two (own_first Two m) calm)
 
 -- the other path goes on
 unfinished : (first second : Bool) → (first && second) ≡ false → (first ≡ false) ⊎ (second ≡ false)
 unfinished true second is = inr is
 unfinished false second is = inl refl
 
-other_awake : (path : Path) (m : MachineView) → (IsStuck (without_reads m) → ⊥) → m.alarm ≡ None → (m.first.finished && m.second.finished) ≡ false
-    → is_idle (own_first path m).first ≡ true → is_idle (own_first (other_of path) m).first ≡ false
+other_awake : (path : Path) (m : MachineView) → (IsStuck (without_reads m) → ⊥) → m.alarm ≡ None → (m.paths.one.finished && m.paths.two.finished) ≡ false
+    → is_idle (of_path m.paths path) ≡ true → is_idle (of_path m.paths (other_of path)) ≡ false
 other_awake One m free calm some idle =
-    only_false (is_idle m.second) (λ both. free (record { calm = calm; unfinished = unfinished m.first.finished m.second.finished some; first = idle; second = both }))
+    only_false (is_idle m.paths.two) (λ both. free (record { calm = calm; unfinished = unfinished m.paths.one.finished m.paths.two.finished some; first = idle; second = both }))
 other_awake Two m free calm some idle =
-    only_false (is_idle m.first) (λ both. free (record { calm = calm; unfinished = unfinished m.first.finished m.second.finished some; first = both; second = idle }))
+    only_false (is_idle m.paths.one) (λ both. free (record { calm = calm; unfinished = unfinished m.paths.one.finished m.paths.two.finished some; first = both; second = idle }))
 
 -- how many turns are left
 abbrev left : ℕ → ℕ → ℕ → ℕ
@@ -155,19 +156,19 @@ flag_most false = omega arith
 
 -- behind a turn fewer are left
 module _ (limit : ℕ) (path : Path) (m after : MachineView) (unstuck : IsStuck (without_reads m) → ⊥) (calm : m.alarm ≡ None)
-    (some : (m.first.finished && m.second.finished) ≡ false) (few : reads_of m ≤ 64) (below : m.count < limit) where
+    (some : (m.paths.one.finished && m.paths.two.finished) ≡ false) (few : reads_of m ≤ 64) (below : m.count < limit) where
   pub fewer : (entries : List Entry) → Gave path m after entries → turns_left limit (other_of path) after < turns_left limit path m
   fewer entries (passed idle same none) =
-      let other = ap (λ (x : MachineView). is_idle (own_first (other_of path) x).first) same ∙ other_awake path m unstuck calm some idle in
-      left_passed (limit - m.count) (limit - after.count) (reads_of m) (reads_of after) (flag (is_idle (own_first path m).first))
-      (flag (is_idle (own_first (other_of path) after).first)) (ap (λ (x : MachineView). limit - x.count) same)
+      let other = ap (λ (x : MachineView). is_idle (of_path x.paths (other_of path))) same ∙ other_awake path m unstuck calm some idle in
+      left_passed (limit - m.count) (limit - after.count) (reads_of m) (reads_of after) (flag (is_idle (of_path m.paths path)))
+      (flag (is_idle (of_path after.paths (other_of path)))) (ap (λ (x : MachineView). limit - x.count) same)
       (ap reads_of same) few (ap flag idle) (ap flag other)
   fewer entries (has_read none more still) =
-      left_read (limit - m.count) (limit - after.count) (reads_of m) (reads_of after) (flag (is_idle (own_first path m).first))
-      (flag (is_idle (own_first (other_of path) after).first)) (ap (λ n. limit - n) still) more few (flag_most (is_idle (own_first (other_of path) after).first))
+      left_read (limit - m.count) (limit - after.count) (reads_of m) (reads_of after) (flag (is_idle (of_path m.paths path)))
+      (flag (is_idle (of_path after.paths (other_of path)))) (ap (λ n. limit - n) still) more few (flag_most (is_idle (of_path after.paths (other_of path))))
   fewer entries (recorded one more) =
-      left_made (limit - m.count) (limit - after.count) (reads_of m) (reads_of after) (flag (is_idle (own_first path m).first))
-      (flag (is_idle (own_first (other_of path) after).first)) (omega (arith, more, below)) few (flag_most (is_idle (own_first (other_of path) after).first))
+      left_made (limit - m.count) (limit - after.count) (reads_of m) (reads_of after) (flag (is_idle (of_path m.paths path)))
+      (flag (is_idle (of_path after.paths (other_of path)))) (omega (arith, more, below)) few (flag_most (is_idle (of_path after.paths (other_of path))))
 
 -- a turn makes one record at most
 pub made_few : (path : Path) (m after : MachineView) (entries : List Entry) → Gave path m after entries → length entries ≤ 1

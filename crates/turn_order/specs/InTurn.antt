@@ -1,23 +1,22 @@
 -- The run of a pair whose paths take turns.
 use Rattle.std.specs.Prelude.{◌≡◌, ℕ, zero, suc, ◌≤◌, List, [], ◌∷◌, length, None}
 use Rattle.nc_number.specs.declared.path.Path.{Path}
-use Rattle.nc_number.specs.declared.path.Path.TheVariants.{One, Two}
+use Rattle.nc_number.specs.declared.path.Path.TheVariants.{One}
 use Rattle.nc_number.specs.Path.{other_of}
 use Rattle.nc_verify.specs.declared.verified.Verified.{Verified}
 use Rattle.run_records.specs.Entries.{Entry}
-use Rattle.path_state.specs.Opening.{opening_path}
-use Rattle.two_path.specs.Machine.{MachineView, opening}
+use Rattle.two_path.specs.Machine.{MachineView}
+use Rattle.two_path.specs.Start.{machine_at_start}
+use Rattle.two_path.specs.Ending.{end_of}
 use Rattle.two_path.specs.Turns.{Tapes, tapes_of}
 use Rattle.two_path.specs.Histories.{Event, TurnOf, history, fold}
-use Rattle.turn_order.specs.Ending.{end_of}
 
 -- the tapes of an accepted pair, and its machine before the first turn
 abbrev pub tapes_in : Verified → Tapes
 tapes_in verified = tapes_of verified.left verified.right
 
 abbrev pub start_of : Verified → MachineView
-start_of verified =
-    opening (opening_path verified.left verified.settings One) (opening_path verified.right verified.settings Two)
+start_of verified = machine_at_start verified.left verified.right verified.settings
 
 -- so many turns, of this path and the other one in turn
 abbrev pub in_turn : Path → ℕ → List Event

@@ -11,6 +11,5 @@ mod ending;
 mod laws;
 mod turns;
 
-pub use ending::TurnsEnd;
 pub use laws::{one_run_in_turn, runs_in_turn_are_legal};
 pub use turns::{InTurn, records_in_turn};

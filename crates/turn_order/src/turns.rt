@@ -1,5 +1,5 @@
 //! Turns of both paths, one after the other, until the run ends.
-ghost use Rattle.std.specs.Prelude.{◌≡◌, ◌<◌, ◌≤◌, ◌++◌, [], length, min, IfOk, OnOk};
+ghost use Rattle.std.specs.Prelude.{◌≡◌, ◌<◌, ◌≤◌, ◌++◌, length, min, IfOk, OnOk};
 ghost use Rattle.nc_number.specs.declared.limits.TheConstants.{MOST_RECORDS};
 ghost use Rattle.two_path.specs.Turns.{tapes_of, turn_of, entry_of};
 ghost use Rattle.two_path.specs.Histories.{IsLegal, list_of};
@@ -7,29 +7,34 @@ ghost use Rattle.two_path.specs.Joined.{AreAtTheirWaits};
 ghost use Rattle.turn_order.specs.InTurn.{IsInTurn, start_of, tapes_in};
 ghost use Rattle.turn_order.specs.Ending.{end_told};
 
-use crate::ending::{TurnsEnd, end_before};
+use crate::ending::end_before;
 use crate::laws::kept_runs_are_not_stuck;
+use nc_moves::MoveList;
 use nc_number::{NoMemory, Path};
+use nc_outside::Reason;
 use nc_verify::Verified;
 use path_state::a_block_asks_for_each_variable_once_at_most;
 use run_records::EntryList;
 use std::alloc::Global;
 use tape_flow::Flow;
 use two_path::{
-    Machine, a_machine_begins_without_waits, each_event_keeps_the_history, histories_are_runs,
+    Answered, Machine, a_machine_begins_without_waits, each_event_keeps_the_history,
+    histories_are_runs,
 };
 
 /// A run whose paths took turns: its records, and why it ended.
 #[derive(Drop)]
 pub struct InTurn {
     pub entries: EntryList,
-    pub end: TurnsEnd,
+    pub end: Reason,
 }
 
-/// Gives the path its turn, and keeps the record that it makes, if it makes one.
+/// Gives the path its turn, and keeps the record that it makes, if it makes one. The list is lent
+/// for its moves, which nobody asks for.
 fn give_turn(
     machine: &mut Machine,
     entries: &mut EntryList,
+    moves: &mut MoveList,
     left: &Flow,
     right: &Flow,
     path: Path,
@@ -44,8 +49,8 @@ fn give_turn(
 {
     machine.reserve(1)?;
     entries.reserve(1)?;
-    let turned = machine.turn(left, right, path);
-    if let Some(entry) = turned.entry {
+    let Answered { answer: _, entry } = machine.turn_into(left, right, path, moves);
+    if let Some(entry) = entry {
         entries.push(entry);
     }
     Ok(())
@@ -84,12 +89,13 @@ pub fn records_in_turn(alloc: Global, verified: &Verified, most: u32) -> Result<
     let limit = limit_of(most, full);
     let mut machine = Machine::new(alloc, left, right, settings)?;
     let mut entries = EntryList::empty(alloc);
+    let mut moves = MoveList::empty();
     let mut path = Path::One;
     loop {
         if let Some(end) = end_before(&machine, limit, full) {
             return Ok(InTurn { entries, end });
         }
-        give_turn(&mut machine, &mut entries, left, right, path)?;
+        give_turn(&mut machine, &mut entries, &mut moves, left, right, path)?;
         path = path.other();
     }
 }

@@ -45,6 +45,6 @@ wait_still path line m code (Some there) = go (code == there) refl
 pub by_effect : (path : Path) (line : ℕ) (m : MachineView) (e : Effect) → moves_of e ≡ moves_of_turn (result_by path line m e).turn
 by_effect path line m (Need variable) = refl
 by_effect path line m (Done after write moves) = refl
-by_effect path line m (AtWait code) = wait_still path line m code m.second.waiting
+by_effect path line m (AtWait code) = wait_still path line m code m.paths.two.waiting
 by_effect path line m (AtEnd after moves) = refl
 by_effect path line m (Alarm number value) = refl

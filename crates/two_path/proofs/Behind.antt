@@ -2,10 +2,11 @@
 use Rattle.std.proofs.Common.{◌≡◌, List, None, refl, sym, ap, subst, ◌∙◌}
 use Rattle.nc_number.specs.declared.path.Path.{Path}
 use Rattle.nc_number.specs.declared.path.Path.TheVariants.{One, Two}
+use Rattle.nc_number.specs.Both.{of_path}
 use Rattle.run_records.specs.Entries.{Entry}
 use Rattle.path_state.specs.View.{PathView}
 use Rattle.two_path.specs.Machine.{MachineView, own_first, without_reads, opening}
-use Rattle.two_path.specs.Turns.{Tapes, tape_of}
+use Rattle.two_path.specs.Turns.{Tapes}
 use Rattle.two_path.specs.Histories.{Event, run, fold, IsLegal}
 use Rattle.two_path.specs.Stuck.{IsCrossed, IsFree}
 use Rattle.two_path.proofs.Scheduled.{run_of, lawful_of, fold_bare}
@@ -28,6 +29,6 @@ fold_free tapes first second free rs legal =
         let x = lawful_of tapes first second rs n legal (sym is) calm (fold_kept tapes first second rs legal).lawful in
         subst (IsFree tapes) (x.reaches) (free x.events)
 
-    crossed : (path : Path) → IsCrossed (tape_of tapes path) (own_first path (fold tapes (opening first second) rs)) → ⊥
+    crossed : (path : Path) → IsCrossed (of_path tapes path) (own_first path (fold tapes (opening first second) rs)) → ⊥
     crossed One x = (calmly x.calm).crossed One x
     crossed Two x = (calmly x.calm).crossed Two x

@@ -14,9 +14,10 @@ use Rattle.path_state.specs.Edits.{shared_write}
 use Rattle.path_state.specs.Effect.{Effect, Need, Done, AtWait, AtEnd}
 use Rattle.path_state.specs.Effect as effect
 use Rattle.nc_number.proofs.Counts.{some_is}
+use Rattle.nc_number.specs.Both.{of_path}
 use Rattle.two_path.specs.declared.turn.Turn.TheVariants as turn
 use Rattle.two_path.specs.Machine.{MachineView, own_first, without_reads, opening}
-use Rattle.two_path.specs.Turns.{Blocks, Tapes, tape_of, result, behind_meeting, crossed_waits, alarm_result, with_write, result_at_wait, result_by, kind_of}
+use Rattle.two_path.specs.Turns.{Blocks, Tapes, result, behind_meeting, crossed_waits, alarm_result, with_write, result_at_wait, result_by, kind_of}
 use Rattle.two_path.specs.Edits.{behind_edit_of}
 use Rattle.two_path.specs.Histories.{values_at, with_values, with_reads, IsStep, behind_step, behind_entry, IsNext, fold, IsLegal, is_coming, came_from, Counts, HistoriesAreRuns}
 use Rattle.two_path.proofs.Folds.{fold_parts}
@@ -32,8 +33,8 @@ since_after b count since = if b then count + 1 else since
 
 pub record Grows (n to : MachineView) (mine theirs : Bool) : Type 0 where
   pub count : to.count ≡ n.count + 1
-  pub first : to.first.since ≡ since_after mine n.count n.first.since
-  pub second : to.second.since ≡ since_after theirs n.count n.second.since
+  pub first : to.paths.one.since ≡ since_after mine n.count n.paths.one.since
+  pub second : to.paths.two.since ≡ since_after theirs n.count n.paths.two.since
   pub write : Option Written
   pub writes : to.writes ≡ with_write (n.count + 1) write n.writes
 
@@ -54,16 +55,16 @@ grows_by : (path : Path) (line : ℕ) (n : MachineView) (rs : List Var) (ks : Li
     → Grows n (without_reads (result_by path line (with_values rs ks n) e).machine) (is_coming One k One) (is_coming One k Two)
 grows_by path line n rs ks (Need v) k e = absurd cc
 grows_by path line n rs ks (Done to write moves) k e = rw (← some_is e) (record { count = refl; first = refl; second = refl; write = write; writes = refl })
-grows_by path line n rs ks (AtWait code) k e = grows_wait path line n rs ks code n.second.waiting k e
+grows_by path line n rs ks (AtWait code) k e = grows_wait path line n rs ks code n.paths.two.waiting k e
 grows_by path line n rs ks (AtEnd to moves) k e = rw (← some_is e) (record { count = refl; first = refl; second = refl; write = None; writes = refl })
 grows_by path line n rs ks (effect.Alarm number value) k e = rw (← some_is e) (record { count = refl; first = refl; second = refl; write = None; writes = refl })
 
 grows_first : (blocks : Blocks) (path : Path) (n : MachineView) (k : EntryKind) (ks : List ℕ) → IsStep blocks path n k ks
     → Grows n (behind_step blocks path ks n) (is_coming One k One) (is_coming One k Two)
 grows_first blocks path n k ks i =
-    let rs : List Var = values_at blocks n.first.path n.writes ks in
+    let rs : List Var = values_at blocks n.paths.one.path n.writes ks in
     let is = own_awake blocks path (with_reads blocks ks n) (awake_of blocks path (with_reads blocks ks n) k i.is) in
-    rw is (grows_by path (blocks.line n.first.path.place) n rs ks (blocks.effect n.first.path rs) k (rw is at i.is))
+    rw is (grows_by path (blocks.line n.paths.one.path.place) n rs ks (blocks.effect n.paths.one.path rs) k (rw is at i.is))
 
 same_coming : (k : EntryKind) → (is_coming One k One ≡ is_coming Two k Two) × (is_coming One k Two ≡ is_coming Two k One)
 same_coming Did = (refl, refl)
@@ -73,27 +74,27 @@ same_coming Ended = (refl, refl)
 same_coming Alarmed = (refl, refl)
 same_coming (Edited edit) = (refl, refl)
 
-grows_step : (tapes : Tapes) (n : MachineView) (p : Path) (k : EntryKind) (ks : List ℕ) → IsStep (tape_of tapes p) p (own_first p n) k ks
-    → Grows n (own_first p (behind_step (tape_of tapes p) p ks (own_first p n))) (is_coming p k One) (is_coming p k Two)
-grows_step tapes n One k ks i = grows_first tapes.first One n k ks i
+grows_step : (tapes : Tapes) (n : MachineView) (p : Path) (k : EntryKind) (ks : List ℕ) → IsStep (of_path tapes p) p (own_first p n) k ks
+    → Grows n (own_first p (behind_step (of_path tapes p) p ks (own_first p n))) (is_coming p k One) (is_coming p k Two)
+grows_step tapes n One k ks i = grows_first tapes.one One n k ks i
 grows_step tapes n Two k ks i =
-    let g = grows_first tapes.second Two (own_first Two n) k ks i in
+    let g = grows_first tapes.two Two (own_first Two n) k ks i in
     let same = same_coming k in
     record {
       count = g.count;
-      first = g.second ∙ ap (λ b. since_after b n.count n.first.since) same.1;
-      second = g.first ∙ ap (λ b. since_after b n.count n.second.since) same.0;
+      first = g.second ∙ ap (λ b. since_after b n.count n.paths.one.since) same.1;
+      second = g.first ∙ ap (λ b. since_after b n.count n.paths.two.since) same.0;
       write = g.write;
       writes = g.writes;
     }
 
 grows_edit : (n : MachineView) (p : Path) (edit : Edit) → Grows n (behind_edit_of p edit n) true true
-grows_edit n One edit = record { count = refl; first = refl; second = refl; write = shared_write n.first.path.fixed edit; writes = refl }
-grows_edit n Two edit = record { count = refl; first = refl; second = refl; write = shared_write n.second.path.fixed edit; writes = refl }
+grows_edit n One edit = record { count = refl; first = refl; second = refl; write = shared_write n.paths.one.path.fixed edit; writes = refl }
+grows_edit n Two edit = record { count = refl; first = refl; second = refl; write = shared_write n.paths.two.path.fixed edit; writes = refl }
 
 pub grows : (tapes : Tapes) (n : MachineView) (e : Entry) → IsNext tapes n e → Grows n (behind_entry tapes e n) (is_coming e.path e.kind One) (is_coming e.path e.kind Two)
 grows tapes n e (inl i) =
-    let step = step_no_edit (tape_of tapes e.path) e.path (own_first e.path n) e.kind e.stamps i in
+    let step = step_no_edit (of_path tapes e.path) e.path (own_first e.path n) e.kind e.stamps i in
     rw (behind_step_entry tapes n e step) (grows_step tapes n e.path e.kind e.stamps i)
 grows tapes n e (inr i) =
     rw (behind_edit_entry tapes n e i.edit i.is)
@@ -108,14 +109,14 @@ count_of tapes m (e ∷ es) legal =
     omega (arith, g.count, rest)
 
 first_of_history : (tapes : Tapes) (m : MachineView) (rs : List Entry) → IsLegal tapes m rs
-    → (fold tapes m rs).first.since ≡ came_from m.first.since m.count One rs
+    → (fold tapes m rs).paths.one.since ≡ came_from m.paths.one.since m.count One rs
 first_of_history tapes m [] legal = refl
 first_of_history tapes m (e ∷ es) legal =
     let g = grows tapes m e legal.0 in
     first_of_history tapes (behind_entry tapes e m) es legal.1 ∙ rw (g.count, g.first) refl
 
 second_of_history : (tapes : Tapes) (m : MachineView) (rs : List Entry) → IsLegal tapes m rs
-    → (fold tapes m rs).second.since ≡ came_from m.second.since m.count Two rs
+    → (fold tapes m rs).paths.two.since ≡ came_from m.paths.two.since m.count Two rs
 second_of_history tapes m [] legal = refl
 second_of_history tapes m (e ∷ es) legal =
     let g = grows tapes m e legal.0 in

@@ -1,5 +1,5 @@
 -- Records that are edits, and records that are steps: which a record is, and what is behind it.
-use Rattle.std.proofs.Common.{◌≡◌, ℕ, ◌+◌, true, List, [], Option, Some, None, is_some, refl, sym, ap, ◌∙◌, ◌⊎◌, inl, inr}
+use Rattle.std.proofs.Common.{◌≡◌, ℕ, ◌+◌, true, List, [], Option, Some, None, is_some, refl, sym, ap, ◌∙◌, inl, inr}
 use Rattle.nc_number.specs.declared.path.Path.{Path}
 use Rattle.nc_number.specs.declared.path.Path.TheVariants.{One, Two}
 use Rattle.nc_moves.specs.declared.alarm.Alarm.{Alarm}
@@ -8,11 +8,13 @@ use Rattle.run_records.specs.declared.edit.Edit.{Edit}
 use Rattle.run_records.specs.declared.entry.EntryKind.{EntryKind}
 use Rattle.run_records.specs.declared.entry.EntryKind.TheVariants as kind
 use Rattle.nc_number.proofs.Counts.{some_is}
+use Rattle.nc_number.specs.Both.{of_path}
+use Rattle.run_records.proofs.OneSpelling.{edited_kind}
 use Rattle.two_path.specs.declared.turn.Turn.{Turn}
 use Rattle.two_path.specs.declared.turn.Turn.TheVariants as turn
 use Rattle.path_state.specs.Edits.{edited}
 use Rattle.two_path.specs.Machine.{Part, MachineView, own_first, without_reads}
-use Rattle.two_path.specs.Turns.{Blocks, Tapes, tape_of, part_at, own_turn, kind_of}
+use Rattle.two_path.specs.Turns.{Blocks, Tapes, part_at, own_turn, kind_of}
 use Rattle.two_path.specs.Edits.{behind_edit_of, edit_entry, unless_alarm}
 use Rattle.two_path.specs.Histories.{with_reads, IsStep, behind_step, behind_own, behind_entry, IsNext}
 use Rattle.two_path.specs.Again.{turn_by, turn_of_entry, IsDoneAgain, IsRefused}
@@ -44,9 +46,9 @@ step_no_edit blocks p m k ks i = no_edit (own_turn blocks p (with_reads blocks k
 
 -- what is behind the record of a step
 pub behind_step_entry : (tapes : Tapes) (m : MachineView) (e : Entry) → edit_of e.kind ≡ None
-    → behind_entry tapes e m ≡ own_first e.path (behind_step (tape_of tapes e.path) e.path e.stamps (own_first e.path m))
+    → behind_entry tapes e m ≡ own_first e.path (behind_step (of_path tapes e.path) e.path e.stamps (own_first e.path m))
 behind_step_entry tapes m e step =
-    ap (λ o. own_first e.path (behind_own (tape_of tapes e.path) e.path o e.stamps (own_first e.path m))) step
+    ap (λ o. own_first e.path (behind_own (of_path tapes e.path) e.path o e.stamps (own_first e.path m))) step
 
 -- and behind the record of an edit
 pub behind_edit_entry : (tapes : Tapes) (m : MachineView) (e : Entry) (edit : Edit) → e ≡ edit_entry e.path edit
@@ -55,18 +57,18 @@ behind_edit_entry tapes m e edit is = ap (λ (x : Entry). behind_entry tapes x m
 
 -- what the turn of a step answers, and that of an edit
 pub turn_of_step : (tapes : Tapes) (m : MachineView) (e : Entry) → edit_of e.kind ≡ None
-    → turn_of_entry tapes e m ≡ (own_turn (tape_of tapes e.path) e.path (with_reads (tape_of tapes e.path) e.stamps (own_first e.path m))).turn
-turn_of_step tapes m e step = ap (λ o. turn_by (tape_of tapes e.path) e.path o e.stamps (own_first e.path m)) step
+    → turn_of_entry tapes e m ≡ (own_turn (of_path tapes e.path) e.path (with_reads (of_path tapes e.path) e.stamps (own_first e.path m))).turn
+turn_of_step tapes m e step = ap (λ o. turn_by (of_path tapes e.path) e.path o e.stamps (own_first e.path m)) step
 
 pub turn_of_edit : (tapes : Tapes) (m : MachineView) (e : Entry) (edit : Edit) → edit_of e.kind ≡ Some edit → turn_of_entry tapes e m ≡ turn.Edited
-turn_of_edit tapes m e edit is = ap (λ o. turn_by (tape_of tapes e.path) e.path o e.stamps (own_first e.path m)) is
+turn_of_edit tapes m e edit is = ap (λ o. turn_by (of_path tapes e.path) e.path o e.stamps (own_first e.path m)) is
 
 -- behind a record no block has read anything
 pub entry_bare : (tapes : Tapes) (e : Entry) (m : MachineView) → without_reads (behind_entry tapes e m) ≡ behind_entry tapes e m
 entry_bare tapes e m = go e.path (edit_of e.kind)
   where
-    go : (p : Path) (o : Option Edit) → without_reads (own_first p (behind_own (tape_of tapes p) p o e.stamps (own_first p m)))
-        ≡ own_first p (behind_own (tape_of tapes p) p o e.stamps (own_first p m))
+    go : (p : Path) (o : Option Edit) → without_reads (own_first p (behind_own (of_path tapes p) p o e.stamps (own_first p m)))
+        ≡ own_first p (behind_own (of_path tapes p) p o e.stamps (own_first p m))
     go One None = refl
     go Two None = refl
     go One (Some edit) = refl
@@ -82,8 +84,8 @@ pub record StaysPart (before after : Part) : Type 0 where
   pub finished : after.finished ≡ before.finished
 
 pub record StayPaths (before after : MachineView) : Type 0 where
-  pub first : StaysPart before.first after.first
-  pub second : StaysPart before.second after.second
+  pub first : StaysPart before.paths.one after.paths.one
+  pub second : StaysPart before.paths.two after.paths.two
   pub alarm : after.alarm ≡ before.alarm
 
 stays_part : (p : Part) (since : ℕ) → StaysPart p (part_at p.path since p)
@@ -93,30 +95,22 @@ edited_part : (edit : Edit) (p : Part) (since : ℕ) → StaysPart p (part_at (e
 edited_part edit p since = record { place = refl; position = refl; modal = refl; fixed = refl; waiting = refl; finished = refl }
 
 pub edit_stays : (p : Path) (edit : Edit) (m : MachineView) → StayPaths m (behind_edit_of p edit m)
-edit_stays One edit m = record { first = edited_part edit m.first (m.count + 1); second = stays_part m.second (m.count + 1); alarm = refl }
-edit_stays Two edit m = record { first = stays_part m.first (m.count + 1); second = edited_part edit m.second (m.count + 1); alarm = refl }
+edit_stays One edit m = record { first = edited_part edit m.paths.one (m.count + 1); second = stays_part m.paths.two (m.count + 1); alarm = refl }
+edit_stays Two edit m = record { first = stays_part m.paths.one (m.count + 1); second = edited_part edit m.paths.two (m.count + 1); alarm = refl }
 
 -- a step is legal where it is the machine's, and a legal record that is no edit is a step
-pub next_of_step : (tapes : Tapes) (m : MachineView) (e : Entry) → IsStep (tape_of tapes e.path) e.path (own_first e.path m) e.kind e.stamps → IsNext tapes m e
+pub next_of_step : (tapes : Tapes) (m : MachineView) (e : Entry) → IsStep (of_path tapes e.path) e.path (own_first e.path m) e.kind e.stamps → IsNext tapes m e
 next_of_step tapes m e i = inl i
 
 pub step_of_next : (tapes : Tapes) (m : MachineView) (e : Entry) → edit_of e.kind ≡ None → IsNext tapes m e
-    → IsStep (tape_of tapes e.path) e.path (own_first e.path m) e.kind e.stamps
+    → IsStep (of_path tapes e.path) e.path (own_first e.path m) e.kind e.stamps
 step_of_next tapes m e step (inl i) = i
 step_of_next tapes m e step (inr i) =
     absurd (let edit : edit_of e.kind ≡ Some i.edit = ap (λ (x : Entry). edit_of x.kind) i.is in cc)
 
 -- the record of a kind that is an edit
-kind_is : (k : EntryKind) (edit : Edit) → edit_of k ≡ Some edit → k ≡ kind.Edited edit
-kind_is kind.Did edit e = absurd cc
-kind_is kind.Arrived edit e = absurd cc
-kind_is kind.Met edit e = absurd cc
-kind_is kind.Ended edit e = absurd cc
-kind_is kind.Alarmed edit e = absurd cc
-kind_is (kind.Edited x) edit e = ap kind.Edited (some_is e)
-
 pub edit_is : (e : Entry) (edit : Edit) → edit_of e.kind ≡ Some edit → e.stamps ≡ [] → e ≡ edit_entry e.path edit
-edit_is e edit is bare = let same : e.kind ≡ kind.Edited edit = kind_is e.kind edit is in λ i. record { path = e.path; kind = same i; stamps = bare i }
+edit_is e edit is bare = let same : e.kind ≡ kind.Edited edit = edited_kind e.kind edit is in λ i. record { path = e.path; kind = same i; stamps = bare i }
 
 -- a record of an edit is done again where there is no alarm, and refused where there is one
 pub edit_done : (tapes : Tapes) (e : Entry) (edit : Edit) (before after : MachineView) → edit_of e.kind ≡ Some edit → e.stamps ≡ []
@@ -135,5 +129,5 @@ edit_refused tapes e edit before after kind halted is = record { illegal = illeg
   where
     illegal : IsNext tapes before e → ⊥
     illegal (inl i) =
-        let none : edit_of e.kind ≡ None = step_no_edit (tape_of tapes e.path) e.path (own_first e.path before) e.kind e.stamps i in cc
+        let none : edit_of e.kind ≡ None = step_no_edit (of_path tapes e.path) e.path (own_first e.path before) e.kind e.stamps i in cc
     illegal (inr i) = let calm : before.alarm ≡ None = i.calm in cc

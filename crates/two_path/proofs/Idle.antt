@@ -9,7 +9,7 @@ use Rattle.two_path.specs.Histories.{is_idle}
 
 -- the first path's turn would be Halted, Finished or Waiting
 abbrev pub is_still : MachineView → Bool
-is_still m = is_some m.alarm || is_idle m.first
+is_still m = is_some m.alarm || is_idle m.paths.one
 
 unless_awake : (m : MachineView) (a : Option Alarm) (f : Bool) (w : Option ℕ) (rest : TurnResult) → (is_some a || (f || is_some w)) ≡ false
     → unless_idle m a f w rest ≡ rest
@@ -27,12 +27,12 @@ unless_still m None false None rest e = absurd cc
 
 -- what its block comes to
 pub own_awake : (blocks : Blocks) (path : Path) (m : MachineView) → is_still m ≡ false
-    → own_turn blocks path m ≡ result_by path (blocks.line m.first.path.place) m (blocks.effect m.first.path m.first.values)
-own_awake blocks path m e = unless_awake m m.alarm m.first.finished m.first.waiting _ e
+    → own_turn blocks path m ≡ result_by path (blocks.line m.paths.one.path.place) m (blocks.effect m.paths.one.path m.paths.one.values)
+own_awake blocks path m e = unless_awake m m.alarm m.paths.one.finished m.paths.one.waiting _ e
 
 pub own_still : (blocks : Blocks) (path : Path) (m : MachineView) → is_still m ≡ true
     → ((own_turn blocks path m).machine ≡ m) × (kind_of (own_turn blocks path m).turn ≡ None)
-own_still blocks path m e = unless_still m m.alarm m.first.finished m.first.waiting _ e
+own_still blocks path m e = unless_still m m.alarm m.paths.one.finished m.paths.one.waiting _ e
 
 -- a turn that makes a record is not still
 pub awake_of : (blocks : Blocks) (path : Path) (m : MachineView) (kind : EntryKind) → kind_of (own_turn blocks path m).turn ≡ Some kind → is_still m ≡ false

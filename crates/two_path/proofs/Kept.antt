@@ -33,9 +33,9 @@ since_kept false count since h = omega arith
 
 -- a record that is done again leaves no reads
 entry_none : (tapes : Tapes) (e : Entry) (m : MachineView)
-    → ((behind_entry tapes e m).first ≡ part_without_reads (behind_entry tapes e m).first)
-    × ((behind_entry tapes e m).second ≡ part_without_reads (behind_entry tapes e m).second)
-entry_none tapes e m = let is = entry_bare tapes e m in (ap (λ (n : MachineView). n.first) (sym is), ap (λ (n : MachineView). n.second) (sym is))
+    → ((behind_entry tapes e m).paths.one ≡ part_without_reads (behind_entry tapes e m).paths.one)
+    × ((behind_entry tapes e m).paths.two ≡ part_without_reads (behind_entry tapes e m).paths.two)
+entry_none tapes e m = let is = entry_bare tapes e m in (ap (λ (n : MachineView). n.paths.one) (sym is), ap (λ (n : MachineView). n.paths.two) (sym is))
 
 entry_kept : (tapes : Tapes) (m : MachineView) (rs : List Entry) (now : MachineView) (e : Entry) → IsKept tapes m rs now → IsNext tapes (without_reads now) e
     → IsKept tapes m (rs ++ e ∷ []) (behind_entry tapes e (without_reads now))
@@ -47,10 +47,10 @@ entry_kept tapes m rs now e k next =
       legal = legal_push tapes m rs e k.legal (rw (k.folds) next);
       folds = rw (fold_push tapes m rs e, k.folds) (sym (entry_bare tapes e (without_reads now)));
       lawful = record {
-        first = lawful_none tapes.first to (ap (λ (p : Part). p.values) none.0) (ap (λ (p : Part). p.stamps) none.0)
-            (rw (g.count, g.first) (since_kept (is_coming e.path e.kind One) now.count now.first.since k.lawful.first.came));
-        second = lawful_none tapes.second (own_first Two to) (ap (λ (p : Part). p.values) none.1) (ap (λ (p : Part). p.stamps) none.1)
-            (rw (g.count, g.second) (since_kept (is_coming e.path e.kind Two) now.count now.second.since k.lawful.second.came));
+        first = lawful_none tapes.one to (ap (λ (p : Part). p.values) none.0) (ap (λ (p : Part). p.stamps) none.0)
+            (rw (g.count, g.first) (since_kept (is_coming e.path e.kind One) now.count now.paths.one.since k.lawful.first.came));
+        second = lawful_none tapes.two (own_first Two to) (ap (λ (p : Part). p.values) none.1) (ap (λ (p : Part). p.stamps) none.1)
+            (rw (g.count, g.second) (since_kept (is_coming e.path e.kind Two) now.count now.paths.two.since k.lawful.second.came));
       };
     }
 

@@ -76,19 +76,19 @@ asks_push blocks path writes values (j ∷ ks) k v a e = (a.0, asks_push blocks 
 
 -- what a path has read stays lawful when the other makes a record
 later : (blocks : Blocks) (m : MachineView) (x : Part) (o : Option Written) (a : Option Alarm) → IsLawful blocks m
-    → IsLawful blocks (record { first = m.first; second = x; writes = with_write (m.count + 1) o m.writes; count = m.count + 1; alarm = a })
+    → IsLawful blocks (record { paths = record { one = m.paths.one; two = x }; writes = with_write (m.count + 1) o m.writes; count = m.count + 1; alarm = a })
 later blocks m x o a l = record {
   may = record {
-    order = order_up m.first.since m.count (m.count + 1) m.first.stamps l.may.order (omega arith);
-    asks = asks_written blocks m.first.path o m.writes m.count m.first.since [] m.first.stamps l.may.order l.may.asks;
+    order = order_up m.paths.one.since m.count (m.count + 1) m.paths.one.stamps l.may.order (omega arith);
+    asks = asks_written blocks m.paths.one.path o m.writes m.count m.paths.one.since [] m.paths.one.stamps l.may.order l.may.asks;
   };
-  values = l.values ∙ sym (values_written blocks m.first.path o m.writes m.count m.first.since [] m.first.stamps l.may.order);
+  values = l.values ∙ sym (values_written blocks m.paths.one.path o m.writes m.count m.paths.one.since [] m.paths.one.stamps l.may.order);
   none = l.none;
   came = omega (arith, l.came);
 }
 
 -- without reads they are lawful
-pub lawful_none : (blocks : Blocks) (m : MachineView) → m.first.values ≡ [] → m.first.stamps ≡ [] → m.first.since ≤ m.count → IsLawful blocks m
+pub lawful_none : (blocks : Blocks) (m : MachineView) → m.paths.one.values ≡ [] → m.paths.one.stamps ≡ [] → m.paths.one.since ≤ m.count → IsLawful blocks m
 lawful_none blocks m e' e c = record {
   may = record { order = rw e tt; asks = rw e tt };
   values = rw (e, e') refl;
@@ -97,7 +97,7 @@ lawful_none blocks m e' e c = record {
 }
 
 abbrev pub Sound : Blocks → Blocks → MachineView → Type 0
-Sound mine theirs m = AreLawful (record { first = mine; second = theirs }) m
+Sound mine theirs m = AreLawful (record { one = mine; two = theirs }) m
 
 sound_swap : (mine theirs : Blocks) (m : MachineView) → Sound mine theirs m → Sound theirs mine (own_first Two m)
 sound_swap mine theirs m s = record { first = s.second; second = s.first }
@@ -105,14 +105,14 @@ sound_swap mine theirs m s = record { first = s.second; second = s.first }
 alarm_sound : (mine theirs : Blocks) (alarm : Alarm) (m : MachineView) → Sound mine theirs m → Sound mine theirs (with_alarm alarm m)
 alarm_sound mine theirs alarm m s = record {
   first = lawful_none mine (with_alarm alarm m) refl refl (omega (arith, s.first.came));
-  second = later theirs (own_first Two m) (part_without_reads m.first) None (Some alarm) s.second;
+  second = later theirs (own_first Two m) (part_without_reads m.paths.one) None (Some alarm) s.second;
 }
 
 wait_sound : (mine theirs : Blocks) (path : Path) (line : ℕ) (m : MachineView) (code : ℕ) (o : Option ℕ) → Sound mine theirs m
     → Sound mine theirs (result_at_wait path line m code o).machine
 wait_sound mine theirs path line m code None s = record {
   first = lawful_none mine (result_at_wait path line m code None).machine refl refl (omega (arith, s.first.came));
-  second = later theirs (own_first Two m) (result_at_wait path line m code None).machine.first None m.alarm s.second;
+  second = later theirs (own_first Two m) (result_at_wait path line m code None).machine.paths.one None m.alarm s.second;
 }
 wait_sound mine theirs path line m code (Some there) s = go (code == there) refl
   where
@@ -124,27 +124,27 @@ wait_sound mine theirs path line m code (Some there) s = go (code == there) refl
     go false e = rw e (alarm_sound mine theirs (crossed_waits path line) m s)
 
 by_sound : (mine theirs : Blocks) (path : Path) (line : ℕ) (m : MachineView) (e : Effect) → Sound mine theirs m → is_still m ≡ false
-    → mine.effect m.first.path m.first.values ≡ e → Sound mine theirs (result_by path line m e).machine
+    → mine.effect m.paths.one.path m.paths.one.values ≡ e → Sound mine theirs (result_by path line m e).machine
 by_sound mine theirs path line m (Need v) s awake e = record {
   first = record {
     may = record {
-      order = order_push m.first.since m.count m.count m.first.stamps s.first.may.order s.first.came (omega arith);
-      asks = asks_push mine m.first.path m.writes [] m.first.stamps m.count v s.first.may.asks (rw (← s.first.values) e);
+      order = order_push m.paths.one.since m.count m.count m.paths.one.stamps s.first.may.order s.first.came (omega arith);
+      asks = asks_push mine m.paths.one.path m.writes [] m.paths.one.stamps m.count v s.first.may.asks (rw (← s.first.values) e);
     };
-    values = rw (values_push mine m.first.path m.writes [] m.first.stamps m.count, ← s.first.values, e) refl;
-    none = λ i. absurd (let f : is_idle m.first ≡ false = awake_part m.alarm (is_idle m.first) awake in cc);
+    values = rw (values_push mine m.paths.one.path m.writes [] m.paths.one.stamps m.count, ← s.first.values, e) refl;
+    none = λ i. absurd (let f : is_idle m.paths.one ≡ false = awake_part m.alarm (is_idle m.paths.one) awake in cc);
     came = s.first.came;
   };
   second = record { may = record { order = s.second.may.order; asks = s.second.may.asks }; values = s.second.values; none = s.second.none; came = s.second.came };
 }
 by_sound mine theirs path line m (Done to write moves) s awake e = record {
   first = lawful_none mine (result_by path line m (Done to write moves)).machine refl refl (omega arith);
-  second = later theirs (own_first Two m) (result_by path line m (Done to write moves)).machine.first write m.alarm s.second;
+  second = later theirs (own_first Two m) (result_by path line m (Done to write moves)).machine.paths.one write m.alarm s.second;
 }
-by_sound mine theirs path line m (AtWait code) s awake e = wait_sound mine theirs path line m code m.second.waiting s
+by_sound mine theirs path line m (AtWait code) s awake e = wait_sound mine theirs path line m code m.paths.two.waiting s
 by_sound mine theirs path line m (AtEnd to moves) s awake e = record {
   first = lawful_none mine (result_by path line m (AtEnd to moves)).machine refl refl (omega (arith, s.first.came));
-  second = later theirs (own_first Two m) (result_by path line m (AtEnd to moves)).machine.first None m.alarm s.second;
+  second = later theirs (own_first Two m) (result_by path line m (AtEnd to moves)).machine.paths.one None m.alarm s.second;
 }
 by_sound mine theirs path line m (effect.Alarm number value) s awake e = alarm_sound mine theirs (alarm_at path line number value) m s
 
@@ -154,24 +154,24 @@ turn_sound mine theirs path m s = go (is_still m) refl
     go : (b : Bool) → is_still m ≡ b → Sound mine theirs (own_turn mine path m).machine
     go true e = rw ((own_still mine path m e).0) s
     go false e = rw (own_awake mine path m e)
-        (by_sound mine theirs path (mine.line m.first.path.place) m (mine.effect m.first.path m.first.values) s e refl)
+        (by_sound mine theirs path (mine.line m.paths.one.path.place) m (mine.effect m.paths.one.path m.paths.one.values) s e refl)
 
 -- behind an edit no block has read anything
 pub edit_sound : (tapes : Tapes) (p : Path) (edit : Edit) (m : MachineView) → AreLawful tapes (behind_edit_of p edit m)
 edit_sound tapes One edit m = record {
-  first = lawful_none tapes.first (behind_edit_of One edit m) refl refl (omega arith);
-  second = lawful_none tapes.second (own_first Two (behind_edit_of One edit m)) refl refl (omega arith);
+  first = lawful_none tapes.one (behind_edit_of One edit m) refl refl (omega arith);
+  second = lawful_none tapes.two (own_first Two (behind_edit_of One edit m)) refl refl (omega arith);
 }
 edit_sound tapes Two edit m = record {
-  first = lawful_none tapes.first (behind_edit_of Two edit m) refl refl (omega arith);
-  second = lawful_none tapes.second (own_first Two (behind_edit_of Two edit m)) refl refl (omega arith);
+  first = lawful_none tapes.one (behind_edit_of Two edit m) refl refl (omega arith);
+  second = lawful_none tapes.two (own_first Two (behind_edit_of Two edit m)) refl refl (omega arith);
 }
 
 pub event_sound : (tapes : Tapes) (e : Event) (m : MachineView) → AreLawful tapes m → AreLawful tapes (behind_event tapes e m)
-event_sound tapes (TurnOf One) m s = turn_sound tapes.first tapes.second One m s
+event_sound tapes (TurnOf One) m s = turn_sound tapes.one tapes.two One m s
 event_sound tapes (TurnOf Two) m s =
-    sound_swap tapes.second tapes.first (own_turn tapes.second Two (own_first Two m)).machine
-    (turn_sound tapes.second tapes.first Two (own_first Two m) (sound_swap tapes.first tapes.second m s))
+    sound_swap tapes.two tapes.one (own_turn tapes.two Two (own_first Two m)).machine
+    (turn_sound tapes.two tapes.one Two (own_first Two m) (sound_swap tapes.one tapes.two m s))
 event_sound tapes (EditOf p edit) m s = go m.alarm
   where
     go : (a : Option Alarm) → AreLawful tapes (unless_alarm a m (behind_edit_of p edit m))
@@ -180,6 +180,6 @@ event_sound tapes (EditOf p edit) m s = go m.alarm
 
 pub opening_sound : (tapes : Tapes) (first second : PathView) → AreLawful tapes (opening first second)
 opening_sound tapes first second = record {
-  first = lawful_none tapes.first (opening first second) refl refl (omega arith);
-  second = lawful_none tapes.second (own_first Two (opening first second)) refl refl (omega arith);
+  first = lawful_none tapes.one (opening first second) refl refl (omega arith);
+  second = lawful_none tapes.two (own_first Two (opening first second)) refl refl (omega arith);
 }

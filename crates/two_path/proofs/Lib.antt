@@ -6,7 +6,7 @@ mod Recorded
 mod Scheduled
 mod Counted
 mod Kept
-mod NoCrossing
+pub mod NoCrossing
 mod NoCrossingPlaces
 mod NoCrossingStatements
 mod NoCrossingMotion
@@ -20,6 +20,7 @@ pub mod Apart
 mod Steady
 mod Replayed
 mod Redone
+mod Due
 mod Ready
 pub mod DoneAgain
 pub mod Replays

@@ -21,9 +21,10 @@ use Rattle.path_state.specs.Effect.{Effect, Need, Done, AtWait, AtEnd}
 use Rattle.path_state.specs.Effect as effect
 use Rattle.path_state.specs.Controlled.{GoesAsOrdered}
 use Rattle.nc_number.proofs.Counts.{some_is}
+use Rattle.nc_number.specs.Both.{of_path}
 use Rattle.pair_order.proofs.Meetings.{Agree, agree_swap, agree_waits, agree_end, step_keeps}
 use Rattle.two_path.specs.Machine.{Part, MachineView, own_first, opening}
-use Rattle.two_path.specs.Turns.{Blocks, Tapes, tape_of, result_at_wait, result_by, own_turn}
+use Rattle.two_path.specs.Turns.{Blocks, Tapes, result_at_wait, result_by, own_turn}
 use Rattle.two_path.specs.Edits.{behind_edit_of, unless_alarm}
 use Rattle.two_path.specs.Histories.{Event, TurnOf, EditOf, behind_event, run, is_idle}
 use Rattle.two_path.specs.Stuck.{IsStuck, IsCrossed, RaisesNoCrossing, IsFree}
@@ -41,10 +42,10 @@ record IsSide (tape : List ControlProgram) (p : Part) : Type 0 where
 
 -- both stand at places of their tapes, the labels ahead agree, and one path at most waits
 record IsSound (left right : List ControlProgram) (all : List Label) (m : MachineView) : Type 0 where
-  first : IsSide left m.first
-  second : IsSide right m.second
-  agree : Agree all (ahead left m.first.path.place) (ahead right m.second.path.place)
-  one : (m.first.waiting ≡ None) ⊎ (m.second.waiting ≡ None)
+  first : IsSide left m.paths.one
+  second : IsSide right m.paths.two
+  agree : Agree all (ahead left m.paths.one.path.place) (ahead right m.paths.two.path.place)
+  one : (m.paths.one.waiting ≡ None) ⊎ (m.paths.two.waiting ≡ None)
 
 -- without an alarm the state is sound, and an alarm is another than that of paths that wait at
 -- different codes
@@ -60,7 +61,7 @@ sound_swap : (left right : List ControlProgram) (all : List Label) (m : MachineV
 sound_swap left right all m s = record {
   first = s.second;
   second = s.first;
-  agree = agree_swap all (ahead left m.first.path.place) (ahead right m.second.path.place) s.agree;
+  agree = agree_swap all (ahead left m.paths.one.path.place) (ahead right m.paths.two.path.place) s.agree;
   one = one_swap s.one;
 }
 
@@ -77,10 +78,10 @@ calmly left right all m calm s = record { sound = λ _. s; never = λ alarm e. n
 
 -- what its block leaves behind
 done_sound : (left right : List ControlProgram) → KeepsLabels left → (path : Path) (line : ℕ) (m : MachineView) (to : PathView) (write : Option Written) (moves : List Move)
-    → IsSound left right (list left) m → m.first.waiting ≡ None → m.first.finished ≡ false → Step left m.first.path.place to.place
+    → IsSound left right (list left) m → m.paths.one.waiting ≡ None → m.paths.one.finished ≡ false → Step left m.paths.one.path.place to.place
     → IsSound left right (list left) (result_by path line m (Done to write moves)).machine
 done_sound left right law path line m to write moves s awake going step =
-    let k = step_keeps left law (ahead right m.second.path.place) m.first.path.place to.place s.first.place step s.agree in
+    let k = step_keeps left law (ahead right m.paths.two.path.place) m.paths.one.path.place to.place s.first.place step s.agree in
     record {
       first = record { place = k.0; waits = λ code e. absurd cc; ends = λ e. absurd cc };
       second = s.second;
@@ -89,7 +90,7 @@ done_sound left right law path line m to write moves s awake going step =
     }
 
 end_sound : (left right : List ControlProgram) (path : Path) (line : ℕ) (m : MachineView) (to : PathView) (moves : List Move)
-    → IsSound left right (list left) m → m.first.waiting ≡ None → standing left m.first.path.place ≡ Some control.End → to.place ≡ m.first.path.place
+    → IsSound left right (list left) m → m.paths.one.waiting ≡ None → standing left m.paths.one.path.place ≡ Some control.End → to.place ≡ m.paths.one.path.place
     → IsSound left right (list left) (result_by path line m (AtEnd to moves)).machine
 end_sound left right path line m to moves s awake is stays = record {
   first = record { place = rw stays (s.first.place); waits = λ code e. absurd cc; ends = λ e. rw stays is };
@@ -100,16 +101,16 @@ end_sound left right path line m to moves s awake is stays = record {
 
 -- a wait of the first path, and one at which the other waits: both are the next label
 meeting : (left right : List ControlProgram) → KeepsLabels left → KeepsLabels right → (m : MachineView) → IsSound left right (list left) m → (code there : ℕ)
-    → standing left m.first.path.place ≡ Some (control.Wait code) → m.second.waiting ≡ Some there
-    → (code ≡ there) × (ahead left (place_behind m.first.path.place) ≡ ahead right (place_behind m.second.path.place))
+    → standing left m.paths.one.path.place ≡ Some (control.Wait code) → m.paths.two.waiting ≡ Some there
+    → (code ≡ there) × (ahead left (place_behind m.paths.one.path.place) ≡ ahead right (place_behind m.paths.two.path.place))
 meeting left right here_law there_law m s code there is waits =
-    let here = (here_law.wait m.first.path.place code s.first.place is).1 in
-    let other = (there_law.wait m.second.path.place there s.second.place (s.second.waits there waits)).1 in
-    agree_waits (list left) (ahead left (place_behind m.first.path.place)) (ahead right (place_behind m.second.path.place)) code there (rw (← here, ← other) (s.agree))
+    let here = (here_law.wait m.paths.one.path.place code s.first.place is).1 in
+    let other = (there_law.wait m.paths.two.path.place there s.second.place (s.second.waits there waits)).1 in
+    agree_waits (list left) (ahead left (place_behind m.paths.one.path.place)) (ahead right (place_behind m.paths.two.path.place)) code there (rw (← here, ← other) (s.agree))
 
 wait_paired : (left right : List ControlProgram) → KeepsLabels left → KeepsLabels right → (path : Path) (line : ℕ) (m : MachineView) → m.alarm ≡ None
-    → IsSound left right (list left) m → m.first.finished ≡ false → (code : ℕ) → standing left m.first.path.place ≡ Some (control.Wait code)
-    → (o : Option ℕ) → m.second.waiting ≡ o → IsPaired left right (list left) (result_at_wait path line m code o).machine
+    → IsSound left right (list left) m → m.paths.one.finished ≡ false → (code : ℕ) → standing left m.paths.one.path.place ≡ Some (control.Wait code)
+    → (o : Option ℕ) → m.paths.two.waiting ≡ o → IsPaired left right (list left) (result_at_wait path line m code o).machine
 wait_paired left right law law' path line m calm s going code is None e =
     calmly left right (list left) (result_at_wait path line m code None).machine calm (record {
       first = record { place = s.first.place; waits = λ c same. is ∙ ap (λ k. Some (control.Wait k)) (some_is same); ends = s.first.ends };
@@ -119,16 +120,16 @@ wait_paired left right law law' path line m calm s going code is None e =
     })
 wait_paired left right law law' path line m calm s going code is (Some there) e = go (code == there) refl
   where
-    both : (code ≡ there) × (ahead left (place_behind m.first.path.place) ≡ ahead right (place_behind m.second.path.place))
+    both : (code ≡ there) × (ahead left (place_behind m.paths.one.path.place) ≡ ahead right (place_behind m.paths.two.path.place))
     both = meeting left right law law' m s code there is e
 
     go : (x : Bool) → (code == there) ≡ x → IsPaired left right (list left) (result_at_wait path line m code (Some there)).machine
     go false n = absurd (let same : code ≡ there = both.0 in grind (arith, nat_tests))
     go true y = rw y (record {
       sound = λ _. record {
-        first = record { place = (law.wait m.first.path.place code s.first.place is).0; waits = λ c none. absurd cc; ends = λ f. absurd cc };
+        first = record { place = (law.wait m.paths.one.path.place code s.first.place is).0; waits = λ c none. absurd cc; ends = λ f. absurd cc };
         second = record {
-          place = (law'.wait m.second.path.place there s.second.place (s.second.waits there e)).0;
+          place = (law'.wait m.paths.two.path.place there s.second.place (s.second.waits there e)).0;
           waits = λ c none. absurd cc;
           ends = λ f. absurd (cc (s.second.waits there e, s.second.ends f));
         };
@@ -153,8 +154,8 @@ alarm_paired left right a raises all path line m number value x values is = reco
     cause_in (Some alarm) = alarm.cause
 
 by_paired : (left right : List ControlProgram) (a : Blocks) → RaisesNoCrossing a → KeepsLabels left → KeepsLabels right → (path : Path) (line : ℕ) (m : MachineView) → m.alarm ≡ None
-    → IsSound left right (list left) m → m.first.waiting ≡ None → m.first.finished ≡ false → (e : Effect) → GoesAsOrdered left m.first.path e
-    → a.effect m.first.path m.first.values ≡ e → IsPaired left right (list left) (result_by path line m e).machine
+    → IsSound left right (list left) m → m.paths.one.waiting ≡ None → m.paths.one.finished ≡ false → (e : Effect) → GoesAsOrdered left m.paths.one.path e
+    → a.effect m.paths.one.path m.paths.one.values ≡ e → IsPaired left right (list left) (result_by path line m e).machine
 by_paired left right a raises law law' path line m calm s awake going (Need v) goes is =
     calmly left right (list left) (result_by path line m (Need v)).machine calm (record {
       first = record { place = s.first.place; waits = s.first.waits; ends = s.first.ends };
@@ -166,12 +167,12 @@ by_paired left right a raises law law' path line m calm s awake going (Done to w
     calmly left right (list left) (result_by path line m (Done to write moves)).machine calm
     (done_sound left right law path line m to write moves s awake going goes)
 by_paired left right a raises law law' path line m calm s awake going (AtWait code) goes is =
-    wait_paired left right law law' path line m calm s going code goes m.second.waiting refl
+    wait_paired left right law law' path line m calm s going code goes m.paths.two.waiting refl
 by_paired left right a raises law law' path line m calm s awake going (AtEnd to moves) goes is =
     calmly left right (list left) (result_by path line m (AtEnd to moves)).machine calm
     (end_sound left right path line m to moves s awake goes.0 goes.1)
 by_paired left right a raises law law' path line m calm s awake going (effect.Alarm number value) goes is =
-    alarm_paired left right a raises (list left) path line m number value m.first.path m.first.values is
+    alarm_paired left right a raises (list left) path line m number value m.paths.one.path m.paths.one.values is
 
 awake_all : (x : Option Alarm) (f : Bool) (o : Option ℕ) → (is_some x || (f || is_some o)) ≡ false → (x ≡ None) × (f ≡ false) × (o ≡ None)
 awake_all (Some x) f o e = absurd cc
@@ -186,19 +187,19 @@ turn_paired left right a raises law law' led path m k = go (is_still m) refl
     go : (x : Bool) → is_still m ≡ x → IsPaired left right (list left) (own_turn a path m).machine
     go true e = rw ((own_still a path m e).0) k
     go false e =
-        let all = awake_all m.alarm m.first.finished m.first.waiting e in
-        rw (own_awake a path m e) (by_paired left right a raises law law' path (a.line m.first.path.place) m all.0 (k.sound all.0) all.2 all.1
-        (a.effect m.first.path m.first.values) (led m.first.path m.first.values) refl)
+        let all = awake_all m.alarm m.paths.one.finished m.paths.one.waiting e in
+        rw (own_awake a path m e) (by_paired left right a raises law law' path (a.line m.paths.one.path.place) m all.0 (k.sound all.0) all.2 all.1
+        (a.effect m.paths.one.path m.paths.one.values) (led m.paths.one.path m.paths.one.values) refl)
 
 -- the laws of both tapes, that their lists are equal, and that no block raises the alarm of waits
 -- that differ
 pub record IsLawfulPair (left right : List ControlProgram) (tapes : Tapes) : Type 0 where
   pub first : KeepsLabels left
   pub second : KeepsLabels right
-  pub first_led : AreLed left tapes.first
-  pub second_led : AreLed right tapes.second
-  pub first_raises : RaisesNoCrossing tapes.first
-  pub second_raises : RaisesNoCrossing tapes.second
+  pub first_led : AreLed left tapes.one
+  pub second_led : AreLed right tapes.two
+  pub first_raises : RaisesNoCrossing tapes.one
+  pub second_raises : RaisesNoCrossing tapes.two
   pub equal : list left ≡ list right
 
 -- an edit leaves places and what the marks say of them
@@ -225,13 +226,13 @@ edit_paired left right all m edit k Two = record {
 
 event_paired : (left right : List ControlProgram) (tapes : Tapes) → IsLawfulPair left right tapes → (e : Event) (m : MachineView)
     → IsPaired left right (list left) m → IsPaired left right (list left) (behind_event tapes e m)
-event_paired left right tapes pair (TurnOf One) m k = turn_paired left right tapes.first pair.first_raises pair.first pair.second pair.first_led One m k
+event_paired left right tapes pair (TurnOf One) m k = turn_paired left right tapes.one pair.first_raises pair.first pair.second pair.first_led One m k
 event_paired left right tapes pair (TurnOf Two) m k =
     let turned : IsPaired right left (list right) (own_first Two m) =
     subst (λ all. IsPaired right left all (own_first Two m)) pair.equal (paired_swap left right (list left) m k) in
-    let to : MachineView = (own_turn tapes.second Two (own_first Two m)).machine in
+    let to : MachineView = (own_turn tapes.two Two (own_first Two m)).machine in
     let done : IsPaired right left (list right) to =
-    turn_paired right left tapes.second pair.second_raises pair.second pair.first pair.second_led Two (own_first Two m) turned in
+    turn_paired right left tapes.two pair.second_raises pair.second pair.first pair.second_led Two (own_first Two m) turned in
     subst (λ all. IsPaired left right all (own_first Two to)) (sym pair.equal)
     (paired_swap right left (list right) to done)
 event_paired left right tapes pair (EditOf p edit) m k = go m.alarm
@@ -259,37 +260,37 @@ opening_paired left right tapes pair first second at at' =
 
 -- an unfinished path that waits, and another that waits or is finished
 waiting_stuck : (left right : List ControlProgram) → KeepsLabels left → KeepsLabels right → (all : List Label) (m : MachineView) → IsSound left right all m
-    → (f : Bool) → m.first.finished ≡ f → (o : Option ℕ) → m.first.waiting ≡ o → f ≡ false → (f || is_some o) ≡ true
-    → (f' : Bool) → m.second.finished ≡ f' → (o' : Option ℕ) → m.second.waiting ≡ o' → (f' || is_some o') ≡ true → ⊥
+    → (f : Bool) → m.paths.one.finished ≡ f → (o : Option ℕ) → m.paths.one.waiting ≡ o → f ≡ false → (f || is_some o) ≡ true
+    → (f' : Bool) → m.paths.two.finished ≡ f' → (o' : Option ℕ) → m.paths.two.waiting ≡ o' → (f' || is_some o') ≡ true → ⊥
 waiting_stuck left right law law' all m s true fe o oe un i f' fe' o' oe' i' = absurd cc
 waiting_stuck left right law law' all m s false fe None oe un i f' fe' o' oe' i' = absurd cc
 waiting_stuck left right law law' all m s false fe (Some code) oe un i true fe' o' oe' i' =
-    agree_end all (ahead left (place_behind m.first.path.place)) code
-    (rw (← (law.wait m.first.path.place code s.first.place (s.first.waits code oe)).1, ← law'.ends m.second.path.place s.second.place (s.second.ends fe')) (s.agree))
+    agree_end all (ahead left (place_behind m.paths.one.path.place)) code
+    (rw (← (law.wait m.paths.one.path.place code s.first.place (s.first.waits code oe)).1, ← law'.ends m.paths.two.path.place s.second.place (s.second.ends fe')) (s.agree))
 waiting_stuck left right law law' all m s false fe (Some code) oe un i false fe' None oe' i' = absurd cc
 waiting_stuck left right law law' all m s false fe (Some code) oe un i false fe' (Some other) oe' i' = go s.one
   where
-    go : (m.first.waiting ≡ None) ⊎ (m.second.waiting ≡ None) → ⊥
+    go : (m.paths.one.waiting ≡ None) ⊎ (m.paths.two.waiting ≡ None) → ⊥
     go (inl e) = absurd cc
     go (inr e) = absurd cc
 
 first_stuck : (left right : List ControlProgram) → KeepsLabels left → KeepsLabels right → (all : List Label) (m : MachineView) → IsSound left right all m
-    → m.first.finished ≡ false → is_idle m.first ≡ true → is_idle m.second ≡ true → ⊥
+    → m.paths.one.finished ≡ false → is_idle m.paths.one ≡ true → is_idle m.paths.two ≡ true → ⊥
 first_stuck left right law law' all m s un i i' =
-    waiting_stuck left right law law' all m s m.first.finished refl m.first.waiting refl un i m.second.finished refl m.second.waiting refl i'
+    waiting_stuck left right law law' all m s m.paths.one.finished refl m.paths.one.waiting refl un i m.paths.two.finished refl m.paths.two.waiting refl i'
 
 not_stuck : (left right : List ControlProgram) → KeepsLabels left → KeepsLabels right → (all : List Label) (m : MachineView)
     → (m.alarm ≡ None → IsSound left right all m) → IsStuck m → ⊥
 not_stuck left right law law' all m sound stuck = go stuck.unfinished
   where
-    go : (m.first.finished ≡ false) ⊎ (m.second.finished ≡ false) → ⊥
+    go : (m.paths.one.finished ≡ false) ⊎ (m.paths.two.finished ≡ false) → ⊥
     go (inl un) = first_stuck left right law law' all m (sound stuck.calm) un stuck.first stuck.second
     go (inr un) = first_stuck right left law' law all (own_first Two m) (sound_swap left right all m (sound stuck.calm)) un stuck.second stuck.first
 
 not_crossed : (left right : List ControlProgram) (a : Blocks) → KeepsLabels left → KeepsLabels right → AreLed left a → (m : MachineView)
     → (m.alarm ≡ None → IsSound left right (list left) m) → IsCrossed a m → ⊥
 not_crossed left right a law law' led m sound x =
-    let goes : GoesAsOrdered left m.first.path (AtWait x.code) = subst (GoesAsOrdered left m.first.path) x.comes (led m.first.path m.first.values) in
+    let goes : GoesAsOrdered left m.paths.one.path (AtWait x.code) = subst (GoesAsOrdered left m.paths.one.path) x.comes (led m.paths.one.path m.paths.one.values) in
     x.differs (meeting left right law law' m (sound x.calm) x.code x.there goes x.waits).0
 
 free : (left right : List ControlProgram) (tapes : Tapes) → IsLawfulPair left right tapes → (m : MachineView)
@@ -300,9 +301,9 @@ free left right tapes pair m k = record {
   alarm = k.never;
 }
   where
-    crossed : (path : Path) → IsCrossed (tape_of tapes path) (own_first path m) → ⊥
-    crossed One x = not_crossed left right tapes.first pair.first pair.second pair.first_led m k.sound x
-    crossed Two x = not_crossed right left tapes.second pair.second pair.first pair.second_led (own_first Two m)
+    crossed : (path : Path) → IsCrossed (of_path tapes path) (own_first path m) → ⊥
+    crossed One x = not_crossed left right tapes.one pair.first pair.second pair.first_led m k.sound x
+    crossed Two x = not_crossed right left tapes.two pair.second pair.first pair.second_led (own_first Two m)
         (λ e. subst (λ all. IsSound right left all (own_first Two m)) pair.equal (sound_swap left right (list left) m (k.sound e))) x
 
 -- whatever the order of events

@@ -2,11 +2,12 @@
 use Rattle.std.proofs.Common.{◌≡◌, List, None, Result, Ok, Err, IfOk, OnErr, refl, sym, ap, subst, ◌∙◌}
 use Rattle.nc_number.specs.declared.path.Path.{Path}
 use Rattle.nc_number.specs.declared.path.Path.TheVariants.{One, Two}
+use Rattle.nc_number.specs.Both.{of_path}
 use Rattle.block_order.specs.declared.program.ControlProgram.{ControlProgram}
 use Rattle.run_records.specs.Entries.{Entry, edit_of}
 use Rattle.two_path.specs.declared.turn.Turn.{Turn}
 use Rattle.two_path.specs.Machine.{Part, MachineView, own_first, without_reads}
-use Rattle.two_path.specs.Turns.{Tapes, tape_of}
+use Rattle.two_path.specs.Turns.{Tapes}
 use Rattle.two_path.specs.Joined.{JointView, machine_of, AreShared, AreAtTheirWaits}
 use Rattle.two_path.specs.Again.{AreReady, IsStepDone, IsStepRefused, IsDoneAgain, IsRefused}
 use Rattle.two_path.proofs.Edited.{behind_step_entry, turn_of_step, next_of_step, step_of_next}
@@ -19,8 +20,8 @@ ready_of tape other_tape me other joint mine theirs waits bare = record {
   other_shared = theirs;
   my_wait = waits.first;
   other_wait = waits.second;
-  my_reads = ap (λ (m : MachineView). m.first) bare;
-  other_reads = ap (λ (m : MachineView). m.second) bare;
+  my_reads = ap (λ (m : MachineView). m.paths.one) bare;
+  other_reads = ap (λ (m : MachineView). m.paths.two) bare;
 }
 
 pub swap : (tape other_tape : List ControlProgram) (me other : Part) (joint : JointView) → AreReady tape other_tape me other joint → AreReady other_tape tape other me joint
@@ -48,7 +49,7 @@ twice Two m = refl
 
 -- the record of a step, done again in its path's own machine, is done again
 done_by : (tapes : Tapes) (e : Entry) (before after : MachineView) (turn : Turn) → edit_of e.kind ≡ None
-    → IsStepDone (tape_of tapes e.path) e.path e.kind e.stamps (own_first e.path before) (own_first e.path after) turn
+    → IsStepDone (of_path tapes e.path) e.path e.kind e.stamps (own_first e.path before) (own_first e.path after) turn
     → IsDoneAgain tapes e before after turn
 done_by tapes e before after turn step s = record {
   legal = next_of_step tapes before e s.legal;
@@ -57,7 +58,7 @@ done_by tapes e before after turn step s = record {
 }
 
 refused_by : (tapes : Tapes) (e : Entry) (before after : MachineView) → edit_of e.kind ≡ None
-    → IsStepRefused (tape_of tapes e.path) e.path e.kind e.stamps (own_first e.path before) (own_first e.path after)
+    → IsStepRefused (of_path tapes e.path) e.path e.kind e.stamps (own_first e.path before) (own_first e.path after)
     → IsRefused tapes e before after
 refused_by tapes e before after step s = record {
   illegal = λ next. s.illegal (step_of_next tapes before e step next);
@@ -66,18 +67,18 @@ refused_by tapes e before after step s = record {
 
 pub done_in : {A E : Type 0} (result : Result A E) (turn_for : A → Turn) (tapes : Tapes) (p : Path) (entry : Entry) (before after : MachineView)
     → entry.path ≡ p → edit_of entry.kind ≡ None
-    → IfOk result (λ a. IsStepDone (tape_of tapes p) entry.path entry.kind entry.stamps (own_first p before) (own_first p after) (turn_for a))
+    → IfOk result (λ a. IsStepDone (of_path tapes p) entry.path entry.kind entry.stamps (own_first p before) (own_first p after) (turn_for a))
     → IfOk result (λ a. IsDoneAgain tapes entry before after (turn_for a))
 done_in (Ok a) turn_for tapes p entry before after e step s =
     done_by tapes entry before after (turn_for a) step
-    (subst (λ q. IsStepDone (tape_of tapes q) entry.path entry.kind entry.stamps (own_first q before) (own_first q after) (turn_for a)) (sym e) s)
+    (subst (λ q. IsStepDone (of_path tapes q) entry.path entry.kind entry.stamps (own_first q before) (own_first q after) (turn_for a)) (sym e) s)
 done_in (Err error) turn_for tapes p entry before after e step s = tt
 
 pub refused_in : {A E : Type 0} (result : Result A E) (tapes : Tapes) (p : Path) (entry : Entry) (before after : MachineView) → entry.path ≡ p
     → edit_of entry.kind ≡ None
-    → OnErr result (IsStepRefused (tape_of tapes p) entry.path entry.kind entry.stamps (own_first p before) (own_first p after))
+    → OnErr result (IsStepRefused (of_path tapes p) entry.path entry.kind entry.stamps (own_first p before) (own_first p after))
     → OnErr result (IsRefused tapes entry before after)
 refused_in (Ok turn) tapes p entry before after e step s = tt
 refused_in (Err error) tapes p entry before after e step s =
     refused_by tapes entry before after step
-    (subst (λ q. IsStepRefused (tape_of tapes q) entry.path entry.kind entry.stamps (own_first q before) (own_first q after)) (sym e) s)
+    (subst (λ q. IsStepRefused (of_path tapes q) entry.path entry.kind entry.stamps (own_first q before) (own_first q after)) (sym e) s)

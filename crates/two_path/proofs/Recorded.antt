@@ -18,7 +18,7 @@ use Rattle.two_path.proofs.Lawful.{event_sound}
 
 -- the machine in which only the first path's block has read
 abbrev alone : MachineView → MachineView
-alone m = with_values m.first.values m.first.stamps (without_reads m)
+alone m = with_values m.paths.one.values m.paths.one.stamps (without_reads m)
 
 -- two turns that answer the same and lead to the same machine but for block reads
 abbrev Alike : Path → ℕ → MachineView → Effect → Type 0
@@ -42,7 +42,7 @@ wait_alike path line m code (Some there) = go (code == there) refl
 by_alike : (path : Path) (line : ℕ) (m : MachineView) (e : Effect) → Alike path line m e
 by_alike path line m (Need v) = (refl, refl)
 by_alike path line m (Done to write moves) = (refl, refl)
-by_alike path line m (AtWait code) = wait_alike path line m code m.second.waiting
+by_alike path line m (AtWait code) = wait_alike path line m code m.paths.two.waiting
 by_alike path line m (AtEnd to moves) = (refl, refl)
 by_alike path line m (effect.Alarm number value) = (refl, refl)
 
@@ -59,7 +59,7 @@ by_none : (path : Path) (line : ℕ) (m : MachineView) (e : Effect) → kind_of 
     → without_reads (result_by path line m e).machine ≡ without_reads m
 by_none path line m (Need v) e = refl
 by_none path line m (Done to write moves) e = absurd cc
-by_none path line m (AtWait code) e = absurd (wait_records path line m code m.second.waiting e)
+by_none path line m (AtWait code) e = absurd (wait_records path line m code m.paths.two.waiting e)
 by_none path line m (AtEnd to moves) e = absurd cc
 by_none path line m (effect.Alarm number value) e = absurd cc
 
@@ -69,19 +69,19 @@ MakesFirst blocks path b to None stamps = to ≡ b
 MakesFirst blocks path b to (Some kind) stamps = IsStep blocks path b kind stamps × (behind_step blocks path stamps b ≡ to)
 
 turn_makes : (blocks : Blocks) (path : Path) (m : MachineView) → IsLawful blocks m → (k : Option EntryKind) → kind_of (own_turn blocks path m).turn ≡ k
-    → MakesFirst blocks path (without_reads m) (without_reads (own_turn blocks path m).machine) k m.first.stamps
+    → MakesFirst blocks path (without_reads m) (without_reads (own_turn blocks path m).machine) k m.paths.one.stamps
 turn_makes blocks path m l k e = go (is_still m) refl k e
   where
     go : (b : Bool) → is_still m ≡ b → (k : Option EntryKind) → kind_of (own_turn blocks path m).turn ≡ k
-        → MakesFirst blocks path (without_reads m) (without_reads (own_turn blocks path m).machine) k m.first.stamps
+        → MakesFirst blocks path (without_reads m) (without_reads (own_turn blocks path m).machine) k m.paths.one.stamps
     go true i None e = rw ((own_still blocks path m i).0) refl
     go true i (Some k) e = absurd (let none : kind_of (own_turn blocks path m).turn ≡ None = (own_still blocks path m i).1 in cc)
     go false i None e =
         let is = own_awake blocks path m i in
-        rw is (by_none path (blocks.line m.first.path.place) m (blocks.effect m.first.path m.first.values) (rw is at e))
+        rw is (by_none path (blocks.line m.paths.one.path.place) m (blocks.effect m.paths.one.path m.paths.one.values) (rw is at e))
     go false i (Some k) e =
         let is = own_awake blocks path m i in
-        let alike = by_alike path (blocks.line m.first.path.place) m (blocks.effect m.first.path m.first.values) in
+        let alike = by_alike path (blocks.line m.paths.one.path.place) m (blocks.effect m.paths.one.path m.paths.one.values) in
         let same = own_awake blocks path (alone m) i in (
           record {
             reads = record { order = l.may.order; asks = l.may.asks };
@@ -95,18 +95,18 @@ Makes tapes b to path None stamps = to ≡ b
 Makes tapes b to path (Some kind) stamps =
     IsNext tapes b (entry path kind stamps) × (behind_entry tapes (entry path kind stamps) b ≡ to)
 
-makes_first : (tapes : Tapes) (b to : MachineView) (k : Option EntryKind) (ks : List ℕ) → MakesFirst tapes.first One b to k ks → Makes tapes b to One k ks
+makes_first : (tapes : Tapes) (b to : MachineView) (k : Option EntryKind) (ks : List ℕ) → MakesFirst tapes.one One b to k ks → Makes tapes b to One k ks
 unfolding Makes
 makes_first tapes b to None ks h = h
 makes_first tapes b to (Some k) ks h =
-    (inl h.0, behind_step_entry tapes b (entry One k ks) (step_no_edit tapes.first One b k ks h.0) ∙ h.1)
+    (inl h.0, behind_step_entry tapes b (entry One k ks) (step_no_edit tapes.one One b k ks h.0) ∙ h.1)
 
-makes_second : (tapes : Tapes) (b to : MachineView) (k : Option EntryKind) (ks : List ℕ) → MakesFirst tapes.second Two (own_first Two b) to k ks → Makes tapes b (own_first Two to) Two k ks
+makes_second : (tapes : Tapes) (b to : MachineView) (k : Option EntryKind) (ks : List ℕ) → MakesFirst tapes.two Two (own_first Two b) to k ks → Makes tapes b (own_first Two to) Two k ks
 unfolding Makes
 makes_second tapes b to None ks h = ap (own_first Two) h
 makes_second tapes b to (Some k) ks h = (
   inl h.0,
-  behind_step_entry tapes b (entry Two k ks) (step_no_edit tapes.second Two (own_first Two b) k ks h.0) ∙ ap (own_first Two) h.1,
+  behind_step_entry tapes b (entry Two k ks) (step_no_edit tapes.two Two (own_first Two b) k ks h.0) ∙ ap (own_first Two) h.1,
 )
 
 joins : (tapes : Tapes) (b to end : MachineView) (p : Path) (k : Option EntryKind) (ks : List ℕ) (rs : List Entry) → Makes tapes b to p k ks
@@ -120,14 +120,14 @@ pub joins_event : (tapes : Tapes) (m end : MachineView) (e : Event) (rs : List E
     → IsLegal tapes (without_reads (behind_event tapes e m)) rs → fold tapes (without_reads (behind_event tapes e m)) rs ≡ end
     → IsLegal tapes (without_reads m) (records_of tapes e m ++ rs) × (fold tapes (without_reads m) (records_of tapes e m ++ rs) ≡ end)
 joins_event tapes m end (TurnOf One) rs s =
-    joins tapes (without_reads m) (without_reads (behind_event tapes (TurnOf One) m)) end One (kind_of (own_turn tapes.first One m).turn) m.first.stamps rs
-    (makes_first tapes (without_reads m) (without_reads (own_turn tapes.first One m).machine) (kind_of (own_turn tapes.first One m).turn) m.first.stamps
-    (turn_makes tapes.first One m s.first (kind_of (own_turn tapes.first One m).turn) refl))
+    joins tapes (without_reads m) (without_reads (behind_event tapes (TurnOf One) m)) end One (kind_of (own_turn tapes.one One m).turn) m.paths.one.stamps rs
+    (makes_first tapes (without_reads m) (without_reads (own_turn tapes.one One m).machine) (kind_of (own_turn tapes.one One m).turn) m.paths.one.stamps
+    (turn_makes tapes.one One m s.first (kind_of (own_turn tapes.one One m).turn) refl))
 joins_event tapes m end (TurnOf Two) rs s =
     let o : MachineView = own_first Two m in
-    joins tapes (without_reads m) (without_reads (behind_event tapes (TurnOf Two) m)) end Two (kind_of (own_turn tapes.second Two o).turn) m.second.stamps rs
-    (makes_second tapes (without_reads m) (without_reads (own_turn tapes.second Two o).machine) (kind_of (own_turn tapes.second Two o).turn) m.second.stamps
-    (turn_makes tapes.second Two o s.second (kind_of (own_turn tapes.second Two o).turn) refl))
+    joins tapes (without_reads m) (without_reads (behind_event tapes (TurnOf Two) m)) end Two (kind_of (own_turn tapes.two Two o).turn) m.paths.two.stamps rs
+    (makes_second tapes (without_reads m) (without_reads (own_turn tapes.two Two o).machine) (kind_of (own_turn tapes.two Two o).turn) m.paths.two.stamps
+    (turn_makes tapes.two Two o s.second (kind_of (own_turn tapes.two Two o).turn) refl))
 joins_event tapes m end (EditOf p edit) rs s = go m.alarm refl
   where
     -- what was read before an edit is nothing behind it

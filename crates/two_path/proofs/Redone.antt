@@ -91,10 +91,10 @@ kind_at path line m code (Some there) = go (code == there) refl
     go false e = rw e refl
 
 -- the kind of a turn's record, by what the block comes to
-kind_by : (path : Path) (line : ℕ) (m : MachineView) (e : Effect) → kind_of (result_by path line m e).turn ≡ kind_of_effect e m.second.waiting
+kind_by : (path : Path) (line : ℕ) (m : MachineView) (e : Effect) → kind_of (result_by path line m e).turn ≡ kind_of_effect e m.paths.two.waiting
 kind_by path line m (Need v) = refl
 kind_by path line m (Done to write moves) = refl
-kind_by path line m (AtWait code) = kind_at path line m code m.second.waiting
+kind_by path line m (AtWait code) = kind_at path line m code m.paths.two.waiting
 kind_by path line m (AtEnd to moves) = refl
 kind_by path line m (effect.Alarm number value) = refl
 
@@ -106,7 +106,7 @@ kind_read : (blocks : Blocks) (path : Path) (stamps : List ℕ) (start now other
 kind_read blocks path stamps start now other joint awake is =
     let m : MachineView = with_reads blocks stamps (machine_of start other joint) in
     ap (λ r. kind_of r.turn) (own_awake blocks path m awake)
-    ∙ kind_by path (blocks.line m.first.path.place) m (blocks.effect m.first.path m.first.values)
+    ∙ kind_by path (blocks.line m.paths.one.path.place) m (blocks.effect m.paths.one.path m.paths.one.values)
     ∙ ap (λ (p : Part). kind_of_effect (blocks.effect p.path p.values) other.waiting) (sym is)
 
 pub fit : (blocks : Blocks) (entry : Entry) (start now other : Part) (joint : JointView) → is_still (machine_of start other joint) ≡ false
@@ -140,24 +140,24 @@ unfit_kind blocks entry start now other joint awake none has differs = record {
   rest = ap part_without_reads (has.part) ∙ none;
 }
 
-wait_bare : (path : Path) (line : ℕ) (m : MachineView) (code : ℕ) (o : Option ℕ) → part_without_reads m.second ≡ m.second
+wait_bare : (path : Path) (line : ℕ) (m : MachineView) (code : ℕ) (o : Option ℕ) → part_without_reads m.paths.two ≡ m.paths.two
     → without_reads (result_at_wait path line m code o).machine ≡ (result_at_wait path line m code o).machine
-wait_bare path line m code None none = ap (λ (p : Part). record (with_arrival code m) { second = p }) none
+wait_bare path line m code None none = ap (λ (p : Part). record (with_arrival code m) { paths = record (with_arrival code m).paths { two = p } }) none
 wait_bare path line m code (Some there) none = go (code == there) refl
   where
     go : (b : Bool) → (code == there) ≡ b
         → without_reads (result_at_wait path line m code (Some there)).machine ≡ (result_at_wait path line m code (Some there)).machine
     go true e = rw e refl
-    go false e = rw e (ap (λ (p : Part). record (with_alarm (crossed_waits path line) m) { second = p }) none)
+    go false e = rw e (ap (λ (p : Part). record (with_alarm (crossed_waits path line) m) { paths = record (with_alarm (crossed_waits path line) m).paths { two = p } }) none)
 
 -- a block that makes a record leaves no reads, where the other's block had none
 by_bare : (path : Path) (line : ℕ) (m : MachineView) (e : Effect) (k : EntryKind) → kind_of (result_by path line m e).turn ≡ Some k
-    → part_without_reads m.second ≡ m.second → without_reads (result_by path line m e).machine ≡ (result_by path line m e).machine
+    → part_without_reads m.paths.two ≡ m.paths.two → without_reads (result_by path line m e).machine ≡ (result_by path line m e).machine
 by_bare path line m (Need v) k is none = absurd cc
-by_bare path line m (Done to write moves) k is none = ap (λ (p : Part). record (behind_block to write m) { second = p }) none
-by_bare path line m (AtWait code) k is none = wait_bare path line m code m.second.waiting none
-by_bare path line m (AtEnd to moves) k is none = ap (λ (p : Part). record (with_end to m) { second = p }) none
-by_bare path line m (effect.Alarm number value) k is none = ap (λ (p : Part). record (with_alarm (alarm_at path line number value) m) { second = p }) none
+by_bare path line m (Done to write moves) k is none = ap (λ (p : Part). record (behind_block to write m) { paths = record (behind_block to write m).paths { two = p } }) none
+by_bare path line m (AtWait code) k is none = wait_bare path line m code m.paths.two.waiting none
+by_bare path line m (AtEnd to moves) k is none = ap (λ (p : Part). record (with_end to m) { paths = record (with_end to m).paths { two = p } }) none
+by_bare path line m (effect.Alarm number value) k is none = ap (λ (p : Part). record (with_alarm (alarm_at path line number value) m) { paths = record (with_alarm (alarm_at path line number value) m).paths { two = p } }) none
 
 -- the block runs, and the record is done again
 pub done : (blocks : Blocks) (entry : Entry) (start now other : Part) (joint : JointView) (after : MachineView) (turn : Turn)
@@ -172,7 +172,7 @@ done blocks entry start now other joint after turn fit none machine answer =
     record {
       legal = fit.legal;
       machine = machine ∙ ap (λ (p : Part). (block_turn blocks entry.path (machine_of p other joint)).machine) (fit.part)
-          ∙ sym (by_bare entry.path (blocks.line m.first.path.place) m (blocks.effect m.first.path m.first.values) entry.kind is none)
+          ∙ sym (by_bare entry.path (blocks.line m.paths.one.path.place) m (blocks.effect m.paths.one.path m.paths.one.values) entry.kind is none)
           ∙ ap (λ r. without_reads r.machine) (sym own);
       answer = answer ∙ ap (λ (p : Part). (block_turn blocks entry.path (machine_of p other joint)).turn) (fit.part) ∙ ap (λ r. r.turn) (sym own);
     }
@@ -216,8 +216,8 @@ ready_behind tape other_tape blocks led keeps path kind stamps me other me' othe
       other_shared = shared.1;
       my_wait = waits.first;
       other_wait = waits.second;
-      my_reads = ap (λ (m : MachineView). m.first) bare;
-      other_reads = ap (λ (m : MachineView). m.second) bare;
+      my_reads = ap (λ (m : MachineView). m.paths.one) bare;
+      other_reads = ap (λ (m : MachineView). m.paths.two) bare;
     }
 
 -- a test that holds, and does not

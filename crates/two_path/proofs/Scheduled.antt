@@ -15,8 +15,9 @@ use Rattle.path_state.specs.Statements.{Write as Written}
 use Rattle.path_state.specs.Effect.{Effect, Need, Done, AtWait, AtEnd}
 use Rattle.path_state.specs.Effect as effect
 use Rattle.nc_number.proofs.Bools.{or_right}
+use Rattle.nc_number.specs.Both.{of_path}
 use Rattle.two_path.specs.Machine.{Part, MachineView, own_first, part_without_reads, without_reads, opening}
-use Rattle.two_path.specs.Turns.{Blocks, Tapes, tape_of, with_write, part_at, crossed_waits, result_at_wait, result_by, own_turn, kind_of}
+use Rattle.two_path.specs.Turns.{Blocks, Tapes, with_write, part_at, crossed_waits, result_at_wait, result_by, own_turn, kind_of}
 use Rattle.two_path.specs.Edits.{behind_edit_of, edit_entry}
 use Rattle.two_path.specs.Histories.{Event, TurnOf, EditOf, behind_event, records_of, run, history, and_next, values_from, values_at, AsksFrom, AreInOrder, MayRead, with_values, with_reads, IsStep, behind_step, behind_entry, IsNext, fold, IsLegal, is_idle, IsLawful, AreLawful, IsReached, IsRun}
 use Rattle.two_path.proofs.Folds.{fold_push}
@@ -60,10 +61,10 @@ reading values ks p = record p { values = values; stamps = ks }
 
 -- with these values read, whatever the stamps, and the other's
 abbrev both : List Var → List ℕ → List Var → List ℕ → MachineView → MachineView
-both values ks others ko m = record m { first = reading values ks m.first; second = reading others ko m.second }
+both values ks others ko m = record m { paths = record { one = reading values ks m.paths.one; two = reading others ko m.paths.two } }
 
 abbrev loaded : Blocks → Blocks → List ℕ → List ℕ → MachineView → MachineView
-loaded a b ks ko m = both (values_at a m.first.path m.writes ks) ks (values_at b m.second.path m.writes ko) ko m
+loaded a b ks ko m = both (values_at a m.paths.one.path m.writes ks) ks (values_at b m.paths.two.path m.writes ko) ko m
 
 asks_before : (blocks : Blocks) (path : PathView) (o : Option Written) (ws : List Write) (c low : ℕ) (rs : List Var) (ks : List ℕ)
     → AreInOrder low c ks → AsksFrom blocks path (with_write (c + 1) o ws) rs ks → AsksFrom blocks path ws rs ks
@@ -108,22 +109,22 @@ record StepsTo (a b : Blocks) (n to : MachineView) (from_reads : List Var → Li
   mine : (ks : List ℕ) → Ready a to ks → Below (n.count + 1) ks → ks ≡ []
   theirs : (ko : List ℕ) → Ready b (own_first Two to) ko → Below (n.count + 1) ko
       → Ready b (own_first Two n) ko
-      × (from_reads (values_at b n.second.path n.writes ko) ko ≡ both [] [] (values_at b to.second.path to.writes ko) ko to)
+      × (from_reads (values_at b n.paths.two.path n.writes ko) ko ≡ both [] [] (values_at b to.paths.two.path to.writes ko) ko to)
 
 ready_none : (blocks : Blocks) (m : MachineView) → Ready blocks m []
 ready_none blocks m = record { may = record { order = tt; asks = tt }; idle = λ _. refl }
 
 -- what the other path reads before a record of this one
 before : (b : Blocks) (n : MachineView) (x : Part) (o : Option Written) (al : Option Alarm) (ko : List ℕ) → is_still n ≡ false
-    → Ready b (record { first = part_without_reads n.second; second = x; writes = with_write (n.count + 1) o n.writes; count = n.count + 1; alarm = al }) ko → Below (n.count + 1) ko
-    → Ready b (own_first Two n) ko × (values_at b n.second.path n.writes ko ≡ values_at b n.second.path (with_write (n.count + 1) o n.writes) ko)
+    → Ready b (record { paths = record { one = part_without_reads n.paths.two; two = x }; writes = with_write (n.count + 1) o n.writes; count = n.count + 1; alarm = al }) ko → Below (n.count + 1) ko
+    → Ready b (own_first Two n) ko × (values_at b n.paths.two.path n.writes ko ≡ values_at b n.paths.two.path (with_write (n.count + 1) o n.writes) ko)
 before b n x o al ko awake r below =
-    let order : AreInOrder n.second.since n.count ko = order_below n.second.since n.count ko r.may.order below in (
+    let order : AreInOrder n.paths.two.since n.count ko = order_below n.paths.two.since n.count ko r.may.order below in (
       record {
-        may = record { order = order; asks = asks_before b n.second.path o n.writes n.count n.second.since [] ko order r.may.asks };
-        idle = λ i. r.idle (or_right (is_some al) (is_idle n.second) (calm n.alarm (is_idle n.first) (is_idle n.second) awake i));
+        may = record { order = order; asks = asks_before b n.paths.two.path o n.writes n.count n.paths.two.since [] ko order r.may.asks };
+        idle = λ i. r.idle (or_right (is_some al) (is_idle n.paths.two) (calm n.alarm (is_idle n.paths.one) (is_idle n.paths.two) awake i));
       },
-      sym (values_written b n.second.path o n.writes n.count n.second.since [] ko order),
+      sym (values_written b n.paths.two.path o n.writes n.count n.paths.two.since [] ko order),
     )
   where
     calm : (a : Option Alarm) (f g : Bool) → (is_some a || f) ≡ false → (is_some a || g) ≡ true → g ≡ true
@@ -134,9 +135,9 @@ stepped_wait : (a b : Blocks) (path : Path) (line : ℕ) (n : MachineView) (rs :
     → StepsTo a b n (without_reads (result_at_wait path line (with_values rs ks n) code o).machine) (λ ro ko. (result_at_wait path line (both rs ks ro ko n) code o).machine)
 stepped_wait a b path line n rs ks code None awake = record {
   count = refl;
-  mine = λ ks' r below. r.idle (or_right (is_some n.alarm) (n.first.finished || true) (or_right n.first.finished true refl));
+  mine = λ ks' r below. r.idle (or_right (is_some n.alarm) (n.paths.one.finished || true) (or_right n.paths.one.finished true refl));
   theirs = λ ko r below.
-      let p = before b n (without_reads (result_at_wait path line (with_values rs ks n) code None).machine).first None n.alarm ko awake r below in (p.0, refl);
+      let p = before b n (without_reads (result_at_wait path line (with_values rs ks n) code None).machine).paths.one None n.alarm ko awake r below in (p.0, refl);
 }
 stepped_wait a b path line n rs ks code (Some there) awake = go (code == there) refl
   where
@@ -146,7 +147,7 @@ stepped_wait a b path line n rs ks code (Some there) awake = go (code == there) 
     go false e = rw e (record {
       count = refl;
       mine = λ ks' r below. r.idle refl;
-      theirs = λ ko r below. let p = before b n (part_without_reads n.first) None (Some (crossed_waits path line)) ko awake r below in (p.0, refl);
+      theirs = λ ko r below. let p = before b n (part_without_reads n.paths.one) None (Some (crossed_waits path line)) ko awake r below in (p.0, refl);
     })
     go true e = rw e (record {
       count = refl;
@@ -162,31 +163,31 @@ stepped a b path line n rs ks (Done to write moves) k awake e = record {
   count = refl;
   mine = λ ks' r below. order_none (n.count + 1) (n.count + 1) ks' r.may.order below;
   theirs = λ ko r below.
-      let p = before b n (part_at to (n.count + 1) n.first) write n.alarm ko awake r below in
+      let p = before b n (part_at to (n.count + 1) n.paths.one) write n.alarm ko awake r below in
       (p.0, ap (λ ro. (result_by path line (both rs ks ro ko n) (Done to write moves)).machine) p.1);
 }
-stepped a b path line n rs ks (AtWait code) k awake e = stepped_wait a b path line n rs ks code n.second.waiting awake
+stepped a b path line n rs ks (AtWait code) k awake e = stepped_wait a b path line n rs ks code n.paths.two.waiting awake
 stepped a b path line n rs ks (AtEnd to moves) k awake e = record {
   count = refl;
   mine = λ ks' r below. r.idle (or_right (is_some n.alarm) true refl);
   theirs = λ ko r below.
-      let p = before b n (without_reads (result_by path line (with_values rs ks n) (AtEnd to moves)).machine).first None n.alarm ko awake r below in (p.0, refl);
+      let p = before b n (without_reads (result_by path line (with_values rs ks n) (AtEnd to moves)).machine).paths.one None n.alarm ko awake r below in (p.0, refl);
 }
 stepped a b path line n rs ks (effect.Alarm number value) k awake e = record {
   count = refl;
   mine = λ ks' r below. r.idle refl;
   theirs = λ ko r below.
-      let p = before b n (part_without_reads n.first) None (result_by path line n (effect.Alarm number value)).machine.alarm ko awake r below in (p.0, refl);
+      let p = before b n (part_without_reads n.paths.one) None (result_by path line n (effect.Alarm number value)).machine.alarm ko awake r below in (p.0, refl);
 }
 
-read_kind : (a b : Blocks) (path : Path) (n : MachineView) (ks ko : List ℕ) (v : ℕ) → is_still n ≡ false → a.effect n.first.path (values_at a n.first.path n.writes ks) ≡ Need v
+read_kind : (a b : Blocks) (path : Path) (n : MachineView) (ks ko : List ℕ) (v : ℕ) → is_still n ≡ false → a.effect n.paths.one.path (values_at a n.paths.one.path n.writes ks) ≡ Need v
     → kind_of (own_turn a path (loaded a b ks ko n)).turn ≡ None
 read_kind a b path n ks ko v awake e = rw (own_awake a path (loaded a b ks ko n) awake, e) refl
 
-read_turn : (a b : Blocks) (path : Path) (n : MachineView) (ks ko : List ℕ) (v : ℕ) → is_still n ≡ false → a.effect n.first.path (values_at a n.first.path n.writes ks) ≡ Need v
+read_turn : (a b : Blocks) (path : Path) (n : MachineView) (ks ko : List ℕ) (v : ℕ) → is_still n ≡ false → a.effect n.paths.one.path (values_at a n.paths.one.path n.writes ks) ≡ Need v
     → (own_turn a path (loaded a b ks ko n)).machine ≡ loaded a b (ks ++ n.count ∷ []) ko n
 read_turn a b path n ks ko v awake e =
-    rw (own_awake a path (loaded a b ks ko n) awake, values_push a n.first.path n.writes [] ks n.count, e) refl
+    rw (own_awake a path (loaded a b ks ko n) awake, values_push a n.paths.one.path n.writes [] ks n.count, e) refl
 
 -- the kind of a record does not hang on what the other has read
 wait_kind : (path : Path) (line : ℕ) (m n : MachineView) (code : ℕ) (o : Option ℕ)
@@ -199,12 +200,12 @@ wait_kind path line m n code (Some there) = go (code == there) refl
     go true e = rw e refl
     go false e = rw e refl
 
-kind_alike : (path : Path) (line : ℕ) (m n : MachineView) (e : Effect) → m.second.waiting ≡ n.second.waiting
+kind_alike : (path : Path) (line : ℕ) (m n : MachineView) (e : Effect) → m.paths.two.waiting ≡ n.paths.two.waiting
     → kind_of (result_by path line m e).turn ≡ kind_of (result_by path line n e).turn
 kind_alike path line m n (Need v) w = refl
 kind_alike path line m n (Done to write moves) w = refl
 kind_alike path line m n (AtWait code) w =
-    wait_kind path line m n code m.second.waiting ∙ ap (λ o. kind_of (result_at_wait path line n code o).turn) w
+    wait_kind path line m n code m.paths.two.waiting ∙ ap (λ o. kind_of (result_at_wait path line n code o).turn) w
 kind_alike path line m n (AtEnd to moves) w = refl
 kind_alike path line m n (effect.Alarm number value) w = refl
 
@@ -215,28 +216,28 @@ step_kind : (a b : Blocks) (path : Path) (n : MachineView) (k : EntryKind) (ks k
     → kind_of (own_turn a path (loaded a b ks ko n)).turn ≡ Some k
 step_kind a b path n k ks ko i =
     let awake = step_awake a path n k ks i in
-    let e : Effect = a.effect n.first.path (values_at a n.first.path n.writes ks) in
+    let e : Effect = a.effect n.paths.one.path (values_at a n.paths.one.path n.writes ks) in
     ap (λ r. kind_of r.turn) (own_awake a path (loaded a b ks ko n) awake)
-    ∙ kind_alike path (a.line n.first.path.place) (loaded a b ks ko n) (with_reads a ks n) e refl
+    ∙ kind_alike path (a.line n.paths.one.path.place) (loaded a b ks ko n) (with_reads a ks n) e refl
     ∙ sym (ap (λ r. kind_of r.turn) (own_awake a path (with_reads a ks n) awake))
     ∙ i.is
 
 -- the same of a whole step
 applied_steps : (a b : Blocks) (path : Path) (n : MachineView) (k : EntryKind) (ks : List ℕ) → IsStep a path n k ks
-    → StepsTo a b n (behind_step a path ks n) (λ ro ko. (own_turn a path (both (values_at a n.first.path n.writes ks) ks ro ko n)).machine)
+    → StepsTo a b n (behind_step a path ks n) (λ ro ko. (own_turn a path (both (values_at a n.paths.one.path n.writes ks) ks ro ko n)).machine)
 applied_steps a b path n k ks i =
     let awake = step_awake a path n k ks i in
-    let rs : List Var = values_at a n.first.path n.writes ks in
+    let rs : List Var = values_at a n.paths.one.path n.writes ks in
     let is = own_awake a path (with_reads a ks n) awake in
-    let st = stepped a b path (a.line n.first.path.place) n rs ks (a.effect n.first.path rs) k awake (rw is at i.is) in
-    let there : StepsTo a b n (behind_step a path ks n) (λ ro ko. (result_by path (a.line n.first.path.place) (both rs ks ro ko n) (a.effect n.first.path rs)).machine) =
-    subst (λ r. StepsTo a b n (without_reads r.machine) (λ ro ko. (result_by path (a.line n.first.path.place) (both rs ks ro ko n) (a.effect n.first.path rs)).machine)) (sym is) st in
+    let st = stepped a b path (a.line n.paths.one.path.place) n rs ks (a.effect n.paths.one.path rs) k awake (rw is at i.is) in
+    let there : StepsTo a b n (behind_step a path ks n) (λ ro ko. (result_by path (a.line n.paths.one.path.place) (both rs ks ro ko n) (a.effect n.paths.one.path rs)).machine) =
+    subst (λ r. StepsTo a b n (without_reads r.machine) (λ ro ko. (result_by path (a.line n.paths.one.path.place) (both rs ks ro ko n) (a.effect n.paths.one.path rs)).machine)) (sym is) st in
     record {
       count = there.count;
       mine = there.mine;
       theirs = λ ko r below.
           let p = there.theirs ko r below in
-          (p.0, ap (λ r. r.machine) (own_awake a path (both rs ks (values_at b n.second.path n.writes ko) ko n) awake) ∙ p.1);
+          (p.0, ap (λ r. r.machine) (own_awake a path (both rs ks (values_at b n.paths.two.path n.writes ko) ko n) awake) ∙ p.1);
     }
 
 not_none : (ks : List ℕ) (k : ℕ) → ks ++ k ∷ [] ≡ [] → ⊥
@@ -246,8 +247,8 @@ not_none (j ∷ ks) k e = cc
 ready_front : (blocks : Blocks) (m : MachineView) (ks : List ℕ) (k : ℕ) → Ready blocks m (ks ++ k ∷ []) → Ready blocks m ks
 ready_front blocks m ks k r = record {
   may = record {
-    order = (order_front m.first.since m.count ks k r.may.order).0;
-    asks = (asks_front blocks m.first.path m.writes [] ks k r.may.asks).0;
+    order = (order_front m.paths.one.since m.count ks k r.may.order).0;
+    asks = (asks_front blocks m.paths.one.path m.writes [] ks k r.may.asks).0;
   };
   idle = λ i. absurd (not_none ks k (r.idle i));
 }
@@ -273,39 +274,39 @@ more_none : (tapes : Tapes) (m n to : MachineView) (rs : List Entry) (e : Event)
 more_none tapes m n to rs e x new is = subst (λ es. IsReached tapes m es to) (append-nil rs) (more tapes m n to rs e [] x new is)
 
 -- one more read of either path
-read_first : (tapes : Tapes) (m n : MachineView) (rs : List Entry) (ks ko : List ℕ) → Ready tapes.first n (ks ++ n.count ∷ [])
-    → IsReached tapes m rs (loaded tapes.first tapes.second ks ko n)
-    → IsReached tapes m rs (loaded tapes.first tapes.second (ks ++ n.count ∷ []) ko n)
+read_first : (tapes : Tapes) (m n : MachineView) (rs : List Entry) (ks ko : List ℕ) → Ready tapes.one n (ks ++ n.count ∷ [])
+    → IsReached tapes m rs (loaded tapes.one tapes.two ks ko n)
+    → IsReached tapes m rs (loaded tapes.one tapes.two (ks ++ n.count ∷ []) ko n)
 read_first tapes m n rs ks ko r x =
-    let awake = ready_awake tapes.first n ks n.count r in
-    let need = (asks_front tapes.first n.first.path n.writes [] ks n.count r.may.asks).1 in
-    more_none tapes m (loaded tapes.first tapes.second ks ko n)
-    (loaded tapes.first tapes.second (ks ++ n.count ∷ []) ko n) rs (TurnOf One) x
-    (rw (read_kind tapes.first tapes.second One n ks ko need.0 awake need.1) refl)
-    (read_turn tapes.first tapes.second One n ks ko need.0 awake need.1)
+    let awake = ready_awake tapes.one n ks n.count r in
+    let need = (asks_front tapes.one n.paths.one.path n.writes [] ks n.count r.may.asks).1 in
+    more_none tapes m (loaded tapes.one tapes.two ks ko n)
+    (loaded tapes.one tapes.two (ks ++ n.count ∷ []) ko n) rs (TurnOf One) x
+    (rw (read_kind tapes.one tapes.two One n ks ko need.0 awake need.1) refl)
+    (read_turn tapes.one tapes.two One n ks ko need.0 awake need.1)
 
-read_second : (tapes : Tapes) (m n : MachineView) (rs : List Entry) (ks ko : List ℕ) → Ready tapes.second (own_first Two n) (ko ++ n.count ∷ [])
-    → IsReached tapes m rs (loaded tapes.first tapes.second ks ko n)
-    → IsReached tapes m rs (loaded tapes.first tapes.second ks (ko ++ n.count ∷ []) n)
+read_second : (tapes : Tapes) (m n : MachineView) (rs : List Entry) (ks ko : List ℕ) → Ready tapes.two (own_first Two n) (ko ++ n.count ∷ [])
+    → IsReached tapes m rs (loaded tapes.one tapes.two ks ko n)
+    → IsReached tapes m rs (loaded tapes.one tapes.two ks (ko ++ n.count ∷ []) n)
 read_second tapes m n rs ks ko r x =
-    let awake = ready_awake tapes.second (own_first Two n) ko n.count r in
-    let need = (asks_front tapes.second n.second.path n.writes [] ko n.count r.may.asks).1 in
-    more_none tapes m (loaded tapes.first tapes.second ks ko n)
-    (loaded tapes.first tapes.second ks (ko ++ n.count ∷ []) n) rs (TurnOf Two) x
-    (rw (read_kind tapes.second tapes.first Two (own_first Two n) ko ks need.0 awake need.1) refl)
-    (ap (own_first Two) (read_turn tapes.second tapes.first Two (own_first Two n) ko ks need.0 awake need.1))
+    let awake = ready_awake tapes.two (own_first Two n) ko n.count r in
+    let need = (asks_front tapes.two n.paths.two.path n.writes [] ko n.count r.may.asks).1 in
+    more_none tapes m (loaded tapes.one tapes.two ks ko n)
+    (loaded tapes.one tapes.two ks (ko ++ n.count ∷ []) n) rs (TurnOf Two) x
+    (rw (read_kind tapes.two tapes.one Two (own_first Two n) ko ks need.0 awake need.1) refl)
+    (ap (own_first Two) (read_turn tapes.two tapes.one Two (own_first Two n) ko ks need.0 awake need.1))
 
 -- each machine that is the fold of the history but for reads that may have been made is reached
 abbrev Claim : Tapes → MachineView → List Entry → MachineView → Type 0
 Claim tapes m rs n =
-    (ks ko : List ℕ) → Ready tapes.first n ks → Ready tapes.second (own_first Two n) ko
-    → IsReached tapes m rs (loaded tapes.first tapes.second ks ko n)
+    (ks ko : List ℕ) → Ready tapes.one n ks → Ready tapes.two (own_first Two n) ko
+    → IsReached tapes m rs (loaded tapes.one tapes.two ks ko n)
 
 -- the same where no read has been made since the last record
 abbrev Base : Tapes → MachineView → List Entry → MachineView → Type 0
 Base tapes m rs n =
-    (ks ko : List ℕ) → Ready tapes.first n ks → Ready tapes.second (own_first Two n) ko → Below n.count ks → Below n.count ko
-    → IsReached tapes m rs (loaded tapes.first tapes.second ks ko n)
+    (ks ko : List ℕ) → Ready tapes.one n ks → Ready tapes.two (own_first Two n) ko → Below n.count ks → Below n.count ko
+    → IsReached tapes m rs (loaded tapes.one tapes.two ks ko n)
 
 below_or : (k c : ℕ) → k ≤ c → (k ≡ c) ⊎ (k < c)
 below_or k c h = go (k == c) refl
@@ -314,38 +315,38 @@ below_or k c h = go (k == c) refl
     go true e = inl (grind (arith, nat_tests))
     go false e = inr (grind (arith, nat_tests))
 
-extend_second : (tapes : Tapes) (m n : MachineView) (rs : List Entry) → Base tapes m rs n → (ks : List ℕ) → Ready tapes.first n ks → Below n.count ks
-    → (ko : List ℕ) → Ready tapes.second (own_first Two n) ko → IsReached tapes m rs (loaded tapes.first tapes.second ks ko n)
+extend_second : (tapes : Tapes) (m n : MachineView) (rs : List Entry) → Base tapes m rs n → (ks : List ℕ) → Ready tapes.one n ks → Below n.count ks
+    → (ko : List ℕ) → Ready tapes.two (own_first Two n) ko → IsReached tapes m rs (loaded tapes.one tapes.two ks ko n)
 extend_second tapes m n rs base ks r b =
-    from_end (λ ko. Ready tapes.second (own_first Two n) ko → IsReached tapes m rs (loaded tapes.first tapes.second ks ko n))
+    from_end (λ ko. Ready tapes.two (own_first Two n) ko → IsReached tapes m rs (loaded tapes.one tapes.two ks ko n))
     (λ s. base ks [] r s b tt)
-    (λ ko k rest s. go ko k (rest (ready_front tapes.second (own_first Two n) ko k s)) s (below_or k n.count (order_front n.second.since n.count ko k s.may.order).2))
+    (λ ko k rest s. go ko k (rest (ready_front tapes.two (own_first Two n) ko k s)) s (below_or k n.count (order_front n.paths.two.since n.count ko k s.may.order).2))
   where
-    go : (ko : List ℕ) (k : ℕ) → IsReached tapes m rs (loaded tapes.first tapes.second ks ko n) → Ready tapes.second (own_first Two n) (ko ++ k ∷ [])
-        → (k ≡ n.count) ⊎ (k < n.count) → IsReached tapes m rs (loaded tapes.first tapes.second ks (ko ++ k ∷ []) n)
+    go : (ko : List ℕ) (k : ℕ) → IsReached tapes m rs (loaded tapes.one tapes.two ks ko n) → Ready tapes.two (own_first Two n) (ko ++ k ∷ [])
+        → (k ≡ n.count) ⊎ (k < n.count) → IsReached tapes m rs (loaded tapes.one tapes.two ks (ko ++ k ∷ []) n)
     go ko k x s (inl e) = rw e (read_second tapes m n rs ks ko (rw e at s) x)
-    go ko k x s (inr lt) = base ks (ko ++ k ∷ []) r s b (below_push n.second.since n.count n.count ko k s.may.order lt)
+    go ko k x s (inr lt) = base ks (ko ++ k ∷ []) r s b (below_push n.paths.two.since n.count n.count ko k s.may.order lt)
 
 extend_first : (tapes : Tapes) (m n : MachineView) (rs : List Entry) → Base tapes m rs n → Claim tapes m rs n
 extend_first tapes m n rs base ks ko r s = from_end
-    (λ ks. Ready tapes.first n ks → IsReached tapes m rs (loaded tapes.first tapes.second ks ko n))
+    (λ ks. Ready tapes.one n ks → IsReached tapes m rs (loaded tapes.one tapes.two ks ko n))
     (λ r. extend_second tapes m n rs base [] r tt ko s)
-    (λ ks k rest r. go ks k (rest (ready_front tapes.first n ks k r)) r (below_or k n.count (order_front n.first.since n.count ks k r.may.order).2))
+    (λ ks k rest r. go ks k (rest (ready_front tapes.one n ks k r)) r (below_or k n.count (order_front n.paths.one.since n.count ks k r.may.order).2))
     ks r
   where
-    go : (ks : List ℕ) (k : ℕ) → IsReached tapes m rs (loaded tapes.first tapes.second ks ko n) → Ready tapes.first n (ks ++ k ∷ [])
-        → (k ≡ n.count) ⊎ (k < n.count) → IsReached tapes m rs (loaded tapes.first tapes.second (ks ++ k ∷ []) ko n)
+    go : (ks : List ℕ) (k : ℕ) → IsReached tapes m rs (loaded tapes.one tapes.two ks ko n) → Ready tapes.one n (ks ++ k ∷ [])
+        → (k ≡ n.count) ⊎ (k < n.count) → IsReached tapes m rs (loaded tapes.one tapes.two (ks ++ k ∷ []) ko n)
     go ks k x r (inl e) = rw e (read_first tapes m n rs ks ko (rw e at r) x)
-    go ks k x r (inr lt) = extend_second tapes m n rs base (ks ++ k ∷ []) r (below_push n.first.since n.count n.count ks k r.may.order lt) ko s
+    go ks k x r (inr lt) = extend_second tapes m n rs base (ks ++ k ∷ []) r (below_push n.paths.one.since n.count n.count ks k r.may.order lt) ko s
 
 step_ready : (blocks : Blocks) (path : Path) (m : MachineView) (k : EntryKind) (ks : List ℕ) → IsStep blocks path m k ks → Ready blocks m ks
 step_ready blocks path m k ks i = record { may = i.reads; idle = λ e. absurd (let awake : is_still m ≡ false = step_awake blocks path m k ks i in cc) }
 
-turned_first : (tapes : Tapes) (m n : MachineView) (rs : List Entry) (k : EntryKind) (ks : List ℕ) → Claim tapes m rs n → IsStep tapes.first One n k ks
-    → Base tapes m (rs ++ entry One k ks ∷ []) (behind_step tapes.first One ks n)
+turned_first : (tapes : Tapes) (m n : MachineView) (rs : List Entry) (k : EntryKind) (ks : List ℕ) → Claim tapes m rs n → IsStep tapes.one One n k ks
+    → Base tapes m (rs ++ entry One k ks ∷ []) (behind_step tapes.one One ks n)
 turned_first tapes m n rs k ks claim i ks' ko r s b b' =
-    let a : Blocks = tapes.first in
-    let c : Blocks = tapes.second in
+    let a : Blocks = tapes.one in
+    let c : Blocks = tapes.two in
     let st = applied_steps a c One n k ks i in
     let none : ks' ≡ [] = st.mine ks' r (rw (st.count) at b) in
     let th = st.theirs ko s (rw (st.count) at b') in
@@ -353,11 +354,11 @@ turned_first tapes m n rs k ks claim i ks' ko r s b b' =
     (claim ks ko (step_ready a One n k ks i) th.0)
     (rw (step_kind a c One n k ks ko i) refl) th.1)
 
-turned_second : (tapes : Tapes) (m n : MachineView) (rs : List Entry) (k : EntryKind) (ks : List ℕ) → Claim tapes m rs n → IsStep tapes.second Two (own_first Two n) k ks
-    → Base tapes m (rs ++ entry Two k ks ∷ []) (own_first Two (behind_step tapes.second Two ks (own_first Two n)))
+turned_second : (tapes : Tapes) (m n : MachineView) (rs : List Entry) (k : EntryKind) (ks : List ℕ) → Claim tapes m rs n → IsStep tapes.two Two (own_first Two n) k ks
+    → Base tapes m (rs ++ entry Two k ks ∷ []) (own_first Two (behind_step tapes.two Two ks (own_first Two n)))
 turned_second tapes m n rs k ks claim i ko ks' s r b' b =
-    let a : Blocks = tapes.second in
-    let c : Blocks = tapes.first in
+    let a : Blocks = tapes.two in
+    let c : Blocks = tapes.one in
     let st = applied_steps a c Two (own_first Two n) k ks i in
     let none : ks' ≡ [] = st.mine ks' r (rw (st.count) at b) in
     let th = st.theirs ko s (rw (st.count) at b') in
@@ -366,8 +367,8 @@ turned_second tapes m n rs k ks claim i ko ks' s r b' b =
     (rw (step_kind a c Two (own_first Two n) k ks ko i) refl) (ap (own_first Two) th.1))
 
 turned : (tapes : Tapes) (m n : MachineView) (rs : List Entry) (p : Path) (k : EntryKind) (ks : List ℕ) → Claim tapes m rs n
-    → IsStep (tape_of tapes p) p (own_first p n) k ks
-    → Base tapes m (rs ++ entry p k ks ∷ []) (own_first p (behind_step (tape_of tapes p) p ks (own_first p n)))
+    → IsStep (of_path tapes p) p (own_first p n) k ks
+    → Base tapes m (rs ++ entry p k ks ∷ []) (own_first p (behind_step (of_path tapes p) p ks (own_first p n)))
 turned tapes m n rs One k ks claim i = turned_first tapes m n rs k ks claim i
 turned tapes m n rs Two k ks claim i = turned_second tapes m n rs k ks claim i
 
@@ -376,29 +377,29 @@ edited_base : (tapes : Tapes) (m n : MachineView) (rs : List Entry) (p : Path) (
     → Base tapes m (rs ++ edit_entry p edit ∷ []) (behind_edit_of p edit n)
 edited_base tapes m n rs p edit claim calm ks ko r s b b' =
     let none = unread p r s b b' in
-    rw (none.0, none.1) (more tapes m (loaded tapes.first tapes.second [] [] n)
-    (loaded tapes.first tapes.second [] [] (behind_edit_of p edit n)) rs (EditOf p edit) (edit_entry p edit ∷ [])
-    (claim [] [] (ready_none tapes.first n) (ready_none tapes.second (own_first Two n)))
+    rw (none.0, none.1) (more tapes m (loaded tapes.one tapes.two [] [] n)
+    (loaded tapes.one tapes.two [] [] (behind_edit_of p edit n)) rs (EditOf p edit) (edit_entry p edit ∷ [])
+    (claim [] [] (ready_none tapes.one n) (ready_none tapes.two (own_first Two n)))
     (calmly n.alarm [] (edit_entry p edit ∷ []) calm)
-    (calmly n.alarm (loaded tapes.first tapes.second [] [] n) (behind_edit_of p edit (loaded tapes.first tapes.second [] [] n)) calm ∙ same p))
+    (calmly n.alarm (loaded tapes.one tapes.two [] [] n) (behind_edit_of p edit (loaded tapes.one tapes.two [] [] n)) calm ∙ same p))
   where
-    unread : (p : Path) {ks ko : List ℕ} → Ready tapes.first (behind_edit_of p edit n) ks
-        → Ready tapes.second (own_first Two (behind_edit_of p edit n)) ko
+    unread : (p : Path) {ks ko : List ℕ} → Ready tapes.one (behind_edit_of p edit n) ks
+        → Ready tapes.two (own_first Two (behind_edit_of p edit n)) ko
         → Below (behind_edit_of p edit n).count ks → Below (behind_edit_of p edit n).count ko → (ks ≡ []) × (ko ≡ [])
     unread One r s b b' =
         (order_none (n.count + 1) (n.count + 1) _ r.may.order b, order_none (n.count + 1) (n.count + 1) _ s.may.order b')
     unread Two r s b b' =
         (order_none (n.count + 1) (n.count + 1) _ r.may.order b, order_none (n.count + 1) (n.count + 1) _ s.may.order b')
 
-    same : (p : Path) → behind_edit_of p edit (loaded tapes.first tapes.second [] [] n)
-        ≡ loaded tapes.first tapes.second [] [] (behind_edit_of p edit n)
+    same : (p : Path) → behind_edit_of p edit (loaded tapes.one tapes.two [] [] n)
+        ≡ loaded tapes.one tapes.two [] [] (behind_edit_of p edit n)
     same One = refl
     same Two = refl
 
 base_of : (tapes : Tapes) (m n : MachineView) (rs : List Entry) (e : Entry) → Claim tapes m rs n → IsNext tapes n e
     → Base tapes m (rs ++ e ∷ []) (behind_entry tapes e n)
 base_of tapes m n rs e claim (inl i) =
-    let step = step_no_edit (tape_of tapes e.path) e.path (own_first e.path n) e.kind e.stamps i in
+    let step = step_no_edit (of_path tapes e.path) e.path (own_first e.path n) e.kind e.stamps i in
     rw (behind_step_entry tapes n e step) (turned tapes m n rs e.path e.kind e.stamps claim i)
 base_of tapes m n rs e claim (inr i) =
     rw (behind_edit_entry tapes n e i.edit i.is)
@@ -429,22 +430,22 @@ pub run_of : (tapes : Tapes) (first second : PathView) (rs : List Entry) → IsL
     → IsRun tapes (opening first second) rs (fold tapes (opening first second) rs)
 run_of tapes first second rs legal =
     let n : MachineView = fold tapes (opening first second) rs in
-    let x = reached tapes first second rs legal [] [] (ready_none tapes.first n) (ready_none tapes.second (own_first Two n)) in
+    let x = reached tapes first second rs legal [] [] (ready_none tapes.one n) (ready_none tapes.two (own_first Two n)) in
     record { events = x.events; records = x.records; reaches = rw x.reaches (fold_bare tapes (opening first second) rs refl) }
 
 pub lawful_of : (tapes : Tapes) (first second : PathView) (rs : List Entry) (to : MachineView) → IsLegal tapes (opening first second) rs
     → fold tapes (opening first second) rs ≡ without_reads to → to.alarm ≡ None → AreLawful tapes to → IsReached tapes (opening first second) rs to
 lawful_of tapes first second rs to legal folds calm l =
-    let x = reached tapes first second rs legal to.first.stamps to.second.stamps
-    (rw folds (lawful_ready tapes.first to calm l.first)) (rw folds (lawful_ready tapes.second (own_first Two to) calm l.second)) in
+    let x = reached tapes first second rs legal to.paths.one.stamps to.paths.two.stamps
+    (rw folds (lawful_ready tapes.one to calm l.first)) (rw folds (lawful_ready tapes.two (own_first Two to) calm l.second)) in
     record { events = x.events; records = x.records; reaches = x.reaches ∙ rw (folds, ← l.first.values, ← l.second.values) refl }
   where
     only : (a : Option Alarm) (f : Bool) → a ≡ None → (is_some a || f) ≡ true → f ≡ true
     only None f e i = i
     only (Some t) f e i = absurd cc
 
-    lawful_ready : (blocks : Blocks) (m : MachineView) → m.alarm ≡ None → IsLawful blocks m → Ready blocks (without_reads m) m.first.stamps
+    lawful_ready : (blocks : Blocks) (m : MachineView) → m.alarm ≡ None → IsLawful blocks m → Ready blocks (without_reads m) m.paths.one.stamps
     lawful_ready blocks m calm l = record {
       may = record { order = l.may.order; asks = l.may.asks };
-      idle = λ i. l.none (only m.alarm (is_idle m.first) calm i);
+      idle = λ i. l.none (only m.alarm (is_idle m.paths.one) calm i);
     }

@@ -21,8 +21,8 @@ use Rattle.two_path.proofs.Idle.{is_still, own_awake, own_still}
 
 -- what is fixed for both paths
 pub record IsFixed (before after : MachineView) : Type 0 where
-  pub first : after.first.path.fixed ≡ before.first.path.fixed
-  pub second : after.second.path.fixed ≡ before.second.path.fixed
+  pub first : after.paths.one.path.fixed ≡ before.paths.one.path.fixed
+  pub second : after.paths.two.path.fixed ≡ before.paths.two.path.fixed
 
 wait_fixed : (path : Path) (line : ℕ) (m : MachineView) (code : ℕ) (o : Option ℕ) → IsFixed m (result_at_wait path line m code o).machine
 wait_fixed path line m code None = record { first = refl; second = refl }
@@ -32,10 +32,10 @@ wait_fixed path line m code (Some there) = go (code == there) refl
     go true e = rw e (record { first = refl; second = refl })
     go false e = rw e (record { first = refl; second = refl })
 
-by_fixed : (path : Path) (line : ℕ) (m : MachineView) (e : Effect) → KeepsFixed m.first.path e → IsFixed m (result_by path line m e).machine
+by_fixed : (path : Path) (line : ℕ) (m : MachineView) (e : Effect) → KeepsFixed m.paths.one.path e → IsFixed m (result_by path line m e).machine
 by_fixed path line m (Need v) k = record { first = refl; second = refl }
 by_fixed path line m (Done to write moves) k = record { first = k; second = refl }
-by_fixed path line m (AtWait code) k = wait_fixed path line m code m.second.waiting
+by_fixed path line m (AtWait code) k = wait_fixed path line m code m.paths.two.waiting
 by_fixed path line m (AtEnd to moves) k = record { first = k; second = refl }
 by_fixed path line m (effect.Alarm number value) k = record { first = refl; second = refl }
 
@@ -46,7 +46,7 @@ own_fixed blocks keeps path m = go (is_still m) refl
     go : (b : Bool) → is_still m ≡ b → IsFixed m (own_turn blocks path m).machine
     go true e = rw ((own_still blocks path m e).0) (record { first = refl; second = refl })
     go false e = rw (own_awake blocks path m e)
-        (by_fixed path (blocks.line m.first.path.place) m (blocks.effect m.first.path m.first.values) (keeps m.first.path m.first.values))
+        (by_fixed path (blocks.line m.paths.one.path.place) m (blocks.effect m.paths.one.path m.paths.one.values) (keeps m.paths.one.path m.paths.one.values))
 
 -- the same variables are shared behind a turn
 still_shared : (before after : Part) (joint left : JointView) → after.path.fixed ≡ before.path.fixed → IsLasting joint left → AreShared before joint → AreShared after left
@@ -58,8 +58,8 @@ still_shared before after joint left fixed lasting shared = record {
 none_waits : {A : Type 0} {o : Option ℕ} {code : ℕ} → o ≡ None → o ≡ Some code → A
 none_waits e w = absurd cc
 
-wait_waits : (left right : List ControlProgram) (path : Path) (line : ℕ) (m : MachineView) (code : ℕ) → m.first.waiting ≡ None
-    → standing left m.first.path.place ≡ Some (Wait code) → AreAtTheirWaits left right m → (o : Option ℕ)
+wait_waits : (left right : List ControlProgram) (path : Path) (line : ℕ) (m : MachineView) (code : ℕ) → m.paths.one.waiting ≡ None
+    → standing left m.paths.one.path.place ≡ Some (Wait code) → AreAtTheirWaits left right m → (o : Option ℕ)
     → AreAtTheirWaits left right (result_at_wait path line m code o).machine
 wait_waits left right path line m code none is k None = record {
   first = λ c same. is ∙ ap (λ n. Some (Wait n)) (some_is same);
@@ -71,11 +71,11 @@ wait_waits left right path line m code none is k (Some there) = go (code == ther
     go true e = rw e (record { first = λ c same. absurd cc; second = λ c same. absurd cc })
     go false e = rw e (record { first = λ c same. none_waits none same; second = k.second })
 
-by_waits : (left right : List ControlProgram) (path : Path) (line : ℕ) (m : MachineView) (e : Effect) → m.first.waiting ≡ None → GoesAsOrdered left m.first.path e
+by_waits : (left right : List ControlProgram) (path : Path) (line : ℕ) (m : MachineView) (e : Effect) → m.paths.one.waiting ≡ None → GoesAsOrdered left m.paths.one.path e
     → AreAtTheirWaits left right m → AreAtTheirWaits left right (result_by path line m e).machine
 by_waits left right path line m (Need v) none goes k = record { first = λ c same. none_waits none same; second = k.second }
 by_waits left right path line m (Done to write moves) none goes k = record { first = λ c same. none_waits none same; second = k.second }
-by_waits left right path line m (AtWait code) none goes k = wait_waits left right path line m code none goes k m.second.waiting
+by_waits left right path line m (AtWait code) none goes k = wait_waits left right path line m code none goes k m.paths.two.waiting
 by_waits left right path line m (AtEnd to moves) none goes k = record { first = λ c same. none_waits none same; second = k.second }
 by_waits left right path line m (effect.Alarm number value) none goes k = record { first = λ c same. none_waits none same; second = k.second }
 
@@ -92,8 +92,8 @@ own_waits left right blocks led path m k = go (is_still m) refl
     go : (b : Bool) → is_still m ≡ b → AreAtTheirWaits left right (own_turn blocks path m).machine
     go true e = rw ((own_still blocks path m e).0) k
     go false e = rw (own_awake blocks path m e)
-        (by_waits left right path (blocks.line m.first.path.place) m (blocks.effect m.first.path m.first.values)
-        (not_waiting m.alarm m.first.finished m.first.waiting e) (led m.first.path m.first.values) k)
+        (by_waits left right path (blocks.line m.paths.one.path.place) m (blocks.effect m.paths.one.path m.paths.one.values)
+        (not_waiting m.alarm m.paths.one.finished m.paths.one.waiting e) (led m.paths.one.path m.paths.one.values) k)
 
 pub swapped : (left right : List ControlProgram) (m : MachineView) → AreAtTheirWaits left right m → AreAtTheirWaits right left (own_first Two m)
 swapped left right m k = record { first = k.second; second = k.first }
@@ -104,8 +104,8 @@ pub shared_behind : (blocks : Blocks) → ((at : PathView) (values : List Var) �
     → IsLasting joint joint' → AreShared me joint → AreShared other joint → AreShared me' joint' × AreShared other' joint'
 shared_behind blocks keeps path me other me' other' joint joint' is lasting mine theirs =
     let fixed = own_fixed blocks keeps path (machine_of me other joint) in (
-      still_shared me me' joint joint' (ap (λ (m : MachineView). m.first.path.fixed) is ∙ fixed.first) lasting mine,
-      still_shared other other' joint joint' (ap (λ (m : MachineView). m.second.path.fixed) is ∙ fixed.second) lasting theirs,
+      still_shared me me' joint joint' (ap (λ (m : MachineView). m.paths.one.path.fixed) is ∙ fixed.first) lasting mine,
+      still_shared other other' joint joint' (ap (λ (m : MachineView). m.paths.two.path.fixed) is ∙ fixed.second) lasting theirs,
     )
 
 pub waits_behind : (left right : List ControlProgram) (blocks : Blocks) → ((at : PathView) (values : List Var) → GoesAsOrdered left at (blocks.effect at values))
@@ -118,15 +118,15 @@ pub step_shared : (blocks : Blocks) → ((at : PathView) (values : List Var) →
     → IsLasting joint joint' → AreShared me joint → AreShared other joint → AreShared me' joint' × AreShared other' joint'
 step_shared blocks keeps path stamps me other me' other' joint joint' is lasting mine theirs =
     let fixed = own_fixed blocks keeps path (with_reads blocks stamps (machine_of me other joint)) in (
-      still_shared me me' joint joint' (ap (λ (m : MachineView). m.first.path.fixed) is ∙ fixed.first) lasting mine,
-      still_shared other other' joint joint' (ap (λ (m : MachineView). m.second.path.fixed) is ∙ fixed.second) lasting theirs,
+      still_shared me me' joint joint' (ap (λ (m : MachineView). m.paths.one.path.fixed) is ∙ fixed.first) lasting mine,
+      still_shared other other' joint joint' (ap (λ (m : MachineView). m.paths.two.path.fixed) is ∙ fixed.second) lasting theirs,
     )
 
 pub same_shared : (me other me' other' : Part) (joint joint' : JointView) → machine_of me' other' joint' ≡ machine_of me other joint
     → IsLasting joint joint' → AreShared me joint → AreShared other joint → AreShared me' joint' × AreShared other' joint'
 same_shared me other me' other' joint joint' is lasting mine theirs = (
-  still_shared me me' joint joint' (ap (λ (m : MachineView). m.first.path.fixed) is) lasting mine,
-  still_shared other other' joint joint' (ap (λ (m : MachineView). m.second.path.fixed) is) lasting theirs,
+  still_shared me me' joint joint' (ap (λ (m : MachineView). m.paths.one.path.fixed) is) lasting mine,
+  still_shared other other' joint joint' (ap (λ (m : MachineView). m.paths.two.path.fixed) is) lasting theirs,
 )
 
 pub step_waits : (left right : List ControlProgram) (blocks : Blocks) → ((at : PathView) (values : List Var) → GoesAsOrdered left at (blocks.effect at values))

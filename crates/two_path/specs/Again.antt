@@ -1,20 +1,25 @@
 -- A record that is done again.
-use Rattle.std.specs.Prelude.{◌≡◌, ℕ, ◌==◌, ◌&&◌, nat_le, List, [], ◌∷◌, ◌++◌, Option, Some, None, if◌then◌else◌}
+use Rattle.std.specs.Prelude.{◌≡◌, Bool, true, false, ℕ, ◌==◌, ◌&&◌, nat_le, List, [], ◌∷◌, ◌++◌, Option, Some, None, if◌then◌else◌}
 use Rattle.run_records.specs.Entries.{Entry, edit_of}
 use Rattle.run_records.specs.declared.edit.Edit.{Edit}
 use Rattle.run_records.specs.declared.entry.EntryKind.{EntryKind}
 use Rattle.run_records.specs.declared.entry.EntryKind.TheVariants as kind
 use Rattle.nc_number.specs.declared.path.Path.{Path}
+use Rattle.nc_number.specs.Both.{of_path}
+use Rattle.block_order.specs.declared.label.Label.{Label}
+use Rattle.block_order.specs.declared.label.Label.TheVariants as label
 use Rattle.block_order.specs.declared.program.ControlProgram.{ControlProgram}
+use Rattle.nc_moves.specs.declared.motion.Move.{Move}
+use Rattle.path_state.specs.declared.advance.BlockAnswer.{BlockAnswer}
 use Rattle.path_state.specs.Effect.{Effect, Need, Done, AtWait, AtEnd}
 use Rattle.path_state.specs.Effect as effect
 use Rattle.two_path.specs.declared.turn.Turn.{Turn}
 use Rattle.two_path.specs.declared.turn.Turn.TheVariants as turn
 use Rattle.common_vars.specs.Writes.{value_after}
 use Rattle.two_path.specs.Machine.{Part, MachineView, own_first, part_without_reads}
-use Rattle.two_path.specs.Turns.{Blocks, Tapes, tape_of, own_turn}
+use Rattle.two_path.specs.Turns.{Blocks, Tapes, own_turn}
 use Rattle.two_path.specs.Histories.{MayRead, with_reads, IsStep, behind_step, IsNext, behind_entry}
-use Rattle.two_path.specs.Joined.{JointView, machine_of, read_part, AreShared, IsAtItsWait}
+use Rattle.two_path.specs.Joined.{JointView, machine_of, read_part, AreItsMoves, AreShared, HasTaken, IsAtItsWait}
 
 -- Two paths of which records can be done again: both share the same variables, a path that waits
 -- stands on a wait, and no block has read anything.
@@ -50,6 +55,38 @@ kind_of_effect (Done path write moves) other = Some kind.Did
 kind_of_effect (AtWait code) other = Some (kind_at_wait code other)
 kind_of_effect (AtEnd path moves) other = Some kind.Ended
 kind_of_effect (effect.Alarm number value) other = Some kind.Alarmed
+
+-- the kind of the record that the path's block makes with what it has read
+abbrev pub kind_of_block : Blocks → Part → Part → Option EntryKind
+kind_of_block blocks part other = kind_of_effect (blocks.effect part.path part.values) other.waiting
+
+abbrev pub is_did : EntryKind → Bool
+is_did kind.Did = true
+is_did _ = false
+
+abbrev pub is_ended : EntryKind → Bool
+is_ended kind.Ended = true
+is_ended _ = false
+
+-- the block of a path at this label changes the path only where it makes a record of this kind
+abbrev pub changes_only_by : Option Label → EntryKind → Bool
+changes_only_by (Some (label.Wait code)) kind = true
+changes_only_by (Some label.End) kind = is_ended kind
+changes_only_by (Some label.Again) kind = is_did kind
+changes_only_by (Some label.Off) kind = is_did kind
+changes_only_by None kind = is_did kind
+
+-- the path's block makes a record of this kind, and the path took it and answered so, with these
+-- moves
+pub record IsTaken (blocks : Blocks) (kind : EntryKind) (other before now : Part) (answer : BlockAnswer) (moves : List Move) : Type 0 where
+  pub due : kind_of_block blocks before other ≡ Some kind
+  pub taken : HasTaken blocks before now answer moves
+  pub are : AreItsMoves blocks before moves
+
+-- the path's block makes no record of this kind, and the path is as it was
+pub record IsNotDue (blocks : Blocks) (kind : EntryKind) (other before now : Part) : Type 0 where
+  pub differs : kind_of_block blocks before other ≡ Some kind → ⊥
+  pub stays : now ≡ before
 
 -- the block read once more, with this stamp
 pub record IsReadAgain (blocks : Blocks) (joint : JointView) (lowest stamp : ℕ) (before after : Part) : Type 0 where
@@ -93,7 +130,7 @@ turn_by blocks path None stamps m = (own_turn blocks path (with_reads blocks sta
 -- what the turn of a record answers
 abbrev pub turn_of_entry : Tapes → Entry → MachineView → Turn
 turn_of_entry tapes entry m =
-    turn_by (tape_of tapes entry.path) entry.path (edit_of entry.kind) entry.stamps (own_first entry.path m)
+    turn_by (of_path tapes entry.path) entry.path (edit_of entry.kind) entry.stamps (own_first entry.path m)
 
 -- the record is legal there, and was done: the turn's answer, and the machine behind it
 pub record IsDoneAgain (tapes : Tapes) (entry : Entry) (before after : MachineView) (turn : Turn) : Type 0 where

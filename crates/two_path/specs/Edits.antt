@@ -1,5 +1,5 @@
 -- An operator's edit of a path, and its record.
-use Rattle.std.specs.Prelude.{◌+◌, List, [], ◌∷◌, Option, Some, None}
+use Rattle.std.specs.Prelude.{◌+◌, [], Option, Some, None}
 use Rattle.nc_number.specs.declared.path.Path.{Path}
 use Rattle.nc_moves.specs.declared.alarm.Alarm.{Alarm}
 use Rattle.run_records.specs.Entries.{Entry}
@@ -14,9 +14,11 @@ use Rattle.two_path.specs.Turns.{part_at, with_write}
 -- record.
 abbrev pub behind_edit : Edit → MachineView → MachineView
 behind_edit edit m = record m {
-  first = part_at (edited edit m.first.path) (m.count + 1) m.first;
-  second = part_at m.second.path (m.count + 1) m.second;
-  writes = with_write (m.count + 1) (shared_write m.first.path.fixed edit) m.writes;
+  paths = record {
+    one = part_at (edited edit m.paths.one.path) (m.count + 1) m.paths.one;
+    two = part_at m.paths.two.path (m.count + 1) m.paths.two;
+  };
+  writes = with_write (m.count + 1) (shared_write m.paths.one.path.fixed edit) m.writes;
   count = m.count + 1;
 }
 

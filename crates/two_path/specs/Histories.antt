@@ -5,6 +5,7 @@ use Rattle.nc_number.specs.declared.path.Path.TheVariants.{One, Two}
 use Rattle.nc_number.specs.Path.{is_same}
 use Rattle.nc_number.specs.declared.value.Var.{Var}
 use Rattle.nc_number.specs.declared.value.Var.TheVariants.{Vacant}
+use Rattle.nc_number.specs.Both.{of_path}
 use Rattle.common_vars.specs.declared.links.Write.{Write}
 use Rattle.common_vars.specs.Writes.{value_after}
 use Rattle.run_records.specs.Entries.{Entry, edit_of}
@@ -14,7 +15,7 @@ use Rattle.run_records.specs.declared.entry.EntryKind.TheVariants.{Did, Arrived,
 use Rattle.path_state.specs.View.{PathView}
 use Rattle.path_state.specs.Effect.{Effect, Need}
 use Rattle.two_path.specs.Machine.{Part, MachineView, own_first, without_reads}
-use Rattle.two_path.specs.Turns.{Blocks, Tapes, tape_of, own_turn, turn_of, kind_of, entry_of}
+use Rattle.two_path.specs.Turns.{Blocks, Tapes, own_turn, turn_of, kind_of, entry_of}
 use Rattle.two_path.specs.Edits.{behind_edit, behind_edit_of, edit_entry, unless_alarm}
 
 -- an event: a turn of a path, or an operator's edit of one
@@ -83,15 +84,15 @@ AreInOrder lowest highest (stamp ∷ stamps) = (lowest ≤ stamp) × (stamp ≤ 
 -- With these stamps the first path's block may have read up to now: none is from before the path
 -- came to the block or from before an edit, and none is later than the last record.
 pub record MayRead (blocks : Blocks) (m : MachineView) (stamps : List ℕ) : Type 0 where
-  pub order : AreInOrder m.first.since m.count stamps
-  pub asks : AsksFrom blocks m.first.path m.writes [] stamps
+  pub order : AreInOrder m.paths.one.since m.count stamps
+  pub asks : AsksFrom blocks m.paths.one.path m.writes [] stamps
 
 -- the machine in which the first path's block has read just these
 abbrev pub with_values : List Var → List ℕ → MachineView → MachineView
-with_values values stamps m = record m { first = record m.first { values = values; stamps = stamps } }
+with_values values stamps m = record m { paths = record m.paths { one = record m.paths.one { values = values; stamps = stamps } } }
 
 abbrev pub with_reads : Blocks → List ℕ → MachineView → MachineView
-with_reads blocks stamps m = with_values (values_at blocks m.first.path m.writes stamps) stamps m
+with_reads blocks stamps m = with_values (values_at blocks m.paths.one.path m.writes stamps) stamps m
 
 -- the first path's turn with exactly these reads makes a record of this kind
 pub record IsStep (blocks : Blocks) (path : Path) (m : MachineView) (kind : EntryKind) (stamps : List ℕ) : Type 0 where
@@ -110,7 +111,7 @@ behind_own blocks path None stamps m = behind_step blocks path stamps m
 -- behind a record
 abbrev pub behind_entry : Tapes → Entry → MachineView → MachineView
 behind_entry tapes entry m =
-    own_first entry.path (behind_own (tape_of tapes entry.path) entry.path (edit_of entry.kind) entry.stamps (own_first entry.path m))
+    own_first entry.path (behind_own (of_path tapes entry.path) entry.path (edit_of entry.kind) entry.stamps (own_first entry.path m))
 
 -- the record is an edit, which is legal wherever there is no alarm
 pub record IsEdit (m : MachineView) (entry : Entry) : Type 0 where
@@ -121,7 +122,7 @@ pub record IsEdit (m : MachineView) (entry : Entry) : Type 0 where
 -- the record is legal there: it is the machine's step with exactly its reads, or an edit
 abbrev pub IsNext : Tapes → MachineView → Entry → Type 0
 IsNext tapes m entry =
-    IsStep (tape_of tapes entry.path) entry.path (own_first entry.path m) entry.kind entry.stamps ⊎ IsEdit m entry
+    IsStep (of_path tapes entry.path) entry.path (own_first entry.path m) entry.kind entry.stamps ⊎ IsEdit m entry
 
 -- the machine behind a history
 abbrev pub fold : Tapes → MachineView → List Entry → MachineView
@@ -141,15 +142,15 @@ is_idle part = part.finished || is_some part.waiting
 -- that of its stamp, a path that waits or has ended has no reads, and the path came to its block by
 -- a record that was made.
 pub record IsLawful (blocks : Blocks) (m : MachineView) : Type 0 where
-  pub may : MayRead blocks m m.first.stamps
-  pub values : m.first.values ≡ values_at blocks m.first.path m.writes m.first.stamps
-  pub none : is_idle m.first ≡ true → m.first.stamps ≡ []
-  pub came : m.first.since ≤ m.count
+  pub may : MayRead blocks m m.paths.one.stamps
+  pub values : m.paths.one.values ≡ values_at blocks m.paths.one.path m.writes m.paths.one.stamps
+  pub none : is_idle m.paths.one ≡ true → m.paths.one.stamps ≡ []
+  pub came : m.paths.one.since ≤ m.count
 
 -- what both paths' blocks have read is lawful
 pub record AreLawful (tapes : Tapes) (m : MachineView) : Type 0 where
-  pub first : IsLawful tapes.first m
-  pub second : IsLawful tapes.second (own_first Two m)
+  pub first : IsLawful tapes.one m
+  pub second : IsLawful tapes.two (own_first Two m)
 
 -- the records of these events are a legal history, whose fold is the machine but for lawful reads
 pub record IsHistory (tapes : Tapes) (m : MachineView) (events : List Event) : Type 0 where
@@ -190,8 +191,8 @@ came_from since count path (e ∷ entries) =
 -- read, and what each variable held after each number of records.
 pub record Counts (tapes : Tapes) (m : MachineView) (entries : List Entry) : Type 0 where
   pub count : (fold tapes m entries).count ≡ length entries
-  pub first : (fold tapes m entries).first.since ≡ came_from 0 0 One entries
-  pub second : (fold tapes m entries).second.since ≡ came_from 0 0 Two entries
+  pub first : (fold tapes m entries).paths.one.since ≡ came_from 0 0 One entries
+  pub second : (fold tapes m entries).paths.two.since ≡ came_from 0 0 Two entries
   pub values : (before after : List Entry) (variable : ℕ) → before ++ after ≡ entries
       → value_after (length before) variable (fold tapes m entries).writes
       ≡ value_after (fold tapes m before).count variable (fold tapes m before).writes

@@ -30,8 +30,7 @@ pub record RoomyMachine : Type 0 where
 
 abbrev pub machine_of : Part → Part → JointView → MachineView
 machine_of first second joint = record {
-  first = first;
-  second = second;
+  paths = record { one = first; two = second };
   writes = joint.shared.writes;
   count = joint.count;
   alarm = joint.alarm;
@@ -78,5 +77,5 @@ abbrev pub IsAtItsWait : List ControlProgram → Part → Type 0
 IsAtItsWait tape part = (code : ℕ) → part.waiting ≡ Some code → standing tape part.path.place ≡ Some (Wait code)
 
 pub record AreAtTheirWaits (left right : List ControlProgram) (m : MachineView) : Type 0 where
-  pub first : IsAtItsWait left m.first
-  pub second : IsAtItsWait right m.second
+  pub first : IsAtItsWait left m.paths.one
+  pub second : IsAtItsWait right m.paths.two

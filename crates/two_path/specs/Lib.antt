@@ -1,4 +1,6 @@
 pub mod Machine
+pub mod Start
+pub mod Ending
 pub mod Turns
 pub mod Edits
 pub mod Histories

@@ -1,8 +1,11 @@
 -- The machine: two paths, and what they share.
 use Rattle.std.specs.Prelude.{ℕ, Bool, false, List, [], Option, None}
+use Rattle.nc_number.specs.declared.both.Both.{Both}
 use Rattle.nc_number.specs.declared.path.Path.{Path}
 use Rattle.nc_number.specs.declared.path.Path.TheVariants.{One, Two}
+use Rattle.nc_number.specs.declared.point.Point.{Point}
 use Rattle.nc_number.specs.declared.value.Var.{Var}
+use Rattle.nc_number.specs.Both.{both_of, of_path}
 use Rattle.nc_moves.specs.declared.alarm.Alarm.{Alarm}
 use Rattle.common_vars.specs.declared.links.Write.{Write}
 use Rattle.path_state.specs.View.{PathView}
@@ -22,8 +25,7 @@ pub record Part : Type 0 where
   pub since : ℕ
 
 pub record MachineView : Type 0 where
-  pub first : Part
-  pub second : Part
+  pub paths : Both Part
   -- the writes to shared variables
   pub writes : List Write
   -- how many records there are
@@ -34,7 +36,11 @@ pub record MachineView : Type 0 where
 -- the machine with this path's part first
 abbrev pub own_first : Path → MachineView → MachineView
 own_first One m = m
-own_first Two m = record m { first = m.second; second = m.first }
+own_first Two m = record m { paths = record { one = m.paths.two; two = m.paths.one } }
+
+-- where a path's turret stands
+abbrev pub position_of : Path → MachineView → Point
+position_of path m = (of_path m.paths path).path.position
 
 -- a path that has not begun
 abbrev pub opening_part : PathView → Part
@@ -43,8 +49,7 @@ opening_part path = record { path = path; values = []; stamps = []; waiting = No
 -- the machine before its first turn
 abbrev pub opening : PathView → PathView → MachineView
 opening first second = record {
-  first = opening_part first;
-  second = opening_part second;
+  paths = record { one = opening_part first; two = opening_part second };
   writes = [];
   count = 0;
   alarm = None;
@@ -56,4 +61,4 @@ part_without_reads part = record part { values = []; stamps = [] }
 
 -- the machine but for what unfinished blocks have read
 abbrev pub without_reads : MachineView → MachineView
-without_reads m = record m { first = part_without_reads m.first; second = part_without_reads m.second }
+without_reads m = record m { paths = both_of part_without_reads m.paths }

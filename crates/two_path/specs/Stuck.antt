@@ -4,9 +4,11 @@ use Rattle.nc_number.specs.declared.cause.Cause.TheVariants.{WaitDiffers}
 use Rattle.nc_number.specs.declared.path.Path.{Path}
 use Rattle.nc_number.specs.declared.value.Var.{Var}
 use Rattle.nc_number.specs.Causes.{cause_number}
+use Rattle.nc_number.specs.Both.{of_path}
 use Rattle.nc_moves.specs.declared.alarm.Alarm.{Alarm}
 use Rattle.block_order.specs.declared.program.ControlProgram.{ControlProgram}
-use Rattle.block_order.specs.Labels.{list, start, IsUnforked}
+use Rattle.block_order.specs.Labels.{start}
+use Rattle.pair_order.specs.Pairs.{IsPair as IsOrderedPair}
 use Rattle.run_records.specs.Entries.{Entry}
 use Rattle.tape_flow.specs.declared.flow.Flow.{Flow}
 use Rattle.path_state.specs.View.{PathView}
@@ -14,23 +16,23 @@ use Rattle.path_state.specs.Effect.{AtWait}
 use Rattle.path_state.specs.Effect as effect
 use Rattle.path_state.specs.Controlled.{IsControlled}
 use Rattle.two_path.specs.Machine.{MachineView, own_first, opening}
-use Rattle.two_path.specs.Turns.{Blocks, Tapes, tapes_of, tape_of}
+use Rattle.two_path.specs.Turns.{Blocks, Tapes, tapes_of}
 use Rattle.two_path.specs.Histories.{Event, run, fold, IsLegal, is_idle}
 
 -- some path has not ended, there is no alarm, and each path waits or has ended
 pub record IsStuck (m : MachineView) : Type 0 where
   pub calm : m.alarm ≡ None
-  pub unfinished : (m.first.finished ≡ false) ⊎ (m.second.finished ≡ false)
-  pub first : is_idle m.first ≡ true
-  pub second : is_idle m.second ≡ true
+  pub unfinished : (m.paths.one.finished ≡ false) ⊎ (m.paths.two.finished ≡ false)
+  pub first : is_idle m.paths.one ≡ true
+  pub second : is_idle m.paths.two ≡ true
 
 -- the first path comes to a wait while the other waits at another
 pub record IsCrossed (blocks : Blocks) (m : MachineView) : Type 0 where
   pub code : ℕ
   pub there : ℕ
   pub calm : m.alarm ≡ None
-  pub comes : blocks.effect m.first.path m.first.values ≡ AtWait code
-  pub waits : m.second.waiting ≡ Some there
+  pub comes : blocks.effect m.paths.one.path m.paths.one.values ≡ AtWait code
+  pub waits : m.paths.two.waiting ≡ Some there
   pub differs : code ≢ there
 
 -- no block raises the alarm of two paths that wait at different codes
@@ -42,20 +44,15 @@ RaisesNoCrossing blocks = (path : PathView) (values : List Var) (value : ℤ)
 -- different codes
 pub record IsFree (tapes : Tapes) (m : MachineView) : Type 0 where
   pub stuck : IsStuck m → ⊥
-  pub crossed : (path : Path) → IsCrossed (tape_of tapes path) (own_first path m) → ⊥
+  pub crossed : (path : Path) → IsCrossed (of_path tapes path) (own_first path m) → ⊥
   pub alarm : (alarm : Alarm) → m.alarm ≡ Some alarm → alarm.cause ≢ cause_number WaitDiffers
 
--- both tapes have one list of labels, whatever the variables hold, and these are equal
-pub record IsAccepted (left right : List ControlProgram) : Type 0 where
-  pub left_unforked : IsUnforked left
-  pub right_unforked : IsUnforked right
-  pub equal : list left ≡ list right
-
--- the same of flows, whose blocks go as their order allows
+-- Flows whose blocks go as their order allows: each has one list of labels, whatever the variables
+-- hold, and these are equal.
 pub record IsPair (left right : Flow) : Type 0 where
   pub left_controlled : IsControlled left
   pub right_controlled : IsControlled right
-  pub accepted : IsAccepted left.order right.order
+  pub accepted : IsOrderedPair left.order right.order
 
 -- both paths begin their main programs
 pub record AreAtStart (left right : List ControlProgram) (first second : PathView) : Type 0 where

@@ -1,10 +1,11 @@
 -- A turn of a path: what it answers, what it does, and its record.
 use Rattle.std.specs.Prelude.{ℕ, ◌+◌, ◌==◌, Bool, true, false, List, [], ◌∷◌, ◌++◌, Option, Some, None, ℤ, pos, if◌then◌else◌}
 use Rattle.nc_number.specs.declared.cause.Cause.TheVariants.{WaitDiffers}
+use Rattle.nc_number.specs.declared.both.Both.{Both}
 use Rattle.nc_number.specs.declared.path.Path.{Path}
-use Rattle.nc_number.specs.declared.path.Path.TheVariants.{One, Two}
 use Rattle.nc_number.specs.declared.value.Var.{Var}
 use Rattle.nc_number.specs.Causes.{cause_number}
+use Rattle.nc_number.specs.Both.{both_of, of_path}
 use Rattle.nc_moves.specs.declared.alarm.Alarm.{Alarm}
 use Rattle.nc_moves.specs.declared.motion.Move.{Move}
 use Rattle.nc_moves.specs.declared.motion.Moves.{Moves}
@@ -32,19 +33,14 @@ pub record Blocks : Type 0 where
   pub line : List Frame → ℕ
 
 -- the tapes of both paths
-pub record Tapes : Type 0 where
-  pub first : Blocks
-  pub second : Blocks
+abbrev pub Tapes : Type 0
+Tapes = Both Blocks
 
 abbrev pub blocks_of : Flow → Blocks
 blocks_of flow = record { effect = effect_of flow; line = line_at flow.order }
 
 abbrev pub tapes_of : Flow → Flow → Tapes
-tapes_of left right = record { first = blocks_of left; second = blocks_of right }
-
-abbrev pub tape_of : Tapes → Path → Blocks
-tape_of tapes One = tapes.first
-tape_of tapes Two = tapes.second
+tapes_of left right = record { one = blocks_of left; two = blocks_of right }
 
 -- a turn: what it answers, and the machine behind it
 pub record TurnResult : Type 0 where
@@ -57,9 +53,11 @@ result answer m = record { turn = answer; machine = m }
 -- with one read more by the first path: the variable's value now, at the present number of records
 abbrev pub with_read : ℕ → MachineView → MachineView
 with_read variable m = record m {
-  first = record m.first {
-    values = m.first.values ++ value_after m.count variable m.writes ∷ [];
-    stamps = m.first.stamps ++ m.count ∷ [];
+  paths = record m.paths {
+    one = record m.paths.one {
+      values = m.paths.one.values ++ value_after m.count variable m.writes ∷ [];
+      stamps = m.paths.one.stamps ++ m.count ∷ [];
+    };
   };
 }
 
@@ -75,7 +73,7 @@ with_write stamp (Some write) writes = writes ++ record { stamp = stamp; variabl
 -- behind a block of the first path
 abbrev pub behind_block : PathView → Option Written → MachineView → MachineView
 behind_block path write m = record m {
-  first = part_at path (m.count + 1) m.first;
+  paths = record m.paths { one = part_at path (m.count + 1) m.paths.one };
   writes = with_write (m.count + 1) write m.writes;
   count = m.count + 1;
 }
@@ -90,28 +88,27 @@ part_behind_wait since part = record (part_at (path_behind_wait part.path) since
 -- both paths behind their wait
 abbrev pub behind_meeting : MachineView → MachineView
 behind_meeting m = record m {
-  first = part_behind_wait (m.count + 1) m.first;
-  second = part_behind_wait (m.count + 1) m.second;
+  paths = both_of (part_behind_wait (m.count + 1)) m.paths;
   count = m.count + 1;
 }
 
 -- with the first path waiting at this code
 abbrev pub with_arrival : ℕ → MachineView → MachineView
 with_arrival code m = record m {
-  first = record (part_without_reads m.first) { waiting = Some code };
+  paths = record m.paths { one = record (part_without_reads m.paths.one) { waiting = Some code } };
   count = m.count + 1;
 }
 
 -- with the first path ended
 abbrev pub with_end : PathView → MachineView → MachineView
 with_end path m = record m {
-  first = record (part_without_reads m.first) { path = path; finished = true };
+  paths = record m.paths { one = record (part_without_reads m.paths.one) { path = path; finished = true } };
   count = m.count + 1;
 }
 
 -- with this alarm, raised by the first path
 abbrev pub with_alarm : Alarm → MachineView → MachineView
-with_alarm alarm m = record m { first = part_without_reads m.first; count = m.count + 1; alarm = Some alarm }
+with_alarm alarm m = record m { paths = record m.paths { one = part_without_reads m.paths.one }; count = m.count + 1; alarm = Some alarm }
 
 abbrev pub moves_at : ℕ → List Move → Moves
 moves_at line moves = record { line = line; list = moves }
@@ -137,7 +134,7 @@ result_at_wait path line m code None = result (turn.Arrived code) (with_arrival 
 abbrev pub result_by : Path → ℕ → MachineView → Effect → TurnResult
 result_by path line m (effect.Need variable) = result (turn.Read variable m.count) (with_read variable m)
 result_by path line m (effect.Done after write moves) = result (turn.Did (moves_at line moves)) (behind_block after write m)
-result_by path line m (effect.AtWait code) = result_at_wait path line m code m.second.waiting
+result_by path line m (effect.AtWait code) = result_at_wait path line m code m.paths.two.waiting
 result_by path line m (effect.AtEnd after moves) = result (turn.Ended (moves_at line moves)) (with_end after m)
 result_by path line m (effect.Alarm number value) = alarm_result (alarm_at path line number value) m
 
@@ -150,16 +147,16 @@ unless_idle m None false None rest = rest
 
 -- a turn of the first path in which its block runs
 abbrev pub block_turn : Blocks → Path → MachineView → TurnResult
-block_turn blocks path m = result_by path (blocks.line m.first.path.place) m (blocks.effect m.first.path m.first.values)
+block_turn blocks path m = result_by path (blocks.line m.paths.one.path.place) m (blocks.effect m.paths.one.path m.paths.one.values)
 
 -- a turn of the path whose part is the first: the first case that applies
 abbrev pub own_turn : Blocks → Path → MachineView → TurnResult
-own_turn blocks path m = unless_idle m m.alarm m.first.finished m.first.waiting (block_turn blocks path m)
+own_turn blocks path m = unless_idle m m.alarm m.paths.one.finished m.paths.one.waiting (block_turn blocks path m)
 
 -- a turn of a path
 abbrev pub turn_of : Tapes → Path → MachineView → TurnResult
 turn_of tapes path m =
-    let own = own_turn (tape_of tapes path) path (own_first path m) in
+    let own = own_turn (of_path tapes path) path (own_first path m) in
     record { turn = own.turn; machine = own_first path own.machine }
 
 -- the kind of a turn's record, if it makes one
@@ -181,4 +178,4 @@ entry_with path stamps (Some kind) = Some (record { path = path; kind = kind; st
 
 -- the record of a turn: the path, the kind, and the stamps of what its block read
 abbrev pub entry_of : Tapes → Path → MachineView → Option Entry
-entry_of tapes path m = entry_with path (own_first path m).first.stamps (kind_of (turn_of tapes path m).turn)
+entry_of tapes path m = entry_with path (of_path m.paths path).stamps (kind_of (turn_of tapes path m).turn)

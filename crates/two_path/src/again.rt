@@ -1,28 +1,32 @@
 //! A record that is done again, over the path's own part, the other's, and what both have in
 //! common.
-ghost use Rattle.std.specs.Prelude.{◌≡◌, ◌≤◌, ◌<◌, ◌||◌, List, Some, None, is_some, IsTrue, OnOk, OnErr, IfOk};
+ghost use Rattle.std.specs.Prelude.{◌≡◌, ◌≤◌, ◌<◌, ◌||◌, true, false, List, [], Some, None, is_some, IsTrue, OnOk, OnErr, IfOk};
+ghost use Rattle.nc_number.specs.declared.limits.TheConstants.{MOST_RECORDS};
 ghost use Rattle.motion_track.specs.Within.{AreMovesWithin};
 ghost use Rattle.run_records.specs.Entries.{edit_of};
+ghost use Rattle.tape_flow.specs.Places.{label_at};
 ghost use Rattle.path_state.specs.View.{PathView};
 ghost use Rattle.path_state.specs.Effect.{effect_of};
 ghost use Rattle.path_state.specs.Advances.{effect_told};
+ghost use Rattle.two_path.specs.Machine as Machine;
 ghost use Rattle.two_path.specs.Machine.{part_without_reads};
 ghost use Rattle.two_path.specs.Turns.{blocks_of};
 ghost use Rattle.two_path.specs.Histories.{is_idle};
 ghost use Rattle.two_path.specs.Made.{moves_of_turn, turn_with};
 ghost use Rattle.nc_moves.specs.declared.motion.Move.{Move};
-ghost use Rattle.two_path.specs.Joined.{machine_of, AreItsMoves, AreShared, IsDecided, IsLasting};
-ghost use Rattle.two_path.specs.Again.{AreReady, variable_asked, variable_due, kind_at_wait, kind_of_effect, IsReadAgain, IsUnread, HasRead, MayNotRead, IsFit, IsUnfit, IsStepDone, IsStepRefused};
+ghost use Rattle.two_path.specs.Joined.{machine_of, AreShared, IsLasting};
+ghost use Rattle.two_path.specs.Again.{AreReady, variable_asked, variable_due, kind_at_wait, kind_of_effect, changes_only_by, IsTaken, IsNotDue, IsReadAgain, IsUnread, HasRead, MayNotRead, IsUnfit, IsStepDone, IsStepRefused};
 
 use crate::joint::Joint;
 use crate::part::Part;
 use crate::turn::TurnAnswer;
 use crate::turning::settle;
+use block_order::Label;
 use motion_track::LONGEST;
 use nc_moves::MoveList;
 use path_state::{
-    BlockAnswer, Decision, a_block_asks_for_each_variable_once_at_most,
-    control_goes_as_the_flow_orders,
+    BlockAnswer, a_block_asks_for_each_variable_once_at_most, control_goes_as_the_flow_orders,
+    waits_and_ends_stop_a_path,
 };
 use run_records::{Entry, EntryKind};
 use tape_flow::Flow;
@@ -120,14 +124,14 @@ fn kind_at_wait(code: u16, other: Option<u16>) -> EntryKind
     }
 }
 
-/// The kind of the record that a block makes whose path will answer this.
-fn kind_due(answer: BlockAnswer, other: &Part) -> Option<EntryKind>
+/// The kind of the record that a block makes whose path answers this.
+fn kind_due(answer: &BlockAnswer, other: &Part) -> Option<EntryKind>
     ensures { (moves : List Move) (path : PathView)
-        → result ≡ kind_of_effect (effect_told answer moves path) other.now.waiting }
+        → result ≡ kind_of_effect (effect_told answer.now moves path) other.now.waiting }
 {
     match answer {
         BlockAnswer::Need(_) => None,
-        BlockAnswer::AtWait(code) => Some(kind_at_wait(code, other.waiting())),
+        BlockAnswer::AtWait(code) => Some(kind_at_wait(*code, other.waiting())),
         BlockAnswer::AtEnd => Some(EntryKind::Ended),
         BlockAnswer::Alarm { .. } => Some(EntryKind::Alarmed),
         BlockAnswer::Done(_) => Some(EntryKind::Did),
@@ -152,39 +156,114 @@ fn is_still(me: &Part, joint: &Joint) -> bool
     joint.alarm().is_some() || me.finished() || me.waiting().is_some()
 }
 
-/// The block reads again what the record's stamps stand for, and is decided; it would then make
-/// that record.
-fn fits(
+/// Whether a turn of a path at this label changes it only where it makes a record of this kind.
+fn changes_only_by(label: Option<Label>, kind: &EntryKind) -> bool
+    ensures { result ≡ changes_only_by label kind.now }
+{
+    match label {
+        Some(Label::Wait(_)) => true,
+        Some(Label::End) => matches!(kind, EntryKind::Ended),
+        Some(Label::Again) | Some(Label::Off) | None => matches!(kind, EntryKind::Did),
+    }
+}
+
+/// The block is decided before anything changes, and is taken where its record is of this kind.
+#[inline(never)]
+fn take_decided(
     me: &mut Part,
     other: &Part,
-    joint: &Joint,
     flow: &Flow,
-    entry: &Entry,
+    kind: &EntryKind,
     moves: &mut MoveList,
-) -> Result<Decision, Illegal>
-    requires shared { AreShared me.old joint.now }
-    requires no_reads { part_without_reads me.old ≡ me.old }
-    requires step { edit_of entry.now.kind ≡ None }
-    ensures decided { IfOk result (IsDecided (blocks_of flow.now) me.new moves.new) }
-    ensures moves { IfOk result (λ decision. AreItsMoves (blocks_of flow.now) me.new moves.new) }
-    ensures fit { OnOk result (IsFit (blocks_of flow.now) entry.now other.now joint.now me.old me.new) }
-    ensures refused { OnErr result (IsUnfit (blocks_of flow.now) entry.now other.now joint.now me.old me.new) }
+) -> Result<BlockAnswer, Illegal>
+    requires step { edit_of kind.now ≡ None }
+    ensures taken { IfOk result (λ answer. IsTaken (blocks_of flow.now) kind.now other.now me.old me.new answer moves.new) }
+    ensures refused { OnErr result (IsNotDue (blocks_of flow.now) kind.now other.now me.old me.new) }
 {
-    if is_still(me, joint) {
-        return Err(Illegal);
-    }
-    read_all_again(me, joint, flow, entry.stamps.as_slice(), moves)?;
     let decision = me.decide(flow, moves);
-    if is_due(kind_due(decision.answer(), other), &entry.kind) {
-        Ok(decision)
+    if is_due(kind_due(&decision.answer(), other), kind) {
+        Ok(me.take(decision))
     } else {
         Err(Illegal)
     }
 }
 
-/// Does the record of a step again: the path's block reads what its stamps stand for, is decided
-/// once, and is done. Its moves are put into the list, which holds none that count where the record
-/// is not legal.
+/// The block is taken at once, of a path that changes only by a record of this kind.
+fn take_at_once(
+    me: &mut Part,
+    other: &Part,
+    flow: &Flow,
+    kind: &EntryKind,
+    moves: &mut MoveList,
+) -> Result<BlockAnswer, Illegal>
+    requires step { edit_of kind.now ≡ None }
+    requires only { changes_only_by (label_at flow.now.order me.old.path.place) kind.now ≡ true }
+    ensures taken { IfOk result (λ answer. IsTaken (blocks_of flow.now) kind.now other.now me.old me.new answer moves.new) }
+    ensures refused { OnErr result (IsNotDue (blocks_of flow.now) kind.now other.now me.old me.new) }
+{
+    control_goes_as_the_flow_orders();
+    waits_and_ends_stop_a_path();
+    let answer = me.advance(flow, moves);
+    if is_due(kind_due(&answer, other), kind) {
+        Ok(answer)
+    } else {
+        Err(Illegal)
+    }
+}
+
+/// The block is taken where its record is of this kind, and else nothing changes. What was decided
+/// of a block is large: where it can be taken at once it is not decided first.
+fn take_due(
+    me: &mut Part,
+    other: &Part,
+    flow: &Flow,
+    kind: &EntryKind,
+    moves: &mut MoveList,
+) -> Result<BlockAnswer, Illegal>
+    requires step { edit_of kind.now ≡ None }
+    ensures taken { IfOk result (λ answer. IsTaken (blocks_of flow.now) kind.now other.now me.old me.new answer moves.new) }
+    ensures refused { OnErr result (IsNotDue (blocks_of flow.now) kind.now other.now me.old me.new) }
+{
+    if changes_only_by(flow.label(me.path().place()), kind) {
+        take_at_once(me, other, flow, kind, moves)
+    } else {
+        take_decided(me, other, flow, kind, moves)
+    }
+}
+
+/// The path can go on, and its block reads again what the record's stamps stand for.
+fn read_due(
+    me: &mut Part,
+    joint: &Joint,
+    flow: &Flow,
+    entry: &Entry,
+    moves: &mut MoveList,
+) -> Result<(), Illegal>
+    requires shared { AreShared me.old joint.now }
+    requires no_reads { part_without_reads me.old ≡ me.old }
+    ensures awake { OnOk result ((is_some joint.now.alarm || is_idle me.old) ≡ false) }
+    ensures read { OnOk result (HasRead (blocks_of flow.now) joint.now entry.now.stamps me.old me.new) }
+    ensures refused { OnErr result ((other : Machine.Part)
+        → IsUnfit (blocks_of flow.now) entry.now other joint.now me.old me.new) }
+{
+    if is_still(me, joint) {
+        return Err(Illegal);
+    }
+    read_all_again(me, joint, flow, entry.stamps.as_slice(), moves)?;
+    Ok(())
+}
+
+/// The record is not legal: the block forgets what it has read, and the list is cleared.
+fn refuse(me: &mut Part, moves: &mut MoveList)
+    ensures part { me.new ≡ part_without_reads me.old }
+    ensures moves { moves.new ≡ [] }
+{
+    me.forget();
+    moves.clear();
+}
+
+/// Does the record of a step again: the path's block reads what its stamps stand for, and is taken.
+/// Its moves are put into the list, which is empty where the record is not legal.
 pub(crate) fn do_again(
     me: &mut Part,
     other: &mut Part,
@@ -195,12 +274,13 @@ pub(crate) fn do_again(
     moves: &mut MoveList,
 ) -> Result<TurnAnswer, Illegal>
     requires room { 0 < joint.old.shared.room }
-    requires few { joint.old.count ≤ 4000000 }
+    requires few { joint.old.count ≤ MOST_RECORDS }
     requires ready { AreReady flow.now.order other_flow.now.order me.old other.old joint.old }
     requires step { edit_of entry.now.kind ≡ None }
     ensures done { IfOk result (λ answer. IsStepDone (blocks_of flow.now) entry.now.path entry.now.kind entry.now.stamps
         (machine_of me.old other.old joint.old) (machine_of me.new other.new joint.new) (turn_with answer moves.new)) }
     ensures apart { IfOk result (λ answer. moves_of_turn (turn_with answer moves.new) ≡ moves.new) }
+    ensures none { OnErr result (moves.new ≡ []) }
     ensures refused { OnErr result (IsStepRefused (blocks_of flow.now) entry.now.path entry.now.kind entry.now.stamps
         (machine_of me.old other.old joint.old) (machine_of me.new other.new joint.new)) }
     ensures lasting { IsLasting joint.old joint.new }
@@ -208,14 +288,21 @@ pub(crate) fn do_again(
     ensures within { IfOk result (λ answer. AreMovesWithin LONGEST moves.new) }
 {
     control_goes_as_the_flow_orders();
-    match fits(me, other, joint, flow, entry, moves) {
-        Ok(decision) => {
+    match read_due(me, joint, flow, entry, moves) {
+        Ok(()) => {
             let line = me.line(flow);
-            let answer = me.take(decision);
-            Ok(settle(me, other, joint, flow, other_flow, entry.path, line, answer).answer)
+            match take_due(me, other, flow, &entry.kind, moves) {
+                Ok(answer) => Ok(
+                    settle(me, other, joint, flow, other_flow, entry.path, line, answer).answer,
+                ),
+                Err(illegal) => {
+                    refuse(me, moves);
+                    Err(illegal)
+                }
+            }
         }
         Err(illegal) => {
-            me.forget();
+            refuse(me, moves);
             Err(illegal)
         }
     }

@@ -1,5 +1,6 @@
 //! An operator's edit of a path, over its own part, the other's, and what both have in common.
 ghost use Rattle.std.specs.Prelude.{◌≡◌, ◌≤◌, ◌<◌, IfSome};
+ghost use Rattle.nc_number.specs.declared.limits.TheConstants.{MOST_RECORDS};
 ghost use Rattle.common_vars.specs.Writes.{IsShared};
 ghost use Rattle.path_state.specs.StatementSteps.{write_seen};
 ghost use Rattle.path_state.specs.Edits.{shared_write};
@@ -31,7 +32,7 @@ fn shared_write(joint: &Joint, what: &Edit) -> Option<(u32, Var)>
 /// Sets what the edit sets, by one record more, behind which both paths' blocks read anew.
 pub(crate) fn set(me: &mut Part, other: &mut Part, joint: &mut Joint, what: &Edit)
     requires room { 0 < joint.old.shared.room }
-    requires few { joint.old.count ≤ 4000000 }
+    requires few { joint.old.count ≤ MOST_RECORDS }
     requires shared { AreShared me.old joint.old }
     ensures machine { machine_of me.new other.new joint.new ≡ behind_edit what.now (machine_of me.old other.old joint.old) }
     ensures lasting { IsLasting joint.old joint.new }

@@ -1,5 +1,6 @@
 //! What both paths have in common.
 ghost use Rattle.std.specs.Prelude.{◌≡◌, ◌≤◌, ◌<◌, ◌+◌, ◌↔◌, IsTrue, [], Some, None, IfOk, OnOk, IfSome};
+ghost use Rattle.nc_number.specs.declared.limits.TheConstants.{MOST_RECORDS};
 ghost use Rattle.common_vars.specs.Writes.{IsShared, value_after};
 ghost use Rattle.path_state.specs.StatementSteps.{write_seen};
 ghost use Rattle.two_path.specs.Joined.{IsLasting};
@@ -94,7 +95,7 @@ impl Joint {
     /// One record more, which may have written a shared variable.
     pub(crate) fn add(&mut self, write: Option<(u32, Var)>)
         requires room { 0 < self.old.shared.room }
-        requires few { self.old.count ≤ 4000000 }
+        requires few { self.old.count ≤ MOST_RECORDS }
         requires shared { IfSome write (λ w. IsShared self.old.shared.shared100 self.old.shared.shared500 w.0) }
         ensures writes { self.new.shared.writes ≡ with_write (self.old.count + 1) (write_seen write) self.old.shared.writes }
         ensures count { self.new.count ≡ self.old.count + 1 }
@@ -109,7 +110,7 @@ impl Joint {
 
     /// One record more, which is an alarm.
     pub(crate) fn raise(&mut self, alarm: Alarm)
-        requires few { self.old.count ≤ 4000000 }
+        requires few { self.old.count ≤ MOST_RECORDS }
         ensures writes { self.new.shared ≡ self.old.shared }
         ensures count { self.new.count ≡ self.old.count + 1 }
         ensures alarm { self.new.alarm ≡ Some alarm }

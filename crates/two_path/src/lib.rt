@@ -11,6 +11,7 @@
 
 mod again;
 mod editing;
+mod ending;
 mod joint;
 mod laws;
 mod machine;

@@ -1,11 +1,12 @@
 //! The machine of two paths.
-ghost use Rattle.std.specs.Prelude.{◌≡◌, ◌≤◌, ◌<◌, ◌+◌, ◌↔◌, IsTrue, List, Some, None, IfOk, OnOk, OnErr};
-ghost use Rattle.nc_number.specs.declared.path.Path.TheVariants as Path;
+ghost use Rattle.std.specs.Prelude.{◌≡◌, ◌≤◌, ◌<◌, ◌+◌, ◌↔◌, IsTrue, List, [], Some, None, IfOk, OnOk, OnErr};
+ghost use Rattle.nc_number.specs.declared.limits.TheConstants.{MOST_RECORDS};
+ghost use Rattle.nc_number.specs.Both.{of_path};
 ghost use Rattle.common_vars.specs.Writes.{IsShared, value_after};
 ghost use Rattle.block_order.specs.declared.program.ControlProgram.{ControlProgram};
 ghost use Rattle.motion_track.specs.Within.{AreMovesWithin};
-ghost use Rattle.path_state.specs.Opening.{opening_path};
-ghost use Rattle.two_path.specs.Machine.{opening, own_first, without_reads};
+ghost use Rattle.two_path.specs.Machine.{without_reads};
+ghost use Rattle.two_path.specs.Start.{machine_at_start};
 ghost use Rattle.two_path.specs.Turns.{Tapes, tapes_of, turn_of, entry_of};
 ghost use Rattle.run_records.specs.Entries.{edit_of};
 ghost use Rattle.two_path.specs.Edits.{behind_edit_of, edit_entry};
@@ -22,7 +23,7 @@ use crate::turning::take_turn;
 use cell_settings::Settings;
 use motion_track::LONGEST;
 use nc_moves::{Alarm, MoveList};
-use nc_number::{NoMemory, Path, Var};
+use nc_number::{Both, NoMemory, Path, Var};
 use path_state::{PathState, control_goes_as_the_flow_orders};
 use run_records::{Edit, Entry};
 use std::alloc::Global;
@@ -35,8 +36,7 @@ use tape_flow::Flow;
 /// path 2.
 #[derive(Debug, Drop)]
 pub struct Machine {
-    first: Part,
-    second: Part,
+    paths: Both<Part>,
     joint: Joint,
 }
 
@@ -45,9 +45,9 @@ impl Model for Machine {
 
     ghost Value = { RoomyMachine };
 
-    ghost view = { λ m. record { machine = machine_of m.first m.second m.joint; room = m.joint.shared.room } };
+    ghost view = { λ m. record { machine = machine_of m.paths.one m.paths.two m.joint; room = m.joint.shared.room } };
 
-    ghost invariant = { λ m. AreShared m.first m.joint × AreShared m.second m.joint };
+    ghost invariant = { λ m. AreShared m.paths.one m.joint × AreShared m.paths.two m.joint };
 }
 
 impl Machine {
@@ -58,15 +58,16 @@ impl Machine {
         right: &Flow,
         settings: &Settings,
     ) -> Result<Machine, NoMemory>
-        ensures { IfOk result (λ m. m.machine
-            ≡ opening (opening_path left.now settings.now Path.One) (opening_path right.now settings.now Path.Two)) }
+        ensures { IfOk result (λ m. m.machine ≡ machine_at_start left.now right.now settings.now) }
     {
-        let first = PathState::new(alloc, left, settings, Path::One)?;
-        let second = PathState::new(alloc, right, settings, Path::Two)?;
+        let one = PathState::new(alloc, left, settings, Path::One)?;
+        let two = PathState::new(alloc, right, settings, Path::Two)?;
         let joint = Joint::new(alloc, settings.shared100, settings.shared500)?;
         Ok(Machine {
-            first: Part::new(first),
-            second: Part::new(second),
+            paths: Both {
+                one: Part::new(one),
+                two: Part::new(two),
+            },
             joint,
         })
     }
@@ -93,7 +94,7 @@ impl Machine {
         moves: &mut MoveList,
     ) -> Answered
         requires room { 0 < self.old.room }
-        requires few { self.old.machine.count < 4000000 }
+        requires few { self.old.machine.count < MOST_RECORDS }
         requires waits { AreAtTheirWaits left.now.order right.now.order self.old.machine }
         ensures machine { self.new.machine ≡ (turn_of (tapes_of left.now right.now) path self.old.machine).machine }
         ensures answer { result.answer ≡ answer_of (turn_of (tapes_of left.now right.now) path self.old.machine).turn }
@@ -104,25 +105,10 @@ impl Machine {
         ensures within { AreMovesWithin LONGEST moves.new }
     {
         control_goes_as_the_flow_orders();
+        let Both { one, two } = &mut self.paths;
         match path {
-            Path::One => take_turn(
-                &mut self.first,
-                &mut self.second,
-                &mut self.joint,
-                left,
-                right,
-                Path::One,
-                moves,
-            ),
-            Path::Two => take_turn(
-                &mut self.second,
-                &mut self.first,
-                &mut self.joint,
-                right,
-                left,
-                Path::Two,
-                moves,
-            ),
+            Path::One => take_turn(one, two, &mut self.joint, left, right, Path::One, moves),
+            Path::Two => take_turn(two, one, &mut self.joint, right, left, Path::Two, moves),
         }
     }
 
@@ -133,7 +119,7 @@ impl Machine {
     #[tactic(auto, using(crate::proofs::Apart::rejoined))]
     pub fn turn(&mut self, left: &Flow, right: &Flow, path: Path) -> Turned
         requires room { 0 < self.old.room }
-        requires few { self.old.machine.count < 4000000 }
+        requires few { self.old.machine.count < MOST_RECORDS }
         requires waits { AreAtTheirWaits left.now.order right.now.order self.old.machine }
         ensures machine { self.new.machine ≡ (turn_of (tapes_of left.now right.now) path self.old.machine).machine }
         ensures turn { result.turn ≡ (turn_of (tapes_of left.now right.now) path self.old.machine).turn }
@@ -157,7 +143,7 @@ impl Machine {
     /// stopped both paths.
     pub fn edit(&mut self, path: Path, what: &Edit) -> Entry
         requires room { 0 < self.old.room }
-        requires few { self.old.machine.count < 4000000 }
+        requires few { self.old.machine.count < MOST_RECORDS }
         requires calm { self.old.machine.alarm ≡ None }
         ensures machine { self.new.machine ≡ behind_edit_of path what.now self.old.machine }
         ensures entry { result ≡ edit_entry path what.now }
@@ -172,22 +158,23 @@ impl Machine {
     /// Sets what the edit sets, by one record more.
     fn set(&mut self, path: Path, what: &Edit)
         requires room { 0 < self.old.room }
-        requires few { self.old.machine.count ≤ 4000000 }
+        requires few { self.old.machine.count ≤ MOST_RECORDS }
         ensures machine { self.new.machine ≡ behind_edit_of path what.now self.old.machine }
         ensures room { self.old.machine.count + self.old.room ≤ self.new.machine.count + self.new.room }
         ensures no_reads { without_reads self.new.machine ≡ self.new.machine }
         ensures waits { (left right : List ControlProgram) → AreAtTheirWaits left right self.old.machine
             → AreAtTheirWaits left right self.new.machine }
     {
+        let Both { one, two } = &mut self.paths;
         match path {
-            Path::One => set(&mut self.first, &mut self.second, &mut self.joint, what),
-            Path::Two => set(&mut self.second, &mut self.first, &mut self.joint, what),
+            Path::One => set(one, two, &mut self.joint, what),
+            Path::Two => set(two, one, &mut self.joint, what),
         }
     }
 
     /// Does the record again, and answers what its turn answered, or that it was an edit. Its moves
-    /// are put into the list, which holds none that count where the record is illegal. It takes no
-    /// memory.
+    /// are put into the list, which is cleared first and is empty where the record is illegal. It
+    /// takes no memory.
     ///
     /// It asks for what [`apply`](Machine::apply) asks for.
     pub fn apply_into(
@@ -198,12 +185,13 @@ impl Machine {
         moves: &mut MoveList,
     ) -> Result<TurnAnswer, Illegal>
         requires room { 0 < self.old.room }
-        requires few { self.old.machine.count ≤ 4000000 }
+        requires few { self.old.machine.count ≤ MOST_RECORDS }
         requires no_reads { without_reads self.old.machine ≡ self.old.machine }
         requires waits { AreAtTheirWaits left.now.order right.now.order self.old.machine }
         ensures done { IfOk result (λ answer. IsDoneAgain (tapes_of left.now right.now) entry.now
             self.old.machine self.new.machine (turn_with answer moves.new)) }
         ensures apart { IfOk result (λ answer. moves_of_turn (turn_with answer moves.new) ≡ moves.new) }
+        ensures none { OnErr result (moves.new ≡ []) }
         ensures refused { OnErr result (IsRefused (tapes_of left.now right.now) entry.now
             self.old.machine self.new.machine) }
         ensures room { self.old.machine.count + self.old.room ≤ self.new.machine.count + self.new.room }
@@ -225,7 +213,7 @@ impl Machine {
     /// changes. The moves are as far as those of a turn.
     pub fn apply(&mut self, left: &Flow, right: &Flow, entry: &Entry) -> Result<Turn, Illegal>
         requires room { 0 < self.old.room }
-        requires few { self.old.machine.count ≤ 4000000 }
+        requires few { self.old.machine.count ≤ MOST_RECORDS }
         requires no_reads { without_reads self.old.machine ≡ self.old.machine }
         requires waits { AreAtTheirWaits left.now.order right.now.order self.old.machine }
         ensures done { IfOk result (λ turn. IsDoneAgain (tapes_of left.now right.now) entry.now
@@ -254,10 +242,11 @@ impl Machine {
     ) -> Result<TurnAnswer, Illegal>
         requires edit { edit_of entry.now.kind ≡ Some what.now }
         requires room { 0 < self.old.room }
-        requires few { self.old.machine.count ≤ 4000000 }
+        requires few { self.old.machine.count ≤ MOST_RECORDS }
         ensures done { (tapes : Tapes) → IfOk result (λ answer. IsDoneAgain tapes entry.now
             self.old.machine self.new.machine (turn_with answer moves.new)) }
         ensures apart { IfOk result (λ answer. moves_of_turn (turn_with answer moves.new) ≡ moves.new) }
+        ensures none { OnErr result (moves.new ≡ []) }
         ensures refused { (tapes : Tapes) → OnErr result (IsRefused tapes entry.now self.old.machine self.new.machine) }
         ensures room { self.old.machine.count + self.old.room ≤ self.new.machine.count + self.new.room }
         ensures no_reads { without_reads self.old.machine ≡ self.old.machine
@@ -284,12 +273,13 @@ impl Machine {
     ) -> Result<TurnAnswer, Illegal>
         requires step { edit_of entry.now.kind ≡ None }
         requires room { 0 < self.old.room }
-        requires few { self.old.machine.count ≤ 4000000 }
+        requires few { self.old.machine.count ≤ MOST_RECORDS }
         requires no_reads { without_reads self.old.machine ≡ self.old.machine }
         requires waits { AreAtTheirWaits left.now.order right.now.order self.old.machine }
         ensures done { IfOk result (λ answer. IsDoneAgain (tapes_of left.now right.now) entry.now
             self.old.machine self.new.machine (turn_with answer moves.new)) }
         ensures apart { IfOk result (λ answer. moves_of_turn (turn_with answer moves.new) ≡ moves.new) }
+        ensures none { OnErr result (moves.new ≡ []) }
         ensures refused { OnErr result (IsRefused (tapes_of left.now right.now) entry.now
             self.old.machine self.new.machine) }
         ensures room { self.old.machine.count + self.old.room ≤ self.new.machine.count + self.new.room }
@@ -297,55 +287,37 @@ impl Machine {
         ensures waits { AreAtTheirWaits left.now.order right.now.order self.new.machine }
         ensures within { IfOk result (λ answer. AreMovesWithin LONGEST moves.new) }
     {
+        let Both { one, two } = &mut self.paths;
         match entry.path {
-            Path::One => do_again(
-                &mut self.first,
-                &mut self.second,
-                &mut self.joint,
-                left,
-                right,
-                entry,
-                moves,
-            ),
-            Path::Two => do_again(
-                &mut self.second,
-                &mut self.first,
-                &mut self.joint,
-                right,
-                left,
-                entry,
-                moves,
-            ),
+            Path::One => do_again(one, two, &mut self.joint, left, right, entry, moves),
+            Path::Two => do_again(two, one, &mut self.joint, right, left, entry, moves),
         }
     }
 
     /// The path's part.
     fn part(&self, path: Path) -> &Part
-        ensures { result.now ≡ (own_first path self.now.machine).first }
+        ensures { result.now ≡ of_path self.now.machine.paths path }
     {
-        match path {
-            Path::One => &self.first,
-            Path::Two => &self.second,
-        }
+        self.paths.of(path)
     }
 
     /// The path's state, as its block begins.
     pub fn path(&self, path: Path) -> &PathState
-        ensures { result.now ≡ (own_first path self.now.machine).first.path }
+        ensures { result.now ≡ (of_path self.now.machine.paths path).path }
     {
         self.part(path).path()
     }
 
     /// The code of the wait at which the path waits.
     pub fn waiting(&self, path: Path) -> Option<u16>
-        ensures { result ≡ (own_first path self.now.machine).first.waiting }
+        ensures { result ≡ (of_path self.now.machine.paths path).waiting }
     {
         self.part(path).waiting()
     }
 
     /// Whether the path has ended.
     pub fn finished(&self, path: Path) -> bool
-        ensures { result ≡ (own_first path self.now.machine).first.finished }
+        ensures { result ≡ (of_path self.now.machine.paths path).finished }
     {
         self.part(path).finished()
     }
@@ -359,16 +331,16 @@ impl Machine {
 
     /// Whether both paths share the variable `#v`.
     pub fn is_shared(&self, v: u32) -> bool
-        ensures { IsTrue result ↔ IsShared self.now.machine.first.path.fixed.shared100
-            self.now.machine.first.path.fixed.shared500 v }
+        ensures { IsTrue result ↔ IsShared self.now.machine.paths.one.path.fixed.shared100
+            self.now.machine.paths.one.path.fixed.shared500 v }
     {
         self.joint.holds(v)
     }
 
     /// What the shared variable `#v` holds.
     pub fn shared(&self, v: u32) -> Var
-        requires { IsShared self.now.machine.first.path.fixed.shared100
-            self.now.machine.first.path.fixed.shared500 v }
+        requires { IsShared self.now.machine.paths.one.path.fixed.shared100
+            self.now.machine.paths.one.path.fixed.shared500 v }
         ensures { result ≡ value_after self.now.machine.count v self.now.machine.writes }
     {
         self.joint.at(self.joint.count(), v)

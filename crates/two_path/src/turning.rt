@@ -1,5 +1,6 @@
 //! A turn of a path, over its own part, the other's, and what both have in common.
 ghost use Rattle.std.specs.Prelude.{◌≡◌, ◌≤◌, ◌<◌, ℕ, List, [], Some, None, length, IfSome};
+ghost use Rattle.nc_number.specs.declared.limits.TheConstants.{MOST_RECORDS};
 ghost use Rattle.nc_moves.specs.declared.motion.Move.{Move};
 ghost use Rattle.block_order.specs.declared.control.Control.TheVariants.{Wait};
 ghost use Rattle.block_order.specs.Steps.{standing};
@@ -57,7 +58,7 @@ fn did(
     write: Option<(u32, Var)>,
 ) -> Answered
     requires room { 0 < joint.old.shared.room }
-    requires few { joint.old.count ≤ 4000000 }
+    requires few { joint.old.count ≤ MOST_RECORDS }
     requires shared { IfSome write (λ w. IsShared joint.old.shared.shared100 joint.old.shared.shared500 w.0) }
     ensures answer { result.answer ≡ Answer.Did line }
     ensures machine { (before : PathView) (at : ℕ) (other : Machine.Part) (moves : List Move)
@@ -79,7 +80,7 @@ fn did(
 /// It has ended, with its block of this line.
 fn ended(me: &mut Part, joint: &mut Joint, path: Path, line: u32) -> Answered
     requires room { 0 < joint.old.shared.room }
-    requires few { joint.old.count ≤ 4000000 }
+    requires few { joint.old.count ≤ MOST_RECORDS }
     ensures answer { result.answer ≡ Answer.Ended line }
     ensures machine { (before : PathView) (at : ℕ) (other : Machine.Part) (moves : List Move)
         → machine_of me.new other joint.new
@@ -99,7 +100,7 @@ fn ended(me: &mut Part, joint: &mut Joint, path: Path, line: u32) -> Answered
 
 /// It raises an alarm, which stops both paths.
 fn alarmed(me: &mut Part, joint: &mut Joint, alarm: &Alarm) -> Answered
-    requires few { joint.old.count ≤ 4000000 }
+    requires few { joint.old.count ≤ MOST_RECORDS }
     ensures answer { result.answer ≡ Answer.Alarm alarm.now }
     ensures machine { (other : Machine.Part) → machine_of me.new other joint.new
         ≡ with_alarm alarm.now (machine_of me.old other joint.old) }
@@ -117,7 +118,7 @@ fn alarmed(me: &mut Part, joint: &mut Joint, alarm: &Alarm) -> Answered
 /// It arrives at a wait, where it waits.
 fn arrived(me: &mut Part, joint: &mut Joint, path: Path, code: u16) -> Answered
     requires room { 0 < joint.old.shared.room }
-    requires few { joint.old.count ≤ 4000000 }
+    requires few { joint.old.count ≤ MOST_RECORDS }
     ensures answer { result.answer ≡ Answer.Arrived code }
     ensures machine { (other : Machine.Part) → machine_of me.new other joint.new
         ≡ with_arrival code (machine_of me.old other joint.old) }
@@ -144,7 +145,7 @@ fn met(
     code: u16,
 ) -> Answered
     requires room { 0 < joint.old.shared.room }
-    requires few { joint.old.count ≤ 4000000 }
+    requires few { joint.old.count ≤ MOST_RECORDS }
     requires here { (c : ℕ) × (standing flow.now.order me.old.path.place ≡ Some (Wait c)) }
     requires there { (c : ℕ) × (standing other_flow.now.order other.old.path.place ≡ Some (Wait c)) }
     ensures answer { result.answer ≡ Answer.Met code }
@@ -174,7 +175,7 @@ fn came_to_wait(
     code: u16,
 ) -> Answered
     requires room { 0 < joint.old.shared.room }
-    requires few { joint.old.count ≤ 4000000 }
+    requires few { joint.old.count ≤ MOST_RECORDS }
     requires here { standing flow.now.order me.old.path.place ≡ Some (Wait code) }
     requires there { IsAtItsWait other_flow.now.order other.old }
     ensures answer { result.answer ≡ answer_of (result_at_wait path line
@@ -214,7 +215,7 @@ pub(crate) fn settle(
     answer: BlockAnswer,
 ) -> Answered
     requires room { 0 < joint.old.shared.room }
-    requires few { joint.old.count ≤ 4000000 }
+    requires few { joint.old.count ≤ MOST_RECORDS }
     requires there { IsAtItsWait other_flow.now.order other.old }
     requires taken { (before : Machine.Part) × ((moves : List Move)
         × (AreShared before joint.old × HasTaken (blocks_of flow.now) before me.old answer moves)) }
@@ -264,7 +265,7 @@ pub(crate) fn run_block(
     moves: &mut MoveList,
 ) -> Answered
     requires room { 0 < joint.old.shared.room }
-    requires few { joint.old.count ≤ 4000000 }
+    requires few { joint.old.count ≤ MOST_RECORDS }
     requires shared { AreShared me.old joint.old }
     requires there { IsAtItsWait other_flow.now.order other.old }
     ensures answer { result.answer
@@ -295,7 +296,7 @@ pub(crate) fn take_turn(
     moves: &mut MoveList,
 ) -> Answered
     requires room { 0 < joint.old.shared.room }
-    requires few { joint.old.count ≤ 4000000 }
+    requires few { joint.old.count ≤ MOST_RECORDS }
     requires shared { AreShared me.old joint.old }
     requires there { IsAtItsWait other_flow.now.order other.old }
     ensures answer { result.answer

@@ -1,6 +1,7 @@
 //! The walk over a history: its records, each of which is legal where it stands, are done again one
 //! by one.
 ghost use Rattle.std.specs.Prelude.{◌≡◌, ◌≤◌, ◌<◌, ◌+◌};
+ghost use Rattle.nc_number.specs.declared.limits.TheConstants.{MOST_RECORDS};
 ghost use Rattle.motion_track.specs.Within.{AreMovesWithin};
 ghost use Rattle.two_path.specs.Machine.{without_reads};
 ghost use Rattle.two_path.specs.Turns.{tapes_of};
@@ -21,7 +22,7 @@ use tape_flow::Flow;
 pub fn done_again(machine: &mut Machine, left: &Flow, right: &Flow, entry: &Entry) -> Turn
     requires legal { IsNext (tapes_of left.now right.now) machine.old.machine entry.now }
     requires room { 0 < machine.old.room }
-    requires few { machine.old.machine.count ≤ 4000000 }
+    requires few { machine.old.machine.count ≤ MOST_RECORDS }
     requires no_reads { without_reads machine.old.machine ≡ machine.old.machine }
     requires waits { AreAtTheirWaits left.now.order right.now.order machine.old.machine }
     ensures done { IsDoneAgain (tapes_of left.now right.now) entry.now machine.old.machine machine.new.machine result }

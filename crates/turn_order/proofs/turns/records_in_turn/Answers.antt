@@ -1,4 +1,4 @@
-use Rattle.std.proofs.Common.{◌≡◌, ◌+◌, ◌≤◌, ◌<◌, ◌++◌, length, min, refl, sym, subst, ap, ◌∙◌, arith, length-append}
+use Rattle.std.proofs.Common.{length, min, refl, sym, subst, ap, ◌∙◌, arith, length-append}
 use Rattle.nc_number.specs.declared.path.Path.TheVariants.{One, Two}
 use Rattle.cell_settings.specs.declared.settings.Settings.{Settings}
 use Rattle.path_state.specs.Opening.{opening_path}
@@ -6,7 +6,8 @@ use Rattle.two_path.specs.Machine.{MachineView}
 use Rattle.two_path.specs.Turns.{turn_of, entry_of}
 use Rattle.two_path.specs.Histories.{TurnOf, list_of}
 use Rattle.two_path.specs.Joined.{AreAtTheirWaits}
-use Rattle.turn_order.specs.Ending.{end_of, end_told}
+use Rattle.two_path.specs.Ending.{end_of}
+use Rattle.turn_order.specs.Ending.{end_told}
 use Rattle.turn_order.specs.InTurn.{IsInTurn, start_of, tapes_in}
 use Rattle.turn_order.proofs.SoFar.{begins, counted, ended_by, goes_on_to, in_turn_at_end, kept_on, may_go_on, not_ended, told_at_end}
 use Rattle.turn_order.proofs.Turned.{few_reads, fewer, gave, made_few}
