@@ -1,5 +1,5 @@
 -- A turret that served the moves so far serves those that come behind them.
-use Rattle.std.proofs.Common.{arith, ◌≡◌, ◌+◌, ◌≤◌, ℕ, Bool, true, false, true≢false, IsTrue, List, [], ◌∷◌, ◌++◌, length, map, take, refl, ap, sym, ◌∙◌, subst}
+use Rattle.std.proofs.Common.{arith, ◌≡◌, ◌+◌, ◌≤◌, ℕ, true, false, true≢false, IsTrue, List, [], ◌∷◌, ◌++◌, length, map, take, refl, ap, sym, ◌∙◌, subst}
 use Rattle.std.proofs.lemmas.List.{append-nil, length-append, map-append, take_all, take-append-le}
 use Rattle.nc_outside.specs.declared.got.Got.{Got}
 use Rattle.nc_outside.specs.declared.got.Got.TheVariants.{Moved}

@@ -1,6 +1,5 @@
 -- What the drive of a turret knows of it.
-use Rattle.std.specs.Prelude.{◌≡◌, ◌⊎◌, ◌≤◌, ℕ, ◌+◌, Bool, true, false, IsTrue, List, [], length, map, take}
-use Rattle.nc_number.specs.declared.path.Path.{Path}
+use Rattle.std.specs.Prelude.{◌≡◌, ◌⊎◌, ◌≤◌, ℕ, ◌+◌, Bool, true, false, IsTrue, List, length, map, take}
 use Rattle.nc_outside.specs.declared.got.Got.TheVariants.{Moved}
 use Rattle.nc_outside.specs.declared.lined_move.LinedMove.{LinedMove}
 use Rattle.nc_outside.specs.Faults.{CountsFault}

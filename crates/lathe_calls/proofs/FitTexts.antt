@@ -1,5 +1,5 @@
 -- What it says of texts that a call takes.
-use Rattle.std.proofs.Common.{◌≡◌, ℕ, ◌<◌, ◌≤◌, ◌^◌, ◌&&◌, true, length, arith}
+use Rattle.std.proofs.Common.{◌≡◌, ◌<◌, ◌^◌, ◌&&◌, true, length, arith}
 use Rattle.std.specs.Prelude.{nat_le}
 use Rattle.nc_number.proofs.Bools.{both}
 use Rattle.nc_number.proofs.Counts.{true_le}

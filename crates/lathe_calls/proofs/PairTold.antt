@@ -1,5 +1,6 @@
 -- What is answered of the pair of texts, from what was put.
 use Rattle.std.proofs.Common.{◌≡◌, ℕ, List, sym, subst}
+use Rattle.nc_outside.specs.declared.reason.Reason.{Reason}
 use Rattle.nc_number.specs.declared.fault.Failing.{Failing}
 use Rattle.nc_number.specs.declared.fault.Failing.TheVariants.{Fault, NoMemory}
 use Rattle.block_order.specs.Answers.{IfFault}
@@ -7,12 +8,12 @@ use Rattle.nc_verify.specs.declared.refusal.Refusal.{Refusal}
 use Rattle.nc_verify.specs.declared.verified.Verified.{Verified}
 use Rattle.nc_verify.specs.Verdict.{Texts, IsRefusalOf}
 use Rattle.run_records.specs.Entries.{Entry}
-use Rattle.turn_order.specs.declared.ending.TurnsEnd.{TurnsEnd}
 use Rattle.lathe_calls.specs.Answers.{Answer, tells, IsJust}
 use Rattle.lathe_calls.specs.Judged.{IsRefusing}
 use Rattle.lathe_calls.specs.Reported.{report_of, state_of}
 use Rattle.lathe_calls.specs.Statuses as exit
-use Rattle.lathe_calls.specs.Traced.{end_of, end_reason, end_status}
+use Rattle.lathe_calls.specs.Statuses.{reason_status}
+use Rattle.lathe_calls.specs.Traced.{end_of}
 use Rattle.lathe_calls.specs.Due.{AreRecordsInTurn, IsOfPair, IsReportOf, IsStateOf, ran, refused, stands, unjudged}
 
 -- a refusal of the texts is answered by itself
@@ -22,10 +23,10 @@ refused_texts {IsDue} {texts} (Fault refusal) of_texts answer is = subst (IsOfPa
 refused_texts {IsDue} {texts} NoMemory of_texts answer is = subst (IsOfPair IsDue texts) (sym is) unjudged
 
 -- the report of a run whose paths took turns, which ended so
-pub reported : (limit : ℕ) (pair : Verified) (entries : List Entry) (end : TurnsEnd) → AreRecordsInTurn limit pair entries
-    → end ≡ end_of pair entries → IsReportOf limit pair (tells (end_status end) (report_of pair entries (end_reason end)))
+pub reported : (limit : ℕ) (pair : Verified) (entries : List Entry) (end : Reason) → AreRecordsInTurn limit pair entries
+    → end ≡ end_of pair entries → IsReportOf limit pair (tells (reason_status end) (report_of pair entries end))
 reported limit pair entries end run is =
-    subst (λ e. IsReportOf limit pair (tells (end_status e) (report_of pair entries (end_reason e)))) (sym is) (ran entries run)
+    subst (λ e. IsReportOf limit pair (tells (reason_status e) (report_of pair entries e))) (sym is) (ran entries run)
 
 -- the state behind its records
 pub state_told : (limit : ℕ) (pair : Verified) (entries : List Entry) → AreRecordsInTurn limit pair entries

@@ -12,7 +12,7 @@ use Rattle.lathe_calls.specs.Answers.{Answer, tells, nothing}
 use Rattle.lathe_calls.specs.Judged.{IsJudged}
 use Rattle.lathe_calls.specs.Races.{AreRacesOf}
 use Rattle.lathe_calls.specs.Reported.{report_of, state_of}
-use Rattle.lathe_calls.specs.Traced.{IsTraced, end_of, end_reason, end_status}
+use Rattle.lathe_calls.specs.Traced.{IsTraced, end_of}
 use Rattle.lathe_calls.specs.Waited.{AreWaits}
 use Rattle.lathe_calls.specs.Statuses as exit
 use Rattle.lathe_calls.specs.declared.said.Said.{Said}
@@ -28,7 +28,7 @@ AreRecordsInTurn limit pair entries = IsInTurn (tapes_in pair) (opening_of pair)
 -- the report of that run, and how it ended; or nothing for want of memory
 pub data IsReportOf (limit : ℕ) (pair : Verified) : Answer → Type 0 where
   ran : (entries : List Entry) → AreRecordsInTurn limit pair entries → IsReportOf limit pair
-      (tells (end_status (end_of pair entries)) (report_of pair entries (end_reason (end_of pair entries))))
+      (tells (exit.reason_status (end_of pair entries)) (report_of pair entries (end_of pair entries)))
   unran : IsReportOf limit pair nothing
 
 -- the state of the machine behind the records of that run; or nothing for want of memory

@@ -3,18 +3,16 @@ use Rattle.std.specs.Prelude.{◌≡◌, ℕ, ◌==◌, ◌||◌, Bool, true, fa
 use Rattle.std.specs.List.{list_all}
 use Rattle.nc_number.specs.declared.path.Path.{Path}
 use Rattle.nc_number.specs.declared.path.Path.TheVariants.{One, Two}
+use Rattle.nc_outside.specs.declared.reason.Reason.{Reason}
 use Rattle.nc_restart.specs.Pair.{IsPairOf, tapes_in, opening_of}
 use Rattle.nc_verify.specs.declared.refusal.Refusal.{Refusal}
 use Rattle.nc_verify.specs.declared.verified.Verified.{Verified}
 use Rattle.nc_verify.specs.Verdict.{Texts, IsRefusalOf}
 use Rattle.two_path.specs.Machine.{MachineView}
+use Rattle.two_path.specs.Ending.{end_of}
 use Rattle.two_path.specs.Turns.{Tapes, turn_of}
 use Rattle.two_path.specs.Histories.{IsLegal, history, run, turns_of}
-use Rattle.turn_order.specs.declared.ending.TurnsEnd.{TurnsEnd}
-use Rattle.turn_order.specs.declared.ending.TurnsEnd.TheVariants as ends
-use Rattle.turn_order.specs.Ending.{end_of}
 use Rattle.lathe_calls.specs.Statuses as exit
-use Rattle.lathe_calls.specs.Traced.{end_status}
 use Rattle.lathe_calls.specs.declared.event.Event.{Event}
 use Rattle.lathe_calls.specs.declared.said.Said.{Said}
 use Rattle.lathe_calls.specs.Said.{IsSaid}
@@ -42,12 +40,12 @@ events_from tapes m (path ∷ order) =
 
 -- where both turrets begin
 abbrev pub placed_events : MachineView → List Event
-placed_events m = placed_event One m.first.path.position ∷ placed_event Two m.second.path.position ∷ []
+placed_events m = placed_event One m.paths.one.path.position ∷ placed_event Two m.paths.two.path.position ∷ []
 
 -- how far a run has come that may have so many records: it has ended, or there are so many, or the
 -- order is over
-abbrev pub end_after : ℕ → MachineView → TurnsEnd
-end_after most m = unwrap_or (end_of m) (if nat_le most m.count then ends.Full else ends.Stopped)
+abbrev pub end_after : ℕ → MachineView → Reason
+end_after most m = unwrap_or (end_of m) (if nat_le most m.count then Reason.Full else Reason.Stopped)
 
 -- The events of two tapes from a machine on, of which the paths get their turns in this order:
 -- where both turrets begin, and what each turn came to, up to so many records. The records of these
@@ -55,7 +53,7 @@ end_after most m = unwrap_or (end_of m) (if nat_le most m.count then ends.Full e
 pub record AreEventsFrom (tapes : Tapes) (start : MachineView) (most : ℕ) (order : List Path) (status : ℕ) (list : List Event) : Type 0 where
   pub legal : IsLegal tapes start (history tapes start (turns_of (given tapes most start order)))
   pub events : list ≡ placed_events start ++ events_from tapes start (given tapes most start order)
-  pub ends : status ≡ end_status (end_after most (run tapes start (turns_of (given tapes most start order))))
+  pub ends : status ≡ exit.reason_status (end_after most (run tapes start (turns_of (given tapes most start order))))
 
 -- the events of a pair, up to as many records as the settings allow
 abbrev pub AreEventsOf : Verified → List Path → ℕ → List Event → Type 0

@@ -1,6 +1,6 @@
 -- The texts of a history of a pair: its report, and the state of the machine behind it.
 use Rattle.std.specs.Prelude.{ℕ, List}
-use Rattle.move_list.specs.declared.end_line.Reason.{Reason}
+use Rattle.nc_outside.specs.declared.reason.Reason.{Reason}
 use Rattle.move_list.specs.Report.{report_text}
 use Rattle.move_list.specs.State.{state_text}
 use Rattle.nc_verify.specs.declared.verified.Verified.{Verified}

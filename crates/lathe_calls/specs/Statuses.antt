@@ -1,6 +1,6 @@
 -- The statuses of calls and of the program.
 use Rattle.std.specs.Prelude.{ℕ}
-use Rattle.move_list.specs.declared.end_line.Reason.{Reason}
+use Rattle.nc_outside.specs.declared.reason.Reason.{Reason}
 
 abbrev pub done : ℕ
 done = 0

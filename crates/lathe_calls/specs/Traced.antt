@@ -1,6 +1,6 @@
 -- The trace that is due to three texts.
 use Rattle.std.specs.Prelude.{ℕ, min, List, ◌++◌, Some}
-use Rattle.move_list.specs.declared.end_line.Reason.{Reason}
+use Rattle.nc_outside.specs.declared.reason.Reason.{Reason}
 use Rattle.nc_restart.specs.Pair.{IsPairOf, tapes_in, opening_of}
 use Rattle.nc_verify.specs.declared.refusal.Refusal.{Refusal}
 use Rattle.nc_verify.specs.declared.verified.Verified.{Verified}
@@ -10,31 +10,18 @@ use Rattle.race_report.specs.declared.race.Race.{Race}
 use Rattle.race_report.specs.Texts.{list_text}
 use Rattle.run_records.specs.Entries.{Entry}
 use Rattle.trace_list.specs.Trace.{trace_text}
-use Rattle.turn_order.specs.declared.ending.TurnsEnd.{TurnsEnd}
-use Rattle.turn_order.specs.declared.ending.TurnsEnd.TheVariants as ends
 use Rattle.turn_order.specs.Ending.{end_told}
 use Rattle.turn_order.specs.InTurn.{IsInTurn}
 use Rattle.lathe_calls.specs.Answers.{Answer, tells, nothing}
 use Rattle.lathe_calls.specs.Races.{AreRaces}
 use Rattle.lathe_calls.specs.Statuses as exit
 
--- how the run of a trace ended, as a report says it
-abbrev pub end_reason : TurnsEnd → Reason
-end_reason ends.Done = Reason.Done
-end_reason (ends.Alarm alarm) = Reason.Alarm alarm
-end_reason ends.Full = Reason.Full
-end_reason ends.Stopped = Reason.Stopped
-
--- and the status of that
-abbrev pub end_status : TurnsEnd → ℕ
-end_status end = exit.reason_status (end_reason end)
-
 -- the trace of a history of a pair, and behind it the races of the pair, as `races` prints them
-abbrev pub trace_of : Verified → List Entry → TurnsEnd → List Race → List ℕ
-trace_of pair entries end races = trace_text (tapes_in pair) (opening_of pair) entries (end_reason end) ++ list_text races
+abbrev pub trace_of : Verified → List Entry → Reason → List Race → List ℕ
+trace_of pair entries end races = trace_text (tapes_in pair) (opening_of pair) entries end ++ list_text races
 
 -- how the run of a pair with these records ended
-abbrev pub end_of : Verified → List Entry → TurnsEnd
+abbrev pub end_of : Verified → List Entry → Reason
 end_of pair entries = end_told (tapes_in pair) (opening_of pair) pair.settings.records entries
 
 -- a trace of a pair: that of its run whose paths take turns, of so many records at most and of no
@@ -42,7 +29,7 @@ end_of pair entries = end_told (tapes_in pair) (opening_of pair) pair.settings.r
 pub data IsTraceOf (limit : ℕ) (pair : Verified) : Answer → Type 0 where
   ran : (entries : List Entry) (races : List Race) → IsInTurn (tapes_in pair) (opening_of pair) (min limit pair.settings.records) entries
       → AreRaces pair races
-      → IsTraceOf limit pair (tells (end_status (end_of pair entries)) (trace_of pair entries (end_of pair entries) races))
+      → IsTraceOf limit pair (tells (exit.reason_status (end_of pair entries)) (trace_of pair entries (end_of pair entries) races))
   unran : IsTraceOf limit pair nothing
 
 -- the trace of the accepted pair; 1 where the texts are refused, with the line of that; nothing for

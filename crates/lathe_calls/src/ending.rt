@@ -3,8 +3,7 @@ ghost use Rattle.std.specs.Prelude.{◌≡◌};
 ghost use Rattle.lathe_calls.specs.Answers.{Ends, IsJust, status_behind, tells};
 ghost use Rattle.lathe_calls.specs.Statuses.{reason_status};
 
-use move_list::Reason;
-use nc_outside::{PutFault, Sink};
+use nc_outside::{PutFault, Reason, Sink};
 
 /// What the program ends with.
 #[derive(Clone, Copy, Debug, PartialEq, Eq)]

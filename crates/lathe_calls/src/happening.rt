@@ -2,17 +2,16 @@
 ghost use Rattle.std.specs.Prelude.{◌≡◌, true, [], IfOk, map};
 ghost use Rattle.nc_number.specs.declared.fault.Failing.TheVariants.{Fault};
 ghost use Rattle.two_path.specs.Turns.{tapes_of};
-ghost use Rattle.move_list.specs.Report.{machine_at_start};
+ghost use Rattle.two_path.specs.Start.{machine_at_start};
 ghost use Rattle.lathe_calls.specs.Statuses as exit;
 ghost use Rattle.lathe_calls.specs.Texts.{are_fit, texts_of};
 ghost use Rattle.lathe_calls.specs.Order.{AreDue, AreEventsFrom, AreEventsOf, AreToldOf, path_at, placed_events};
 
-use crate::ending::Status;
+use crate::ending::{Status, reason_status};
 use crate::event::{Event, placed_event};
 use crate::handing::hand_events;
 use crate::ordering::{end_after, give_turns, is_order};
 use crate::pair_texts::PairTexts;
-use crate::running::end_status;
 use crate::said::Said;
 use cell_settings::Settings;
 use nc_number::{Failing, NoMemory, Path};
@@ -73,7 +72,7 @@ fn events_in(
         settings.records,
         order,
     )?;
-    let status = end_status(&end_after(&machine, settings.records));
+    let status = reason_status(&end_after(&machine, settings.records));
     Ok(Happened { status, list })
 }
 

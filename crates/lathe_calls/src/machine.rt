@@ -1,7 +1,7 @@
 //! The machine behind a history.
 ghost use Rattle.std.specs.Prelude.{◌≡◌, ◌≤◌, ◌<◌, length, IfOk, OnOk};
 ghost use Rattle.nc_number.specs.declared.limits.TheConstants.{MOST_RECORDS};
-ghost use Rattle.move_list.specs.Report.{machine_at_start};
+ghost use Rattle.two_path.specs.Start.{machine_at_start};
 ghost use Rattle.nc_restart.specs.Pair.{machine_behind, opening_of, tapes_in};
 ghost use Rattle.two_path.specs.Histories.{IsLegal, IsNext, behind_entry, fold};
 ghost use Rattle.two_path.specs.Joined.{AreAtTheirWaits};

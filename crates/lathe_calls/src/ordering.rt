@@ -11,8 +11,8 @@ ghost use Rattle.lathe_calls.specs.Events.{stamp_of, turn_events};
 use crate::event::{Event, Stamp};
 use crate::listing::push_turn;
 use nc_number::{NoMemory, Path};
+use nc_outside::Reason;
 use tape_flow::Flow;
-use turn_order::TurnsEnd;
 use two_path::Machine;
 
 /// Whether each byte of the order names a path.
@@ -95,17 +95,12 @@ pub(crate) fn give_turns(
 }
 
 /// How far a run has come that may have so many records.
-pub(crate) fn end_after(machine: &Machine, most: u32) -> TurnsEnd
+pub(crate) fn end_after(machine: &Machine, most: u32) -> Reason
     ensures { result ≡ end_after most machine.now.machine }
 {
-    if let Some(alarm) = machine.alarm() {
-        return TurnsEnd::Alarm(alarm);
-    }
-    if machine.finished(Path::One) && machine.finished(Path::Two) {
-        TurnsEnd::Done
-    } else if machine.count() >= most {
-        TurnsEnd::Full
-    } else {
-        TurnsEnd::Stopped
+    match machine.end() {
+        Some(end) => end,
+        None if machine.count() >= most => Reason::Full,
+        None => Reason::Stopped,
     }
 }

@@ -1,5 +1,5 @@
 //! The texts of the run of a pair whose paths take turns.
-ghost use Rattle.std.specs.Prelude.{◌≡◌, ◌≤◌, ◌<◌, ◌^◌, length};
+ghost use Rattle.std.specs.Prelude.{◌≤◌, ◌<◌, ◌^◌, length};
 ghost use Rattle.nc_number.specs.declared.limits.TheConstants.{MOST_RECORDS};
 ghost use Rattle.nc_restart.specs.Pair.{opening_of, tapes_in};
 ghost use Rattle.nc_verify.specs.Printed.{IsPut};
@@ -8,7 +8,7 @@ ghost use Rattle.lathe_calls.specs.Answers.{Ends, IsJust, tells};
 ghost use Rattle.lathe_calls.specs.Races.{AreRaces};
 ghost use Rattle.lathe_calls.specs.Reported.{state_of};
 ghost use Rattle.lathe_calls.specs.Statuses as exit;
-ghost use Rattle.lathe_calls.specs.Traced.{IsTraceOf, IsTraced, end_reason, end_status, trace_of};
+ghost use Rattle.lathe_calls.specs.Traced.{IsTraceOf, IsTraced, trace_of};
 ghost use Rattle.lathe_calls.specs.Due.{IsOfPair, IsReportOf, IsStateOf};
 ghost use Rattle.lathe_calls.specs.Texts.{texts_of};
 
@@ -16,33 +16,14 @@ use crate::ending::{Status, reason_status, status_behind};
 use crate::judging::refuse;
 use crate::machine::machine_behind;
 use crate::pair_texts::PairTexts;
-use move_list::{Reason, write_report, write_state};
-use nc_outside::{PutFault, Sink};
+use move_list::{write_report, write_state};
+use nc_outside::{PutFault, Reason, Sink};
 use nc_verify::{Verified, verdict};
 use race_report::{RaceList, races, write_races};
 use run_records::EntryList;
 use std::alloc::Global;
 use trace_list::write_trace;
-use turn_order::{TurnsEnd, records_in_turn};
-
-/// How a run ended, as a report says it.
-fn end_reason(end: &TurnsEnd) -> Reason
-    ensures { result ≡ end_reason end.now }
-{
-    match end {
-        TurnsEnd::Done => Reason::Done,
-        TurnsEnd::Alarm(alarm) => Reason::Alarm(*alarm),
-        TurnsEnd::Full => Reason::Full,
-        TurnsEnd::Stopped => Reason::Stopped,
-    }
-}
-
-/// The status of that.
-pub(crate) fn end_status(end: &TurnsEnd) -> u8
-    ensures { result ≡ end_status end.now }
-{
-    reason_status(&end_reason(end))
-}
+use turn_order::records_in_turn;
 
 /// Writes the report of a pair, and gives its status.
 fn report_pair<K: Sink>(alloc: Global, pair: &Verified, limit: u32, out: &mut K) -> u8
@@ -50,8 +31,9 @@ fn report_pair<K: Sink>(alloc: Global, pair: &Verified, limit: u32, out: &mut K)
 {
     match records_in_turn(alloc, pair, limit) {
         Ok(run) => {
-            let put = write_report(alloc, pair, &run.entries, end_reason(&run.end), out);
-            status_behind(put, end_status(&run.end))
+            let end = &run.end;
+            let put = write_report(alloc, pair, &run.entries, *end, out);
+            status_behind(put, reason_status(end))
         }
         Err(_) => Status::NoMemory as u8,
     }
@@ -62,15 +44,15 @@ fn write_traced<K: Sink>(
     alloc: Global,
     pair: &Verified,
     entries: &EntryList,
-    end: &TurnsEnd,
+    end: Reason,
     races: &RaceList,
     out: &mut K,
 ) -> Result<(), PutFault>
     requires legal { IsLegal (tapes_in pair.now) (opening_of pair.now) entries.now.items }
     requires few { length entries.now.items ≤ MOST_RECORDS }
-    ensures { IsPut (K.state out.old) (K.state out.new) (trace_of pair.now entries.now.items end.now races.now) result }
+    ensures { IsPut (K.state out.old) (K.state out.new) (trace_of pair.now entries.now.items end races.now) result }
 {
-    match write_trace(alloc, pair, entries, end_reason(end), out) {
+    match write_trace(alloc, pair, entries, end, out) {
         Ok(()) => write_races(races, out),
         Err(fault) => Err(fault),
     }
@@ -89,8 +71,9 @@ fn trace_with<K: Sink>(
 {
     match records_in_turn(alloc, pair, limit) {
         Ok(run) => {
-            let put = write_traced(alloc, pair, &run.entries, &run.end, races, out);
-            status_behind(put, end_status(&run.end))
+            let end = &run.end;
+            let put = write_traced(alloc, pair, &run.entries, *end, races, out);
+            status_behind(put, reason_status(end))
         }
         Err(_) => Status::NoMemory as u8,
     }

@@ -1,6 +1,6 @@
 -- What is shown of a run that was found.
 use Rattle.std.proofs.Common.{◌≡◌, List, ap, ◌∙◌}
-use Rattle.move_list.specs.declared.end_line.Reason.{Reason}
+use Rattle.nc_outside.specs.declared.reason.Reason.{Reason}
 use Rattle.move_list.specs.State.{state_text}
 use Rattle.nc_restart.specs.Pair.{tapes_in, machine_behind}
 use Rattle.nc_verify.specs.declared.verified.Verified.{Verified}

@@ -1,7 +1,8 @@
 -- Why the machine of a run stands where it does, and the report of its history so far.
-use Rattle.std.specs.Prelude.{ℕ, Bool, true, false, ◌&&◌, ◌||◌, is_some, List, Option, Some, None}
+use Rattle.std.specs.Prelude.{ℕ, Bool, ◌&&◌, ◌||◌, is_some, List, Option, unwrap_or}
 use Rattle.nc_moves.specs.declared.alarm.Alarm.{Alarm}
-use Rattle.move_list.specs.declared.end_line.Reason.{Reason}
+use Rattle.nc_outside.specs.declared.reason.Reason.{Reason}
+use Rattle.nc_outside.specs.Reasons.{end_by}
 use Rattle.nc_verify.specs.declared.verified.Verified.{Verified}
 use Rattle.run_records.specs.Entries.{Entry}
 use Rattle.two_path.specs.Machine.{MachineView}
@@ -11,12 +12,10 @@ use Rattle.lathe_calls.specs.Reported.{report_of}
 -- why a machine stands where it does, if nothing else stopped it: an alarm, or both paths have
 -- ended, or neither
 abbrev pub reason_by : Option Alarm → Bool → Reason
-reason_by (Some alarm) finished = Reason.Alarm alarm
-reason_by None true = Reason.Done
-reason_by None false = Reason.Stopped
+reason_by alarm finished = unwrap_or (end_by alarm finished) Reason.Stopped
 
 abbrev pub are_finished : MachineView → Bool
-are_finished m = m.first.finished && m.second.finished
+are_finished m = m.paths.one.finished && m.paths.two.finished
 
 abbrev pub reason_of : MachineView → Reason
 reason_of m = reason_by m.alarm (are_finished m)

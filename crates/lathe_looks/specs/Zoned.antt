@@ -9,7 +9,7 @@ use Rattle.zone_cell.specs.Zones.{ZonesView, zones_of}
 use Rattle.zone_check.specs.Segments.{zones_of_history}
 use Rattle.lathe_calls.specs.Answers.{Answer, tells, nothing}
 use Rattle.lathe_calls.specs.Statuses as exit
-use Rattle.lathe_looks.specs.Fetched.{AreHad, IsOfFiles}
+use Rattle.lathe_looks.specs.Fetched.{AreHad}
 use Rattle.lathe_looks.specs.Named.{alone, zones_named}
 
 -- the line of a text of zones that is refused at a line

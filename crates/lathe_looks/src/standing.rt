@@ -1,9 +1,9 @@
 //! Whether a run is over, by its machine.
-ghost use Rattle.std.specs.Prelude.{◌≡◌, None};
-ghost use Rattle.lathe_looks.specs.Standing.{are_finished, is_over, reason_of, reason_by};
+ghost use Rattle.std.specs.Prelude.{◌≡◌};
+ghost use Rattle.lathe_looks.specs.Standing.{are_finished, is_over, reason_of};
 
-use move_list::Reason;
 use nc_number::Path;
+use nc_outside::Reason;
 use two_path::Machine;
 
 /// Whether both paths have ended.
@@ -24,19 +24,8 @@ pub fn is_over(machine: &Machine) -> bool
 pub fn reason_of(machine: &Machine) -> Reason
     ensures { result ≡ reason_of machine.now.machine }
 {
-    match machine.alarm() {
-        Some(alarm) => Reason::Alarm(alarm),
-        None => reason_without_alarm(machine),
-    }
-}
-
-/// The reason where there is no alarm.
-fn reason_without_alarm(machine: &Machine) -> Reason
-    ensures { result ≡ reason_by None (are_finished machine.now.machine) }
-{
-    if are_finished(machine) {
-        Reason::Done
-    } else {
-        Reason::Stopped
+    match machine.end() {
+        Some(end) => end,
+        None => Reason::Stopped,
     }
 }

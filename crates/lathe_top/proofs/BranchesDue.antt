@@ -1,10 +1,10 @@
 -- What is due to a branch of one run is one answer.
-use Rattle.std.proofs.Common.{◌≡◌, ℕ, List, Some, refl, ap, arith}
+use Rattle.std.proofs.Common.{◌≡◌, ℕ, List, refl, ap, arith}
 use Rattle.disk_model.specs.Device.{DiskState, Reads, Rose}
 use Rattle.nc_restart.specs.Recovered.{FoundRun}
-use Rattle.lathe_calls.specs.Answers.{Answer, tells}
+use Rattle.lathe_calls.specs.Answers.{Answer}
 use Rattle.lathe_top.specs.Branched.{IsBranchOf, no_meeting, made, run_seen, failed, unmade, branched_text}
-use Rattle.lathe_top.proofs.Agreed.{Agree, agree_nothing}
+use Rattle.lathe_top.proofs.Agreed.{Agree}
 
 -- over a second disk that told its bytes and did not fail
 module _ {E : Type 0} (state : E → DiskState) (run : FoundRun) (n : ℕ) (old new : E) (bytes : List ℕ) (holds : Reads (state old) bytes)

@@ -1,5 +1,5 @@
 -- What is answered to a branch of a run that was found.
-use Rattle.std.proofs.Common.{◌≡◌, inl, inr, ℕ, suc, ◌≤◌, ◌<◌, List, Result, Ok, Err, refl, arith}
+use Rattle.std.proofs.Common.{inl, inr, ℕ, suc, ◌≤◌, ◌<◌, List, Result, Ok, Err, refl, arith}
 use Rattle.std.proofs.Math.Nat.{lt_of_not-le}
 use Rattle.disk_model.specs.Device.{DiskState}
 use Rattle.disk_model.proofs.Runs.{widened}

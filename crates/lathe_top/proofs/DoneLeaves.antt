@@ -17,7 +17,7 @@ use Rattle.lathe_top.specs.Done as done
 use Rattle.lathe_top.specs.Done.{Call, TopState, command_of, IsDone, IsDue, IsDueTo}
 use Rattle.lathe_top.specs.Edited as edit
 use Rattle.lathe_top.specs.Edited.{IsEdited, IsEditedRun, IsEditOf, IsOnlyFound}
-use Rattle.lathe_top.specs.Kept.{Editing, Opening, anew, again, HasEdits, HasSession, IsOpened, Leaves, OnlyLooks, RestsWhole}
+use Rattle.lathe_top.specs.Kept.{Editing, Opening, anew, again, HasSession, IsOpened, Leaves, OnlyLooks, RestsWhole}
 use Rattle.lathe_top.specs.Kinds as kind
 use Rattle.lathe_top.specs.Kinds.{Kind, begins, goes_on, kind_of}
 use Rattle.lathe_top.specs.Lathe.{LatheState, AreAtRest}

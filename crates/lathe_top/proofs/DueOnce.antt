@@ -14,7 +14,7 @@ use Rattle.disk_model.specs.Device.{DiskState, IsCoherent, Reads}
 use Rattle.disk_model.specs.Device.{Rose as DiskRose}
 use Rattle.gate_file.specs.declared.fault.GateFault.{GateFault}
 use Rattle.gate_file.specs.declared.fault.GateFault.TheVariants as gate
-use Rattle.move_list.specs.declared.end_line.Reason.{Reason}
+use Rattle.nc_outside.specs.declared.reason.Reason.{Reason}
 use Rattle.move_list.specs.Report.{report_text}
 use Rattle.move_list.specs.State.{state_text}
 use Rattle.move_list.specs.Summary.{block_count, number_line, numbers_line, outcome_text, pair_text, summary_text}
@@ -84,7 +84,7 @@ use Rattle.lathe_calls.specs.Waited as waited
 use Rattle.lathe_calls.specs.Waited.{AreWaits, asked_of}
 use Rattle.lathe_top.specs.Outside.{outside_in}
 use Rattle.lathe_calls.specs.Traced as traced
-use Rattle.lathe_calls.specs.Traced.{IsTraceOf, IsTraced, end_of, end_reason, end_status}
+use Rattle.lathe_calls.specs.Traced.{IsTraceOf, IsTraced}
 use Rattle.lathe_calls.specs.Statuses as exit
 use Rattle.lathe_looks.proofs.NotHad.{all_had, fault_once, missing_once, texts_once}
 use Rattle.lathe_top.specs.Lathe.{LatheState}
@@ -190,8 +190,8 @@ trace_once law limit pair other a b same (traced.ran entries races run are) (tra
     (subst (λ (t : Tapes). IsInTurn t (opening_of pair) (min limit pair.settings.records) entries) same.tapes run)) in
     let one : entries ≡ others = law (tapes_in other) _ _ (min limit other.settings.records) entries others there run' in
     let list : races ≡ races' = same_races pair other same races races' are also in (
-      (λ i. end_status (end_told (same.tapes i) (same.opening i) (same.records i) (one i))),
-      (λ i. trace_text (same.tapes i) (same.opening i) (one i) (end_reason (end_told (same.tapes i) (same.opening i) (same.records i) (one i)))
+      (λ i. reason_status (end_told (same.tapes i) (same.opening i) (same.records i) (one i))),
+      (λ i. trace_text (same.tapes i) (same.opening i) (one i) (end_told (same.tapes i) (same.opening i) (same.records i) (one i))
           ++ list_text (list i)),
     )
 trace_once law limit pair other a b same (traced.ran entries races run are) traced.unran = tt

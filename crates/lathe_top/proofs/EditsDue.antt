@@ -1,13 +1,12 @@
 -- What is due to `edit`: of a file that gives no edits, and that one answer is due to the edits of
 -- a run.
-use Rattle.std.proofs.Common.{◌≡◌, ◌⊎◌, inl, inr, ⊎_elim, ℕ, ◌+◌, ◌<◌, nat_lt, Bool, true, false, Option, Some, None, List, [], length, ◌++◌, Ok, Err, refl, sym, ap, subst, arith, ◌∙◌, length-append}
+use Rattle.std.proofs.Common.{◌≡◌, ◌⊎◌, inl, inr, ℕ, ◌+◌, nat_lt, Bool, true, false, Option, Some, None, List, length, refl, sym, ap, subst, arith, ◌∙◌, length-append}
 use Rattle.std.specs.Prelude.{codes}
 use Rattle.std.proofs.lemmas.List.{length-map}
 use Rattle.nc_moves.specs.declared.alarm.Alarm.{Alarm}
 use Rattle.disk_model.specs.Device.{DiskState, Reads, Rose}
 use Rattle.edit_texts.specs.declared.edit_list.PathEdit.{PathEdit}
-use Rattle.edit_texts.specs.Edits.{edits_of}
-use Rattle.move_list.specs.declared.end_line.Reason.{Reason}
+use Rattle.nc_outside.specs.declared.reason.Reason.{Reason}
 use Rattle.move_list.specs.Report.{report_text}
 use Rattle.nc_number.proofs.Counts.{lt_false, lt_true}
 use Rattle.nc_outside.specs.Files.{ShelfState}

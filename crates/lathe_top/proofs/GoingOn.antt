@@ -10,7 +10,8 @@ use Rattle.nc_number.specs.Both.{of_path}
 use Rattle.disk_model.specs.Device.{DiskState, Reads}
 use Rattle.disk_model.specs.Moments.{LeavesOnly, Uses}
 use Rattle.gate_file.specs.Gate.{Gate}
-use Rattle.move_list.specs.declared.end_line.Reason.{Reason}
+use Rattle.nc_outside.specs.declared.reason.Reason.{Reason}
+use Rattle.nc_outside.specs.Reasons.{end_by}
 use Rattle.nc_number.specs.declared.path.Path.{Path}
 use Rattle.nc_number.specs.Path.{other_of}
 use Rattle.nc_moves.specs.declared.alarm.Alarm.{Alarm}
@@ -23,17 +24,16 @@ use Rattle.run_records.specs.Headers.{header_bytes}
 use Rattle.run_records.specs.Spelling.{entry_bytes}
 use Rattle.run_journal.specs.Batches.{records_bytes}
 use Rattle.run_journal.specs.Stands.{Holds}
-use Rattle.run_table.specs.declared.running.RunEnd.{RunEnd}
-use Rattle.run_table.specs.declared.running.RunEnd.TheVariants as run
 use Rattle.run_table.specs.Kept.{TableView}
 use Rattle.run_table.specs.Made.{moves_made}
 use Rattle.run_table.specs.Recording.{StandsForPrefix, IsJournaled, sent, most_bytes}
 use Rattle.run_table.specs.Running as running
-use Rattle.run_table.specs.Running.{MayRun, end_by, end_of as machine_end}
+use Rattle.run_table.specs.Running.{MayRun}
 use Rattle.run_table.specs.Since.{Since}
 use Rattle.turret_run.specs.Served.{told, GetsAll, GetsSome, FailsAmong, Misses}
-use Rattle.turret_run.specs.Runs.{place_of, due, GetsAt, GetsBeside, StandsBeside, none_missed, Stays}
-use Rattle.two_path.specs.Machine.{MachineView}
+use Rattle.turret_run.specs.Runs.{due, GetsAt, GetsBeside, StandsBeside, none_missed, Stays}
+use Rattle.two_path.specs.Machine.{MachineView, position_of}
+use Rattle.two_path.specs.Ending.{end_of as machine_end}
 use Rattle.two_path.specs.Histories.{IsKept}
 use Rattle.nc_restart.specs.Pair.{tapes_in, opening_of, machine_behind}
 use Rattle.lathe_looks.specs.Standing.{is_over, reason_by, reason_of}
@@ -42,7 +42,6 @@ use Rattle.lathe_top.specs.Session.{Session, AreMost, IsLeast, NoneFailed, EndsB
 use Rattle.lathe_top.specs.Turrets.{due_to, AreServed, AreMissed, GetTheirs, IsEnding}
 use Rattle.lathe_top.specs.Kept.{end_of}
 use Rattle.lathe_top.specs.Going.{KeepsGoing}
-use Rattle.lathe_top.specs.Texts.{run_reason}
 
 -- a journal of these records is small
 abbrev pub AreSmall : {D : Type 0} → (D → DiskState) → Type 0
@@ -50,14 +49,10 @@ AreSmall {D} state = (disk : D) (header : Header) (version : Version) (entries :
     → end ≤ 13 + length (header_bytes header) + length (records_bytes entries) + 6 * length entries
 
 -- the machine says how the run ended, or that it did not
-pub over_by : (alarm : Option Alarm) (finished : Bool) (e : RunEnd) → end_by alarm finished ≡ Some e
-    → ((is_some alarm || finished) ≡ true) × (reason_by alarm finished ≡ run_reason e)
-over_by (Some alarm) finished e is =
-    let same : run.Alarm alarm ≡ e = cc in
-    (refl, subst (λ x. Reason.Alarm alarm ≡ run_reason x) same refl)
-over_by None true e is =
-    let same : run.Done ≡ e = cc in
-    (refl, subst (λ x. Reason.Done ≡ run_reason x) same refl)
+pub over_by : (alarm : Option Alarm) (finished : Bool) (e : Reason) → end_by alarm finished ≡ Some e
+    → ((is_some alarm || finished) ≡ true) × (reason_by alarm finished ≡ e)
+over_by (Some alarm) finished e is = (refl, cc)
+over_by None true e is = (refl, cc)
 over_by None false e is = absurd (cc)
 
 pub open_by : (alarm : Option Alarm) (finished : Bool) → end_by alarm finished ≡ None → (is_some alarm || finished) ≡ false
@@ -72,7 +67,7 @@ no_end_by None true is = absurd (cc)
 no_end_by None false is = refl
 
 pub not_ended : (m : MachineView) → is_over m ≡ false → machine_end m ≡ None
-not_ended m is = no_end_by m.alarm (m.first.finished && m.second.finished) is
+not_ended m is = no_end_by m.alarm (m.paths.one.finished && m.paths.two.finished) is
 
 sent_all : (live : Bool) (flushed all : ℕ) → flushed ≡ all → (if live then flushed else all) ≡ all
 sent_all true flushed all same = same
@@ -132,18 +127,18 @@ module _ {D : Type 0} (state : D → DiskState) (small : AreSmall state) (limit 
   }
 
   -- what the machine of the table says, the machine behind the history says
-  is_ended : (x : RunEnd) → machine_end new.machine ≡ Some x → NoneFailed d e → EndsBy limit session d e (run_reason x)
+  is_ended : (x : Reason) → machine_end new.machine ≡ Some x → NoneFailed d e → EndsBy limit session d e x
   is_ended x is calm =
-      let by = over_by new.machine.alarm (new.machine.first.finished && new.machine.second.finished) x is in
+      let by = over_by new.machine.alarm (new.machine.paths.one.finished && new.machine.paths.two.finished) x is in
       let here : is_over (machine_behind new.verified history) ≡ true = subst (λ (m : MachineView). is_over m ≡ true) (sym kept.folds) by.0 in
-      let says : reason_of (machine_behind new.verified history) ≡ run_reason x =
-      subst (λ (m : MachineView). reason_of m ≡ run_reason x) (sym kept.folds) by.1 in
+      let says : reason_of (machine_behind new.verified history) ≡ x =
+      subst (λ (m : MachineView). reason_of m ≡ x) (sym kept.folds) by.1 in
       subst (EndsBy limit session d e) says (over here calm)
 
   is_open : machine_end new.machine ≡ None → is_over (machine_behind new.verified history) ≡ false
   is_open is =
       subst (λ (m : MachineView). is_over m ≡ false) (sym kept.folds)
-      (open_by new.machine.alarm (new.machine.first.finished && new.machine.second.finished) is)
+      (open_by new.machine.alarm (new.machine.paths.one.finished && new.machine.paths.two.finished) is)
 
   spent : new.budget ≡ 0 → length history ≡ length found + limit
   spent none = omega (arith, none, longer, since.budget)
@@ -153,13 +148,14 @@ module _ {D : Type 0} (state : D → DiskState) (small : AreSmall state) (limit 
       → NoneFailed d e
   calm_by live got = record { disk = since.recording.calm live; turrets = λ path. (got path).counted.kept (λ is. absurd cc) }
 
-  ends_by : (x : RunEnd) → running.EndsBy state old new x
-      → ((path : Path) → GetsAt x (due path old new) (of_path before path) (of_path after path)) → EndsBy limit session d e (run_reason x)
-  ends_by run.Done ends got = is_ended run.Done ends.machine (calm_by ends.live got)
-  ends_by (run.Alarm alarm) ends got = is_ended (run.Alarm alarm) ends.machine (calm_by ends.live got)
-  ends_by run.Full ends got = full (is_open ends.0.machine) ends.1 (calm_by ends.0.live got)
-  ends_by run.Stopped ends got = stopped (is_open ends.0.machine) (spent ends.2) ends.1 (calm_by ends.0.live got)
-  ends_by run.DiskFault ends got = disk_failed ends.1
+  ends_by : (x : Reason) → running.EndsBy state old new x
+      → ((path : Path) → GetsAt x (due path old new) (of_path before path) (of_path after path)) → EndsBy limit session d e x
+  ends_by Reason.Done ends got = is_ended Reason.Done ends.machine (calm_by ends.live got)
+  ends_by (Reason.Alarm alarm) ends got = is_ended (Reason.Alarm alarm) ends.machine (calm_by ends.live got)
+  ends_by Reason.Full ends got = full (is_open ends.0.machine) ends.1 (calm_by ends.0.live got)
+  ends_by Reason.Stopped ends got = stopped (is_open ends.0.machine) (spent ends.2) ends.1 (calm_by ends.0.live got)
+  ends_by Reason.DiskFault ends got = disk_failed ends.1
+  ends_by (Reason.TurretFault path) ends got = absurd ends
 
   no_more : length history ≤ length found + limit
   no_more = omega (arith, longer, since.budget)
@@ -174,17 +170,18 @@ module _ {D : Type 0} (state : D → DiskState) (small : AreSmall state) (limit 
     within = (since.recording.sends within).within;
   }
 
-  enough : (x : RunEnd) → running.EndsBy state old new x → IsLeast (run_reason x) session least
-  enough run.Done ends = ends.may.all
-  enough (run.Alarm alarm) ends = ends.may.all
-  enough run.Full ends = ends.0.may.all
-  enough run.Stopped ends = ends.0.may.all
-  enough run.DiskFault ends = most
+  enough : (x : Reason) → running.EndsBy state old new x → IsLeast x session least
+  enough Reason.Done ends = ends.may.all
+  enough (Reason.Alarm alarm) ends = ends.may.all
+  enough Reason.Full ends = ends.0.may.all
+  enough Reason.Stopped ends = ends.0.may.all
+  enough Reason.DiskFault ends = most
+  enough (Reason.TurretFault path) ends = absurd ends
 
   -- what is due by the table is due by the session
   due_is : (path : Path) → due path old new ≡ due_to session least path
   due_is path =
-      ap (λ (m : MachineView). told (place_of path m) (moves_made new.verified path (length found) least history)) machine_is
+      ap (λ (m : MachineView). told (position_of path m) (moves_made new.verified path (length found) least history)) machine_is
 
   got_all : (path : Path) → GetsAll (due path old new) (of_path before path) (of_path after path)
       → GetsAll (due_to session least path) (of_path before path) (of_path after path)
@@ -194,13 +191,14 @@ module _ {D : Type 0} (state : D → DiskState) (small : AreSmall state) (limit 
       → GetsSome (due_to session least path) (of_path before path) (of_path after path)
   got_some path got = subst (λ (what : List Got). GetsSome what (of_path before path) (of_path after path)) (due_is path) got
 
-  served : (x : RunEnd) → ((path : Path) → GetsAt x (due path old new) (of_path before path) (of_path after path))
-      → AreServed (run_reason x) session least before after
-  served run.Done got = λ path. got_all path (got path)
-  served (run.Alarm alarm) got = λ path. got_all path (got path)
-  served run.Full got = λ path. got_all path (got path)
-  served run.Stopped got = λ path. got_all path (got path)
-  served run.DiskFault got = λ path. got_some path (got path)
+  served : (x : Reason) → running.EndsBy state old new x → ((path : Path) → GetsAt x (due path old new) (of_path before path) (of_path after path))
+      → AreServed x session least before after
+  served Reason.Done ends got = λ path. got_all path (got path)
+  served (Reason.Alarm alarm) ends got = λ path. got_all path (got path)
+  served Reason.Full ends got = λ path. got_all path (got path)
+  served Reason.Stopped ends got = λ path. got_all path (got path)
+  served Reason.DiskFault ends got = λ path. got_some path (got path)
+  served (Reason.TurretFault path) ends got = absurd ends
 
   failed_at : (path : Path) → FailsAmong (due path old new) (of_path before path) (of_path after path)
       → FailsAmong (due_to session least path) (of_path before path) (of_path after path)
@@ -222,14 +220,14 @@ module _ {D : Type 0} (state : D → DiskState) (small : AreSmall state) (limit 
   missing miss = inl (λ path.
       subst (λ (what : List Got). Misses what (of_path missed path) (of_path before path) (of_path after path)) (due_is path) (miss path))
 
-  pub ending : (x : RunEnd) → running.EndsBy state old new x
+  pub ending : (x : Reason) → running.EndsBy state old new x
       → ((path : Path) → GetsAt x (due path old new) (of_path before path) (of_path after path)) → Missing
-      → IsEnding limit (run_reason x) session least d e
+      → IsEnding limit x session least d e
   ending x ends got miss = record {
     few = no_more;
     cause = ends_by x ends got;
     enough = enough x ends;
-    turrets = theirs (run_reason x) (served x got) (missing miss);
+    turrets = theirs x (served x ends got) (missing miss);
   }
 
   pub failing : (path : Path) → e.disk.faults ≡ d.disk.faults → FailsAmong (due path old new) (of_path before path) (of_path after path)
@@ -243,8 +241,8 @@ module _ {D : Type 0} (state : D → DiskState) (small : AreSmall state) (limit 
   }
 
   -- a turret that failed at its place
-  pub unplaced : (path : Path) → Stays old new → FailsAmong (told (place_of path old.machine) []) (of_path before path) (of_path after path)
-      → StandsBeside path (told (place_of (other_of path) old.machine) []) (of_path before (other_of path)) (of_path after (other_of path))
+  pub unplaced : (path : Path) → Stays old new → FailsAmong (told (position_of path old.machine) []) (of_path before path) (of_path after path)
+      → StandsBeside path (told (position_of (other_of path) old.machine) []) (of_path before (other_of path)) (of_path after (other_of path))
       → missed ≡ none_missed → IsEnding limit (Reason.TurretFault path) session least d e
   unplaced path same failed other none = record {
     few = no_more;
@@ -254,9 +252,9 @@ module _ {D : Type 0} (state : D → DiskState) (small : AreSmall state) (limit 
         (inr (record {
           none = same.history;
           failed =
-              subst (λ (m : MachineView). FailsAmong (told (place_of path m) []) (of_path before path) (of_path after path)) machine_is failed;
+              subst (λ (m : MachineView). FailsAmong (told (position_of path m) []) (of_path before path) (of_path after path)) machine_is failed;
           other =
-              subst (λ (m : MachineView). StandsBeside path (told (place_of (other_of path) m) []) (of_path before (other_of path))
+              subst (λ (m : MachineView). StandsBeside path (told (position_of (other_of path) m) []) (of_path before (other_of path))
               (of_path after (other_of path))) machine_is other;
         })) (inr (same.history, none));
   }

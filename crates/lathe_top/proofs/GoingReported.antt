@@ -1,5 +1,5 @@
 -- What is told of a run that went on, and a run that did not, for want of memory.
-use Rattle.std.proofs.Common.{◌≡◌, inl, inr, ℕ, ◌+◌, ◌-◌, ◌*◌, ◌≤◌, false, List, [], length, refl, sym, ap, subst, arith, ◌∙◌, Option}
+use Rattle.std.proofs.Common.{◌≡◌, inl, inr, ℕ, ◌+◌, ◌-◌, ◌*◌, ◌≤◌, false, List, [], length, refl, sym, ap, subst, arith, ◌∙◌, Result, Ok, Err}
 use Rattle.std.proofs.Math.Seq.{take-length}
 use Rattle.nc_outside.specs.Received.{TurretState}
 use Rattle.nc_number.specs.declared.both.Both.{Both}
@@ -7,18 +7,17 @@ use Rattle.nc_number.specs.Both.{of_path}
 use Rattle.disk_model.specs.Device.{DiskState, IsCoherent, Reads}
 use Rattle.disk_model.proofs.Runs.{no_call, uses_none}
 use Rattle.gate_file.specs.Gate.{Gate}
-use Rattle.move_list.specs.declared.end_line.Reason.{Reason}
+use Rattle.nc_number.specs.declared.fault.NoMemory.{NoMemory}
+use Rattle.nc_outside.specs.declared.reason.Reason.{Reason}
 use Rattle.nc_verify.specs.declared.verified.Verified.{Verified}
 use Rattle.run_records.specs.Entries.{Entry}
 use Rattle.run_records.specs.declared.header.Header.{Header}
 use Rattle.run_table.specs.Kept.{TableView}
 use Rattle.run_table.specs.Recording.{StandsForPrefix, IsJournaled}
 use Rattle.run_table.specs.Running.{MayRun}
-use Rattle.turret_run.specs.declared.ending.TurretEnd.{TurretEnd}
-use Rattle.turret_run.specs.declared.ending.TurretEnd.TheVariants as turret
 use Rattle.turret_run.specs.Served.{told, GetsPart}
-use Rattle.turret_run.specs.Runs.{place_of, HasNotBegun, RunsWith}
-use Rattle.two_path.specs.Machine.{MachineView}
+use Rattle.turret_run.specs.Runs.{HasEnded, HasNotBegun, RunsWith}
+use Rattle.two_path.specs.Machine.{MachineView, position_of}
 use Rattle.two_path.specs.Histories.{IsKept}
 use Rattle.nc_restart.specs.Pair.{tapes_in, opening_of, machine_behind}
 use Rattle.nc_restart.specs.History.{IsHistory}
@@ -28,7 +27,6 @@ use Rattle.lathe_top.specs.Lathe.{LatheState, lathe_with}
 use Rattle.lathe_top.specs.Ran.{TextOf}
 use Rattle.lathe_top.specs.Kept.{end_of}
 use Rattle.lathe_top.specs.Going.{Standing, standing, session_to, IsReport, report, stayed, told_of}
-use Rattle.lathe_top.specs.Texts.{end_reason}
 use Rattle.lathe_top.proofs.GoingOn.{AreSmall, goes_on, ending, failing, unplaced, keeps_going}
 
 -- a run of the same pair, and with the disk that it leaves
@@ -39,7 +37,7 @@ for_pair state Of header found pair other disk left same is there =
     (subst (λ f. Of (standing header pair found) (state f)) (sym is) there)
 
 -- what is told of a pair and of records is told of those that they are
-pub told_same : (text_of : TextOf) (pair other : Verified) (items entries : List Entry) (reason : Option Reason) → pair ≡ other → items ≡ entries
+pub told_same : (text_of : TextOf) (pair other : Verified) (items entries : List Entry) (reason : Result Reason NoMemory) → pair ≡ other → items ≡ entries
     → told_of text_of pair items reason ≡ told_of text_of other entries reason
 told_same text_of pair other items entries reason same are = λ i. told_of text_of (same i) (are i) reason
 
@@ -88,7 +86,7 @@ module _ {D : Type 0} (state : D → DiskState) (coherent : (disk : D) → IsCoh
           none = refl;
           all = refl;
           places = λ path.
-              subst (λ (m : MachineView). GetsPart (told (place_of path m) []) (of_path before path) (of_path after path)) machine_is
+              subst (λ (m : MachineView). GetsPart (told (position_of path m) []) (of_path before path) (of_path after path)) machine_is
               (not_begun.turrets path);
           missed = not_begun.none;
         })
@@ -106,30 +104,42 @@ module _ {D : Type 0} (state : D → DiskState) (coherent : (disk : D) → IsCoh
         subst (λ (file : Gate D). IsReport limit text_of run d (record { disk = state file.disk; turrets = after; missed = missed }) nothing)
         (sym not_begun.same.file) (stays text_of)
 
-  -- a run is told by its end
-  pub told_report : (text_of : TextOf) (end : TurretEnd) → RunsWith state limit old new before after missed end
-      → IsReport limit text_of run d e (told_of text_of new.verified new.recording.history (end_reason end))
-  told_report text_of (turret.Ended end) ran =
+  ended_report : (text_of : TextOf) (end : Reason) → HasEnded state limit old new before after missed end
+      → IsReport limit text_of run d e (told_of text_of new.verified new.recording.history (Ok end))
+  ended_report text_of end ran =
       report new.recording.history new.recording.flushed
       (goes_on state small limit old new may behind unended ran.since kept few pending header journaled before after missed)
       (ending state small limit old new may behind unended ran.since kept few pending header journaled before after missed end ran.ends ran.turrets ran.misses)
       (keeps_going state small limit old new may behind unended ran.since kept few pending header journaled before after missed)
-  told_report text_of (turret.TurretFault path) (inl ran) =
+
+  -- a run is told by its end
+  pub told_report : (text_of : TextOf) (end : Result Reason NoMemory) → RunsWith state limit old new before after missed end
+      → IsReport limit text_of run d e (told_of text_of new.verified new.recording.history end)
+  told_report text_of (Ok Reason.Done) ran = ended_report text_of Reason.Done ran
+  told_report text_of (Ok (Reason.Alarm alarm)) ran = ended_report text_of (Reason.Alarm alarm) ran
+  told_report text_of (Ok Reason.Stopped) ran = ended_report text_of Reason.Stopped ran
+  told_report text_of (Ok Reason.Full) ran = ended_report text_of Reason.Full ran
+  told_report text_of (Ok Reason.DiskFault) ran = ended_report text_of Reason.DiskFault ran
+  told_report text_of (Ok (Reason.TurretFault path)) (inl ran) =
       report new.recording.history new.recording.flushed
       (goes_on state small limit old new may behind unended ran.since kept few pending header journaled before after missed)
       (failing state small limit old new may behind unended ran.since kept few pending header journaled before after missed path ran.calm ran.failed ran.other ran.misses)
       (keeps_going state small limit old new may behind unended ran.since kept few pending header journaled before after missed)
-  told_report text_of (turret.TurretFault path) (inr ran) =
+  told_report text_of (Ok (Reason.TurretFault path)) (inr ran) =
       report new.recording.history new.recording.flushed
       (goes_on state small limit old new may behind unended ran.since kept few pending header journaled before after missed)
       (unplaced state small limit old new may behind unended ran.since kept few pending header journaled before after missed path ran.same ran.failed
       ran.other ran.none)
       (keeps_going state small limit old new may behind unended ran.since kept few pending header journaled before after missed)
-  told_report text_of turret.NoMemory ran = has_stayed ran text_of
+  told_report text_of (Err none) ran = has_stayed ran text_of
 
   -- the pair of the table is the one before
-  pub pair_is : (end : TurretEnd) → RunsWith state limit old new before after missed end → new.verified ≡ old.verified
-  pair_is (turret.Ended end) ran = ran.since.verified
-  pair_is (turret.TurretFault path) (inl ran) = ran.since.verified
-  pair_is (turret.TurretFault path) (inr ran) = ran.since.verified
-  pair_is turret.NoMemory ran = ran.same.verified
+  pub pair_is : (end : Result Reason NoMemory) → RunsWith state limit old new before after missed end → new.verified ≡ old.verified
+  pair_is (Ok Reason.Done) ran = ran.since.verified
+  pair_is (Ok (Reason.Alarm alarm)) ran = ran.since.verified
+  pair_is (Ok Reason.Stopped) ran = ran.since.verified
+  pair_is (Ok Reason.Full) ran = ran.since.verified
+  pair_is (Ok Reason.DiskFault) ran = ran.since.verified
+  pair_is (Ok (Reason.TurretFault path)) (inl ran) = ran.since.verified
+  pair_is (Ok (Reason.TurretFault path)) (inr ran) = ran.since.verified
+  pair_is (Err none) ran = ran.same.verified

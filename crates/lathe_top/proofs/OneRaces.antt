@@ -1,5 +1,5 @@
 -- One list of races is due to three texts.
-use Rattle.std.proofs.Common.{◌≡◌, ℕ, ◌+◌, ◌&&◌, ◌||◌, nat_le, nat_lt, List, refl, ap}
+use Rattle.std.proofs.Common.{◌≡◌, ◌+◌, ◌&&◌, ◌||◌, nat_le, nat_lt, List, refl, ap}
 use Rattle.nc_restart.specs.Pair.{IsSamePair}
 use Rattle.nc_verify.specs.declared.verified.Verified.{Verified}
 use Rattle.race_report.specs.declared.race.Race.{Race}
@@ -13,8 +13,8 @@ use Rattle.lathe_top.proofs.Agreed.{Agree}
 -- a pair that has the same machine shares the same variables
 shares_same : (pair other : Verified) → IsSamePair pair other → shared_by pair.settings ≡ shared_by other.settings
 shares_same pair other same =
-    let first : pair.settings.shared100 ≡ other.settings.shared100 = ap (λ m. m.first.path.fixed.shared100) same.opening in
-    let second : pair.settings.shared500 ≡ other.settings.shared500 = ap (λ m. m.first.path.fixed.shared500) same.opening in
+    let first : pair.settings.shared100 ≡ other.settings.shared100 = ap (λ m. m.paths.one.path.fixed.shared100) same.opening in
+    let second : pair.settings.shared500 ≡ other.settings.shared500 = ap (λ m. m.paths.one.path.fixed.shared500) same.opening in
     λ i v. (nat_le 100 v && nat_lt v (100 + first i)) || (nat_le 500 v && nat_lt v (500 + second i))
 
 -- and has the same races

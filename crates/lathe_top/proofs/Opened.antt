@@ -6,7 +6,7 @@ use Rattle.nc_number.specs.declared.both.Both.{Both}
 use Rattle.disk_model.specs.Device.{DiskState, IsCoherent, Reads}
 use Rattle.disk_model.specs.Moments.{LeavesOnly, Uses}
 use Rattle.disk_model.proofs.Runs.{uses_add, uses_widened, unwritten_none, uses_none}
-use Rattle.move_list.specs.declared.end_line.Reason.{Reason}
+use Rattle.nc_outside.specs.declared.reason.Reason.{Reason}
 use Rattle.nc_verify.specs.declared.verified.Verified.{Verified}
 use Rattle.nc_verify.specs.Verdict.{Texts}
 use Rattle.run_records.specs.Entries.{Entry}

@@ -26,13 +26,13 @@ use Rattle.two_path.specs.Machine.{MachineView}
 use Rattle.two_path.specs.Turns.{Tapes}
 use Rattle.turret_lines.specs.Stream.{stream_of}
 use Rattle.run_table.specs.Made.{moves_made, shown_from}
-use Rattle.move_list.specs.declared.end_line.Reason.{Reason}
+use Rattle.nc_outside.specs.declared.reason.Reason.{Reason}
 use Rattle.two_path.specs.Made.{made_in, moves_in, moves_of, turns_from}
 use Rattle.move_list.specs.Report.{lined_text}
 use Rattle.move_list.proofs.Streams.{later_moves, stream_is}
 use Rattle.nc_restart.specs.Pair.{tapes_in, opening_of}
 use Rattle.turret_run.specs.Served.{told, GetsAll}
-use Rattle.turret_run.specs.Runs.{place_of}
+use Rattle.two_path.specs.Machine.{position_of}
 use Rattle.lathe_calls.specs.Answers.{Answer, tells, nothing, whole, cut, unwritten, untold}
 use Rattle.lathe_looks.specs.declared.fetching.FileFault.{FileFault}
 use Rattle.lathe_looks.specs.declared.fetching.FileFault.TheVariants.{Failed, Absent, TooLong}
@@ -78,8 +78,8 @@ stream_due s path extends =
     let parts : s.history ≡ s.found ++ later = sym (take-append-drop (length s.found) s.history) ∙ ap (λ (h : List Entry). h ++ later) extends in
     record {
       lines = flat_map lined_text (moves_of tapes (machine_found s) path later);
-      stream = ap (λ (l : List LinedMove). stream_of (told (place_of path (machine_found s)) l)) moves
-          ∙ stream_is (place_of path (machine_found s)) (moves_of tapes (machine_found s) path later);
+      stream = ap (λ (l : List LinedMove). stream_of (told (position_of path (machine_found s)) l)) moves
+          ∙ stream_is (position_of path (machine_found s)) (moves_of tapes (machine_found s) path later);
       report = ap (report_lines s.pair path) parts
           ∙ ap (flat_map lined_text) (later_moves tapes (opening_of s.pair) path s.found later)
           ∙ flat_map-append lined_text (moves_of tapes (opening_of s.pair) path s.found) (moves_of tapes (machine_found s) path later);

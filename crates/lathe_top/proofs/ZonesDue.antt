@@ -1,11 +1,11 @@
 -- What is due to `zones`: of a file that gives none, and that one answer is due to a text.
-use Rattle.std.proofs.Common.{◌≡◌, ℕ, List, Ok, Err, refl, ap, subst}
+use Rattle.std.proofs.Common.{◌≡◌, ℕ, List}
 use Rattle.nc_outside.specs.Files.{ShelfState}
 use Rattle.nc_verify.specs.declared.verified.Verified.{Verified}
 use Rattle.nc_restart.specs.Pair.{IsSamePair}
 use Rattle.run_records.specs.Entries.{Entry}
 use Rattle.zone_cell.specs.Lines.{list_text}
-use Rattle.zone_cell.specs.Zones.{ZonesView, zones_of}
+use Rattle.zone_cell.specs.Zones.{ZonesView}
 use Rattle.zone_check.specs.Segments.{zones_of_history}
 use Rattle.lathe_calls.specs.Answers.{Answer}
 use Rattle.lathe_looks.specs.Fetched.{IsOfFiles, not_had, unread, answers}

@@ -5,7 +5,7 @@ use Rattle.disk_model.specs.Device.{DiskState, Reads, Rose}
 use Rattle.edit_texts.specs.declared.edit_list.PathEdit.{PathEdit}
 use Rattle.edit_texts.specs.Edits.{edits_of}
 use Rattle.gate_file.specs.declared.fault.DiskFault.{DiskFault}
-use Rattle.move_list.specs.declared.end_line.Reason.{Reason}
+use Rattle.nc_outside.specs.declared.reason.Reason.{Reason}
 use Rattle.nc_number.specs.declared.fault.Failing.{Failing}
 use Rattle.nc_number.specs.declared.fault.Failing.TheVariants.{Fault, NoMemory}
 use Rattle.run_journal.specs.Stands.{Stands}

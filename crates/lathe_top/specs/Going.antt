@@ -1,8 +1,9 @@
 -- How a run goes on from what its journal has.
-use Rattle.std.specs.Prelude.{ℕ, ◌-◌, ◌*◌, ◌≤◌, Option, Some, None, List, length}
+use Rattle.std.specs.Prelude.{ℕ, ◌-◌, ◌*◌, ◌≤◌, Result, Ok, Err, List, length}
 use Rattle.disk_model.specs.Device.{DiskState, Reads}
 use Rattle.disk_model.specs.Moments.{LeavesOnly, Uses}
-use Rattle.move_list.specs.declared.end_line.Reason.{Reason}
+use Rattle.nc_number.specs.declared.fault.NoMemory.{NoMemory}
+use Rattle.nc_outside.specs.declared.reason.Reason.{Reason}
 use Rattle.nc_verify.specs.declared.verified.Verified.{Verified}
 use Rattle.run_records.specs.Entries.{Entry}
 use Rattle.run_records.specs.declared.header.Header.{Header}
@@ -57,6 +58,6 @@ IsReportOn state limit text_of table old new before after status = (header : Hea
     → Ends (IsReport limit text_of (standing header table.verified table.recording.history) old new) before after status
 
 -- what is told of a history whose run ended for this reason; nothing for want of memory
-abbrev pub told_of : TextOf → Verified → List Entry → Option Reason → Answer
-told_of text_of pair entries (Some reason) = tells (reason_status reason) (text_of pair entries reason)
-told_of text_of pair entries None = nothing
+abbrev pub told_of : TextOf → Verified → List Entry → Result Reason NoMemory → Answer
+told_of text_of pair entries (Ok reason) = tells (reason_status reason) (text_of pair entries reason)
+told_of text_of pair entries (Err none) = nothing

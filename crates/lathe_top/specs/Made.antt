@@ -2,7 +2,7 @@
 use Rattle.std.specs.Prelude.{ℕ, Bool, true, false, if◌then◌else◌, List, []}
 use Rattle.nc_number.specs.declared.path.Path.TheVariants.{One, Two}
 use Rattle.tape_maker.specs.MadeTape.{made_tape}
-use Rattle.move_list.specs.declared.end_line.Reason.{Reason}
+use Rattle.nc_outside.specs.declared.reason.Reason.{Reason}
 use Rattle.move_list.specs.Summary.{summary_text}
 use Rattle.nc_verify.specs.declared.verified.Verified.{Verified}
 use Rattle.nc_verify.specs.Verdict.{Texts}

@@ -1,9 +1,9 @@
 -- What the commands answer that run both paths.
-use Rattle.std.specs.Prelude.{◌≡◌, ℕ, List, Some, codes, Err}
+use Rattle.std.specs.Prelude.{ℕ, List, Some, codes, Err}
 use Rattle.disk_model.specs.Device.{DiskState}
 use Rattle.gate_file.specs.declared.fault.GateFault.{GateFault}
 use Rattle.gate_file.specs.declared.fault.GateFault.TheVariants as gate
-use Rattle.move_list.specs.declared.end_line.Reason.{Reason}
+use Rattle.nc_outside.specs.declared.reason.Reason.{Reason}
 use Rattle.nc_verify.specs.declared.refusal.Refusal.{Refusal}
 use Rattle.nc_verify.specs.declared.verified.Verified.{Verified}
 use Rattle.nc_verify.specs.Printed.{IsVerdictText}

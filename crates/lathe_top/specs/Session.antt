@@ -4,7 +4,7 @@ use Rattle.nc_number.specs.Both.{of_path}
 use Rattle.nc_number.specs.declared.path.Path.{Path}
 use Rattle.disk_model.specs.Device.{Rose}
 use Rattle.nc_outside.specs.Faults.{Rose as TurretRose}
-use Rattle.move_list.specs.declared.end_line.Reason.{Reason}
+use Rattle.nc_outside.specs.declared.reason.Reason.{Reason}
 use Rattle.nc_verify.specs.declared.verified.Verified.{Verified}
 use Rattle.run_records.specs.Entries.{Entry}
 use Rattle.run_records.specs.declared.header.Header.{Header}

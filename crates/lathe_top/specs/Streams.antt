@@ -11,11 +11,11 @@ use Rattle.move_text.specs.MoveText.{placed_text}
 use Rattle.turret_lines.specs.Stream.{HasStream, stream_of, told_state}
 use Rattle.nc_verify.specs.declared.verified.Verified.{Verified}
 use Rattle.run_records.specs.Entries.{Entry}
-use Rattle.move_list.specs.declared.end_line.Reason.{Reason}
+use Rattle.nc_outside.specs.declared.reason.Reason.{Reason}
 use Rattle.two_path.specs.Made.{moves_of}
 use Rattle.move_list.specs.Report.{lines_text}
 use Rattle.nc_restart.specs.Pair.{tapes_in, opening_of}
-use Rattle.turret_run.specs.Runs.{place_of}
+use Rattle.two_path.specs.Machine.{position_of}
 use Rattle.lathe_looks.specs.Standing.{is_over}
 use Rattle.lathe_calls.specs.Statuses as exit
 use Rattle.lathe_top.specs.Done.{Call}
@@ -45,7 +45,7 @@ report_lines pair path history = lines_text (moves_of (tapes_in pair) (opening_o
 
 -- the line of the place at which a session finds a path's turret
 abbrev pub place_line : Session → Path → List ℕ
-place_line s path = placed_text (place_of path (machine_found s))
+place_line s path = placed_text (position_of path (machine_found s))
 
 -- A stream is the line of the path's place, and then exactly the lines that the report has for the
 -- path's records of this session: its lines at the end are those for the records that were found,

@@ -6,10 +6,11 @@ use Rattle.nc_number.specs.Both.{of_path}
 use Rattle.nc_number.specs.declared.path.Path.{Path}
 use Rattle.nc_number.specs.Path.{other_of}
 use Rattle.nc_outside.specs.declared.got.Got.{Got}
-use Rattle.move_list.specs.declared.end_line.Reason.{Reason}
+use Rattle.nc_outside.specs.declared.reason.Reason.{Reason}
+use Rattle.two_path.specs.Machine.{position_of}
 use Rattle.run_table.specs.Made.{moves_made}
 use Rattle.turret_run.specs.Served.{told, GetsAll, GetsPart, GetsSome, FailsAmong, Misses}
-use Rattle.turret_run.specs.Runs.{place_of, GetsBeside, StandsBeside, none_missed}
+use Rattle.turret_run.specs.Runs.{GetsBeside, StandsBeside, none_missed}
 use Rattle.lathe_top.specs.Lathe.{LatheState, AreAtRest}
 use Rattle.lathe_looks.specs.Standing.{is_over}
 use Rattle.lathe_top.specs.Session.{Session, EndsBy, IsLeast, machine_found}
@@ -17,14 +18,14 @@ use Rattle.lathe_top.specs.Session.{Session, EndsBy, IsLeast, machine_found}
 -- What is due to the turret of a path by a session up to this record: its place, and then the moves
 -- of its path's records behind those that were found, in order.
 abbrev pub due_to : Session → ℕ → Path → List Got
-due_to s upto path = told (place_of path (machine_found s)) (moves_made s.pair path (length s.found) upto s.history)
+due_to s upto path = told (position_of path (machine_found s)) (moves_made s.pair path (length s.found) upto s.history)
 
 -- The turret of a path failed at its place: no record was made and no turret got a move; that of
 -- path 2 was not called, or that of path 1 had got its place.
 pub record AreUnplaced (path : Path) (s : Session) (old new : Both TurretState) : Type 0 where
   pub none : s.history ≡ s.found
-  pub failed : FailsAmong (told (place_of path (machine_found s)) []) (of_path old path) (of_path new path)
-  pub other : StandsBeside path (told (place_of (other_of path) (machine_found s)) []) (of_path old (other_of path))
+  pub failed : FailsAmong (told (position_of path (machine_found s)) []) (of_path old path) (of_path new path)
+  pub other : StandsBeside path (told (position_of (other_of path) (machine_found s)) []) (of_path old (other_of path))
       (of_path new (other_of path))
 
 -- What the turrets got of a session that might make records, by records that are on the disk: all
@@ -68,7 +69,7 @@ pub record IsUnprepared (s : Session) (least : ℕ) (old new : LatheState) : Typ
   pub unended : is_over (machine_found s) ≡ false
   pub none : s.history ≡ s.found
   pub all : least ≡ length s.history
-  pub places : (path : Path) → GetsPart (told (place_of path (machine_found s)) []) (of_path old.turrets path)
+  pub places : (path : Path) → GetsPart (told (position_of path (machine_found s)) []) (of_path old.turrets path)
       (of_path new.turrets path)
   pub missed : new.missed ≡ none_missed
 

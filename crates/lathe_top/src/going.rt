@@ -9,23 +9,22 @@ ghost use Rattle.lathe_looks.specs.Standing.{is_over};
 ghost use Rattle.lathe_top.specs.Going.{IsReportOn, told_of};
 ghost use Rattle.lathe_top.specs.Held.{lathe_left};
 ghost use Rattle.lathe_top.specs.Lathe.{lathe_with};
-ghost use Rattle.lathe_top.specs.Texts.{end_reason, run_reason, text_by};
+ghost use Rattle.lathe_top.specs.Texts.{text_by};
 
 use crate::held::{Ended, Lathe};
 use crate::telling::{Request, Telling, tell_end};
 use disk_model::Disk;
 use lathe_calls::Status;
-use move_list::Reason;
-use nc_number::Both;
-use nc_outside::{Sink, Turret};
+use nc_number::{Both, NoMemory};
+use nc_outside::{Reason, Sink, Turret};
 use nc_verify::Verified;
 use run_journal::a_held_journal_is_small;
 use run_records::EntryList;
-use run_table::{RunEnd, Table};
+use run_table::Table;
 use std::alloc::Global;
 use std::sync::Wait;
 use std::thread::Threads;
-use turret_run::{TurretEnd, TurretRun, run_with_turrets};
+use turret_run::{TurretRun, run_with_turrets};
 
 /// Goes on with the run of a table, with both turrets, and tells what is asked of it.
 pub(crate) fn go_on<R, D, T, K>(
@@ -80,40 +79,16 @@ fn tell_run<K: Sink>(
     telling: Telling,
     verified: &Verified,
     entries: &EntryList,
-    end: TurretEnd,
+    end: Result<Reason, NoMemory>,
     out: &mut K,
 ) -> u8
     requires legal { IsLegal (tapes_in verified.now) (opening_of verified.now) entries.now.items }
     requires few { length entries.now.items ≤ verified.now.settings.records }
-    ensures { Ends (IsJust (told_of (text_by telling) verified.now entries.now.items (end_reason end)))
+    ensures { Ends (IsJust (told_of (text_by telling) verified.now entries.now.items end))
         (K.state out.old) (K.state out.new) result }
 {
-    match end_reason(end) {
-        Some(reason) => tell_end(alloc, telling, verified, entries, reason, out),
-        None => Status::NoMemory as u8,
-    }
-}
-
-/// The reason for which a run ended; none, where there was no memory for it.
-fn end_reason(end: TurretEnd) -> Option<Reason>
-    ensures { result ≡ end_reason end }
-{
     match end {
-        TurretEnd::Ended(end) => Some(run_reason(end)),
-        TurretEnd::TurretFault(path) => Some(Reason::TurretFault(path)),
-        TurretEnd::NoMemory => None,
-    }
-}
-
-/// The reason for which a run ended while no turret failed.
-fn run_reason(end: RunEnd) -> Reason
-    ensures { result ≡ run_reason end }
-{
-    match end {
-        RunEnd::Done => Reason::Done,
-        RunEnd::Alarm(alarm) => Reason::Alarm(alarm),
-        RunEnd::Stopped => Reason::Stopped,
-        RunEnd::Full => Reason::Full,
-        RunEnd::DiskFault => Reason::DiskFault,
+        Ok(reason) => tell_end(alloc, telling, verified, entries, reason, out),
+        Err(_) => Status::NoMemory as u8,
     }
 }

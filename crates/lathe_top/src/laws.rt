@@ -8,7 +8,6 @@ ghost use Rattle.run_records.specs.Entries.{Entry};
 ghost use Rattle.run_records.specs.declared.header.Header.{Header};
 ghost use Rattle.nc_restart.specs.Lives.{AreOneHistory};
 ghost use Rattle.nc_restart.specs.Meaning.{StandsForRun};
-ghost use Rattle.disk_model.specs.Device.{DiskState};
 ghost use Rattle.lathe_top.specs.Done.{IsDone};
 ghost use Rattle.lathe_top.specs.Kept.{Leaves};
 ghost use Rattle.lathe_top.specs.Kinds.{kind_of};

@@ -19,6 +19,7 @@ use disk_model::Disk;
 /// turret was called.
 pub fn a_stream_has_the_reports_lines<D: Disk, E: Disk>()
     ensures { (call : CallOver D) (around : Around E) (status : ℕ)
-        → IsDone D.state E.state (call_in D.state around call) status → MakesRecords (kind_of (listed_command around.words))
-        → IsUncut status → HasStreams D.state (call_in D.state around call) status }
+        → IsDone D.state E.state (call_in D.state around call) status
+        → MakesRecords (kind_of (listed_command around.words)) → IsUncut status
+        → HasStreams D.state (call_in D.state around call) status }
 {}

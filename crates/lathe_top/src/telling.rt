@@ -9,8 +9,8 @@ ghost use Rattle.lathe_top.specs.Made.{is_done, made_text};
 ghost use Rattle.lathe_top.specs.Texts.{text_by};
 
 use lathe_calls::{reason_status, status_behind};
-use move_list::{Reason, write_report, write_summary};
-use nc_outside::{PutFault, Sink};
+use move_list::{write_report, write_summary};
+use nc_outside::{PutFault, Reason, Sink};
 use nc_verify::Verified;
 use run_records::EntryList;
 use std::alloc::Global;

@@ -1,26 +1,15 @@
 -- A look-up of a cause by its number finds what a look through the table finds.
-use Rattle.std.proofs.Common.{◌≡◌, ◌==◌, ℕ, Bool, true, false, cond, List, [], ◌∷◌, Option, Some, None, IfSome, All, refl, subst, arith, zero, suc}
+use Rattle.std.proofs.Common.{◌≡◌, ◌==◌, ℕ, Bool, true, false, cond, List, [], ◌∷◌, Option, Some, None, IfSome, All, refl, arith, zero, suc}
 use Rattle.std.specs.Prelude.{find}
 use Rattle.std.proofs.lemmas.List.Elements.{All-contains}
 use Rattle.nc_number.specs.declared.cause.Cause.{Cause}
-use Rattle.nc_number.specs.Causes.{cause_number, every_cause}
+use Rattle.nc_number.specs.Causes.{cause_number, every_cause, cause_of}
 use Rattle.nc_number.proofs.CauseTable.{cause_is_listed}
-use Rattle.move_list.specs.EndText.{cause_of}
-
-equal_where : (a b : ℕ) → (a == b) ≡ true → a ≡ b
-equal_where a b test = grind arith
+use Rattle.nc_number.proofs.Counts.{equal}
+use Rattle.code_tables.proofs.FoundPasses.{found_passes}
 
 unequal_where : (a b : ℕ) → (a == b) ≡ false → a ≡ b → ⊥
 unequal_where a b test same = grind arith
-
--- what is found passes
-found_passes : {X : Type 0} (p : X → Bool) (xs : List X) (x : X) → find p xs ≡ Some x → p x ≡ true
-found_passes p [] x e = absurd (let none : ◌≡◌ {A = Option _} None (Some x) = e in cc)
-found_passes p (y ∷ ys) x e = go (p y) refl e (found_passes p ys x)
-  where
-    go : (b : Bool) → p y ≡ b → cond b (Some y) (find p ys) ≡ Some x → (find p ys ≡ Some x → p x ≡ true) → p x ≡ true
-    go true is same rest = let one : y ≡ x = cc in subst (λ z. p z ≡ true) one is
-    go false is same rest = rest same
 
 -- where nothing is found, nothing passes
 none_passes : {X : Type 0} (p : X → Bool) (xs : List X) → find p xs ≡ None → All (λ x. p x ≡ false) xs
@@ -45,4 +34,4 @@ cause_by_number number found is all = go (cause_of number) refl
     go : (looked : Option Cause) → cause_of number ≡ looked → found ≡ looked
     go None none = clash found is none
     go (Some cause) same =
-        all cause (equal_where (cause_number cause) number (found_passes (λ c. cause_number c == number) every_cause cause same))
+        all cause (equal (cause_number cause) number (found_passes (λ c. cause_number c == number) every_cause cause same))

@@ -3,6 +3,7 @@ use Rattle.std.proofs.Common.{◌≡◌, ◌==◌, ℕ, Bool, true, false, List,
 use Rattle.nc_number.specs.declared.path.Path.{Path}
 use Rattle.nc_number.specs.declared.path.Path.TheVariants.{One, Two}
 use Rattle.nc_number.specs.declared.value.Var.{Var}
+use Rattle.nc_number.specs.Both.{of_path}
 use Rattle.nc_moves.specs.declared.alarm.Alarm.{Alarm}
 use Rattle.run_records.specs.Entries.{Entry, edit_of}
 use Rattle.run_records.specs.declared.edit.Edit.{Edit}
@@ -13,9 +14,9 @@ use Rattle.path_state.specs.Effect.{Effect, Need, Done, AtWait, AtEnd}
 use Rattle.path_state.specs.Effect as effect
 use Rattle.path_state.specs.Controlled.{KeepsFixed}
 use Rattle.two_path.specs.Machine.{MachineView, own_first}
-use Rattle.two_path.specs.Turns.{Blocks, Tapes, TurnResult, tape_of, tapes_of, result_by, result_at_wait, unless_idle, own_turn}
+use Rattle.two_path.specs.Turns.{Blocks, Tapes, TurnResult, tapes_of, result_by, result_at_wait, unless_idle, own_turn}
 use Rattle.two_path.specs.Histories.{with_reads, behind_step, behind_own, behind_entry, fold}
-use Rattle.move_list.specs.Report.{machine_at_start}
+use Rattle.two_path.specs.Start.{machine_at_start}
 use Rattle.move_list.specs.State.{IsMachineOf, SharesAs}
 
 -- each block keeps what is fixed
@@ -24,8 +25,8 @@ KeepFixed blocks = (path : PathView) (reads : List Var) → KeepsFixed path (blo
 
 -- of both paths the same is fixed
 record AreFixedAs (a b : MachineView) : Type 0 where
-  first : a.first.path.fixed ≡ b.first.path.fixed
-  second : a.second.path.fixed ≡ b.second.path.fixed
+  first : a.paths.one.path.fixed ≡ b.paths.one.path.fixed
+  second : a.paths.two.path.fixed ≡ b.paths.two.path.fixed
 
 at_wait_keeps : (path : Path) (line : ℕ) (m : MachineView) (code : ℕ) (waiting : Option ℕ)
     → AreFixedAs (result_at_wait path line m code waiting).machine m
@@ -36,11 +37,11 @@ at_wait_keeps path line m code (Some there) = go (code == there) refl
     go true e = rw e (record { first = refl; second = refl })
     go false e = rw e (record { first = refl; second = refl })
 
-block_keeps : (path : Path) (line : ℕ) (m : MachineView) (e : Effect) → KeepsFixed m.first.path e
+block_keeps : (path : Path) (line : ℕ) (m : MachineView) (e : Effect) → KeepsFixed m.paths.one.path e
     → AreFixedAs (result_by path line m e).machine m
 block_keeps path line m (Need variable) k = record { first = refl; second = refl }
 block_keeps path line m (Done after write moves) k = record { first = k; second = refl }
-block_keeps path line m (AtWait code) k = at_wait_keeps path line m code m.second.waiting
+block_keeps path line m (AtWait code) k = at_wait_keeps path line m code m.paths.two.waiting
 block_keeps path line m (AtEnd after moves) k = record { first = k; second = refl }
 block_keeps path line m (effect.Alarm number value) k = record { first = refl; second = refl }
 
@@ -53,8 +54,8 @@ idle_keeps m None false None rest k = k
 
 turn_keeps : (blocks : Blocks) (path : Path) (m : MachineView) → KeepFixed blocks → AreFixedAs (own_turn blocks path m).machine m
 turn_keeps blocks path m keep =
-    idle_keeps m m.alarm m.first.finished m.first.waiting _
-    (block_keeps path (blocks.line m.first.path.place) m (blocks.effect m.first.path m.first.values) (keep m.first.path m.first.values))
+    idle_keeps m m.alarm m.paths.one.finished m.paths.one.waiting _
+    (block_keeps path (blocks.line m.paths.one.path.place) m (blocks.effect m.paths.one.path m.paths.one.values) (keep m.paths.one.path m.paths.one.values))
 
 step_keeps : (blocks : Blocks) (path : Path) (stamps : List ℕ) (m : MachineView) → KeepFixed blocks
     → AreFixedAs (behind_step blocks path stamps m) m
@@ -62,21 +63,21 @@ step_keeps blocks path stamps m keep =
     let k = turn_keeps blocks path (with_reads blocks stamps m) keep in
     record { first = k.first; second = k.second }
 
-path_keeps : (tapes : Tapes) (path : Path) (stamps : List ℕ) (m : MachineView) → KeepFixed tapes.first → KeepFixed tapes.second
-    → AreFixedAs (own_first path (behind_step (tape_of tapes path) path stamps (own_first path m))) m
-path_keeps tapes One stamps m one two = step_keeps tapes.first One stamps m one
+path_keeps : (tapes : Tapes) (path : Path) (stamps : List ℕ) (m : MachineView) → KeepFixed tapes.one → KeepFixed tapes.two
+    → AreFixedAs (own_first path (behind_step (of_path tapes path) path stamps (own_first path m))) m
+path_keeps tapes One stamps m one two = step_keeps tapes.one One stamps m one
 path_keeps tapes Two stamps m one two =
-    let k = step_keeps tapes.second Two stamps (own_first Two m) two in
+    let k = step_keeps tapes.two Two stamps (own_first Two m) two in
     record { first = k.second; second = k.first }
 
 -- a record, which is an edit or has these stamps
-entry_keeps : (tapes : Tapes) (path : Path) (edit : Option Edit) (stamps : List ℕ) (m : MachineView) → KeepFixed tapes.first → KeepFixed tapes.second
-    → AreFixedAs (own_first path (behind_own (tape_of tapes path) path edit stamps (own_first path m))) m
+entry_keeps : (tapes : Tapes) (path : Path) (edit : Option Edit) (stamps : List ℕ) (m : MachineView) → KeepFixed tapes.one → KeepFixed tapes.two
+    → AreFixedAs (own_first path (behind_own (of_path tapes path) path edit stamps (own_first path m))) m
 entry_keeps tapes path None stamps m one two = path_keeps tapes path stamps m one two
 entry_keeps tapes One (Some edit) stamps m one two = record { first = refl; second = refl }
 entry_keeps tapes Two (Some edit) stamps m one two = record { first = refl; second = refl }
 
-fold_keeps : (tapes : Tapes) (m : MachineView) (entries : List Entry) → KeepFixed tapes.first → KeepFixed tapes.second
+fold_keeps : (tapes : Tapes) (m : MachineView) (entries : List Entry) → KeepFixed tapes.one → KeepFixed tapes.two
     → AreFixedAs (fold tapes m entries) m
 fold_keeps tapes m [] one two = record { first = refl; second = refl }
 fold_keeps tapes m (e ∷ entries) one two =
@@ -85,17 +86,17 @@ fold_keeps tapes m (e ∷ entries) one two =
     record { first = rest.first ∙ this.first; second = rest.second ∙ this.second }
 
 pub first_shares : (left right : Flow) (settings : Settings) (m : MachineView)
-    → KeepFixed (tapes_of left right).first → KeepFixed (tapes_of left right).second
-    → IsMachineOf (tapes_of left right) (machine_at_start left right settings) m → SharesAs settings m.first.path.fixed
+    → KeepFixed (tapes_of left right).one → KeepFixed (tapes_of left right).two
+    → IsMachineOf (tapes_of left right) (machine_at_start left right settings) m → SharesAs settings m.paths.one.path.fixed
 first_shares left right settings m one two is =
     let kept = fold_keeps (tapes_of left right) (machine_at_start left right settings) is.entries one two in
-    let fixed : m.first.path.fixed ≡ (machine_at_start left right settings).first.path.fixed = ap (λ (x : MachineView). x.first.path.fixed) (sym is.folds) ∙ kept.first in
+    let fixed : m.paths.one.path.fixed ≡ (machine_at_start left right settings).paths.one.path.fixed = ap (λ (x : MachineView). x.paths.one.path.fixed) (sym is.folds) ∙ kept.first in
     record { hundreds = ap (λ f. f.shared100) fixed; upper = ap (λ f. f.shared500) fixed }
 
 pub second_shares : (left right : Flow) (settings : Settings) (m : MachineView)
-    → KeepFixed (tapes_of left right).first → KeepFixed (tapes_of left right).second
-    → IsMachineOf (tapes_of left right) (machine_at_start left right settings) m → SharesAs settings m.second.path.fixed
+    → KeepFixed (tapes_of left right).one → KeepFixed (tapes_of left right).two
+    → IsMachineOf (tapes_of left right) (machine_at_start left right settings) m → SharesAs settings m.paths.two.path.fixed
 second_shares left right settings m one two is =
     let kept = fold_keeps (tapes_of left right) (machine_at_start left right settings) is.entries one two in
-    let fixed : m.second.path.fixed ≡ (machine_at_start left right settings).second.path.fixed = ap (λ (x : MachineView). x.second.path.fixed) (sym is.folds) ∙ kept.second in
+    let fixed : m.paths.two.path.fixed ≡ (machine_at_start left right settings).paths.two.path.fixed = ap (λ (x : MachineView). x.paths.two.path.fixed) (sym is.folds) ∙ kept.second in
     record { hundreds = ap (λ f. f.shared100) fixed; upper = ap (λ f. f.shared500) fixed }

@@ -13,7 +13,7 @@ use Rattle.two_path.specs.Turns.{tapes_of}
 use Rattle.two_path.specs.Histories.{fold}
 use Rattle.nc_outside.specs.declared.lined_move.LinedMove.{LinedMove}
 use Rattle.two_path.specs.Made.{moves_of}
-use Rattle.move_list.specs.Report.{machine_at_start}
+use Rattle.two_path.specs.Start.{machine_at_start}
 use Rattle.move_list.specs.Summary.{history_text, moves_text, numbers_line, outcome_text, pair_text, places_text, summary_text}
 
 pub summary_put : (number : ℕ) (left right : Flow) (settings : Settings) (entries : List Entry) (one two : List LinedMove) (m : MachineView)

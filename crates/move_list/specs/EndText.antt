@@ -1,17 +1,12 @@
 -- The last lines of a report: how many records there are, and how the run ended.
-use Rattle.std.specs.Prelude.{ℕ, ◌==◌, if◌then◌else◌, List, [], ◌++◌, Option, find, codes, decimal}
-use Rattle.nc_number.specs.declared.cause.Cause.{Cause}
+use Rattle.std.specs.Prelude.{ℕ, ◌==◌, if◌then◌else◌, List, [], ◌++◌, codes, decimal}
 use Rattle.nc_number.specs.declared.cause.Cause.TheVariants.{MacroAlarm}
 use Rattle.nc_number.specs.declared.path.Path.{Path}
-use Rattle.nc_number.specs.Causes.{cause_number, every_cause}
+use Rattle.nc_number.specs.Causes.{cause_number, cause_of}
 use Rattle.nc_number.specs.Printed.{value_text}
 use Rattle.nc_moves.specs.declared.alarm.Alarm.{Alarm}
-use Rattle.move_list.specs.declared.end_line.Reason.{Reason}
+use Rattle.nc_outside.specs.declared.reason.Reason.{Reason}
 use Rattle.text_pieces.specs.Pieces.{name_text, path_name}
-
--- the cause of a number, if there is one
-abbrev pub cause_of : ℕ → Option Cause
-cause_of number = find (λ cause. cause_number cause == number) every_cause
 
 -- what a macro alarm was given
 unfoldable pub given_text : Alarm → List ℕ

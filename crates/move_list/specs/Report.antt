@@ -7,19 +7,12 @@ use Rattle.nc_number.specs.declared.path.Path.TheVariants.{One, Two}
 use Rattle.nc_outside.specs.declared.lined_move.LinedMove.{LinedMove}
 use Rattle.move_text.specs.MoveText.{line_text}
 use Rattle.text_pieces.specs.Pieces.{path_name}
-use Rattle.cell_settings.specs.declared.settings.Settings.{Settings}
-use Rattle.tape_flow.specs.declared.flow.Flow.{Flow}
 use Rattle.run_records.specs.Entries.{Entry}
-use Rattle.path_state.specs.Opening.{opening_path}
-use Rattle.two_path.specs.Machine.{MachineView, opening}
+use Rattle.two_path.specs.Machine.{MachineView}
 use Rattle.two_path.specs.Turns.{Tapes}
 use Rattle.two_path.specs.Made.{moves_of}
-use Rattle.move_list.specs.declared.end_line.Reason.{Reason}
+use Rattle.nc_outside.specs.declared.reason.Reason.{Reason}
 use Rattle.move_list.specs.EndText.{end_text}
-
--- the machine of a pair before its first record
-abbrev pub machine_at_start : Flow → Flow → Settings → MachineView
-machine_at_start left right settings = opening (opening_path left settings One) (opening_path right settings Two)
 
 -- the line of a move
 abbrev pub lined_text : LinedMove → List ℕ

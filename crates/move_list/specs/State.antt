@@ -8,6 +8,7 @@ use Rattle.nc_number.specs.declared.point.Point.{Point}
 use Rattle.nc_number.specs.declared.value.Var.{Var}
 use Rattle.nc_number.specs.declared.value.Var.TheVariants.{Vacant, Is}
 use Rattle.nc_number.specs.Printed.{value_text, last_digits}
+use Rattle.nc_number.specs.Both.{of_path}
 use Rattle.nc_moves.specs.declared.alarm.Alarm.{Alarm}
 use Rattle.code_tables.specs.declared.group.TheConstants.{MOTION_GROUP, SPINDLE_GROUP, ABSOLUTE_GROUP, FEED_GROUP, UNIT_GROUP, NOSE_GROUP, WORK_GROUP}
 use Rattle.common_vars.specs.Common.{value_of}
@@ -19,7 +20,7 @@ use Rattle.run_records.specs.Entries.{Entry}
 use Rattle.cell_settings.specs.declared.settings.Settings.{Settings}
 use Rattle.path_state.specs.View.{Fixed, PathView}
 use Rattle.path_state.specs.Looks.{is_shared}
-use Rattle.two_path.specs.Machine.{Part, MachineView, own_first, without_reads}
+use Rattle.two_path.specs.Machine.{Part, MachineView, without_reads}
 use Rattle.two_path.specs.Turns.{Blocks, Tapes}
 use Rattle.two_path.specs.Histories.{fold, IsLegal}
 use Rattle.move_list.specs.declared.condition.Condition.{Condition}
@@ -128,7 +129,7 @@ own_line p v = if is_shared p.fixed v then [] else variable_line (codes "own #")
 
 abbrev pub shared_line : MachineView → ℕ → List ℕ
 shared_line m v =
-    if is_shared m.first.path.fixed v then variable_line (codes "shared #") v (value_after m.count v m.writes) else []
+    if is_shared m.paths.one.path.fixed v then variable_line (codes "shared #") v (value_after m.count v m.writes) else []
 
 -- the line of a number of a listing: of a path, or of what both share
 abbrev pub line_of : MachineView → PathView → Listing → ℕ → List ℕ
@@ -184,17 +185,17 @@ shared_listings = SharedHundreds ∷ SharedUpper ∷ []
 -- the lines that a path of the machine always has
 abbrev pub standing_of : Blocks → Path → MachineView → List ℕ
 standing_of blocks path m =
-    let part = (own_first path m).first in
+    let part = of_path m.paths path in
     standing_text path (blocks.line part.path.place) (condition_of path m.alarm part) part.path
 
 -- a path: its standing, and what its listings have
 unfoldable pub path_lines : Blocks → Path → MachineView → List ℕ
-path_lines blocks path m = standing_of blocks path m ++ listings_text m (own_first path m).first.path path_listings
+path_lines blocks path m = standing_of blocks path m ++ listings_text m (of_path m.paths path).path path_listings
 
 -- what both paths share, and how many records there are
 unfoldable pub shared_lines : MachineView → List ℕ
-shared_lines m = listings_text m m.first.path shared_listings ++ records_text m.count
+shared_lines m = listings_text m m.paths.one.path shared_listings ++ records_text m.count
 
 -- the text of a machine: path 1, path 2, what both share
 unfoldable pub state_text : Tapes → MachineView → List ℕ
-state_text tapes m = path_lines tapes.first One m ++ (path_lines tapes.second Two m ++ shared_lines m)
+state_text tapes m = path_lines tapes.one One m ++ (path_lines tapes.two Two m ++ shared_lines m)

@@ -1,6 +1,6 @@
 -- The summary of a history: how long the tapes of the pair are, what the history comes to, and
 -- where both paths end.
-use Rattle.std.specs.Prelude.{ℕ, Bool, true, false, List, ◌++◌, length, filter, codes, decimal}
+use Rattle.std.specs.Prelude.{ℕ, List, ◌++◌, length, filter, codes, decimal}
 use Rattle.std.specs.List.{sum_by}
 use Rattle.nc_number.specs.declared.path.Path.{Path}
 use Rattle.nc_number.specs.declared.path.Path.TheVariants.{One, Two}
@@ -9,29 +9,18 @@ use Rattle.nc_number.specs.Path.{number_of}
 use Rattle.cell_settings.specs.declared.settings.Settings.{Settings}
 use Rattle.tape_flow.specs.declared.flow.Flow.{Flow}
 use Rattle.tape_flow.specs.declared.program.FlowProgram.{FlowProgram}
-use Rattle.run_records.specs.Entries.{Entry}
-use Rattle.run_records.specs.declared.entry.EntryKind.{EntryKind}
-use Rattle.run_records.specs.declared.entry.EntryKind.TheVariants.{Did, Arrived, Met, Ended, Alarmed, Edited}
+use Rattle.run_records.specs.Entries.{Entry, is_meeting}
 use Rattle.two_path.specs.Machine.{MachineView}
 use Rattle.two_path.specs.Turns.{Tapes, tapes_of}
 use Rattle.two_path.specs.Histories.{fold}
 use Rattle.text_pieces.specs.Pieces.{point_text}
 use Rattle.move_list.specs.EndText.{records_text}
 use Rattle.two_path.specs.Made.{moves_of}
-use Rattle.move_list.specs.Report.{machine_at_start}
+use Rattle.two_path.specs.Start.{machine_at_start}
 
 -- how many blocks a tape has, in all its programs
 abbrev pub block_count : List FlowProgram → ℕ
 block_count programs = sum_by (λ (program : FlowProgram). length program.blocks) programs
-
--- a record of this kind is of a meeting of both paths
-abbrev pub is_meeting : EntryKind → Bool
-is_meeting Did = false
-is_meeting Arrived = false
-is_meeting Met = true
-is_meeting Ended = false
-is_meeting Alarmed = false
-is_meeting (Edited edit) = false
 
 -- the records of meetings
 abbrev pub meetings_in : List Entry → List Entry
@@ -65,7 +54,7 @@ place_text path at = codes "end " ++ decimal (number_of path) ++ point_text at +
 
 -- where both turrets stand
 unfoldable pub places_text : MachineView → List ℕ
-places_text m = place_text One m.first.path.position ++ place_text Two m.second.path.position
+places_text m = place_text One m.paths.one.path.position ++ place_text Two m.paths.two.path.position
 
 -- what a history from a machine on comes to
 unfoldable pub outcome_text : Tapes → MachineView → List Entry → List ℕ

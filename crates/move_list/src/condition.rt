@@ -1,7 +1,7 @@
 //! How a path of the machine stands.
 ghost use Rattle.std.specs.Prelude.{◌≡◌, ◌+◌, ◌≤◌, ◌++◌, length, Option};
+ghost use Rattle.nc_number.specs.Both.{of_path};
 ghost use Rattle.nc_moves.specs.declared.alarm.Alarm.{Alarm};
-ghost use Rattle.two_path.specs.Machine.{own_first};
 ghost use Rattle.move_list.specs.State.{condition_at_wait, condition_of, condition_text};
 
 use nc_number::Path;
@@ -35,7 +35,7 @@ fn condition_at_wait(waiting: Option<u16>) -> Condition
 
 /// How a path of the machine stands.
 pub(crate) fn condition_of(machine: &Machine, path: Path) -> Condition
-    ensures { result ≡ condition_of path machine.now.machine.alarm (own_first path machine.now.machine).first }
+    ensures { result ≡ condition_of path machine.now.machine.alarm (of_path machine.now.machine.paths path) }
 {
     match machine.alarm() {
         Some(alarm) => if alarm.path == path {

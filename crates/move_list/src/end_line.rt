@@ -1,27 +1,12 @@
 //! How many records there are, and how the run ended.
-ghost use Rattle.std.specs.Prelude.{◌≡◌, ◌+◌, ◌≤◌, ℕ, Some, [], ◌++◌, length};
-ghost use Rattle.move_list.specs.EndText.{alarm_text, cause_of, cause_text, end_text, given_text, reason_text, records_text, turret_text};
+ghost use Rattle.std.specs.Prelude.{◌≡◌, ◌+◌, ◌≤◌, ◌++◌, length};
+ghost use Rattle.nc_number.specs.Causes.{cause_of};
+ghost use Rattle.move_list.specs.EndText.{alarm_text, cause_text, end_text, given_text, reason_text, records_text, turret_text};
 
 use nc_moves::Alarm;
 use nc_number::{Cause, Path};
+use nc_outside::Reason;
 use text_pieces::Piece;
-
-/// How a run ended.
-#[derive(Clone, Copy, Debug, PartialEq, Eq)]
-pub enum Reason {
-    /// Both paths have finished.
-    Done,
-    /// A path raised an alarm, which stopped both.
-    Alarm(Alarm),
-    /// It made as many records as it was allowed.
-    Stopped,
-    /// The journal has as many records as it may have.
-    Full,
-    /// The disk failed.
-    DiskFault,
-    /// The turret of this path failed.
-    TurretFault(Path),
-}
 
 /// The cause of a number.
 fn cause_of(number: u8) -> Option<Cause>

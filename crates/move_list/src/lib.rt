@@ -16,8 +16,9 @@ mod state;
 mod summary;
 mod turns;
 
-pub use end_line::{Reason, add_cause, end_lines};
+pub use end_line::{add_cause, end_lines};
 pub use laws::{law_of_later_moves, law_of_streams};
+pub use nc_outside::Reason;
 pub use report::write_report;
 pub use state::write_state;
 pub use summary::write_summary;

@@ -1,10 +1,10 @@
 //! What is listed of a machine beside the standing of its paths: the offsets that are not 0, and
 //! the variables that are not vacant.
-ghost use Rattle.std.specs.Prelude.{◌≡◌, ◌+◌, ◌≤◌, ◌^◌, ◌<◌, [], ◌++◌, length, codes};
+ghost use Rattle.std.specs.Prelude.{◌≡◌, ◌+◌, ◌≤◌, ◌<◌, length};
+ghost use Rattle.nc_number.specs.Both.{of_path};
 ghost use Rattle.common_vars.specs.Common.{IsCommon};
 ghost use Rattle.path_state.specs.View.{Fixed};
 ghost use Rattle.path_state.specs.Looks.{is_shared};
-ghost use Rattle.two_path.specs.Machine.{own_first};
 ghost use Rattle.move_list.specs.State.{IsListed, SharesAs, count_of, first_of, is_zero, line_of, offset_line, own_line, shared_line, variable_line};
 
 use cell_settings::Settings;
@@ -134,7 +134,7 @@ fn own_line(state: &PathState, settings: &Settings, v: u16) -> Piece
 
 /// The line of a variable that both paths share, where it is not vacant.
 fn shared_line(machine: &Machine, settings: &Settings, v: u16) -> Piece
-    requires shares { SharesAs settings.now machine.now.machine.first.path.fixed }
+    requires shares { SharesAs settings.now machine.now.machine.paths.one.path.fixed }
     ensures { result ≡ shared_line machine.now.machine v }
 {
     if is_shared(settings, v) {
@@ -153,9 +153,9 @@ pub(crate) fn line_of(
     n: u16,
 ) -> Piece
     requires listed { IsListed listing n }
-    requires own { SharesAs settings.now (own_first path machine.now.machine).first.path.fixed }
-    requires shared { SharesAs settings.now machine.now.machine.first.path.fixed }
-    ensures { result ≡ line_of machine.now.machine (own_first path machine.now.machine).first.path listing n }
+    requires own { SharesAs settings.now (of_path machine.now.machine.paths path).path.fixed }
+    requires shared { SharesAs settings.now machine.now.machine.paths.one.path.fixed }
+    ensures { result ≡ line_of machine.now.machine (of_path machine.now.machine.paths path).path listing n }
 {
     let state = machine.path(path);
     match listing {

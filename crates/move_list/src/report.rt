@@ -1,5 +1,5 @@
 //! The report of a history.
-ghost use Rattle.std.specs.Prelude.{◌≡◌, ◌≤◌, [], ◌++◌, length};
+ghost use Rattle.std.specs.Prelude.{◌≡◌, ◌≤◌, ◌++◌, length};
 ghost use Rattle.std.specs.List.{flat_map};
 ghost use Rattle.nc_number.specs.declared.limits.TheConstants.{MOST_RECORDS};
 ghost use Rattle.nc_number.specs.declared.path.Path.TheVariants.{One, Two};
@@ -7,14 +7,15 @@ ghost use Rattle.nc_verify.specs.Printed.{IsPut};
 ghost use Rattle.two_path.specs.Turns.{tapes_of};
 ghost use Rattle.two_path.specs.Histories.{IsLegal};
 ghost use Rattle.move_list.specs.EndText.{end_text};
-ghost use Rattle.move_list.specs.Report.{head_text, lined_text, machine_at_start, path_text, report_text};
+ghost use Rattle.two_path.specs.Start.{machine_at_start};
+ghost use Rattle.move_list.specs.Report.{head_text, lined_text, path_text, report_text};
 
-use crate::end_line::{Reason, end_lines};
+use crate::end_line::end_lines;
 use crate::turns::history_done;
 use cell_settings::Settings;
 use move_text::move_line;
 use nc_number::{Both, Path};
-use nc_outside::{LinedMove, PutFault, Sink};
+use nc_outside::{LinedMove, PutFault, Reason, Sink};
 use nc_verify::{Verified, put_piece};
 use run_records::EntryList;
 use std::alloc::Global;

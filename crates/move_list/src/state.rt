@@ -1,11 +1,11 @@
 //! The text of a machine.
-ghost use Rattle.std.specs.Prelude.{◌≡◌, ◌≤◌, ◌++◌};
+ghost use Rattle.std.specs.Prelude.{◌++◌};
 ghost use Rattle.nc_number.specs.declared.path.Path.TheVariants.{One, Two};
+ghost use Rattle.nc_number.specs.Both.{of_path};
 ghost use Rattle.nc_verify.specs.Printed.{IsPut};
-ghost use Rattle.two_path.specs.Machine.{own_first};
 ghost use Rattle.two_path.specs.Turns.{blocks_of, tapes_of};
 ghost use Rattle.move_list.specs.EndText.{records_text};
-ghost use Rattle.move_list.specs.Report.{machine_at_start};
+ghost use Rattle.two_path.specs.Start.{machine_at_start};
 ghost use Rattle.move_list.specs.State.{IsListed, IsMachineOf, SharesAs, line_of, listing_text, listings_text, path_lines, shared_lines, standing_of, state_text};
 
 use crate::end_line::records_line;
@@ -29,10 +29,10 @@ fn put_line<K: Sink>(
     n: u16,
 ) -> Result<(), PutFault>
     requires listed { IsListed listing n }
-    requires own { SharesAs settings.now (own_first path machine.now.machine).first.path.fixed }
-    requires shared { SharesAs settings.now machine.now.machine.first.path.fixed }
+    requires own { SharesAs settings.now (of_path machine.now.machine.paths path).path.fixed }
+    requires shared { SharesAs settings.now machine.now.machine.paths.one.path.fixed }
     ensures { IsPut (K.state sink.old) (K.state sink.new)
-        (line_of machine.now.machine (own_first path machine.now.machine).first.path listing n) result }
+        (line_of machine.now.machine (of_path machine.now.machine.paths path).path listing n) result }
 {
     put_piece(sink, &line_of(machine, settings, path, listing, n))
 }
@@ -65,10 +65,10 @@ fn put_listing<K: Sink>(
     path: Path,
     listing: Listing,
 ) -> Result<(), PutFault>
-    requires own { SharesAs settings.now (own_first path machine.now.machine).first.path.fixed }
-    requires shared { SharesAs settings.now machine.now.machine.first.path.fixed }
+    requires own { SharesAs settings.now (of_path machine.now.machine.paths path).path.fixed }
+    requires shared { SharesAs settings.now machine.now.machine.paths.one.path.fixed }
     ensures { IsPut (K.state sink.old) (K.state sink.new)
-        (listing_text machine.now.machine (own_first path machine.now.machine).first.path listing) result }
+        (listing_text machine.now.machine (of_path machine.now.machine.paths path).path listing) result }
 {
     for i in 0..listing.count() {
         put_line(sink, machine, settings, path, listing, listing.first() + i)?;
@@ -84,10 +84,10 @@ fn put_listings<K: Sink>(
     path: Path,
     listings: &[Listing],
 ) -> Result<(), PutFault>
-    requires own { SharesAs settings.now (own_first path machine.now.machine).first.path.fixed }
-    requires shared { SharesAs settings.now machine.now.machine.first.path.fixed }
+    requires own { SharesAs settings.now (of_path machine.now.machine.paths path).path.fixed }
+    requires shared { SharesAs settings.now machine.now.machine.paths.one.path.fixed }
     ensures { IsPut (K.state sink.old) (K.state sink.new)
-        (listings_text machine.now.machine (own_first path machine.now.machine).first.path listings.now) result }
+        (listings_text machine.now.machine (of_path machine.now.machine.paths path).path listings.now) result }
 {
     for listing in listings {
         put_listing(sink, machine, settings, path, *listing)?;
@@ -103,8 +103,8 @@ fn put_path<K: Sink>(
     settings: &Settings,
     path: Path,
 ) -> Result<(), PutFault>
-    requires own { SharesAs settings.now (own_first path machine.now.machine).first.path.fixed }
-    requires shared { SharesAs settings.now machine.now.machine.first.path.fixed }
+    requires own { SharesAs settings.now (of_path machine.now.machine.paths path).path.fixed }
+    requires shared { SharesAs settings.now machine.now.machine.paths.one.path.fixed }
     ensures { IsPut (K.state sink.old) (K.state sink.new)
         (path_lines (blocks_of flow.now) path machine.now.machine) result }
 {
@@ -129,7 +129,7 @@ fn put_path<K: Sink>(
 
 /// Puts what both paths share, and the number of records.
 fn put_shared<K: Sink>(sink: &mut K, machine: &Machine, settings: &Settings) -> Result<(), PutFault>
-    requires { SharesAs settings.now machine.now.machine.first.path.fixed }
+    requires { SharesAs settings.now machine.now.machine.paths.one.path.fixed }
     ensures { IsPut (K.state sink.old) (K.state sink.new) (shared_lines machine.now.machine) result }
 {
     match put_listings(
@@ -151,8 +151,8 @@ fn put_rest<K: Sink>(
     machine: &Machine,
     settings: &Settings,
 ) -> Result<(), PutFault>
-    requires own { SharesAs settings.now machine.now.machine.second.path.fixed }
-    requires shared { SharesAs settings.now machine.now.machine.first.path.fixed }
+    requires own { SharesAs settings.now machine.now.machine.paths.two.path.fixed }
+    requires shared { SharesAs settings.now machine.now.machine.paths.one.path.fixed }
     ensures { IsPut (K.state sink.old) (K.state sink.new)
         (path_lines (blocks_of right.now) Two machine.now.machine ++ shared_lines machine.now.machine) result }
 {
@@ -170,8 +170,8 @@ fn put_state<K: Sink>(
     machine: &Machine,
     settings: &Settings,
 ) -> Result<(), PutFault>
-    requires one { SharesAs settings.now machine.now.machine.first.path.fixed }
-    requires two { SharesAs settings.now machine.now.machine.second.path.fixed }
+    requires one { SharesAs settings.now machine.now.machine.paths.one.path.fixed }
+    requires two { SharesAs settings.now machine.now.machine.paths.two.path.fixed }
     ensures { IsPut (K.state sink.old) (K.state sink.new)
         (state_text (tapes_of left.now right.now) machine.now.machine) result }
 {
@@ -185,8 +185,8 @@ fn put_state<K: Sink>(
 fn machines_share_as_the_settings_say(verified: &Verified, machine: &Machine)
     requires { IsMachineOf (tapes_of verified.now.left verified.now.right)
         (machine_at_start verified.now.left verified.now.right verified.now.settings) machine.now.machine }
-    ensures one { SharesAs verified.now.settings machine.now.machine.first.path.fixed }
-    ensures two { SharesAs verified.now.settings machine.now.machine.second.path.fixed }
+    ensures one { SharesAs verified.now.settings machine.now.machine.paths.one.path.fixed }
+    ensures two { SharesAs verified.now.settings machine.now.machine.paths.two.path.fixed }
 {
     control_goes_as_the_flow_orders();
 }

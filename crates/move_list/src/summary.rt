@@ -3,10 +3,9 @@ ghost use Rattle.std.specs.Prelude.{◌≡◌, ◌+◌, ◌≤◌, ◌++◌, len
 ghost use Rattle.nc_number.specs.declared.limits.TheConstants.{MOST_RECORDS};
 ghost use Rattle.nc_verify.specs.Printed.{IsPut};
 ghost use Rattle.two_path.specs.Turns.{tapes_of};
-ghost use Rattle.two_path.specs.Histories.{IsLegal, fold};
-ghost use Rattle.two_path.specs.Made.{moves_of};
-ghost use Rattle.move_list.specs.Report.{machine_at_start};
-ghost use Rattle.move_list.specs.Summary.{block_count, history_text, is_meeting, meetings_in, number_line, numbers_line, pair_text, place_text, places_text, summary_text};
+ghost use Rattle.two_path.specs.Histories.{IsLegal};
+ghost use Rattle.two_path.specs.Start.{machine_at_start};
+ghost use Rattle.move_list.specs.Summary.{block_count, history_text, meetings_in, number_line, numbers_line, pair_text, place_text, places_text, summary_text};
 
 use crate::end_line::records_line;
 use crate::turns::{DoneAgain, history_done};
@@ -14,7 +13,7 @@ use cell_settings::Settings;
 use nc_number::{Both, Path, Point};
 use nc_outside::{LinedMove, PutFault, Sink};
 use nc_verify::{Verified, put_piece};
-use run_records::{Entry, EntryKind, EntryList};
+use run_records::EntryList;
 use std::alloc::Global;
 use tape_flow::{Flow, FlowProgram};
 use text_pieces::Piece;
@@ -31,24 +30,13 @@ fn block_count(programs: &[FlowProgram]) -> u128
     count
 }
 
-/// Whether the paths met in this record.
-fn is_meeting(entry: &Entry) -> bool
-    ensures { result ≡ is_meeting entry.now.kind }
-{
-    match entry.kind {
-        EntryKind::Met => true,
-        EntryKind::Did | EntryKind::Arrived | EntryKind::Ended | EntryKind::Alarmed => false,
-        EntryKind::Edited(_) => false,
-    }
-}
-
 /// How often the paths met.
 fn meeting_count(entries: &EntryList) -> usize
     ensures { result ≡ length (meetings_in entries.now.items) }
 {
     let mut count = 0;
     for index in 0..entries.len() {
-        if is_meeting(&entries.get(index)) {
+        if entries.get(index).kind.is_meeting() {
             count += 1;
         }
     }

@@ -6,7 +6,7 @@ ghost use Rattle.nc_outside.specs.Lined.{lined};
 ghost use Rattle.two_path.specs.Turns.{tapes_of};
 ghost use Rattle.two_path.specs.Histories.{IsLegal, fold};
 ghost use Rattle.two_path.specs.Made.{made_by, made_in, moves_of};
-ghost use Rattle.move_list.specs.Report.{machine_at_start};
+ghost use Rattle.two_path.specs.Start.{machine_at_start};
 
 use cell_settings::Settings;
 use nc_moves::{Move, Moves};
@@ -85,9 +85,11 @@ pub(crate) fn history_done(
         (machine_at_start left.now right.now settings.now) entries.now.items }
     requires few { length entries.now.items ≤ MOST_RECORDS }
     ensures one { IfOk result (λ done. done.made.one.items
-        ≡ moves_of (tapes_of left.now right.now) (machine_at_start left.now right.now settings.now) One entries.now.items) }
+        ≡ moves_of (tapes_of left.now right.now) (machine_at_start left.now right.now settings.now)
+        One entries.now.items) }
     ensures two { IfOk result (λ done. done.made.two.items
-        ≡ moves_of (tapes_of left.now right.now) (machine_at_start left.now right.now settings.now) Two entries.now.items) }
+        ≡ moves_of (tapes_of left.now right.now) (machine_at_start left.now right.now settings.now)
+        Two entries.now.items) }
     ensures machine { IfOk result (λ done. done.machine.machine
         ≡ fold (tapes_of left.now right.now) (machine_at_start left.now right.now settings.now) entries.now.items) }
 {

@@ -5,5 +5,6 @@ pub mod Files
 pub mod Kept
 pub mod Lined
 pub mod Plan
+pub mod Reasons
 pub mod Received
 pub mod Written

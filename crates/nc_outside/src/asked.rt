@@ -16,6 +16,7 @@ impl Model for Asked {
 }
 
 impl Asked {
+    /// No name.
     pub(crate) fn none() -> Asked
         ensures { result.names ≡ [] }
     {
@@ -24,6 +25,7 @@ impl Asked {
         }
     }
 
+    /// Adds a name behind the others.
     pub(crate) fn note(&mut self, _name: &[u8])
         ensures { self.new.names ≡ self.old.names ++ _name.now ∷ [] }
     {}

@@ -61,6 +61,7 @@ impl Plan {
     }
 }
 
+/// Whether the call of this number is to fail.
 fn is_planned(failing: &[u64], number: u64) -> bool
     ensures any { result ≡ list_any (λ planned. planned == number) failing.now }
     ensures contains { IsTrue result ↔ Contains failing.now number }

@@ -43,11 +43,13 @@ impl Turret for OwnTurret {
 }
 
 impl OwnTurret {
+    /// A turret that has got no move.
     fn new() -> Self {
         OwnTurret { moves: 0, line: 0 }
     }
 }
 
+/// Runs a pair with two turrets of its own, and prints what they got.
 fn main(rt: HostRuntime) -> Result<(), anyhow::Error> {
     let alloc = rt.alloc();
     let words = vec![in alloc;

@@ -1,6 +1,6 @@
 -- Invariant of a drive: its turret served the items that were taken, and a fault has halted the
 -- run.
-use Rattle.std.proofs.Common.{arith, ◌≡◌, ◌⊎◌, ◌+◌, true, false, true≢false, List, [], ◌∷◌, ◌++◌, length, refl, ap, sym, ◌∙◌, subst, append-nil, inl, inr, ⊎_elim, Option, Some, None, MatchBool}
+use Rattle.std.proofs.Common.{arith, ◌≡◌, ◌⊎◌, ◌+◌, true, false, List, [], ◌∷◌, ◌++◌, length, refl, ap, sym, ◌∙◌, subst, append-nil, inl, inr, ⊎_elim, Option, Some, None, MatchBool}
 use Rattle.nc_number.specs.declared.path.Path.{Path}
 use Rattle.nc_outside.specs.Calls.{IsCalled}
 use Rattle.nc_outside.specs.declared.lined_move.LinedMove.{LinedMove}

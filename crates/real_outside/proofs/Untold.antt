@@ -1,7 +1,7 @@
 -- The calls of a disk of which nothing is told.
-use Rattle.std.proofs.Common.{◌≡◌, ◌⊎◌, inl, inr, ℕ, ◌+◌, ◌-◌, ◌^◌, ◌≤◌, ◌<◌, max, List, length, arith, refl, Result, Ok, Err, Some, None}
+use Rattle.std.proofs.Common.{inl, ℕ, ◌+◌, ◌-◌, ◌^◌, ◌≤◌, ◌<◌, List, length, arith, refl, Ok, Err}
 use Rattle.std.proofs.lemmas.Option.{none-some}
-use Rattle.disk_model.specs.Device.{DiskState, Elapses, Looks, Tears, Torn, HasCause, Stays}
+use Rattle.disk_model.specs.Device.{Looks, Tears, Torn, HasCause}
 use Rattle.nc_number.specs.Faults.{Rose}
 use Rattle.disk_model.specs.Calls.{Measures, Fetches, Writes, Syncs}
 use Rattle.real_outside.specs.Untold.{untold}

@@ -1,5 +1,5 @@
 -- A disk and a turret of which nothing is told.
-use Rattle.std.specs.Prelude.{◌≡◌, ℕ, ◌-◌, ◌^◌, Some, None, ⊤}
+use Rattle.std.specs.Prelude.{ℕ, ◌-◌, ◌^◌, None, ⊤}
 use Rattle.disk_model.specs.Device.{DiskState, IsCoherent}
 use Rattle.nc_outside.specs.Received.{TurretState}
 

@@ -11,13 +11,17 @@ use disk_model::{Disk, Failed};
 /// It is looked for at the first call, and made by the first write. What it promises, as far as the
 /// calls of the system keep their word:
 ///
-/// - After a sync that answered Ok all that was written is on the medium, and the folder has the journal's name there.
-/// - What is found of a journal is on the medium once the first sync has answered Ok, even where an earlier program's sync failed: it is
-///   written over itself before. A stop at any moment leaves each byte as it was.
+/// - After a sync that answered Ok all that was written is on the medium, and the folder has the
+///   journal's name there.
+/// - What is found of a journal is on the medium once the first sync has answered Ok, even where an
+///   earlier program's sync failed: it is written over itself before. A stop at any moment leaves
+///   each byte as it was.
 /// - After a write or a sync that failed each call fails.
-/// - One program at a time may write it, and it fails at a sync where it was moved, removed or replaced meanwhile.
-/// - [`Access::Look`] writes nothing and makes none. It shows the journal as it counted at the first call, and what is shown is synced
-///   before, whoever writes meanwhile. Where an earlier program's sync failed, it may show what is in the memory of the system alone.
+/// - One program at a time may write it, and it fails at a sync where it was moved, removed or
+///   replaced meanwhile.
+/// - [`Access::Look`] writes nothing and makes none. It shows the journal as it counted at the first
+///   call, and what is shown is synced before, whoever writes meanwhile. Where an earlier program's
+///   sync failed, it may show what is in the memory of the system alone.
 /// - It takes no memory.
 ///
 /// It promises nothing of a medium that answers Ok and loses what was written, nor of a program

@@ -183,6 +183,7 @@ impl<'a, D: Folder + Drop> JournalFile<'a, D> {
         Ok(Found::Open(file))
     }
 
+    /// Writes all bytes at an offset of the journal, which is made where there was none.
     fn write(&mut self, at: u64, bytes: &[u8]) -> io::Result<()>
         ensures { OnOk result (at + length bytes.now < 2 ^ 62) }
     {
@@ -211,6 +212,7 @@ impl<'a, D: Folder + Drop> JournalFile<'a, D> {
         }
     }
 
+    /// Brings to the medium what was found of the journal and what was written to it.
     fn settle(&mut self) -> io::Result<()> {
         self.look()?;
         match &self.found {
@@ -279,6 +281,7 @@ fn renew<F: RawFile>(file: &F) -> io::Result<()> {
     write_again(file, last.at + 1)
 }
 
+/// How long a file is. One that is longer than a file may be is refused.
 fn length_of<F: RawFile>(file: &F) -> io::Result<u64>
     ensures { IfOk result (λ n. n < 2 ^ 62) }
 {

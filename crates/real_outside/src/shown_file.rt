@@ -101,6 +101,7 @@ pub(crate) fn written(answer: io::Result<()>) -> io::Result<()> {
     }
 }
 
+/// Whether a sync failed since its medium can't be written.
 fn is_unwritable(kind: ErrorKind) -> bool {
     matches!(
         kind,

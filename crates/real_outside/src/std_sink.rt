@@ -37,6 +37,7 @@ impl<R: Print> Sink for StdSink<'_, R> {
     }
 }
 
+/// Prints all bytes, at once.
 fn write<R: Print>(rt: &R, piece: &[u8]) -> io::Result<()> {
     let mut out = io::writer(rt);
     out.write_all(piece)?;

@@ -66,6 +66,7 @@ fn apart(file: File) -> io::Result<SystemFile> {
     })
 }
 
+/// Which file it is, on its device.
 fn identity_of(found: &Metadata) -> Identity {
     Identity {
         device: found.dev(),

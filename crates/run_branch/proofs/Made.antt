@@ -1,8 +1,8 @@
 -- What making a branch does to its disk, from what filling a file of gates did.
-use Rattle.std.proofs.Common.{◌≡◌, inl, inr, ℕ, ◌+◌, ◌*◌, ◌≤◌, ◌<◌, List, [], ◌∷◌, ◌++◌, length, take, drop, Some, None, Ok, Err, refl, sym, ap, subst, arith, ◌∙◌, length-append, take-append-drop}
+use Rattle.std.proofs.Common.{◌≡◌, inl, inr, ℕ, ◌+◌, ◌*◌, ◌≤◌, ◌<◌, List, ◌∷◌, ◌++◌, length, take, drop, Some, Ok, Err, refl, sym, ap, subst, arith, length-append, take-append-drop}
 use Rattle.std.proofs.lemmas.List.Concat.{flat_map-append}
-use Rattle.disk_model.specs.Device.{DiskState, IsCoherent, Reads}
-use Rattle.disk_model.specs.Moments.{LeavesOnly, Unwritten, Uses}
+use Rattle.disk_model.specs.Device.{DiskState, IsCoherent}
+use Rattle.disk_model.specs.Moments.{LeavesOnly, Uses}
 use Rattle.disk_model.proofs.Runs.{no_call, unwritten_none, uses_none, uses_widened, widened}
 use Rattle.gate_file.specs.declared.fault.GateFault.{GateFault}
 use Rattle.gate_file.specs.declared.fault.GateFault.TheVariants.{DiskFault, NoRun, RunThere as GateThere, Cut, NoMemory as GateMemory}
@@ -17,7 +17,6 @@ use Rattle.run_records.specs.Headers.{header_bytes}
 use Rattle.run_records.specs.Spelling.{entry_bytes}
 use Rattle.run_journal.specs.Batches.{records_bytes, bodies_of, records_of}
 use Rattle.run_journal.specs.Filled.{newest, IsFilled}
-use Rattle.run_journal.specs.Stands.{Stands}
 use Rattle.run_journal.proofs.Ends.{pieces_end}
 use Rattle.run_branch.specs.declared.fault.BranchFault.{BranchFault}
 use Rattle.run_branch.specs.declared.fault.BranchFault.TheVariants.{NoMeeting, RunThere, NewDisk, NoMemory}

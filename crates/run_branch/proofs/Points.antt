@@ -3,8 +3,8 @@ use Rattle.std.proofs.Common.{◌≡◌, inl, inr, ℕ, zero, suc, ◌+◌, ◌-
 use Rattle.std.proofs.lemmas.Bool.{cases_lt}
 use Rattle.std.proofs.lemmas.List.{drop_more, drop_all}
 use Rattle.std.specs.Option.{option_map}
-use Rattle.run_records.specs.Entries.{Entry}
-use Rattle.run_branch.specs.Meetings.{is_met, meetings, branch_point, IsBranchPoint}
+use Rattle.run_records.specs.Entries.{Entry, is_meeting}
+use Rattle.run_branch.specs.Meetings.{meetings, branch_point, IsBranchPoint}
 
 mapped : (r : Option ℕ) (k : ℕ) → option_map suc r ≡ Some k → (j : ℕ) × (r ≡ Some j) × (suc j ≡ k)
 mapped None k is = absurd cc
@@ -30,22 +30,22 @@ take_fewer (entry ∷ entries) (suc k) = omega (arith, take_fewer entries k)
 at_start : (entries : List Entry) → IsBranchPoint 0 entries 0
 at_start entries = record { within = omega arith; has = refl; least = λ j less. absurd (omega (arith, less)) }
 
-one_on : (entry : Entry) (entries : List Entry) (n k : ℕ) → IsBranchPoint (if is_met entry.kind then n else suc n) entries k
+one_on : (entry : Entry) (entries : List Entry) (n k : ℕ) → IsBranchPoint (if is_meeting entry.kind then n else suc n) entries k
     → IsBranchPoint (suc n) (entry ∷ entries) (suc k)
 one_on entry entries n k is = record {
   within = omega (arith, is.within);
-  has = reached (is_met entry.kind) n (meetings (take k entries)) is.has;
+  has = reached (is_meeting entry.kind) n (meetings (take k entries)) is.has;
   least = least;
 } where
   least : (j : ℕ) → j < suc k → meetings (take j (entry ∷ entries)) < suc n
   least zero less = omega arith
-  least (suc j) less = fewer (is_met entry.kind) n (meetings (take j entries)) (is.least j (omega (arith, less)))
+  least (suc j) less = fewer (is_meeting entry.kind) n (meetings (take j entries)) (is.least j (omega (arith, less)))
 
 pub point_is : (entries : List Entry) (n k : ℕ) → branch_point n entries ≡ Some k → IsBranchPoint n entries k
 point_is entries zero k is = let same : 0 ≡ k = cc in subst (λ (j : ℕ). IsBranchPoint 0 entries j) same (at_start entries)
 point_is [] (suc n) k is = absurd cc
 point_is (entry ∷ entries) (suc n) k is =
-    let m = (if is_met entry.kind then n else suc n) in
+    let m = (if is_meeting entry.kind then n else suc n) in
     let found = mapped (branch_point m entries) k is in
     subst (λ (j : ℕ). IsBranchPoint (suc n) (entry ∷ entries) j) found.2
     (one_on entry entries n found.0 (point_is entries m found.0 found.1))
@@ -54,8 +54,8 @@ pub none_left : (entries : List Entry) (n : ℕ) → branch_point n entries ≡ 
 none_left entries zero is = absurd cc
 none_left [] (suc n) is = omega arith
 none_left (entry ∷ entries) (suc n) is =
-    let m = (if is_met entry.kind then n else suc n) in
-    fewer (is_met entry.kind) n (meetings entries) (none_left entries m (unmapped (branch_point m entries) is))
+    let m = (if is_meeting entry.kind then n else suc n) in
+    fewer (is_meeting entry.kind) n (meetings entries) (none_left entries m (unmapped (branch_point m entries) is))
 
 pub enough : (entries : List Entry) (n k : ℕ) → branch_point n entries ≡ Some k → n ≤ meetings entries
 enough entries n k is = omega (arith, (point_is entries n k is).has, take_fewer entries k)
@@ -92,14 +92,14 @@ moved index (Some k) = let same : index + suc k ≡ index + 1 + k = omega arith 
 
 pub looked_on : (entries : List Entry) (left index : ℕ) (e : Entry) → 0 < left → index < length entries → e ≡ get_or entries index e
     → option_map (λ (k : ℕ). index + k) (branch_point left (drop index entries))
-    ≡ option_map (λ (k : ℕ). index + 1 + k) (branch_point (if is_met e.kind then left - 1 else left) (drop (index + 1) entries))
+    ≡ option_map (λ (k : ℕ). index + 1 + k) (branch_point (if is_meeting e.kind then left - 1 else left) (drop (index + 1) entries))
 looked_on entries zero index e some within is = absurd (omega (arith, some))
 looked_on entries (suc n) index e some within is =
     let rest = drop (index + 1) entries in
     let split : drop index entries ≡ e ∷ rest = drop_more entries index e within ∙ ap (λ (x : Entry). x ∷ rest) (sym is) in
     ap (λ (l : List Entry). option_map (λ (k : ℕ). index + k) (branch_point (suc n) l)) split
-    ∙ moved index (branch_point (if is_met e.kind then n else suc n) rest)
-    ∙ less (is_met e.kind) where
+    ∙ moved index (branch_point (if is_meeting e.kind then n else suc n) rest)
+    ∙ less (is_meeting e.kind) where
       less : (b : Bool) → option_map (λ (k : ℕ). index + 1 + k) (branch_point (if b then n else suc n) (drop (index + 1) entries))
           ≡ option_map (λ (k : ℕ). index + 1 + k) (branch_point (if b then suc n - 1 else suc n) (drop (index + 1) entries))
       less true = let same : n ≡ suc n - 1 = omega arith in ap (λ (m : ℕ). option_map (λ (k : ℕ). index + 1 + k) (branch_point m (drop (index + 1) entries))) same

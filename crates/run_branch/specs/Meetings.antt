@@ -1,30 +1,19 @@
 -- The meetings of a run, and how far a branch reaches.
-use Rattle.std.specs.Prelude.{◌≡◌, ℕ, zero, suc, ◌+◌, ◌≤◌, ◌<◌, Bool, true, false, List, [], ◌∷◌, length, take, Option, Some, None, if◌then◌else◌}
+use Rattle.std.specs.Prelude.{◌≡◌, ℕ, zero, suc, ◌+◌, ◌≤◌, ◌<◌, List, [], ◌∷◌, length, take, Option, Some, None, if◌then◌else◌}
 use Rattle.std.specs.Option.{option_map}
-use Rattle.run_records.specs.declared.entry.EntryKind.{EntryKind}
-use Rattle.run_records.specs.declared.entry.EntryKind.TheVariants.{Did, Arrived, Met, Ended, Alarmed, Edited}
-use Rattle.run_records.specs.Entries.{Entry}
-
--- the record is that of a meeting
-abbrev pub is_met : EntryKind → Bool
-is_met Did = false
-is_met Arrived = false
-is_met Met = true
-is_met Ended = false
-is_met Alarmed = false
-is_met (Edited edit) = false
+use Rattle.run_records.specs.Entries.{Entry, is_meeting}
 
 -- how many meetings the records have
 abbrev pub meetings : List Entry → ℕ
 meetings [] = 0
-meetings (entry ∷ entries) = (if is_met entry.kind then 1 else 0) + meetings entries
+meetings (entry ∷ entries) = (if is_meeting entry.kind then 1 else 0) + meetings entries
 
 -- how long the shortest prefix of the records is that has n meetings, if they have so many
 abbrev pub branch_point : ℕ → List Entry → Option ℕ
 branch_point zero entries = Some 0
 branch_point (suc n) [] = None
 branch_point (suc n) (entry ∷ entries) =
-    option_map suc (branch_point (if is_met entry.kind then n else suc n) entries)
+    option_map suc (branch_point (if is_meeting entry.kind then n else suc n) entries)
 
 -- the prefix of this length has n meetings, and each shorter one has fewer
 pub record IsBranchPoint (n : ℕ) (entries : List Entry) (k : ℕ) : Type 0 where

@@ -1,8 +1,9 @@
 //! How a branch is made.
 ghost use Rattle.std.specs.Prelude.{◌≡◌, ◌-◌, ◌^◌, ◌<◌, length, if◌then◌else◌};
+ghost use Rattle.run_records.specs.Entries.{is_meeting};
 ghost use Rattle.run_records.specs.Headers.{IsShort};
 ghost use Rattle.run_branch.specs.Branches.{Branches, answer_in, disk_in};
-ghost use Rattle.run_branch.specs.Meetings.{branch_point, is_met};
+ghost use Rattle.run_branch.specs.Meetings.{branch_point};
 
 use crate::BranchFault;
 use crate::fault::fault_of;
@@ -61,10 +62,7 @@ fn branch_point(entries: &EntryList, n: u32) -> Option<usize>
 /// How many of the meetings are left behind a record of this kind.
 fn left_behind(left: u32, kind: &EntryKind) -> u32
     requires { 0 < left }
-    ensures { result ≡ (if is_met kind.now then left - 1 else left) }
+    ensures { result ≡ (if is_meeting kind.now then left - 1 else left) }
 {
-    match kind {
-        EntryKind::Met => left - 1,
-        _ => left,
-    }
+    if kind.is_meeting() { left - 1 } else { left }
 }

@@ -111,9 +111,6 @@ one_edit edit other rest more is also same =
 is_between_back : (low high n : ℕ) → is_between low high (pos n) ≡ true → (low ≤ n) × (n ≤ high)
 is_between_back low high n test = grind (arith, nat_tests)
 
-is_position_back : (to : Point) → is_position to ≡ true → IsPosition to
-is_position_back to test = grind (arith, nat_tests)
-
 is_common_back : (v : ℕ) → is_common v ≡ true → IsCommon v
 is_common_back v test = grind (arith, nat_tests)
 
@@ -188,7 +185,8 @@ offset_back numbers edit is =
     let given = map_some (Offset slot) (offset_of to) edit made in
     let tested = cond_some (is_position to) to given.0 given.1 in
     let edit_is : Offset slot to ≡ edit = ap (Offset slot) tested.1 ∙ given.2 in
-    subst (Gives numbers) edit_is (slot_is.1 to, (slot_is.0, is_position_back to tested.0)))
+    let within : is_position to ≡ true = tested.0 in
+    subst (Gives numbers) edit_is (slot_is.1 to, (slot_is.0, grind (arith, nat_tests))))
 
 variable_back : (numbers : EditNumbers) (edit : Edit) → numbers.what ≡ 4 → variable_edit numbers ≡ Some edit → Gives numbers edit
 variable_back numbers edit what is =

@@ -47,6 +47,7 @@ step_number Ended is = (omega arith, omega arith)
 step_number Alarmed is = (omega arith, omega arith)
 step_number (Edited edit) is = absurd (none-some edit (sym is))
 
+-- a kind of which this is the edit
 pub edited_kind : (kind : EntryKind) (edit : Edit) → edit_of kind ≡ Some edit → kind ≡ Edited edit
 edited_kind Did edit is = absurd (none-some edit is)
 edited_kind Arrived edit is = absurd (none-some edit is)

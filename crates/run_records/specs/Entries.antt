@@ -1,5 +1,5 @@
 -- What clauses see of a record of a run.
-use Rattle.std.specs.Prelude.{◌≡◌, ℕ, List, [], Option, Some, None, IsSome}
+use Rattle.std.specs.Prelude.{◌≡◌, ℕ, Bool, true, false, List, [], Option, Some, None, IsSome}
 use Rattle.nc_number.specs.declared.path.Path.{Path}
 use Rattle.run_records.specs.declared.edit.Edit.{Edit}
 use Rattle.run_records.specs.declared.entry.EntryKind.{EntryKind}
@@ -20,6 +20,15 @@ edit_of Met = None
 edit_of Ended = None
 edit_of Alarmed = None
 edit_of (Edited edit) = Some edit
+
+-- a record of this kind is of a meeting of both paths
+abbrev pub is_meeting : EntryKind → Bool
+is_meeting Did = false
+is_meeting Arrived = false
+is_meeting Met = true
+is_meeting Ended = false
+is_meeting Alarmed = false
+is_meeting (Edited edit) = false
 
 -- an edit has no stamps, since it reads nothing
 abbrev pub MayHave : EntryKind → List ℕ → Type 0

@@ -6,7 +6,7 @@ ghost use Rattle.nc_number.specs.declared.limits.TheConstants.{MOST_READS};
 ghost use Rattle.nc_number.specs.Path.{number_of};
 ghost use Rattle.run_records.specs.declared.entry.TheConstants.{LONGEST_RECORD};
 ghost use Rattle.run_records.specs.Edits.{numbers_of, IsEdit};
-ghost use Rattle.run_records.specs.Entries.{edit_of};
+ghost use Rattle.run_records.specs.Entries.{edit_of, is_meeting};
 ghost use Rattle.run_records.specs.Spelling.{kind_number, stamp_bytes, numbers_bytes, entry_bytes, IsEntry};
 
 use crate::numbers::{EditNumbers, numbers_of};
@@ -65,6 +65,20 @@ impl EntryKind {
         ensures { result ≡ is_none (edit_of self.now) }
     {
         self.edit().is_none()
+    }
+
+    /// Whether it is a meeting of both paths.
+    pub fn is_meeting(&self) -> bool
+        ensures { result ≡ is_meeting self.now }
+    {
+        match self {
+            EntryKind::Met => true,
+            EntryKind::Did
+            | EntryKind::Arrived
+            | EntryKind::Ended
+            | EntryKind::Alarmed
+            | EntryKind::Edited(_) => false,
+        }
     }
 
     /// Whether both are the same step.
@@ -155,6 +169,7 @@ fn put_edit(edit: &Edit, into: &mut [u8]) -> usize
     21
 }
 
+/// The bytes of the numbers of an edit, at the front.
 fn put_numbers(numbers: &EditNumbers, into: &mut [u8])
     requires { 19 ≤ length into.old }
     ensures { into.new ≡ numbers_bytes numbers.now ++ drop 19 into.old }
@@ -178,6 +193,7 @@ fn put_stamps(stamps: &[u32], into: &mut [u8]) -> usize
     3 + 4 * stamps.len()
 }
 
+/// The bytes of each stamp, from the front on.
 fn put_each(stamps: &[u32], into: &mut [u8])
     requires { 4 * length stamps.now ≤ length into.old }
     ensures { into.new ≡ stamp_bytes stamps.now ++ drop (4 * length stamps.now) into.old }

@@ -56,6 +56,7 @@ pub fn put_header(alloc: Global, header: &Header) -> Result<Vec<u8>, NoMemory>
     Ok(bytes)
 }
 
+/// The length of a text in four bytes, and the text.
 fn put_text(into: &mut Vec<u8>, text: &[u8]) -> Result<(), NoMemory>
     requires { length text.now < 2 ^ 32 }
     ensures { OnOk result (into.new.items ≡ into.old.items ++ text_bytes text.now) }

@@ -33,6 +33,7 @@ pub(crate) fn numbers_of(edit: &Edit) -> EditNumbers
     }
 }
 
+/// The numbers of the edit that sets this offset to these lengths.
 fn offset_numbers(slot: &Slot, to: &Offset) -> EditNumbers
     ensures numbers { result ≡ offset_numbers slot.now to.now }
     ensures edit { IsEdit (Edit.Offset slot.now to.now) }
@@ -51,6 +52,7 @@ fn offset_numbers(slot: &Slot, to: &Offset) -> EditNumbers
     }
 }
 
+/// The numbers of the edit that sets this variable to this value.
 fn variable_numbers(variable: &CommonNumber, to: &Var) -> EditNumbers
     ensures numbers { result ≡ variable_numbers variable.now to.now }
     ensures edit { IsEdit (Edit.Common variable.now to.now) }
@@ -90,6 +92,7 @@ pub(crate) fn edit_with(numbers: &EditNumbers) -> Option<Edit>
     }
 }
 
+/// The offset that these numbers name, if there is one.
 fn slot_of(what: u8, number: u16) -> Option<Slot>
     ensures { result ≡ slot_of what number }
 {
@@ -102,6 +105,7 @@ fn slot_of(what: u8, number: u16) -> Option<Slot>
     }
 }
 
+/// The value that these numbers stand for, if there is one.
 fn var_of(a: i64, b: i64) -> Option<Var>
     ensures { result ≡ var_of a b }
 {

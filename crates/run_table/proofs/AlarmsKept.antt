@@ -42,7 +42,7 @@ by_alarm : (path : Path) (line : ℕ) (m : MachineView) (e : Effect)
     → (result_by path line m e).machine.alarm ≡ alarm_behind m.alarm (result_by path line m e).turn
 by_alarm path line m (Need variable) = refl
 by_alarm path line m (Done after write moves) = refl
-by_alarm path line m (AtWait code) = wait_alarm path line m code m.second.waiting
+by_alarm path line m (AtWait code) = wait_alarm path line m code m.paths.two.waiting
 by_alarm path line m (AtEnd after moves) = refl
 by_alarm path line m (effect.Alarm number value) = refl
 
@@ -55,12 +55,12 @@ idle_alarm m None false None rest is = is
 
 own_alarm : (blocks : Blocks) (path : Path) (m : MachineView) → (own_turn blocks path m).machine.alarm ≡ alarm_behind m.alarm (own_turn blocks path m).turn
 own_alarm blocks path m =
-    idle_alarm m m.alarm m.first.finished m.first.waiting (block_turn blocks path m)
-    (by_alarm path (blocks.line m.first.path.place) m (blocks.effect m.first.path m.first.values))
+    idle_alarm m m.alarm m.paths.one.finished m.paths.one.waiting (block_turn blocks path m)
+    (by_alarm path (blocks.line m.paths.one.path.place) m (blocks.effect m.paths.one.path m.paths.one.values))
 
 pub turn_alarm : (tapes : Tapes) (path : Path) (m : MachineView) → (turn_of tapes path m).machine.alarm ≡ alarm_behind m.alarm (turn_of tapes path m).turn
-turn_alarm tapes One m = own_alarm tapes.first One m
-turn_alarm tapes Two m = own_alarm tapes.second Two (own_first Two m)
+turn_alarm tapes One m = own_alarm tapes.one One m
+turn_alarm tapes Two m = own_alarm tapes.two Two (own_first Two m)
 
 -- what shows something has a record
 pub shown_made : (path : Path) (stamps : List ℕ) (t : Turn) → is_shown t ≡ true → length (list_of (entry_with path stamps (kind_of t))) ≡ 1

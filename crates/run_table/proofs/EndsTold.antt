@@ -7,22 +7,24 @@ use Rattle.nc_number.specs.declared.path.Path.{Path}
 use Rattle.nc_moves.specs.declared.alarm.Alarm.{Alarm}
 use Rattle.nc_outside.specs.declared.halt.Halt.{Halt}
 use Rattle.nc_outside.specs.declared.halt.Halt.TheVariants as halt
+use Rattle.nc_outside.specs.declared.reason.Reason.{Reason}
+use Rattle.nc_outside.specs.declared.reason.Reason.TheVariants as cause
+use Rattle.nc_outside.specs.Reasons.{end_by, end_or_bound}
 use Rattle.nc_verify.specs.declared.verified.Verified.{Verified}
 use Rattle.seat_table.specs.Turning.{moves_in}
 use Rattle.two_path.specs.Machine.{MachineView}
+use Rattle.two_path.specs.Ending.{end_of}
 use Rattle.two_path.specs.Joined.{RoomyMachine}
 use Rattle.two_path.specs.Histories.{IsKept}
 use Rattle.run_records.specs.Entries.{Entry}
-use Rattle.run_table.specs.declared.running.RunEnd.{RunEnd}
-use Rattle.run_table.specs.declared.running.RunEnd.TheVariants as run
 use Rattle.nc_number.specs.declared.both.Both.{Both}
 use Rattle.nc_number.proofs.Counts.{equal, some_is}
 use Rattle.run_table.specs.Recording.{RecordingView, Records}
 use Rattle.run_table.specs.Kept.{TableView, tapes_in, opening_of, HasReason, IsTable}
 use Rattle.run_table.specs.Since.{Since}
-use Rattle.run_table.specs.Running.{end_by, end_of, IsNoneOrAlarm, IsEnd, EndsBy}
+use Rattle.run_table.specs.Running.{IsNoneOrAlarm, IsEnd, EndsBy}
 use Rattle.run_table.specs.Holding.{HeldView, held_of, IsOf, ShowsFlushed, IsHeld, IsTaken, without_turret, records_since}
-use Rattle.run_table.specs.Ending.{end_by_all, end_ahead, Asks, IsAtEnd, HasEnded, HasNotEnded, KeepsRest}
+use Rattle.run_table.specs.Ending.{end_ahead, Asks, IsAtEnd, HasEnded, HasNotEnded, KeepsRest}
 use Rattle.run_table.specs.Ending.Asks.{kept, idle, written, failed}
 use Rattle.run_table.proofs.FlushedShown.{shows_all, shows_still, shown_unless}
 use Rattle.run_table.proofs.HeldKept.{of_more}
@@ -91,85 +93,85 @@ numbers_differ : (a b : ℕ) → (a == b) ≡ false → a ≢ b
 numbers_differ a b is same = absurd (grind arith)
 
 module _ {D : Type 0} (h : HeldView D) (live : IsTrue h.file.live) (all : h.flushed ≡ length h.history) (halts : IsNoneOrAlarm (without_turret h.halt)) where
-  at_end : (e : Option RunEnd) → end_of h.machine ≡ e → IsAtEnd h e
+  at_end : (e : Option Reason) → end_of h.machine ≡ e → IsAtEnd h e
   at_end e is = record { live = live; all = all; halt = halts; machine = is }
 
-  by_parts : (alarm : Option Alarm) (both full spent : Bool) (end : RunEnd) → end_of h.machine ≡ end_by alarm both
+  by_parts : (alarm : Option Alarm) (both full spent : Bool) (end : Reason) → end_of h.machine ≡ end_by alarm both
       → (length h.history == h.verified.settings.records) ≡ full → (h.budget == 0) ≡ spent
-      → end_by_all (end_by alarm both) (if full then Some halt.Full else if spent then Some halt.Budget else None) ≡ Some end → HasEnded h end
-  by_parts (Some alarm) both full spent end is f s same = subst (HasEnded h) (some_is same) (at_end (Some (run.Alarm alarm)) is)
-  by_parts None true full spent end is f s same = subst (HasEnded h) (some_is same) (at_end (Some run.Done) is)
+      → end_or_bound (end_by alarm both) (if full then Some halt.Full else if spent then Some halt.Budget else None) ≡ Some end → HasEnded h end
+  by_parts (Some alarm) both full spent end is f s same = subst (HasEnded h) (some_is same) (at_end (Some (cause.Alarm alarm)) is)
+  by_parts None true full spent end is f s same = subst (HasEnded h) (some_is same) (at_end (Some cause.Done) is)
   by_parts None false true spent end is f s same = subst (HasEnded h) (some_is same) (at_end None is, equal (length h.history) h.verified.settings.records f)
   by_parts None false false true end is f s same = subst (HasEnded h) (some_is same) (at_end None is, numbers_differ (length h.history) h.verified.settings.records f, equal h.budget 0 s)
   by_parts None false false false end is f s same = absurd cc
 
-  pub has_ended : (end : RunEnd)
-      → end_by_all (end_of h.machine) (if length h.history == h.verified.settings.records then Some halt.Full else if h.budget == 0 then Some halt.Budget else None) ≡ Some end
+  pub has_ended : (end : Reason)
+      → end_or_bound (end_of h.machine) (if length h.history == h.verified.settings.records then Some halt.Full else if h.budget == 0 then Some halt.Budget else None) ≡ Some end
       → HasEnded h end
   has_ended end same =
-      by_parts h.machine.alarm (h.machine.first.finished && h.machine.second.finished) (length h.history == h.verified.settings.records) (h.budget == 0) end refl refl refl same
+      by_parts h.machine.alarm (h.machine.paths.one.finished && h.machine.paths.two.finished) (length h.history == h.verified.settings.records) (h.budget == 0) end refl refl refl same
 
 -- no cause by its parts
 module _ {D : Type 0} (h : HeldView D) (live : IsTrue h.file.live) (halts : h.halt ≢ Some halt.Disk) where
-  none_by_parts : (e : Option RunEnd) (full spent : Bool) → end_of h.machine ≡ e
+  none_by_parts : (e : Option Reason) (full spent : Bool) → end_of h.machine ≡ e
       → (length h.history == h.verified.settings.records) ≡ full → (h.budget == 0) ≡ spent
-      → end_by_all e (if full then Some halt.Full else if spent then Some halt.Budget else None) ≡ None → HasNotEnded h
+      → end_or_bound e (if full then Some halt.Full else if spent then Some halt.Budget else None) ≡ None → HasNotEnded h
   none_by_parts (Some end) full spent is f s none = absurd cc
   none_by_parts None true spent is f s none = absurd cc
   none_by_parts None false true is f s none = absurd cc
   none_by_parts None false false is f s none =
       record { live = live; halt = halts; machine = is; room = numbers_differ (length h.history) h.verified.settings.records f; leave = numbers_differ h.budget 0 s }
 
-  pub has_not_ended : end_by_all (end_of h.machine) (if length h.history == h.verified.settings.records then Some halt.Full else if h.budget == 0 then Some halt.Budget else None) ≡ None
+  pub has_not_ended : end_or_bound (end_of h.machine) (if length h.history == h.verified.settings.records then Some halt.Full else if h.budget == 0 then Some halt.Budget else None) ≡ None
       → HasNotEnded h
   has_not_ended none = none_by_parts (end_of h.machine) (length h.history == h.verified.settings.records) (h.budget == 0) refl refl refl none
 
 -- no machine and no bound ends a run by a fault of the disk
 no_fault_by : (alarm : Option Alarm) (both full spent : Bool)
-    → end_by_all (end_by alarm both) (if full then Some halt.Full else if spent then Some halt.Budget else None) ≡ Some run.DiskFault → ⊥
+    → end_or_bound (end_by alarm both) (if full then Some halt.Full else if spent then Some halt.Budget else None) ≡ Some cause.DiskFault → ⊥
 no_fault_by (Some alarm) both full spent is = cc
 no_fault_by None true full spent is = cc
 no_fault_by None false true spent is = cc
 no_fault_by None false false true is = cc
 no_fault_by None false false false is = cc
 
-no_fault_ahead : {D : Type 0} (t : TableView D) → end_ahead t ≡ Some run.DiskFault → ⊥
+no_fault_ahead : {D : Type 0} (t : TableView D) → end_ahead t ≡ Some cause.DiskFault → ⊥
 no_fault_ahead t is =
-    no_fault_by t.machine.alarm (t.machine.first.finished && t.machine.second.finished) (length t.recording.history == t.verified.settings.records) (t.budget == 0) is
+    no_fault_by t.machine.alarm (t.machine.paths.one.finished && t.machine.paths.two.finished) (length t.recording.history == t.verified.settings.records) (t.budget == 0) is
 
 -- what asking for the end comes to
-module _ {D : Type 0} (state : D → DiskState) (old new : TableView D) (result : Option RunEnd) (table : IsTable state old) (asks : Asks old new result) where
+module _ {D : Type 0} (state : D → DiskState) (old new : TableView D) (result : Option Reason) (table : IsTable state old) (asks : Asks old new result) where
   pub ends : (shown : Bool) → IfSome result (λ end. HasEnded (held_of new shown) end)
   ends shown = go asks
     where
       go : Asks old new result → IfSome result (λ end. HasEnded (held_of new shown) end)
       go (kept is same stays) =
-          subst (λ (o : Option RunEnd). IfSome o (λ end. HasEnded (held_of new shown) end)) (sym same)
-          (subst (λ (t : TableView D). HasEnded (held_of t shown) run.DiskFault) (sym stays) (is, disk_dead old.machine old.recording old.halt table.reason is))
-      go (idle free none same stays) = subst (λ (o : Option RunEnd). IfSome o (λ end. HasEnded (held_of new shown) end)) (sym same) tt
+          subst (λ (o : Option Reason). IfSome o (λ end. HasEnded (held_of new shown) end)) (sym same)
+          (subst (λ (t : TableView D). HasEnded (held_of t shown) cause.DiskFault) (sym stays) (is, disk_dead old.machine old.recording old.halt table.reason is))
+      go (idle free none same stays) = subst (λ (o : Option Reason). IfSome o (λ end. HasEnded (held_of new shown) end)) (sym same) tt
       go (written free end is same rest history live all settled) =
           let halts : IsNoneOrAlarm (without_turret new.halt) =
           subst (λ (why : Option Halt). IsNoneOrAlarm (without_turret why)) (sym (ap (λ (t : TableView D). t.halt) rest)) (open_halt old.machine old.recording old.halt table.reason free) in
           let ahead : end_ahead new ≡ Some end =
           ap end_ahead rest ∙ ap (λ (l : _). end_ahead (record old { recording = record new.recording { history = l } })) history ∙ is in
-          subst (λ (o : Option RunEnd). IfSome o (λ end. HasEnded (held_of new shown) end)) (sym same) (has_ended (held_of new shown) live all halts end ahead)
+          subst (λ (o : Option Reason). IfSome o (λ end. HasEnded (held_of new shown) end)) (sym same) (has_ended (held_of new shown) live all halts end ahead)
       go (failed free pends same rest history dead still) =
-          subst (λ (o : Option RunEnd). IfSome o (λ end. HasEnded (held_of new shown) end)) (sym same) (ap (λ (t : TableView D). t.halt) rest, dead)
+          subst (λ (o : Option Reason). IfSome o (λ end. HasEnded (held_of new shown) end)) (sym same) (ap (λ (t : TableView D). t.halt) rest, dead)
 
   pub goes_on : (shown : Bool) → IfNone result (HasNotEnded (held_of new shown))
   goes_on shown = go asks
     where
-      none : (end : RunEnd) → result ≡ Some end → IfNone result (HasNotEnded (held_of new shown))
-      none end same = subst (λ (o : Option RunEnd). IfNone o (HasNotEnded (held_of new shown))) (sym same) tt
+      none : (end : Reason) → result ≡ Some end → IfNone result (HasNotEnded (held_of new shown))
+      none end same = subst (λ (o : Option Reason). IfNone o (HasNotEnded (held_of new shown))) (sym same) tt
 
       go : Asks old new result → IfNone result (HasNotEnded (held_of new shown))
-      go (kept is same stays) = none run.DiskFault same
+      go (kept is same stays) = none cause.DiskFault same
       go (idle free is same stays) =
-          subst (λ (o : Option RunEnd). IfNone o (HasNotEnded (held_of new shown))) (sym same)
+          subst (λ (o : Option Reason). IfNone o (HasNotEnded (held_of new shown))) (sym same)
           (subst (λ (t : TableView D). HasNotEnded (held_of t shown)) (sym stays)
           (has_not_ended (held_of old shown) (open_live old.machine old.recording old.halt table.reason free) free is))
       go (written free end is same rest history live all settled) = none end same
-      go (failed free pends same rest history dead still) = none run.DiskFault same
+      go (failed free pends same rest history dead still) = none cause.DiskFault same
 
   pub rest_kept : (shown : Bool) → KeepsRest (held_of old shown) (held_of new shown) result
   rest_kept shown = go asks
@@ -236,7 +238,7 @@ module _ {D : Type 0} (state : D → DiskState) (old new : TableView D) (result 
             };
             halt = λ fine. absurd (fine same);
             flushed = λ fault. still;
-            idle = λ none. absurd (let clash : Some run.DiskFault ≡ None = sym same ∙ none in cc);
+            idle = λ none. absurd (let clash : Some cause.DiskFault ≡ None = sym same ∙ none in cc);
             settled = λ every. absurd (omega (arith, pends, every));
           }
 
@@ -281,7 +283,7 @@ module _ {D : Type 0} (state : D → DiskState) (old new : TableView D) (result 
 -- the table that is taken out
 module _ {D : Type 0} (state : D → DiskState) (start taken : TableView D) (held : HeldView D) (since : Since state start taken) (calm : start.halt ≢ Some halt.Disk)
     (is : IsTaken held taken) where
-  taken_end : (e : Option RunEnd) → IsAtEnd held e → IsEnd taken e
+  taken_end : (e : Option Reason) → IsAtEnd held e → IsEnd taken e
   taken_end e at = record {
     live = subst (λ (f : Gate D). IsTrue f.live) (sym is.file) at.live;
     may = record {
@@ -291,16 +293,17 @@ module _ {D : Type 0} (state : D → DiskState) (start taken : TableView D) (hel
     machine = ap end_of is.machine ∙ at.machine;
   }
 
-  pub taken_ended : (end : RunEnd) → HasEnded held end → EndsBy state start taken end
-  taken_ended (run.Alarm alarm) at = taken_end (Some (run.Alarm alarm)) at
-  taken_ended run.Done at = taken_end (Some run.Done) at
-  taken_ended run.Full at = (taken_end None at.0, ap length is.history ∙ at.1 ∙ sym (ap (λ (v : Verified). v.settings.records) is.verified))
-  taken_ended run.Stopped at = (
+  pub taken_ended : (end : Reason) → HasEnded held end → EndsBy state start taken end
+  taken_ended (cause.Alarm alarm) at = taken_end (Some (cause.Alarm alarm)) at
+  taken_ended cause.Done at = taken_end (Some cause.Done) at
+  taken_ended cause.Full at = (taken_end None at.0, ap length is.history ∙ at.1 ∙ sym (ap (λ (v : Verified). v.settings.records) is.verified))
+  taken_ended cause.Stopped at = (
     taken_end None at.0,
     (λ same. at.1 (sym (ap length is.history) ∙ same ∙ ap (λ (v : Verified). v.settings.records) is.verified)),
     is.budget ∙ at.2,
   )
-  taken_ended run.DiskFault at = (
+  taken_ended (cause.TurretFault path) at = absurd at
+  taken_ended cause.DiskFault at = (
     ap (λ (f : Gate D). f.live) is.file ∙ at.1,
     ⊎_elim (λ before. absurd (calm before)) (λ rose. rose) (since.cause (is.halt ∙ ap without_turret at.0)),
   )

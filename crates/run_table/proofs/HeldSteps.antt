@@ -6,6 +6,7 @@ use Rattle.disk_model.specs.Device.{DiskState}
 use Rattle.nc_number.specs.declared.path.Path.{Path}
 use Rattle.nc_number.proofs.Bools.{and_false, not_false}
 use Rattle.nc_number.specs.declared.limits.TheConstants.{MOST_PENDING}
+use Rattle.nc_number.specs.Both.{of_path}
 use Rattle.nc_outside.specs.declared.halt.Halt.{Halt}
 use Rattle.nc_outside.specs.declared.halt.Halt.TheVariants as halt
 use Rattle.nc_outside.specs.declared.halt.Next.TheVariants as next
@@ -15,7 +16,7 @@ use Rattle.run_records.specs.Entries.{Entry, edit_of}
 use Rattle.run_records.specs.declared.entry.EntryKind.{EntryKind}
 use Rattle.two_path.specs.declared.turn.Turn.{Turn}
 use Rattle.two_path.specs.declared.turn.Turn.TheVariants as turn
-use Rattle.two_path.specs.Machine.{MachineView, own_first, without_reads}
+use Rattle.two_path.specs.Machine.{MachineView, without_reads}
 use Rattle.two_path.specs.Turns.{Tapes, turn_of, kind_of, entry_with, entry_of}
 use Rattle.two_path.specs.Histories.{list_of, fold, IsKept}
 use Rattle.two_path.specs.Again.{turn_of_entry}
@@ -112,10 +113,10 @@ module _ {D : Type 0} (state : D → DiskState) (path : Path) (start t t' : Tabl
     the_turn = (turn_of (tapes_in t.verified) path t.machine).turn
 
     abbrev entry : EntryKind → Entry
-    entry k = record { path = path; kind = k; stamps = (own_first path t.machine).first.stamps }
+    entry k = record { path = path; kind = k; stamps = (of_path t.machine.paths path).stamps }
 
-    made_is : (k : Option EntryKind) → kind_of the_turn ≡ k → list_of (entry_of (tapes_in t.verified) path t.machine) ≡ list_of (entry_with path (own_first path t.machine).first.stamps k)
-    made_is k is = ap (λ (o : Option EntryKind). list_of (entry_with path (own_first path t.machine).first.stamps o)) is
+    made_is : (k : Option EntryKind) → kind_of the_turn ≡ k → list_of (entry_of (tapes_in t.verified) path t.machine) ≡ list_of (entry_with path (of_path t.machine.paths path).stamps k)
+    made_is k is = ap (λ (o : Option EntryKind). list_of (entry_with path (of_path t.machine.paths path).stamps o)) is
 
     kept : IsKept tapes (opening_of start.verified) t.recording.history t.machine
     kept = subst (λ (v : Verified). IsKept (tapes_in v) (opening_of v) t.recording.history t.machine) since.verified table.kept
@@ -194,7 +195,7 @@ module _ {D : Type 0} (state : D → DiskState) (path : Path) (start t t' : Tabl
 
     -- a turn comes
     module _ (turned : IsStep state (step_by t path None None false) t t' result) where
-      history_by : (k : Option EntryKind) → kind_of the_turn ≡ k → t'.recording.history ≡ t.recording.history ++ list_of (entry_with path (own_first path t.machine).first.stamps k)
+      history_by : (k : Option EntryKind) → kind_of the_turn ≡ k → t'.recording.history ≡ t.recording.history ++ list_of (entry_with path (of_path t.machine.paths path).stamps k)
       history_by k is = turned.records.follows.history ∙ ap (λ (l : List Entry). t.recording.history ++ l) (made_is k is)
 
       shown_result : (k : Option EntryKind) → kind_of the_turn ≡ k → result ≡ Turned the_turn → Comes (Turned the_turn)

@@ -12,6 +12,7 @@ use Rattle.nc_number.specs.declared.value.Var.{Var}
 use Rattle.nc_number.specs.declared.value.Var.TheVariants.{Vacant, Is}
 use Rattle.nc_number.specs.Arithmetic.{is_zero}
 use Rattle.nc_number.specs.Results.{◌>>=◌}
+use Rattle.nc_number.specs.Both.{of_path}
 use Rattle.nc_moves.specs.declared.alarm.Alarm.{Alarm}
 use Rattle.nc_moves.specs.declared.motion.Move.{Move}
 use Rattle.nc_outside.specs.declared.lined_move.LinedMove.{LinedMove}
@@ -61,7 +62,7 @@ use Rattle.run_records.specs.Entries.{Entry, edit_of}
 use Rattle.run_records.specs.declared.edit.Edit.{Edit}
 use Rattle.seat_table.specs.Turning.{moves_in}
 use Rattle.two_path.specs.Machine.{MachineView, own_first}
-use Rattle.two_path.specs.Turns.{TurnResult, blocks_of, tapes_of, tape_of, result_at_wait, result_by, unless_idle, block_turn, own_turn}
+use Rattle.two_path.specs.Turns.{TurnResult, blocks_of, tapes_of, result_at_wait, result_by, unless_idle, block_turn, own_turn}
 use Rattle.two_path.specs.Histories.{with_reads, behind_entry, fold}
 use Rattle.two_path.specs.Again.{turn_by, turn_of_entry}
 use Rattle.run_table.specs.Kept.{tapes_in, opening_of}
@@ -283,7 +284,7 @@ wait_few path line m code (Some there) = go (code == there) refl
 result_few : (path : Path) (line : ℕ) (m : MachineView) (e : Effect) → FewMoves e → length (made_in (result_by path line m e).turn) ≤ 7
 result_few path line m (Need variable) few = omega arith
 result_few path line m (Done after write moves) few = lined_few line moves few
-result_few path line m (AtWait code) few = wait_few path line m code m.second.waiting
+result_few path line m (AtWait code) few = wait_few path line m code m.paths.two.waiting
 result_few path line m (AtEnd after moves) few = lined_few line moves few
 result_few path line m (effect.Alarm number value) few = omega arith
 
@@ -295,17 +296,17 @@ unless_few m None false None rest few = few
 
 turn_few : (flow : Flow) (path : Path) (m : MachineView) → length (made_in (own_turn (blocks_of flow) path m).turn) ≤ 7
 turn_few flow path m =
-    unless_few m m.alarm m.first.finished m.first.waiting (block_turn (blocks_of flow) path m)
-    (result_few path ((blocks_of flow).line m.first.path.place) m (effect_of flow m.first.path m.first.values) (block_few flow m.first.path m.first.values))
+    unless_few m m.alarm m.paths.one.finished m.paths.one.waiting (block_turn (blocks_of flow) path m)
+    (result_few path ((blocks_of flow).line m.paths.one.path.place) m (effect_of flow m.paths.one.path m.paths.one.values) (block_few flow m.paths.one.path m.paths.one.values))
 
-either_few : (left right : Flow) (path own : Path) (m : MachineView) → length (made_in (own_turn (tape_of (tapes_of left right) path) own m).turn) ≤ 7
+either_few : (left right : Flow) (path own : Path) (m : MachineView) → length (made_in (own_turn (of_path (tapes_of left right) path) own m).turn) ≤ 7
 either_few left right One own m = turn_few left own m
 either_few left right Two own m = turn_few right own m
 
 -- what a record has, which is an edit or has these stamps
 again_few : (left right : Flow) (path : Path) (edit : Option Edit) (stamps : List ℕ) (m : MachineView)
-    → length (made_in (turn_by (tape_of (tapes_of left right) path) path edit stamps m)) ≤ 7
-again_few left right path None stamps m = either_few left right path path (with_reads (tape_of (tapes_of left right) path) stamps m)
+    → length (made_in (turn_by (of_path (tapes_of left right) path) path edit stamps m)) ≤ 7
+again_few left right path None stamps m = either_few left right path path (with_reads (of_path (tapes_of left right) path) stamps m)
 again_few left right path (Some edit) stamps m = omega arith
 
 -- what the records have

@@ -31,18 +31,18 @@ wait_goes path line m code (Some there) = go (code == there) refl
 by_goes : (path : Path) (line : ℕ) (m : MachineView) (e : Effect) → IsOfBlock (result_by path line m e).turn
 by_goes path line m (Need variable) = record { waits = λ c is. absurd cc; ended = λ is. absurd cc }
 by_goes path line m (Done after write moves) = record { waits = λ c is. absurd cc; ended = λ is. absurd cc }
-by_goes path line m (AtWait code) = wait_goes path line m code m.second.waiting
+by_goes path line m (AtWait code) = wait_goes path line m code m.paths.two.waiting
 by_goes path line m (AtEnd after moves) = record { waits = λ c is. absurd cc; ended = λ is. absurd cc }
 by_goes path line m (effect.Alarm number value) = record { waits = λ c is. absurd cc; ended = λ is. absurd cc }
 
 pub block_goes : (blocks : Blocks) (path : Path) (m : MachineView) → IsOfBlock (block_turn blocks path m).turn
-block_goes blocks path m = by_goes path (blocks.line m.first.path.place) m (blocks.effect m.first.path m.first.values)
+block_goes blocks path m = by_goes path (blocks.line m.paths.one.path.place) m (blocks.effect m.paths.one.path m.paths.one.values)
 
 -- a path waits whose turn says so
 record Waits (m : MachineView) : Type 0 where
   calm : m.alarm ≡ None
-  unfinished : m.first.finished ≡ false
-  idle : is_idle m.first ≡ true
+  unfinished : m.paths.one.finished ≡ false
+  idle : is_idle m.paths.one ≡ true
 
 idle_waits : (m : MachineView) (a : Option Alarm) (f : Bool) (w : Option ℕ) (rest : TurnResult) (code : ℕ) → IsOfBlock rest.turn
     → (unless_idle m a f w rest).turn ≡ turn.Waiting code → (a ≡ None) × (f ≡ false) × ((f || is_some w) ≡ true)
@@ -53,7 +53,7 @@ idle_waits m None false None rest code goes is = absurd (goes.waits code is)
 
 own_waits : (blocks : Blocks) (path : Path) (m : MachineView) (code : ℕ) → (own_turn blocks path m).turn ≡ turn.Waiting code → Waits m
 own_waits blocks path m code is =
-    let all = idle_waits m m.alarm m.first.finished m.first.waiting (block_turn blocks path m) code (block_goes blocks path m) is in
+    let all = idle_waits m m.alarm m.paths.one.finished m.paths.one.waiting (block_turn blocks path m) code (block_goes blocks path m) is in
     record { calm = all.0; unfinished = all.1; idle = all.2 }
 
 awake_goes : (m : MachineView) (a : Option Alarm) (f : Bool) (w : Option ℕ) (rest : TurnResult) → a ≡ None → (f || is_some w) ≡ false → IsOfBlock rest.turn
@@ -63,22 +63,22 @@ awake_goes m None true w rest calm awake goes = absurd cc
 awake_goes m None false (Some there) rest calm awake goes = absurd cc
 awake_goes m None false None rest calm awake goes = goes
 
-own_goes : (blocks : Blocks) (path : Path) (m : MachineView) → m.alarm ≡ None → is_idle m.first ≡ false → IsOfBlock (own_turn blocks path m).turn
+own_goes : (blocks : Blocks) (path : Path) (m : MachineView) → m.alarm ≡ None → is_idle m.paths.one ≡ false → IsOfBlock (own_turn blocks path m).turn
 own_goes blocks path m calm awake =
-    awake_goes m m.alarm m.first.finished m.first.waiting (block_turn blocks path m) calm awake (block_goes blocks path m)
+    awake_goes m m.alarm m.paths.one.finished m.paths.one.waiting (block_turn blocks path m) calm awake (block_goes blocks path m)
 
 -- not idle, since both would be
 pub other_goes_on : (tapes : Tapes) (m : MachineView) → (IsStuck (without_reads m) → ⊥) → (path : Path) (code : ℕ)
     → (turn_of tapes path m).turn ≡ turn.Waiting code → GoesOn tapes (other_of path) m
 other_goes_on tapes m free One code is =
-    let w = own_waits tapes.first One m code is in
-    let not_idle = only_false (is_idle m.second) (λ idle. free (record { calm = w.calm; unfinished = inl w.unfinished; first = w.idle; second = idle })) in
-    let goes = own_goes tapes.second Two (own_first Two m) w.calm not_idle in
+    let w = own_waits tapes.one One m code is in
+    let not_idle = only_false (is_idle m.paths.two) (λ idle. free (record { calm = w.calm; unfinished = inl w.unfinished; first = w.idle; second = idle })) in
+    let goes = own_goes tapes.two Two (own_first Two m) w.calm not_idle in
     record { waits = goes.waits; ended = goes.ended }
 other_goes_on tapes m free Two code is =
-    let w = own_waits tapes.second Two (own_first Two m) code is in
-    let not_idle = only_false (is_idle m.first) (λ idle. free (record { calm = w.calm; unfinished = inr w.unfinished; first = idle; second = w.idle })) in
-    let goes = own_goes tapes.first One m w.calm not_idle in
+    let w = own_waits tapes.two Two (own_first Two m) code is in
+    let not_idle = only_false (is_idle m.paths.one) (λ idle. free (record { calm = w.calm; unfinished = inr w.unfinished; first = idle; second = w.idle })) in
+    let goes = own_goes tapes.one One m w.calm not_idle in
     record { waits = goes.waits; ended = goes.ended }
 
 -- nothing happens in the turn of a path that waits
@@ -90,8 +90,8 @@ idle_still m None false (Some there) rest code goes is = refl
 idle_still m None false None rest code goes is = absurd (goes.waits code is)
 
 own_still : (blocks : Blocks) (path : Path) (m : MachineView) (code : ℕ) → (own_turn blocks path m).turn ≡ turn.Waiting code → (own_turn blocks path m).machine ≡ m
-own_still blocks path m code is = idle_still m m.alarm m.first.finished m.first.waiting (block_turn blocks path m) code (block_goes blocks path m) is
+own_still blocks path m code is = idle_still m m.alarm m.paths.one.finished m.paths.one.waiting (block_turn blocks path m) code (block_goes blocks path m) is
 
 pub waits_still : (tapes : Tapes) (path : Path) (m : MachineView) (code : ℕ) → (turn_of tapes path m).turn ≡ turn.Waiting code → (turn_of tapes path m).machine ≡ m
-waits_still tapes One m code is = own_still tapes.first One m code is
-waits_still tapes Two m code is = ap (own_first Two) (own_still tapes.second Two (own_first Two m) code is)
+waits_still tapes One m code is = own_still tapes.one One m code is
+waits_still tapes Two m code is = ap (own_first Two) (own_still tapes.two Two (own_first Two m) code is)

@@ -5,6 +5,7 @@ use Rattle.std.specs.Prelude.{slice_get}
 use Rattle.nc_number.specs.declared.path.Path.{Path}
 use Rattle.nc_number.specs.declared.path.Path.TheVariants.{One, Two}
 use Rattle.nc_number.specs.Path.{other_of}
+use Rattle.nc_number.specs.Both.{of_path}
 use Rattle.nc_moves.specs.declared.alarm.Alarm.{Alarm}
 use Rattle.block_order.specs.declared.control.Control.{Control}
 use Rattle.block_order.specs.declared.control.Control.TheVariants.{Next, Goto, While, Do, EndLoop, Wait, End, Call, Back, BackTo}
@@ -49,38 +50,38 @@ module _ (flow : Flow) (control : IsControlled flow)
     (waits : (path : PathView) (code : ℕ) (reads : _) → standing flow.order path.place ≡ Some (Wait code) → effect_of flow path reads ≡ AtWait code)
     (path : Path) (m : MachineView) where
   -- what is at no wait stands on none
-  elsewhere : (e : Effect) → effect_of flow m.first.path m.first.values ≡ e → ((code : ℕ) → e ≡ AtWait code → ⊥)
-      → comes_to (label_at flow.order m.first.path.place) m.second.waiting ≡ false
+  elsewhere : (e : Effect) → effect_of flow m.paths.one.path m.paths.one.values ≡ e → ((code : ℕ) → e ≡ AtWait code → ⊥)
+      → comes_to (label_at flow.order m.paths.one.path.place) m.paths.two.waiting ≡ false
   elsewhere e is never =
-      no_label (slice_get m.first.path.place 1) (standing flow.order m.first.path.place) m.second.waiting
-      (λ code on. never code (sym is ∙ waits m.first.path code m.first.values on))
+      no_label (slice_get m.paths.one.path.place 1) (standing flow.order m.paths.one.path.place) m.paths.two.waiting
+      (λ code on. never code (sym is ∙ waits m.paths.one.path code m.paths.one.values on))
 
-  here : (e : Effect) → effect_of flow m.first.path m.first.values ≡ e → (line : ℕ)
-      → is_wait (result_by path line m e).turn ≡ comes_to (label_at flow.order m.first.path.place) m.second.waiting
+  here : (e : Effect) → effect_of flow m.paths.one.path m.paths.one.values ≡ e → (line : ℕ)
+      → is_wait (result_by path line m e).turn ≡ comes_to (label_at flow.order m.paths.one.path.place) m.paths.two.waiting
   here (Need variable) is line = sym (elsewhere (Need variable) is (λ code clash. cc))
   here (Done after write moves) is line = sym (elsewhere (Done after write moves) is (λ code clash. cc))
   here (AtWait code) is line =
-      let stands : standing flow.order m.first.path.place ≡ Some (Wait code) = subst (GoesAsOrdered flow.order m.first.path) is (control m.first.path m.first.values) in
-      at_wait path line m code m.second.waiting ∙ sym (ap (λ (s : Option Control). comes_to (label_of (slice_get m.first.path.place 1) s) m.second.waiting) stands)
+      let stands : standing flow.order m.paths.one.path.place ≡ Some (Wait code) = subst (GoesAsOrdered flow.order m.paths.one.path) is (control m.paths.one.path m.paths.one.values) in
+      at_wait path line m code m.paths.two.waiting ∙ sym (ap (λ (s : Option Control). comes_to (label_of (slice_get m.paths.one.path.place 1) s) m.paths.two.waiting) stands)
   here (AtEnd after moves) is line = sym (elsewhere (AtEnd after moves) is (λ code clash. cc))
   here (effect.Alarm number value) is line = sym (elsewhere (effect.Alarm number value) is (λ code clash. cc))
 
   by_idle : (a : Option Alarm) (f : Bool) (w : Option ℕ)
-      → is_wait (unless_idle m a f w (block_turn (blocks_of flow) path m)).turn ≡ comes_by a f w (label_at flow.order m.first.path.place) m.second.waiting
+      → is_wait (unless_idle m a f w (block_turn (blocks_of flow) path m)).turn ≡ comes_by a f w (label_at flow.order m.paths.one.path.place) m.paths.two.waiting
   by_idle (Some alarm) f w = refl
   by_idle None true w = refl
   by_idle None false (Some code) = refl
-  by_idle None false None = here (effect_of flow m.first.path m.first.values) refl ((blocks_of flow).line m.first.path.place)
+  by_idle None false None = here (effect_of flow m.paths.one.path m.paths.one.values) refl ((blocks_of flow).line m.paths.one.path.place)
 
-  pub own_wait : is_wait (own_turn (blocks_of flow) path m).turn ≡ comes_by m.alarm m.first.finished m.first.waiting (label_at flow.order m.first.path.place) m.second.waiting
-  own_wait = by_idle m.alarm m.first.finished m.first.waiting
+  pub own_wait : is_wait (own_turn (blocks_of flow) path m).turn ≡ comes_by m.alarm m.paths.one.finished m.paths.one.waiting (label_at flow.order m.paths.one.path.place) m.paths.two.waiting
+  own_wait = by_idle m.alarm m.paths.one.finished m.paths.one.waiting
 
 -- either path's turn
 pub wait_ahead : (verified : Verified) → ((flow : Flow) → IsControlled flow)
     → ((flow : Flow) (path : PathView) (code : ℕ) (reads : _) → standing flow.order path.place ≡ Some (Wait code) → effect_of flow path reads ≡ AtWait code)
     → (path : Path) (m : MachineView)
-    → comes_by m.alarm (own_first path m).first.finished (own_first path m).first.waiting
-    (label_at (flow_for verified path).order (own_first path m).first.path.place) (own_first (other_of path) m).first.waiting
+    → comes_by m.alarm (of_path m.paths path).finished (of_path m.paths path).waiting
+    (label_at (flow_for verified path).order (of_path m.paths path).path.place) (of_path m.paths (other_of path)).waiting
     ≡ is_wait (turn_of (tapes_in verified) path m).turn
 wait_ahead verified control waits One m = sym (own_wait verified.left (control verified.left) (waits verified.left) One m)
 wait_ahead verified control waits Two m = sym (own_wait verified.right (control verified.right) (waits verified.right) Two (own_first Two m))

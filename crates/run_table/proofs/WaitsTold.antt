@@ -13,7 +13,7 @@ use Rattle.run_records.specs.declared.entry.EntryKind.{EntryKind}
 use Rattle.two_path.specs.declared.turn.Turn.{Turn}
 use Rattle.two_path.specs.declared.turn.Turn.TheVariants as turn
 use Rattle.two_path.specs.Machine.{MachineView, own_first}
-use Rattle.two_path.specs.Turns.{Tapes, TurnResult, unless_idle, block_turn, tape_of, turn_of, kind_of, entry_with, entry_of}
+use Rattle.two_path.specs.Turns.{Tapes, TurnResult, unless_idle, block_turn, turn_of, kind_of, entry_with, entry_of, Blocks, own_turn}
 use Rattle.two_path.specs.Histories.{list_of}
 use Rattle.run_table.specs.declared.answer.TableStep.{TableStep}
 use Rattle.run_table.specs.declared.answer.TableStep.TheVariants.{Turned, Drain, Halted}
@@ -52,16 +52,15 @@ idle_tells m None true w rest goes = refl
 idle_tells m None false (Some code) rest goes = refl
 idle_tells m None false None rest goes = block_tells rest.turn (false ≡ true) (false ≡ false) goes refl
 
-alarm_own : (path : Path) (m : MachineView) → (own_first path m).alarm ≡ m.alarm
-alarm_own One m = refl
-alarm_own Two m = refl
+own_tells : (blocks : Blocks) (path : Path) (m : MachineView)
+    → Tells (own_turn blocks path m).turn (waits_by m.alarm m.paths.one.finished m.paths.one.waiting ≡ true)
+    (waits_by m.alarm m.paths.one.finished m.paths.one.waiting ≡ false)
+own_tells blocks path m =
+    idle_tells m m.alarm m.paths.one.finished m.paths.one.waiting (block_turn blocks path m) (block_goes blocks path m)
 
 turn_tells : (tapes : Tapes) (path : Path) (m : MachineView) → Tells (turn_of tapes path m).turn (is_waiting path m ≡ true) (is_waiting path m ≡ false)
-turn_tells tapes path m =
-    let own : MachineView = own_first path m in
-    subst (λ (a : Option Alarm). Tells (turn_of tapes path m).turn (waits_by a own.first.finished own.first.waiting ≡ true) (waits_by a own.first.finished own.first.waiting ≡ false))
-    (alarm_own path m)
-    (idle_tells own own.alarm own.first.finished own.first.waiting (block_turn (tape_of tapes path) path own) (block_goes (tape_of tapes path) path own))
+turn_tells tapes One m = own_tells tapes.one One m
+turn_tells tapes Two m = own_tells tapes.two Two (own_first Two m)
 
 -- a turn that comes to a wait, or that is no wait, answers something
 come_tells : (t : Turn) (Q R : Type 0) → is_wait t ≡ true → Tells t Q R → R
@@ -125,7 +124,7 @@ module _ {D : Type 0} (state : D → DiskState) (path : Path) (t t' : TableView 
     not_due : (code : ℕ) → the_turn ≡ turn.Waiting code → is_due t.recording (list_of (entry_of (tapes_in t.verified) path t.machine)) the_turn ≡ false
     not_due code is =
         let none_made : list_of (entry_of (tapes_in t.verified) path t.machine) ≡ [] =
-        ap (λ (o : Option EntryKind). list_of (entry_with path (own_first path t.machine).first.stamps o)) (ap kind_of is) in
+        ap (λ (o : Option EntryKind). list_of (entry_with path (of_path t.machine.paths path).stamps o)) (ap kind_of is) in
         ap (λ (l : List Entry). is_due t.recording l the_turn) none_made ∙ ap (is_due t.recording []) is
         ∙ not_full t.recording.flushed (length t.recording.history) (length (t.recording.history ++ [])) (ap length (append-nil t.recording.history)) may.few
 

@@ -1,7 +1,6 @@
 -- What callers see of a table, and what is true of it.
 use Rattle.std.specs.Prelude.{◌≡◌, ℕ, ◌+◌, ◌≤◌, ◌<◌, false, length, map, Option, Some, None, IsTrue, Bool}
 use Rattle.disk_model.specs.Device.{DiskState}
-use Rattle.nc_number.specs.declared.path.Path.TheVariants.{One, Two}
 use Rattle.nc_outside.specs.declared.halt.Halt.{Halt}
 use Rattle.nc_outside.specs.declared.halt.Halt.TheVariants.{Alarm, Disk, Turret, Full, Budget}
 use Rattle.cell_settings.specs.View.{view}
@@ -9,8 +8,8 @@ use Rattle.tape_flow.specs.Forms.{program_form}
 use Rattle.nc_verify.specs.declared.verified.Verified.{Verified}
 use Rattle.nc_verify.specs.Verdict.{AreAccepted}
 use Rattle.run_records.specs.declared.header.Header.{Header}
-use Rattle.path_state.specs.Opening.{opening_path}
-use Rattle.two_path.specs.Machine.{MachineView, opening}
+use Rattle.two_path.specs.Machine.{MachineView}
+use Rattle.two_path.specs.Start.{machine_at_start}
 use Rattle.two_path.specs.Turns.{Tapes, tapes_of}
 use Rattle.two_path.specs.Joined.{AreAtTheirWaits}
 use Rattle.two_path.specs.Histories.{IsKept}
@@ -32,8 +31,7 @@ tapes_in verified = tapes_of verified.left verified.right
 
 -- the machine before its first turn
 abbrev pub opening_of : Verified → MachineView
-opening_of verified =
-    opening (opening_path verified.left verified.settings One) (opening_path verified.right verified.settings Two)
+opening_of verified = machine_at_start verified.left verified.right verified.settings
 
 -- the verdict of the header's three texts is this pair
 abbrev pub IsVerdictOf : Header → Verified → Type 0

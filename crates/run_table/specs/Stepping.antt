@@ -9,7 +9,7 @@ use Rattle.nc_outside.specs.declared.halt.Halt.TheVariants as halt
 use Rattle.run_records.specs.Entries.{Entry}
 use Rattle.two_path.specs.declared.turn.Turn.{Turn}
 use Rattle.two_path.specs.declared.turn.Turn.TheVariants as turn
-use Rattle.two_path.specs.Machine.{MachineView, own_first}
+use Rattle.two_path.specs.Machine.{MachineView}
 use Rattle.two_path.specs.Turns.{Tapes, TurnResult, turn_of, entry_of}
 use Rattle.two_path.specs.Histories.{list_of}
 use Rattle.run_table.specs.declared.answer.TableStep.{TableStep}
@@ -42,7 +42,7 @@ bound_of t = bound_by (length t.recording.history) t.verified.settings.records t
 
 -- the path is at a wait, and no alarm came
 abbrev pub is_waiting : Path → MachineView → Bool
-is_waiting path m = (is_none m.alarm && not (own_first path m).first.finished) && is_some (own_first path m).first.waiting
+is_waiting path m = (is_none m.alarm && not (of_path m.paths path).finished) && is_some (of_path m.paths path).waiting
 
 -- the path waits, and nothing has stopped the table
 abbrev pub waits_in : {D : Type 0} → TableView D → Path → Bool

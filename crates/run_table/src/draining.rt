@@ -1,8 +1,8 @@
 //! When a path has to be drained before it goes on.
 ghost use Rattle.std.specs.Prelude.{◌≡◌};
 ghost use Rattle.nc_number.specs.Path.{other_of};
+ghost use Rattle.nc_number.specs.Both.{of_path};
 ghost use Rattle.tape_flow.specs.Places.{label_at};
-ghost use Rattle.two_path.specs.Machine.{own_first};
 ghost use Rattle.two_path.specs.Made.{turn_with};
 ghost use Rattle.run_table.specs.Apart.{step_with};
 ghost use Rattle.run_table.specs.Draining.{none_owed, with_owed, has_moves, answers_moves, owed_behind, flow_for, may_come, comes_by};
@@ -93,10 +93,10 @@ pub(crate) fn flow_of(verified: &Verified, path: Path) -> &Flow
 /// Whether the path's turn would bring it to a wait, where it waits or goes on. The flow is that of
 /// the path.
 pub(crate) fn comes_to_wait(machine: &Machine, flow: &Flow, path: Path) -> bool
-    ensures { result ≡ comes_by machine.now.machine.alarm (own_first path machine.now.machine).first.finished
-        (own_first path machine.now.machine).first.waiting
-        (label_at flow.now.order (own_first path machine.now.machine).first.path.place)
-        (own_first (other_of path) machine.now.machine).first.waiting }
+    ensures { result ≡ comes_by machine.now.machine.alarm (of_path machine.now.machine.paths path).finished
+        (of_path machine.now.machine.paths path).waiting
+        (label_at flow.now.order (of_path machine.now.machine.paths path).path.place)
+        (of_path machine.now.machine.paths (other_of path)).waiting }
 {
     if machine.alarm().is_some() || machine.finished(path) || machine.waiting(path).is_some() {
         return false;

@@ -1,7 +1,7 @@
 //! A table that keeps what it began with.
 ghost use Rattle.std.specs.Prelude.{◌≡◌, ◌≢◌, true, false, Some, IfSome, IfNone, MatchOption};
 ghost use Rattle.nc_outside.specs.Calls.{IsOfTurret};
-ghost use Rattle.nc_outside.specs.declared.halt.Halt.{Halt as Reason};
+ghost use Rattle.nc_outside.specs.declared.halt.Halt.{Halt as AnyHalt};
 ghost use Rattle.nc_outside.specs.declared.halt.Halt.TheVariants as halt;
 ghost use Rattle.nc_outside.specs.declared.halt.Next.TheVariants as next;
 ghost use Rattle.seat_table.specs.Turning.{Answers, AsksDrain, first_reason};
@@ -10,12 +10,11 @@ ghost use Rattle.run_table.specs.Ending.{HasEnded, HasNotEnded, KeepsRest};
 ghost use Rattle.run_table.specs.Holding.{held_of, waits_at, drains_at, IsOf, ShowsFlushed, MayHold, MayHoldAgain, HasStepped, IsTaken, records_since};
 
 use crate::handing::{is_still_shown, next_of};
-use crate::running::RunEnd;
 use crate::table::Table;
 use disk_model::Disk;
 use nc_moves::MoveList;
 use nc_number::Path;
-use nc_outside::{Halt, Next};
+use nc_outside::{Halt, Next, Reason};
 use seat_table::Turns;
 use std::marker::{Brand, Model, PhantomData};
 
@@ -75,7 +74,7 @@ impl<D: Disk, O: Opening<D>> Held<D, O> {
     /// Of several causes it is the first of: a fault of the disk, an alarm, the ends of both paths,
     /// a full journal, a spent budget. A turret that failed is none of them. The records that pend
     /// are written before the answer, and where the disk fails in that, this is the end.
-    pub fn end(&mut self) -> Option<RunEnd>
+    pub fn end(&mut self) -> Option<Reason>
         ensures ends { IfSome result (λ end. HasEnded self.new end) }
         ensures goes_on { IfNone result (HasNotEnded self.new) }
         ensures rest { KeepsRest self.old self.new result }
@@ -127,7 +126,7 @@ impl<D: Disk, O: Opening<D>> Turns for Held<D, O> {
             → records_since O.opened self.new p ≡ records_since O.opened self.old p }
         ensures waits { MatchOption result (waits_at self.old path ≡ true) (λ _. waits_at self.old path ≡ false) }
         ensures drains { AsksDrain (drains_at self.old path) result (drains_at self.new path) }
-        ensures halted { (why : Reason) → self.old.halt ≡ Some why → (result ≡ Some (next.Halted why))
+        ensures halted { (why : AnyHalt) → self.old.halt ≡ Some why → (result ≡ Some (next.Halted why))
             × (self.new.halt ≡ Some why)
             × ((p : Path) → records_since O.opened self.new p ≡ records_since O.opened self.old p) }
     {

@@ -10,7 +10,7 @@ ghost use Rattle.two_path.specs.Stuck.{IsStuck};
 ghost use Rattle.two_path.specs.Turns.{turn_of};
 ghost use Rattle.two_path.specs.Histories.{IsKept};
 ghost use Rattle.nc_outside.specs.declared.halt.Halt.TheVariants as halt;
-ghost use Rattle.run_table.specs.declared.running.RunEnd.{RunEnd};
+ghost use Rattle.nc_outside.specs.declared.reason.Reason.{Reason};
 ghost use Rattle.run_table.specs.Ending.{HasEnded};
 ghost use Rattle.run_table.specs.Holding.{HeldView, MayHold, IsTaken};
 ghost use Rattle.run_table.specs.Kept.{TableView, tapes_in, opening_of};
@@ -56,6 +56,6 @@ pub fn a_table_opens_itself<D: Disk>()
 /// The end of the run of a held table is that of the table that was taken out, since the table at
 /// which it began.
 pub fn a_taken_table_ended_so<D: Disk>()
-    ensures { (start taken : TableView D) (held : HeldView D) (end : RunEnd) → Since D.state start taken
+    ensures { (start taken : TableView D) (held : HeldView D) (end : Reason) → Since D.state start taken
         → start.halt ≢ Some halt.Disk → IsTaken held taken → HasEnded held end → EndsBy D.state start taken end }
 {}

@@ -13,7 +13,6 @@ mod handing;
 mod held;
 mod laws;
 mod recording;
-mod running;
 mod stepping;
 mod table;
 
@@ -23,5 +22,4 @@ pub use laws::{
     a_record_makes_seven_moves_at_most, a_table_opens_itself, a_taken_table_ended_so,
     who_is_waited_for_goes_on,
 };
-pub use running::RunEnd;
 pub use table::Table;

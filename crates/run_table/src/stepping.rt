@@ -2,8 +2,8 @@
 ghost use Rattle.std.specs.Prelude.{◌≡◌, ◌+◌, ◌<◌, [], true, length, nat_lt, None, IsTrue, IfSome};
 ghost use Rattle.run_records.specs.Entries.{edit_of};
 ghost use Rattle.two_path.specs.Histories.{list_of};
-ghost use Rattle.two_path.specs.Made.{turn_with};
-ghost use Rattle.run_table.specs.Apart.{step_with};
+ghost use Rattle.two_path.specs.Made.{moves_of_turn, turn_with};
+ghost use Rattle.run_table.specs.Apart.{moves_of_step, step_with};
 ghost use Rattle.run_table.specs.declared.answer.TableStep.TheVariants.{Turned as Shown};
 ghost use Rattle.run_table.specs.Recording.{MayNote, IsNoted, Records};
 ghost use Rattle.run_table.specs.Stepping.{is_shown, is_waiting, is_due, Answers, reason_of};
@@ -64,38 +64,46 @@ pub(crate) fn note<D: Disk>(recording: &mut Recording<D>, budget: &mut u32, entr
     }
 }
 
-/// Writes all records that pend, before an answer with these moves.
+/// Writes all records that pend, before an answer with these moves. Where the disk fails in that
+/// the list is cleared.
 pub(crate) fn flush_before<D: Disk>(
     recording: &mut Recording<D>,
     answer: StepAnswer,
-    moves: &MoveList,
+    moves: &mut MoveList,
 ) -> StepAnswer
-    requires { IsTrue recording.old.log.file.live }
+    requires live { IsTrue recording.old.log.file.live }
+    requires apart { moves_of_step (step_with answer moves.old) ≡ moves.old }
     ensures answer { Answers D.state (nat_lt recording.old.flushed (length recording.old.history))
-        (step_with answer moves.now) recording.old recording.new (step_with result moves.now) }
+        (step_with answer moves.old) recording.old recording.new (step_with result moves.new) }
+    ensures apart { moves_of_step (step_with result moves.new) ≡ moves.new }
     ensures records { Records D.state [] recording.old recording.new }
 {
-    let _ = moves;
     match recording.flush() {
         Ok(()) => answer,
-        Err(_) => StepAnswer::DiskFault,
+        Err(_) => {
+            moves.clear();
+            StepAnswer::DiskFault
+        }
     }
 }
 
 /// Takes a turn of the machine, whose moves are these: its record joins the history, and all
-/// records are written before an answer that shows something, and at 64 that pend.
+/// records are written before an answer that shows something, and at 64 that pend. Where the disk
+/// fails in that the list is cleared.
 pub(crate) fn take<D: Disk>(
     recording: &mut Recording<D>,
     budget: &mut u32,
     turned: Answered,
-    moves: &MoveList,
+    moves: &mut MoveList,
 ) -> StepAnswer
     requires note { MayNote recording.old }
     requires step { IfSome turned.entry (λ e. edit_of e.kind ≡ None) }
     requires budget { 0 < budget.old }
-    requires made { is_shown (turn_with turned.answer moves.now) ≡ true → length (list_of turned.entry) ≡ 1 }
-    ensures answer { Answers D.state (is_due recording.old (list_of turned.entry) (turn_with turned.answer moves.now))
-        (Shown (turn_with turned.answer moves.now)) recording.old recording.new (step_with result moves.now) }
+    requires made { is_shown (turn_with turned.answer moves.old) ≡ true → length (list_of turned.entry) ≡ 1 }
+    requires apart { moves_of_turn (turn_with turned.answer moves.old) ≡ moves.old }
+    ensures answer { Answers D.state (is_due recording.old (list_of turned.entry) (turn_with turned.answer moves.old))
+        (Shown (turn_with turned.answer moves.old)) recording.old recording.new (step_with result moves.new) }
+    ensures apart { moves_of_step (step_with result moves.new) ≡ moves.new }
     ensures records { Records D.state (list_of turned.entry) recording.old recording.new }
     ensures budget { budget.new + length (list_of turned.entry) ≡ budget.old }
 {

@@ -4,6 +4,7 @@ ghost use Rattle.gate_file.specs.Creation.{without_disk};
 ghost use Rattle.nc_number.specs.declared.limits.TheConstants.{MOST_PENDING};
 ghost use Rattle.nc_number.specs.declared.path.Path.{Path};
 ghost use Rattle.nc_number.specs.Path.{other_of};
+ghost use Rattle.nc_number.specs.Both.{of_path};
 ghost use Rattle.nc_outside.specs.declared.halt.Halt.TheVariants as halt;
 ghost use Rattle.run_records.specs.declared.header.Header.{Header};
 ghost use Rattle.run_records.specs.Headers.{IsShort};
@@ -11,9 +12,8 @@ ghost use Rattle.run_journal.specs.Beginning.{BeginsRun};
 ghost use Rattle.seat_table.specs.Turning.{first_reason};
 ghost use Rattle.two_path.specs.declared.turn.Turn.TheVariants as turn;
 ghost use Rattle.two_path.specs.Histories.{IsKept};
-ghost use Rattle.two_path.specs.Machine.{own_first};
 ghost use Rattle.run_table.specs.declared.answer.TableStep.TheVariants as step;
-ghost use Rattle.run_table.specs.Apart.{step_with};
+ghost use Rattle.run_table.specs.Apart.{moves_of_step, step_with};
 ghost use Rattle.run_table.specs.Recording.{IsJournaled};
 ghost use Rattle.run_table.specs.Kept.{tapes_in, opening_of, IsVerdictOf, IsTable};
 ghost use Rattle.run_table.specs.Stepping.{bound_of, waits_in, drains, step_of, IsStep, GoesOn};
@@ -22,20 +22,18 @@ ghost use Rattle.run_table.specs.Begun.{IsBegun, disk_in, recovered_table, IsPre
 ghost use Rattle.run_table.specs.Recovered.{IsRecovered, HoldsAll};
 ghost use Rattle.run_table.specs.Ending.{end_ahead, Asks};
 ghost use Rattle.run_table.specs.Holding.{without_turret};
-ghost use Rattle.run_table.specs.Running.{end_of};
 ghost use Rattle.run_table.specs.Since.{Since};
 
 use crate::answer::{Parts, StepAnswer, TableStep};
 use crate::draining::{comes_to_wait, flow_of, none_owed, owed_behind, with_owed};
 use crate::laws::who_is_waited_for_goes_on;
 use crate::recording::Recording;
-use crate::running::{RunEnd, end_at};
 use crate::stepping::{flush_before, is_waiting, reason_of, take};
 use disk_model::Disk;
 use gate_file::GateFault;
 use nc_moves::MoveList;
 use nc_number::{Both, NoMemory, Path, Point};
-use nc_outside::Halt;
+use nc_outside::{Halt, Reason};
 use nc_verify::Verified;
 use path_state::{control_goes_as_the_flow_orders, waits_and_ends_stop_a_path};
 use run_journal::{Journal, a_held_journal_leaves_its_records};
@@ -198,8 +196,8 @@ impl<D: Disk> Table<D> {
     }
 
     /// One turn of the path, unless the table has stopped, its journal is full, or its budget
-    /// spent. Its moves are put into the list, which is cleared first; a step that is no turn may
-    /// leave it as it was. It takes no memory.
+    /// spent. Its moves are put into the list, which is cleared first: behind an answer without any
+    /// it is empty. It takes no memory.
     ///
     /// Its record joins the history. A block without moves shows nothing, so its record may pend.
     /// All that pends is on the disk before an answer that shows more, before `Full` and `Budget`,
@@ -210,6 +208,7 @@ impl<D: Disk> Table<D> {
     /// and moves were answered to it since it was last drained.
     pub fn step_into(&mut self, path: Path, moves: &mut MoveList) -> StepAnswer
         ensures step { IsStep D.state (step_of self.old path) self.old self.new (step_with result moves.new) }
+        ensures apart { moves_of_step (step_with result moves.new) ≡ moves.new }
         ensures since { Since D.state self.old self.new }
         ensures owed { self.new.owed ≡ owed_behind path (step_with result moves.new) self.old.owed }
         // Where the path waits, the other one has a turn of a block.
@@ -219,6 +218,7 @@ impl<D: Disk> Table<D> {
         each_event_keeps_the_history();
         histories_are_runs();
         who_is_waited_for_goes_on();
+        moves.clear();
         if let Some(why) = self.halt {
             return StepAnswer::Halted(why);
         }
@@ -261,56 +261,37 @@ impl<D: Disk> Table<D> {
         self.owed = with_owed(self.owed, path, false);
     }
 
-    /// The end of a run that an alarm or the ends of both paths have ended.
-    fn end(&self) -> Option<RunEnd>
-        ensures { result ≡ end_of self.now.machine }
-    {
-        if let Some(alarm) = self.machine.alarm() {
-            return Some(RunEnd::Alarm(alarm));
-        }
-        if self.machine.finished(Path::One) && self.machine.finished(Path::Two) {
-            return Some(RunEnd::Done);
-        }
-        None
-    }
-
     /// The end of a run whose disk has not failed, and of which records may pend: an alarm, the
     /// ends of both paths, a full journal, or a spent budget.
-    fn end_ahead(&self) -> Option<RunEnd>
+    fn end_ahead(&self) -> Option<Reason>
         ensures { result ≡ end_ahead self.now }
     {
-        if let Some(end) = self.end() {
-            return Some(end);
-        }
-        match self.bound() {
-            Some(why) => Some(end_at(why)),
-            None => None,
-        }
+        Reason::of_end(self.machine.end(), self.bound())
     }
 
     /// The end of a run, with all its records on the disk. Where the disk fails in that, it is the
     /// reason that the table keeps.
-    pub(crate) fn ended(&mut self) -> Option<RunEnd>
+    pub(crate) fn ended(&mut self) -> Option<Reason>
         ensures since { Since D.state self.old self.new }
         ensures asks { Asks self.old self.new result }
         ensures table { IsTable D.state self.old }
     {
         if let Some(Halt::Disk) = self.halt {
-            return Some(RunEnd::DiskFault);
+            return Some(Reason::DiskFault);
         }
         let end = self.end_ahead()?;
         match self.recording.flush() {
             Ok(()) => Some(end),
             Err(_) => {
                 self.halt = Some(Halt::Disk);
-                Some(RunEnd::DiskFault)
+                Some(Reason::DiskFault)
             }
         }
     }
 
     /// Where the turret of the path stands, in 0.001 mm.
     pub fn position(&self, path: Path) -> Point
-        ensures { result ≡ (own_first path self.now.machine).first.path.position }
+        ensures { result ≡ (of_path self.now.machine.paths path).path.position }
     {
         self.machine.path(path).position()
     }

@@ -1,15 +1,15 @@
 -- The waits and the end of a path in a trace are the labels of its tape: by induction on the
 -- history, with the labels ahead of the path's place of which the first is told already if the path
 -- waits or has ended.
-use Rattle.std.proofs.Common.{◌≡◌, ◌⊎◌, inl, inr, ℕ, ◌==◌, ◌||◌, Bool, true, false, List, [], ◌∷◌, ◌++◌, refl, sym, subst, ap, ◌∙◌, Option, Some, None, is_some, arith, append-nil}
+use Rattle.std.proofs.Common.{◌≡◌, ℕ, ◌==◌, ◌||◌, Bool, true, false, List, [], ◌∷◌, ◌++◌, refl, sym, subst, ap, ◌∙◌, Option, Some, None, is_some, append-nil}
 use Rattle.std.specs.Prelude.{if◌then◌else◌}
 use Rattle.std.proofs.lemmas.Grind.{flat_map-append}
-use Rattle.std.proofs.lemmas.Bool.Decides.{nat_tests}
 use Rattle.nc_number.specs.Path.{is_same}
 use Rattle.nc_number.specs.declared.path.Path.{Path}
 use Rattle.nc_number.specs.declared.path.Path.TheVariants.{One, Two}
 use Rattle.nc_number.specs.declared.point.Point.{Point}
 use Rattle.nc_number.specs.declared.value.Var.{Var}
+use Rattle.nc_number.specs.Both.{of_path}
 use Rattle.nc_moves.specs.declared.alarm.Alarm.{Alarm}
 use Rattle.nc_moves.specs.declared.motion.Move.{Move}
 use Rattle.nc_moves.specs.declared.motion.Moves.{Moves}
@@ -32,7 +32,7 @@ use Rattle.tape_flow.specs.declared.flow.Flow.{Flow}
 use Rattle.two_path.specs.declared.turn.Turn.{Turn}
 use Rattle.two_path.specs.declared.turn.Turn.TheVariants as turn
 use Rattle.two_path.specs.Machine.{Part, MachineView, own_first, opening}
-use Rattle.two_path.specs.Turns.{Blocks, Tapes, TurnResult, block_turn, kind_of, own_turn, result_at_wait, result_by, tape_of, tapes_of, unless_idle}
+use Rattle.two_path.specs.Turns.{Blocks, Tapes, TurnResult, block_turn, kind_of, own_turn, result_at_wait, result_by, tapes_of, unless_idle}
 use Rattle.two_path.specs.Histories.{IsLegal, IsStep, behind_entry, behind_own, behind_step, with_reads}
 use Rattle.two_path.specs.Again.{turn_by, turn_of_entry}
 use Rattle.two_path.proofs.Edited.{step_of_next}
@@ -41,7 +41,7 @@ use Rattle.trace_list.specs.declared.looking.Look.{Look}
 use Rattle.trace_list.specs.declared.looking.Standing.{Standing}
 use Rattle.trace_list.specs.Stops.{Follows, none, next, anew, stop_of, stops_of}
 use Rattle.trace_list.specs.Trace.{block_lines, is_same_point, is_same_way, lines_of, look_of, met_after, moved_lines, path_in, says_speed, shift_lines, spindle_lines, standing_of, traced, turn_lines}
-use Rattle.trace_list.specs.TraceText.{TraceLine, Shift, Spindle, Moved, Wait, Met, Ended}
+use Rattle.trace_list.specs.TraceText.{Shift, Spindle, Wait, Met, Ended}
 
 -- the stops of a turn, of its own path
 abbrev own_stops : Turn → List Label
@@ -149,66 +149,66 @@ record Passes (tape : List ControlProgram) (before after : Part) (stops : List L
   follows : (rest : List Label) → Follows (list tape) (due tape after) rest → Follows (list tape) (due tape before) (stops ++ rest)
 
 -- a path that goes on
-module _ (tape : List ControlProgram) (law : KeepsLabels tape) (path : Path) (line : ℕ) (m : MachineView) (side : SideOf tape m.first)
-    (none_waits : m.first.waiting ≡ None) (unfinished : m.first.finished ≡ false) where
-  awake : (place : List Frame) (rest : List Label) → Follows (list tape) (left_of (idle m.first.waiting m.first.finished) (ahead tape place)) rest
+module _ (tape : List ControlProgram) (law : KeepsLabels tape) (path : Path) (line : ℕ) (m : MachineView) (side : SideOf tape m.paths.one)
+    (none_waits : m.paths.one.waiting ≡ None) (unfinished : m.paths.one.finished ≡ false) where
+  awake : (place : List Frame) (rest : List Label) → Follows (list tape) (left_of (idle m.paths.one.waiting m.paths.one.finished) (ahead tape place)) rest
       → Follows (list tape) (ahead tape place) rest
   awake place rest f =
       subst (λ b. Follows (list tape) (left_of (b || false) (ahead tape place)) rest) unfinished
-      (subst (λ (w : Option ℕ). Follows (list tape) (left_of (m.first.finished || is_some w) (ahead tape place)) rest) none_waits f)
+      (subst (λ (w : Option ℕ). Follows (list tape) (left_of (m.paths.one.finished || is_some w) (ahead tape place)) rest) none_waits f)
 
-  due_is : due tape m.first ≡ ahead tape m.first.path.place
+  due_is : due tape m.paths.one ≡ ahead tape m.paths.one.path.place
   due_is =
-      ap (λ (w : Option ℕ). left_of (m.first.finished || is_some w) (ahead tape m.first.path.place)) none_waits
-      ∙ ap (λ b. left_of (b || false) (ahead tape m.first.path.place)) unfinished
+      ap (λ (w : Option ℕ). left_of (m.paths.one.finished || is_some w) (ahead tape m.paths.one.path.place)) none_waits
+      ∙ ap (λ b. left_of (b || false) (ahead tape m.paths.one.path.place)) unfinished
 
-  from_here : (stops rest : List Label) → Follows (list tape) (ahead tape m.first.path.place) (stops ++ rest) → Follows (list tape) (due tape m.first) (stops ++ rest)
+  from_here : (stops rest : List Label) → Follows (list tape) (ahead tape m.paths.one.path.place) (stops ++ rest) → Follows (list tape) (due tape m.paths.one) (stops ++ rest)
   from_here stops rest f = subst (λ xs. Follows (list tape) xs (stops ++ rest)) (sym due_is) f
 
-  never_waits : {A : Type 0} (code : ℕ) → m.first.waiting ≡ Some code → A
+  never_waits : {A : Type 0} (code : ℕ) → m.paths.one.waiting ≡ Some code → A
   never_waits code is = absurd (let clash : ◌≡◌ {A = Option ℕ} None (Some code) = sym none_waits ∙ is in cc)
 
   -- nothing of the path changes
-  stays : Passes tape m.first m.first []
+  stays : Passes tape m.paths.one m.paths.one []
   stays = record { side = side; follows = λ rest f. f }
 
-  at_wait : (code : ℕ) → standing tape m.first.path.place ≡ Some (control.Wait code) → (o : Option ℕ)
-      → Passes tape m.first (result_at_wait path line m code o).machine.first (own_stops (result_at_wait path line m code o).turn)
+  at_wait : (code : ℕ) → standing tape m.paths.one.path.place ≡ Some (control.Wait code) → (o : Option ℕ)
+      → Passes tape m.paths.one (result_at_wait path line m code o).machine.paths.one (own_stops (result_at_wait path line m code o).turn)
   at_wait code is None = record {
     side = record { place = side.place; waits = λ c same. (is ∙ ap (λ (x : ℕ). Some (control.Wait x)) (let e : ◌≡◌ {A = Option ℕ} (Some code) (Some c) = same in cc), unfinished) };
     follows = λ rest f.
-        let ahead_is = (law.wait m.first.path.place code side.place is).1 in
-        let told : Follows (list tape) (left_of true (ahead tape m.first.path.place)) rest =
-        subst (λ b. Follows (list tape) (left_of (b || true) (ahead tape m.first.path.place)) rest) unfinished f in
+        let ahead_is = (law.wait m.paths.one.path.place code side.place is).1 in
+        let told : Follows (list tape) (left_of true (ahead tape m.paths.one.path.place)) rest =
+        subst (λ b. Follows (list tape) (left_of (b || true) (ahead tape m.paths.one.path.place)) rest) unfinished f in
         from_here (label.Wait code ∷ []) rest
         (subst (λ xs. Follows (list tape) xs (label.Wait code ∷ rest)) (sym ahead_is)
-        (next (label.Wait code) (ahead tape (place_behind m.first.path.place)) rest (subst (λ xs. Follows (list tape) (left_of true xs) rest) ahead_is told)));
+        (next (label.Wait code) (ahead tape (place_behind m.paths.one.path.place)) rest (subst (λ xs. Follows (list tape) (left_of true xs) rest) ahead_is told)));
   }
   at_wait code is (Some there) = go (code == there) refl
     where
-      go : (b : Bool) → (code == there) ≡ b → Passes tape m.first (result_at_wait path line m code (Some there)).machine.first (own_stops (result_at_wait path line m code (Some there)).turn)
+      go : (b : Bool) → (code == there) ≡ b → Passes tape m.paths.one (result_at_wait path line m code (Some there)).machine.paths.one (own_stops (result_at_wait path line m code (Some there)).turn)
       go true e = rw e (record {
-        side = record { place = (law.wait m.first.path.place code side.place is).0; waits = λ c same. absurd cc };
+        side = record { place = (law.wait m.paths.one.path.place code side.place is).0; waits = λ c same. absurd cc };
         follows = λ rest f.
-            let ahead_is = (law.wait m.first.path.place code side.place is).1 in
-            let told : Follows (list tape) (ahead tape (place_behind m.first.path.place)) rest =
-            subst (λ b. Follows (list tape) (left_of (b || false) (ahead tape (place_behind m.first.path.place))) rest) unfinished f in
+            let ahead_is = (law.wait m.paths.one.path.place code side.place is).1 in
+            let told : Follows (list tape) (ahead tape (place_behind m.paths.one.path.place)) rest =
+            subst (λ b. Follows (list tape) (left_of (b || false) (ahead tape (place_behind m.paths.one.path.place))) rest) unfinished f in
             from_here (label.Wait code ∷ []) rest
-            (subst (λ xs. Follows (list tape) xs (label.Wait code ∷ rest)) (sym ahead_is) (next (label.Wait code) (ahead tape (place_behind m.first.path.place)) rest told));
+            (subst (λ xs. Follows (list tape) xs (label.Wait code ∷ rest)) (sym ahead_is) (next (label.Wait code) (ahead tape (place_behind m.paths.one.path.place)) rest told));
       })
       go false e = rw e (record { side = side; follows = λ rest f. f })
 
-  by_effect : (e : Effect) → GoesAsOrdered tape m.first.path e → Passes tape m.first (result_by path line m e).machine.first (own_stops (result_by path line m e).turn)
+  by_effect : (e : Effect) → GoesAsOrdered tape m.paths.one.path e → Passes tape m.paths.one (result_by path line m e).machine.paths.one (own_stops (result_by path line m e).turn)
   by_effect (Need variable) goes = record { side = side; follows = λ rest f. f }
   by_effect (Done to write moves) goes = record {
-    side = record { place = step_place tape law m.first.path.place to.place side.place goes; waits = λ c same. never_waits c same };
-    follows = λ rest f. from_here [] rest (step_labels tape law m.first.path.place to.place rest side.place goes (awake to.place rest f));
+    side = record { place = step_place tape law m.paths.one.path.place to.place side.place goes; waits = λ c same. never_waits c same };
+    follows = λ rest f. from_here [] rest (step_labels tape law m.paths.one.path.place to.place rest side.place goes (awake to.place rest f));
   }
-  by_effect (AtWait code) goes = at_wait code goes m.second.waiting
+  by_effect (AtWait code) goes = at_wait code goes m.paths.two.waiting
   by_effect (AtEnd to moves) goes = record {
     side = record { place = subst (IsPlace tape) (sym goes.1) side.place; waits = λ c same. never_waits c same };
     follows = λ rest f.
-        let ahead_is = law.ends m.first.path.place side.place goes.0 in
+        let ahead_is = law.ends m.paths.one.path.place side.place goes.0 in
         let told : Follows (list tape) [] rest =
         subst (λ xs. Follows (list tape) (left_of true xs) rest) ahead_is (subst (λ place. Follows (list tape) (left_of true (ahead tape place)) rest) goes.1 f) in
         from_here (label.End ∷ []) rest
@@ -217,43 +217,43 @@ module _ (tape : List ControlProgram) (law : KeepsLabels tape) (path : Path) (li
   by_effect (effect.Alarm number value) goes = record { side = side; follows = λ rest f. f }
 
 -- the other path's turn
-module _ (tape : List ControlProgram) (law : KeepsLabels tape) (path : Path) (line : ℕ) (m : MachineView) (side : SideOf tape m.second) where
-  met_there : (code : ℕ) (o : Option ℕ) → m.second.waiting ≡ o → Passes tape m.second (result_at_wait path line m code o).machine.second []
+module _ (tape : List ControlProgram) (law : KeepsLabels tape) (path : Path) (line : ℕ) (m : MachineView) (side : SideOf tape m.paths.two) where
+  met_there : (code : ℕ) (o : Option ℕ) → m.paths.two.waiting ≡ o → Passes tape m.paths.two (result_at_wait path line m code o).machine.paths.two []
   met_there code None is = record { side = side; follows = λ rest f. f }
   met_there code (Some there) is = go (code == there) refl
     where
-      waits : (standing tape m.second.path.place ≡ Some (control.Wait there)) × (m.second.finished ≡ false)
+      waits : (standing tape m.paths.two.path.place ≡ Some (control.Wait there)) × (m.paths.two.finished ≡ false)
       waits = side.waits there is
 
-      go : (b : Bool) → (code == there) ≡ b → Passes tape m.second (result_at_wait path line m code (Some there)).machine.second []
+      go : (b : Bool) → (code == there) ≡ b → Passes tape m.paths.two (result_at_wait path line m code (Some there)).machine.paths.two []
       go true e = rw e (record {
-        side = record { place = (law.wait m.second.path.place there side.place waits.0).0; waits = λ c same. absurd cc };
+        side = record { place = (law.wait m.paths.two.path.place there side.place waits.0).0; waits = λ c same. absurd cc };
         follows = λ rest f.
-            let ahead_is = (law.wait m.second.path.place there side.place waits.0).1 in
-            let told : Follows (list tape) (ahead tape (place_behind m.second.path.place)) rest =
-            subst (λ b. Follows (list tape) (left_of (b || false) (ahead tape (place_behind m.second.path.place))) rest) waits.1 f in
-            let due_is : due tape m.second ≡ ahead tape (place_behind m.second.path.place) =
-            ap (λ (w : Option ℕ). left_of (m.second.finished || is_some w) (ahead tape m.second.path.place)) is
-            ∙ ap (λ b. left_of (b || true) (ahead tape m.second.path.place)) waits.1
+            let ahead_is = (law.wait m.paths.two.path.place there side.place waits.0).1 in
+            let told : Follows (list tape) (ahead tape (place_behind m.paths.two.path.place)) rest =
+            subst (λ b. Follows (list tape) (left_of (b || false) (ahead tape (place_behind m.paths.two.path.place))) rest) waits.1 f in
+            let due_is : due tape m.paths.two ≡ ahead tape (place_behind m.paths.two.path.place) =
+            ap (λ (w : Option ℕ). left_of (m.paths.two.finished || is_some w) (ahead tape m.paths.two.path.place)) is
+            ∙ ap (λ b. left_of (b || true) (ahead tape m.paths.two.path.place)) waits.1
             ∙ ap (left_of true) ahead_is in
             subst (λ xs. Follows (list tape) xs rest) (sym due_is) told;
       })
       go false e = rw e (record { side = side; follows = λ rest f. f })
 
-  by_other : (e : Effect) → Passes tape m.second (result_by path line m e).machine.second []
+  by_other : (e : Effect) → Passes tape m.paths.two (result_by path line m e).machine.paths.two []
   by_other (Need variable) = record { side = side; follows = λ rest f. f }
   by_other (Done to write moves) = record { side = side; follows = λ rest f. f }
-  by_other (AtWait code) = met_there code m.second.waiting refl
+  by_other (AtWait code) = met_there code m.paths.two.waiting refl
   by_other (AtEnd to moves) = record { side = side; follows = λ rest f. f }
   by_other (effect.Alarm number value) = record { side = side; follows = λ rest f. f }
 
 -- a turn that makes a record is that of a block
 record IsAwake (m : MachineView) (r rest : TurnResult) : Type 0 where
-  none_waits : m.first.waiting ≡ None
-  unfinished : m.first.finished ≡ false
+  none_waits : m.paths.one.waiting ≡ None
+  unfinished : m.paths.one.finished ≡ false
   same : r ≡ rest
 
-awake_by : (m : MachineView) (a : Option Alarm) (f : Bool) (w : Option ℕ) (rest : TurnResult) (kind : EntryKind) → m.first.finished ≡ f → m.first.waiting ≡ w
+awake_by : (m : MachineView) (a : Option Alarm) (f : Bool) (w : Option ℕ) (rest : TurnResult) (kind : EntryKind) → m.paths.one.finished ≡ f → m.paths.one.waiting ≡ w
     → kind_of (unless_idle m a f w rest).turn ≡ Some kind → IsAwake m (unless_idle m a f w rest) rest
 awake_by m (Some alarm) f w rest kind ends is makes = absurd (cc)
 awake_by m None true w rest kind ends is makes = absurd (cc)
@@ -264,51 +264,48 @@ abbrev AreLed : List ControlProgram → Blocks → Type 0
 AreLed tape blocks = (path : PathView) (values : List Var) → GoesAsOrdered tape path (blocks.effect path values)
 
 own_passes : (tape : List ControlProgram) (blocks : Blocks) (path : Path) (kind : EntryKind) (stamps : List ℕ) (m : MachineView) → KeepsLabels tape → AreLed tape blocks
-    → SideOf tape m.first → IsStep blocks path m kind stamps
-    → Passes tape m.first (own_turn blocks path (with_reads blocks stamps m)).machine.first (own_stops (own_turn blocks path (with_reads blocks stamps m)).turn)
+    → SideOf tape m.paths.one → IsStep blocks path m kind stamps
+    → Passes tape m.paths.one (own_turn blocks path (with_reads blocks stamps m)).machine.paths.one (own_stops (own_turn blocks path (with_reads blocks stamps m)).turn)
 own_passes tape blocks path kind stamps m law led side step =
     let now = with_reads blocks stamps m in
-    let is = awake_by now now.alarm now.first.finished now.first.waiting (block_turn blocks path now) kind refl refl step.is in
-    let by = by_effect tape law path (blocks.line now.first.path.place) now (record { place = side.place; waits = side.waits }) is.none_waits is.unfinished
-    (blocks.effect now.first.path now.first.values) (led now.first.path now.first.values) in
-    subst (λ (r : TurnResult). Passes tape m.first r.machine.first (own_stops r.turn)) (sym is.same) (record { side = by.side; follows = by.follows })
+    let is = awake_by now now.alarm now.paths.one.finished now.paths.one.waiting (block_turn blocks path now) kind refl refl step.is in
+    let by = by_effect tape law path (blocks.line now.paths.one.path.place) now (record { place = side.place; waits = side.waits }) is.none_waits is.unfinished
+    (blocks.effect now.paths.one.path now.paths.one.values) (led now.paths.one.path now.paths.one.values) in
+    subst (λ (r : TurnResult). Passes tape m.paths.one r.machine.paths.one (own_stops r.turn)) (sym is.same) (record { side = by.side; follows = by.follows })
 
 other_passes : (tape : List ControlProgram) (blocks : Blocks) (path : Path) (kind : EntryKind) (stamps : List ℕ) (m : MachineView) → KeepsLabels tape
-    → SideOf tape m.second → IsStep blocks path m kind stamps → Passes tape m.second (own_turn blocks path (with_reads blocks stamps m)).machine.second []
+    → SideOf tape m.paths.two → IsStep blocks path m kind stamps → Passes tape m.paths.two (own_turn blocks path (with_reads blocks stamps m)).machine.paths.two []
 other_passes tape blocks path kind stamps m law side step =
     let now = with_reads blocks stamps m in
-    let is = awake_by now now.alarm now.first.finished now.first.waiting (block_turn blocks path now) kind refl refl step.is in
-    let by = by_other tape law path (blocks.line now.first.path.place) now (record { place = side.place; waits = side.waits }) (blocks.effect now.first.path now.first.values) in
-    subst (λ (r : TurnResult). Passes tape m.second r.machine.second []) (sym is.same) (record { side = by.side; follows = by.follows })
-
-abbrev part_of : Path → MachineView → Part
-part_of path m = (own_first path m).first
+    let is = awake_by now now.alarm now.paths.one.finished now.paths.one.waiting (block_turn blocks path now) kind refl refl step.is in
+    let by = by_other tape law path (blocks.line now.paths.one.path.place) now (record { place = side.place; waits = side.waits }) (blocks.effect now.paths.one.path now.paths.one.values) in
+    subst (λ (r : TurnResult). Passes tape m.paths.two r.machine.paths.two []) (sym is.same) (record { side = by.side; follows = by.follows })
 
 abbrev turn_after : Tapes → Path → List ℕ → MachineView → Turn
-turn_after tapes path stamps m = (own_turn (tape_of tapes path) path (with_reads (tape_of tapes path) stamps (own_first path m))).turn
+turn_after tapes path stamps m = (own_turn (of_path tapes path) path (with_reads (of_path tapes path) stamps (own_first path m))).turn
 
 abbrev machine_after : Tapes → Path → List ℕ → MachineView → MachineView
-machine_after tapes path stamps m = own_first path (behind_step (tape_of tapes path) path stamps (own_first path m))
+machine_after tapes path stamps m = own_first path (behind_step (of_path tapes path) path stamps (own_first path m))
 
 -- a step of either path, as one path sees it
 step_passes : (path of : Path) (tapes : Tapes) (tape : List ControlProgram) (kind : EntryKind) (stamps : List ℕ) (m : MachineView) → KeepsLabels tape
-    → AreLed tape (tape_of tapes path) → SideOf tape (part_of path m) → IsStep (tape_of tapes of) of (own_first of m) kind stamps
-    → Passes tape (part_of path m) (part_of path (machine_after tapes of stamps m)) (chosen (is_same path of) (own_stops (turn_after tapes of stamps m)))
+    → AreLed tape (of_path tapes path) → SideOf tape (of_path m.paths path) → IsStep (of_path tapes of) of (own_first of m) kind stamps
+    → Passes tape (of_path m.paths path) (of_path (machine_after tapes of stamps m).paths path) (chosen (is_same path of) (own_stops (turn_after tapes of stamps m)))
 step_passes One One tapes tape kind stamps m law led side step =
-    let p = own_passes tape tapes.first One kind stamps m law led side step in record { side = p.side; follows = p.follows }
+    let p = own_passes tape tapes.one One kind stamps m law led side step in record { side = p.side; follows = p.follows }
 step_passes One Two tapes tape kind stamps m law led side step =
-    let p = other_passes tape tapes.second Two kind stamps (own_first Two m) law side step in record { side = p.side; follows = p.follows }
+    let p = other_passes tape tapes.two Two kind stamps (own_first Two m) law side step in record { side = p.side; follows = p.follows }
 step_passes Two One tapes tape kind stamps m law led side step =
-    let p = other_passes tape tapes.first One kind stamps m law side step in record { side = p.side; follows = p.follows }
+    let p = other_passes tape tapes.one One kind stamps m law side step in record { side = p.side; follows = p.follows }
 step_passes Two Two tapes tape kind stamps m law led side step =
-    let p = own_passes tape tapes.second Two kind stamps (own_first Two m) law led side step in record { side = p.side; follows = p.follows }
+    let p = own_passes tape tapes.two Two kind stamps (own_first Two m) law led side step in record { side = p.side; follows = p.follows }
 
 -- and a record, which is an edit or has these stamps: an edit leaves each path where it is
 entry_passes : (path of : Path) (tapes : Tapes) (tape : List ControlProgram) (kind : EntryKind) (edit : Option Edit) (stamps : List ℕ) (m : MachineView)
-    → KeepsLabels tape → AreLed tape (tape_of tapes path) → SideOf tape (part_of path m)
-    → (edit ≡ None → IsStep (tape_of tapes of) of (own_first of m) kind stamps)
-    → Passes tape (part_of path m) (part_of path (own_first of (behind_own (tape_of tapes of) of edit stamps (own_first of m))))
-    (chosen (is_same path of) (own_stops (turn_by (tape_of tapes of) of edit stamps (own_first of m))))
+    → KeepsLabels tape → AreLed tape (of_path tapes path) → SideOf tape (of_path m.paths path)
+    → (edit ≡ None → IsStep (of_path tapes of) of (own_first of m) kind stamps)
+    → Passes tape (of_path m.paths path) (of_path (own_first of (behind_own (of_path tapes of) of edit stamps (own_first of m))).paths path)
+    (chosen (is_same path of) (own_stops (turn_by (of_path tapes of) of edit stamps (own_first of m))))
 entry_passes path of tapes tape kind None stamps m law led side step = step_passes path of tapes tape kind stamps m law led side (step refl)
 entry_passes One One tapes tape kind (Some edit) stamps m law led side step =
     record { side = record { place = side.place; waits = side.waits }; follows = λ rest f. f }
@@ -320,18 +317,18 @@ entry_passes Two Two tapes tape kind (Some edit) stamps m law led side step =
     record { side = record { place = side.place; waits = side.waits }; follows = λ rest f. f }
 
 -- from any machine on
-follows_from : (path : Path) (tapes : Tapes) (tape : List ControlProgram) → KeepsLabels tape → AreLed tape (tape_of tapes path) → (met : ℕ) (m : MachineView)
-    (entries : List Entry) → SideOf tape (part_of path m) → IsLegal tapes m entries
-    → Follows (list tape) (due tape (part_of path m)) (stops_of path (traced tapes met m entries))
+follows_from : (path : Path) (tapes : Tapes) (tape : List ControlProgram) → KeepsLabels tape → AreLed tape (of_path tapes path) → (met : ℕ) (m : MachineView)
+    (entries : List Entry) → SideOf tape (of_path m.paths path) → IsLegal tapes m entries
+    → Follows (list tape) (due tape (of_path m.paths path)) (stops_of path (traced tapes met m entries))
 unfolding traced
-follows_from path tapes tape law led met m [] side legal = none (due tape (part_of path m))
+follows_from path tapes tape law led met m [] side legal = none (due tape (of_path m.paths path))
 follows_from path tapes tape law led met m (e ∷ entries) side legal =
     let t = turn_of_entry tapes e m in
     let after = behind_entry tapes e m in
     let lines = lines_of tapes met m e in
     let rest = traced tapes (met_after met t) after entries in
     let passes = entry_passes path e.path tapes tape e.kind (edit_of e.kind) e.stamps m law led side (λ step. step_of_next tapes m e step legal.0) in
-    subst (λ stops. Follows (list tape) (due tape (part_of path m)) stops)
+    subst (λ stops. Follows (list tape) (due tape (of_path m.paths path)) stops)
     (ap (λ (stops : List Label). stops ++ stops_of path rest) (sym (turn_stops path e.path met (standing_of tapes e.path m) (look_of (path_in e.path after)) t))
     ∙ sym (flat_map-append (stop_of path) lines rest))
     (passes.follows (stops_of path rest) (follows_from path tapes tape law led (met_after met t) after entries passes.side legal.1))

@@ -1,7 +1,7 @@
 -- Each meeting of a trace closes the open waits of both paths: by induction on the history, with
 -- the waits that the machine has.
 use Rattle.std.proofs.Common.{◌≡◌, ℕ, ◌+◌, ◌==◌, ◌||◌, Bool, true, false, List, [], ◌∷◌, ◌++◌, refl, sym, subst, ap, ◌∙◌, append_assoc, Option, Some, None, arith}
-use Rattle.std.specs.Prelude.{if◌then◌else◌, map, option_map}
+use Rattle.std.specs.Prelude.{if◌then◌else◌, option_map}
 use Rattle.nc_number.specs.declared.path.Path.{Path}
 use Rattle.nc_number.specs.Both.{of_path}
 use Rattle.nc_number.specs.declared.path.Path.TheVariants.{One, Two}
@@ -17,16 +17,16 @@ use Rattle.path_state.specs.Effect.{Effect, Need, Done, AtWait, AtEnd}
 use Rattle.path_state.specs.Effect as effect
 use Rattle.two_path.specs.declared.turn.Turn.{Turn}
 use Rattle.two_path.specs.declared.turn.Turn.TheVariants as turn
-use Rattle.two_path.specs.Machine.{MachineView, own_first, opening, without_reads}
-use Rattle.two_path.specs.Turns.{Blocks, Tapes, TurnResult, alarm_at, block_turn, kind_of, own_turn, result_at_wait, result_by, tape_of, unless_idle}
+use Rattle.two_path.specs.Machine.{MachineView, own_first, opening}
+use Rattle.two_path.specs.Turns.{Blocks, Tapes, TurnResult, alarm_at, block_turn, kind_of, own_turn, result_at_wait, result_by, unless_idle}
 use Rattle.two_path.specs.Histories.{IsLegal, IsStep, behind_entry, behind_own, with_reads}
 use Rattle.two_path.specs.Again.{turn_by, turn_of_entry}
 use Rattle.two_path.proofs.Edited.{step_of_next}
 use Rattle.trace_list.specs.declared.looking.Look.{Look}
 use Rattle.trace_list.specs.declared.looking.Standing.{Standing}
-use Rattle.trace_list.specs.Meetings.{ArePaired, Goes, OpenWait, open_wait}
-use Rattle.trace_list.specs.Trace.{block_lines, is_same_point, is_same_way, line_of, lines_of, look_of, met_after, moved_lines, path_in, says_speed, shift_lines, spindle_lines, standing_of, traced, turn_lines}
-use Rattle.trace_list.specs.TraceText.{TraceLine, Shift, Spindle, Moved, Wait, Met, Raised, Ended}
+use Rattle.trace_list.specs.Meetings.{ArePaired, OpenWait, open_wait}
+use Rattle.trace_list.specs.Trace.{block_lines, is_same_point, is_same_way, look_of, met_after, moved_lines, path_in, says_speed, shift_lines, spindle_lines, standing_of, traced, turn_lines}
+use Rattle.trace_list.specs.TraceText.{TraceLine, Shift, Spindle, Wait, Met, Raised, Ended}
 
 -- the waits of a path and of the other one
 abbrev PairedFor : Path → Option OpenWait → Option OpenWait → ℕ → List TraceLine → Type 0
@@ -107,64 +107,64 @@ met_on Two met code there before line rest same is p =
 -- what is in order after a turn of the path whose part is the first
 abbrev After : Blocks → Blocks → Path → ℕ → List TraceLine → TurnResult → Type 0
 After blocks other path met rest r =
-    PairedFor path (waits blocks r.machine.first.path r.machine.first.waiting) (waits other r.machine.second.path r.machine.second.waiting)
+    PairedFor path (waits blocks r.machine.paths.one.path r.machine.paths.one.waiting) (waits other r.machine.paths.two.path r.machine.paths.two.waiting)
     (met_after met r.turn) rest
 
 -- A turn of the path whose part is the first, by what its block comes to: what is in order after it
 -- makes its own lines be in order.
 module _ (blocks other : Blocks) (path : Path) (met : ℕ) (m : MachineView) (before : Standing) (after : Look) (rest : List TraceLine)
-    (here : of_path before.lines path ≡ blocks.line m.first.path.place) (there : other_line path before ≡ other.line m.second.path.place)
-    (none : m.first.waiting ≡ None) where
+    (here : of_path before.lines path ≡ blocks.line m.paths.one.path.place) (there : other_line path before ≡ other.line m.paths.two.path.place)
+    (none : m.paths.one.waiting ≡ None) where
   -- the path does not wait after a block
-  goes : (at : PathView) (theirs : Option OpenWait) (n : ℕ) → PairedFor path (waits blocks at m.first.waiting) theirs n rest → PairedFor path None theirs n rest
+  goes : (at : PathView) (theirs : Option OpenWait) (n : ℕ) → PairedFor path (waits blocks at m.paths.one.waiting) theirs n rest → PairedFor path None theirs n rest
   goes at theirs n p = subst (λ (w : Option ℕ). PairedFor path (waits blocks at w) theirs n rest) none p
 
-  wait_step : (code : ℕ) (o : Option ℕ) → After blocks other path met rest (result_at_wait path (blocks.line m.first.path.place) m code o) → m.second.waiting ≡ o
-      → PairedFor path None (waits other m.second.path o) met
-      (turn_lines path met before after (result_at_wait path (blocks.line m.first.path.place) m code o).turn ++ rest)
+  wait_step : (code : ℕ) (o : Option ℕ) → After blocks other path met rest (result_at_wait path (blocks.line m.paths.one.path.place) m code o) → m.paths.two.waiting ≡ o
+      → PairedFor path None (waits other m.paths.two.path o) met
+      (turn_lines path met before after (result_at_wait path (blocks.line m.paths.one.path.place) m code o).turn ++ rest)
   wait_step code None p is =
-      subst (λ n. PairedFor path None (waits other m.second.path None) met (Wait path n code ∷ rest)) (sym here)
-      (wait_on path (waits other m.second.path None) met (blocks.line m.first.path.place) code rest
-      (subst (λ (w : Option ℕ). PairedFor path (Some (open_wait (blocks.line m.first.path.place) code)) (waits other m.second.path w) met rest) is p))
+      subst (λ n. PairedFor path None (waits other m.paths.two.path None) met (Wait path n code ∷ rest)) (sym here)
+      (wait_on path (waits other m.paths.two.path None) met (blocks.line m.paths.one.path.place) code rest
+      (subst (λ (w : Option ℕ). PairedFor path (Some (open_wait (blocks.line m.paths.one.path.place) code)) (waits other m.paths.two.path w) met rest) is p))
   wait_step code (Some far) p is = go (code == far) refl p
     where
-      go : (b : Bool) → (code == far) ≡ b → After blocks other path met rest (result_at_wait path (blocks.line m.first.path.place) m code (Some far))
-          → PairedFor path None (waits other m.second.path (Some far)) met
-          (turn_lines path met before after (result_at_wait path (blocks.line m.first.path.place) m code (Some far)).turn ++ rest)
+      go : (b : Bool) → (code == far) ≡ b → After blocks other path met rest (result_at_wait path (blocks.line m.paths.one.path.place) m code (Some far))
+          → PairedFor path None (waits other m.paths.two.path (Some far)) met
+          (turn_lines path met before after (result_at_wait path (blocks.line m.paths.one.path.place) m code (Some far)).turn ++ rest)
       go true e p =
           let same : code ≡ far = grind arith in
           let q = rw e at p in
-          rw e (met_on path met code far before (other.line m.second.path.place) rest same there q)
+          rw e (met_on path met code far before (other.line m.paths.two.path.place) rest same there q)
       go false e p =
           let q = rw e at p in
-          rw e (raised_on path (waits other m.second.path (Some far)) met (blocks.line m.first.path.place) _ _ rest
-          (subst (λ (w : Option ℕ). PairedFor path None (waits other m.second.path w) met rest) is (goes m.first.path (waits other m.second.path m.second.waiting) met q)))
+          rw e (raised_on path (waits other m.paths.two.path (Some far)) met (blocks.line m.paths.one.path.place) _ _ rest
+          (subst (λ (w : Option ℕ). PairedFor path None (waits other m.paths.two.path w) met rest) is (goes m.paths.one.path (waits other m.paths.two.path m.paths.two.waiting) met q)))
 
-  effect_step : (e : Effect) → After blocks other path met rest (result_by path (blocks.line m.first.path.place) m e)
-      → PairedFor path None (waits other m.second.path m.second.waiting) met
-      (turn_lines path met before after (result_by path (blocks.line m.first.path.place) m e).turn ++ rest)
-  effect_step (Need variable) p = goes m.first.path (waits other m.second.path m.second.waiting) met p
+  effect_step : (e : Effect) → After blocks other path met rest (result_by path (blocks.line m.paths.one.path.place) m e)
+      → PairedFor path None (waits other m.paths.two.path m.paths.two.waiting) met
+      (turn_lines path met before after (result_by path (blocks.line m.paths.one.path.place) m e).turn ++ rest)
+  effect_step (Need variable) p = goes m.paths.one.path (waits other m.paths.two.path m.paths.two.waiting) met p
   effect_step (Done at write moves) p =
-      let made : Moves = record { line = blocks.line m.first.path.place; list = moves } in
-      block_on path (waits other m.second.path m.second.waiting) met made before.look after rest (goes at (waits other m.second.path m.second.waiting) met p)
-  effect_step (AtWait code) p = wait_step code m.second.waiting p refl
+      let made : Moves = record { line = blocks.line m.paths.one.path.place; list = moves } in
+      block_on path (waits other m.paths.two.path m.paths.two.waiting) met made before.look after rest (goes at (waits other m.paths.two.path m.paths.two.waiting) met p)
+  effect_step (AtWait code) p = wait_step code m.paths.two.waiting p refl
   effect_step (AtEnd at moves) p =
-      let line = blocks.line m.first.path.place in
+      let line = blocks.line m.paths.one.path.place in
       let made : Moves = record { line = line; list = moves } in
-      subst (PairedFor path None (waits other m.second.path m.second.waiting) met)
+      subst (PairedFor path None (waits other m.paths.two.path m.paths.two.waiting) met)
       (sym (append_assoc (block_lines path made before.look after) (Ended path line ∷ []) rest))
-      (block_on path (waits other m.second.path m.second.waiting) met made before.look after (Ended path line ∷ rest)
-      (ended_on path (waits other m.second.path m.second.waiting) met line rest (goes at (waits other m.second.path m.second.waiting) met p)))
+      (block_on path (waits other m.paths.two.path m.paths.two.waiting) met made before.look after (Ended path line ∷ rest)
+      (ended_on path (waits other m.paths.two.path m.paths.two.waiting) met line rest (goes at (waits other m.paths.two.path m.paths.two.waiting) met p)))
   effect_step (effect.Alarm number value) p =
-      raised_on path (waits other m.second.path m.second.waiting) met (blocks.line m.first.path.place) number value rest
-      (goes m.first.path (waits other m.second.path m.second.waiting) met p)
+      raised_on path (waits other m.paths.two.path m.paths.two.waiting) met (blocks.line m.paths.one.path.place) number value rest
+      (goes m.paths.one.path (waits other m.paths.two.path m.paths.two.waiting) met p)
 
 -- a turn that makes a record is one of a path that goes
 record IsAwake (m : MachineView) (r rest : TurnResult) : Type 0 where
-  none : m.first.waiting ≡ None
+  none : m.paths.one.waiting ≡ None
   same : r ≡ rest
 
-awake_by : (m : MachineView) (a : Option Alarm) (f : Bool) (w : Option ℕ) (rest : TurnResult) (kind : EntryKind) → m.first.waiting ≡ w
+awake_by : (m : MachineView) (a : Option Alarm) (f : Bool) (w : Option ℕ) (rest : TurnResult) (kind : EntryKind) → m.paths.one.waiting ≡ w
     → kind_of (unless_idle m a f w rest).turn ≡ Some kind → IsAwake m (unless_idle m a f w rest) rest
 awake_by m (Some alarm) f w rest kind is makes = absurd (cc)
 awake_by m None true w rest kind is makes = absurd (cc)
@@ -173,40 +173,40 @@ awake_by m None false None rest kind is makes = record { none = is; same = refl 
 
 -- a record of the path whose part is the first
 step_on : (blocks other : Blocks) (path : Path) (kind : EntryKind) (stamps : List ℕ) (met : ℕ) (m : MachineView) (before : Standing) (after : Look) (rest : List TraceLine)
-    → of_path before.lines path ≡ blocks.line m.first.path.place → other_line path before ≡ other.line m.second.path.place → IsStep blocks path m kind stamps
+    → of_path before.lines path ≡ blocks.line m.paths.one.path.place → other_line path before ≡ other.line m.paths.two.path.place → IsStep blocks path m kind stamps
     → After blocks other path met rest (own_turn blocks path (with_reads blocks stamps m))
-    → PairedFor path (waits blocks m.first.path m.first.waiting) (waits other m.second.path m.second.waiting) met
+    → PairedFor path (waits blocks m.paths.one.path m.paths.one.waiting) (waits other m.paths.two.path m.paths.two.waiting) met
     (turn_lines path met before after (own_turn blocks path (with_reads blocks stamps m)).turn ++ rest)
 step_on blocks other path kind stamps met m before after rest here there step p =
     let now = with_reads blocks stamps m in
-    let awake = awake_by now now.alarm now.first.finished now.first.waiting (block_turn blocks path now) kind refl step.is in
+    let awake = awake_by now now.alarm now.paths.one.finished now.paths.one.waiting (block_turn blocks path now) kind refl step.is in
     let q = subst (After blocks other path met rest) awake.same p in
-    let done = effect_step blocks other path met now before after rest here there awake.none (blocks.effect now.first.path now.first.values) q in
-    subst (λ (w : Option ℕ). PairedFor path (waits blocks m.first.path w) (waits other m.second.path m.second.waiting) met
+    let done = effect_step blocks other path met now before after rest here there awake.none (blocks.effect now.paths.one.path now.paths.one.values) q in
+    subst (λ (w : Option ℕ). PairedFor path (waits blocks m.paths.one.path w) (waits other m.paths.two.path m.paths.two.waiting) met
     (turn_lines path met before after (own_turn blocks path (with_reads blocks stamps m)).turn ++ rest)) (sym awake.none)
-    (subst (λ (r : TurnResult). PairedFor path None (waits other m.second.path m.second.waiting) met (turn_lines path met before after r.turn ++ rest)) (sym awake.same) done)
+    (subst (λ (r : TurnResult). PairedFor path None (waits other m.paths.two.path m.paths.two.waiting) met (turn_lines path met before after r.turn ++ rest)) (sym awake.same) done)
 
 -- the open wait of a path of a machine
 abbrev open_in : Tapes → Path → MachineView → Option OpenWait
-open_in tapes path m = waits (tape_of tapes path) (path_in path m) (own_first path m).first.waiting
+open_in tapes path m = waits (of_path tapes path) (path_in path m) (of_path m.paths path).waiting
 
 -- behind a record, which is an edit or has these stamps
 abbrev turn_after : Tapes → Path → Option Edit → List ℕ → MachineView → Turn
-turn_after tapes path edit stamps m = turn_by (tape_of tapes path) path edit stamps (own_first path m)
+turn_after tapes path edit stamps m = turn_by (of_path tapes path) path edit stamps (own_first path m)
 
 abbrev machine_after : Tapes → Path → Option Edit → List ℕ → MachineView → MachineView
-machine_after tapes path edit stamps m = own_first path (behind_own (tape_of tapes path) path edit stamps (own_first path m))
+machine_after tapes path edit stamps m = own_first path (behind_own (of_path tapes path) path edit stamps (own_first path m))
 
 -- an edit has no line, and leaves each path where it is
 entry_on : (tapes : Tapes) (path : Path) (kind : EntryKind) (edit : Option Edit) (stamps : List ℕ) (met : ℕ) (m : MachineView) (after : Look) (rest : List TraceLine)
-    → (edit ≡ None → IsStep (tape_of tapes path) path (own_first path m) kind stamps)
+    → (edit ≡ None → IsStep (of_path tapes path) path (own_first path m) kind stamps)
     → ArePaired (open_in tapes One (machine_after tapes path edit stamps m)) (open_in tapes Two (machine_after tapes path edit stamps m))
     (met_after met (turn_after tapes path edit stamps m)) rest
     → ArePaired (open_in tapes One m) (open_in tapes Two m) met (turn_lines path met (standing_of tapes path m) after (turn_after tapes path edit stamps m) ++ rest)
 entry_on tapes One kind None stamps met m after rest step p =
-    step_on tapes.first tapes.second One kind stamps met m (standing_of tapes One m) after rest refl refl (step refl) p
+    step_on tapes.one tapes.two One kind stamps met m (standing_of tapes One m) after rest refl refl (step refl) p
 entry_on tapes Two kind None stamps met m after rest step p =
-    step_on tapes.second tapes.first Two kind stamps met (own_first Two m) (standing_of tapes Two m) after rest refl refl (step refl) p
+    step_on tapes.two tapes.one Two kind stamps met (own_first Two m) (standing_of tapes Two m) after rest refl refl (step refl) p
 entry_on tapes One kind (Some edit) stamps met m after rest step p = p
 entry_on tapes Two kind (Some edit) stamps met m after rest step p = p
 

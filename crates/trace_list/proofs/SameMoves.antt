@@ -22,7 +22,7 @@ use Rattle.trace_list.specs.declared.looking.Look.{Look}
 use Rattle.trace_list.specs.declared.looking.Standing.{Standing}
 use Rattle.trace_list.specs.Laws.{move_of, moves_traced}
 use Rattle.trace_list.specs.Trace.{block_lines, is_same_point, is_same_way, lines_of, look_of, met_after, moved_lines, path_in, says_speed, shift_lines, spindle_lines, standing_of, traced, turn_lines}
-use Rattle.trace_list.specs.TraceText.{TraceLine, Shift, Spindle, Moved, Ended}
+use Rattle.trace_list.specs.TraceText.{Shift, Spindle, Ended}
 
 -- of one path its moves, and of the other none
 abbrev chosen : Bool → List LinedMove → List LinedMove

@@ -1,5 +1,5 @@
 -- The text of a trace in its parts.
-use Rattle.std.proofs.Common.{◌≡◌, ℕ, ◌+◌, ◌≤◌, List, [], ◌∷◌, ◌++◌, length, drop, refl, sym, ap, ◌∙◌, append_assoc, arith}
+use Rattle.std.proofs.Common.{◌≡◌, ℕ, ◌+◌, ◌≤◌, List, ◌∷◌, ◌++◌, length, drop, sym, ap, ◌∙◌, append_assoc, arith}
 use Rattle.std.proofs.lemmas.List.{at_drop_all}
 use Rattle.std.proofs.lemmas.Grind.{flat_map-append}
 use Rattle.nc_number.specs.declared.path.Path.TheVariants.{One, Two}
@@ -14,9 +14,9 @@ use Rattle.two_path.specs.Machine.{MachineView}
 use Rattle.two_path.specs.Turns.{Tapes, tapes_of}
 use Rattle.two_path.specs.Histories.{behind_entry}
 use Rattle.two_path.specs.Again.{turn_of_entry}
-use Rattle.move_list.specs.declared.end_line.Reason.{Reason}
+use Rattle.nc_outside.specs.declared.reason.Reason.{Reason}
 use Rattle.move_list.specs.EndText.{end_text}
-use Rattle.move_list.specs.Report.{machine_at_start}
+use Rattle.two_path.specs.Start.{machine_at_start}
 use Rattle.trace_list.specs.Trace.{begin_lines, lines_of, met_after, start_lines, trace_text, traced}
 use Rattle.trace_list.specs.TraceText.{head_text, lines_text, trace_line_text}
 
@@ -36,17 +36,17 @@ trace_parts tapes m entries reason =
 pub start_parts : (left right : Flow) (settings : Settings) (m : MachineView) (one two : Point) (entries : List Entry) (reason : Reason)
     → m ≡ machine_at_start left right settings → one ≡ point_of One settings.home → two ≡ point_of Two settings.home
     → trace_text (tapes_of left right) (machine_at_start left right settings) entries reason
-    ≡ (head_text ++ lines_text (begin_lines One one m.first.path ++ begin_lines Two two m.second.path))
+    ≡ (head_text ++ lines_text (begin_lines One one m.paths.one.path ++ begin_lines Two two m.paths.two.path))
     ++ (lines_text (traced (tapes_of left right) 0 m entries) ++ end_text (length entries) reason)
 start_parts left right settings m one two entries reason is is_one is_two =
     trace_parts (tapes_of left right) (machine_at_start left right settings) entries reason
-    ∙ ap (λ (at : Point). (head_text ++ lines_text (begin_lines One at (machine_at_start left right settings).first.path
-    ++ begin_lines Two (point_of Two settings.home) (machine_at_start left right settings).second.path))
+    ∙ ap (λ (at : Point). (head_text ++ lines_text (begin_lines One at (machine_at_start left right settings).paths.one.path
+    ++ begin_lines Two (point_of Two settings.home) (machine_at_start left right settings).paths.two.path))
     ++ (lines_text (traced (tapes_of left right) 0 (machine_at_start left right settings) entries) ++ end_text (length entries) reason)) (sym is_one)
-    ∙ ap (λ (at : Point). (head_text ++ lines_text (begin_lines One one (machine_at_start left right settings).first.path
-    ++ begin_lines Two at (machine_at_start left right settings).second.path))
+    ∙ ap (λ (at : Point). (head_text ++ lines_text (begin_lines One one (machine_at_start left right settings).paths.one.path
+    ++ begin_lines Two at (machine_at_start left right settings).paths.two.path))
     ++ (lines_text (traced (tapes_of left right) 0 (machine_at_start left right settings) entries) ++ end_text (length entries) reason)) (sym is_two)
-    ∙ ap (λ (x : MachineView). (head_text ++ lines_text (begin_lines One one x.first.path ++ begin_lines Two two x.second.path))
+    ∙ ap (λ (x : MachineView). (head_text ++ lines_text (begin_lines One one x.paths.one.path ++ begin_lines Two two x.paths.two.path))
     ++ (lines_text (traced (tapes_of left right) 0 x entries) ++ end_text (length entries) reason)) (sym is)
 
 -- the events of a record, and of those after it

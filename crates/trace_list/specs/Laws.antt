@@ -1,10 +1,10 @@
 -- What a trace says of one path, or of the meetings alone.
-use Rattle.std.specs.Prelude.{ℕ, if◌then◌else◌, List, [], ◌∷◌, ◌++◌}
+use Rattle.std.specs.Prelude.{if◌then◌else◌, List, [], ◌∷◌}
 use Rattle.std.specs.List.{flat_map}
 use Rattle.nc_number.specs.Path.{is_same}
 use Rattle.nc_number.specs.declared.path.Path.{Path}
 use Rattle.nc_outside.specs.declared.lined_move.LinedMove.{LinedMove}
-use Rattle.trace_list.specs.TraceText.{TraceLine, At, Home, Shift, Spindle, Moved, Wait, Met, Raised, Ended}
+use Rattle.trace_list.specs.TraceText.{TraceLine, Moved}
 
 -- the move of a line, if it is one of this path
 abbrev pub move_of : Path → TraceLine → List LinedMove

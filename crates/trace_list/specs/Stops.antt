@@ -1,11 +1,11 @@
 -- The waits and the end of a path in a trace, beside the labels of its tape.
-use Rattle.std.specs.Prelude.{ℕ, if◌then◌else◌, List, [], ◌∷◌}
+use Rattle.std.specs.Prelude.{if◌then◌else◌, List, [], ◌∷◌}
 use Rattle.std.specs.List.{flat_map}
 use Rattle.nc_number.specs.Path.{is_same}
 use Rattle.nc_number.specs.declared.path.Path.{Path}
 use Rattle.block_order.specs.declared.label.Label.{Label}
 use Rattle.block_order.specs.declared.label.Label.TheVariants as label
-use Rattle.trace_list.specs.TraceText.{TraceLine, At, Home, Shift, Spindle, Moved, Wait, Met, Raised, Ended}
+use Rattle.trace_list.specs.TraceText.{TraceLine, Wait, Ended}
 
 -- the label of a line, if it is a wait or the end of this path
 abbrev pub stop_of : Path → TraceLine → List Label

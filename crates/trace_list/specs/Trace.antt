@@ -1,5 +1,5 @@
 -- The trace of a history: its events in their order, and the text of all.
-use Rattle.std.specs.Prelude.{ℕ, ◌+◌, ◌==◌, ◌&&◌, ◌||◌, Bool, true, false, if◌then◌else◌, List, [], ◌∷◌, ◌++◌, length, map}
+use Rattle.std.specs.Prelude.{ℕ, ◌+◌, ◌&&◌, ◌||◌, Bool, true, false, if◌then◌else◌, List, [], ◌∷◌, ◌++◌, length, map}
 use Rattle.std.specs.List.{list_any}
 use Rattle.std.specs.Ordering.{int_eq}
 use Rattle.nc_number.specs.declared.path.Path.{Path}
@@ -15,11 +15,11 @@ use Rattle.path_state.specs.View.{PathView}
 use Rattle.path_state.specs.Looks.{shift_now}
 use Rattle.two_path.specs.declared.turn.Turn.{Turn}
 use Rattle.two_path.specs.declared.turn.Turn.TheVariants as turn
-use Rattle.two_path.specs.Machine.{MachineView, own_first}
-use Rattle.two_path.specs.Turns.{Tapes, tape_of}
+use Rattle.two_path.specs.Machine.{MachineView}
+use Rattle.two_path.specs.Turns.{Tapes}
 use Rattle.two_path.specs.Histories.{behind_entry}
 use Rattle.two_path.specs.Again.{turn_of_entry}
-use Rattle.move_list.specs.declared.end_line.Reason.{Reason}
+use Rattle.nc_outside.specs.declared.reason.Reason.{Reason}
 use Rattle.move_list.specs.EndText.{end_text}
 use Rattle.trace_list.specs.declared.looking.Look.{Look}
 use Rattle.trace_list.specs.declared.looking.Standing.{Standing}
@@ -27,11 +27,11 @@ use Rattle.trace_list.specs.TraceText.{TraceLine, At, Home, Shift, Spindle, Move
 
 -- the state of a path
 abbrev pub path_in : Path → MachineView → PathView
-path_in path m = (own_first path m).first.path
+path_in path m = (of_path m.paths path).path
 
 -- the line of its tape at which a path stands
 abbrev pub line_of : Tapes → Path → MachineView → ℕ
-line_of tapes path m = (tape_of tapes path).line (path_in path m).place
+line_of tapes path m = (of_path tapes path).line (path_in path m).place
 
 -- what a trace looks at of a path: its shift, and whether its spindle keeps a surface speed
 abbrev pub look_of : PathView → Look
@@ -112,7 +112,7 @@ begin_lines path home at = At path at.position ∷ Home path home ∷ Shift path
 
 -- how both paths begin
 abbrev pub start_lines : MachineView → List TraceLine
-start_lines m = begin_lines One m.first.path.fixed.home m.first.path ++ begin_lines Two m.second.path.fixed.home m.second.path
+start_lines m = begin_lines One m.paths.one.path.fixed.home m.paths.one.path ++ begin_lines Two m.paths.two.path.fixed.home m.paths.two.path
 
 -- the trace of a history from a machine on, which ended so
 unfoldable pub trace_text : Tapes → MachineView → List Entry → Reason → List ℕ

@@ -81,7 +81,8 @@ fn put_way<K: Sink>(
     before: bool,
     after: bool,
 ) -> Result<(), PutFault>
-    ensures { IsPut (K.state sink.old) (K.state sink.new) (lines_text (spindle_lines path moves.now before after)) result }
+    ensures { IsPut (K.state sink.old) (K.state sink.new)
+        (lines_text (spindle_lines path moves.now before after)) result }
 {
     put_piece(sink, &way_changed(path, moves, before, after))
 }
@@ -135,7 +136,8 @@ fn put_block<K: Sink>(
     before: &Look,
     after: &Look,
 ) -> Result<(), PutFault>
-    ensures { IsPut (K.state sink.old) (K.state sink.new) (lines_text (block_lines path moves.now before.now after.now)) result }
+    ensures { IsPut (K.state sink.old) (K.state sink.new)
+        (lines_text (block_lines path moves.now before.now after.now)) result }
 {
     match put_shift(sink, path, moves.line, before.shift, after.shift) {
         Ok(()) => put_way_and_moves(sink, path, moves, before.surface, after.surface),
@@ -176,7 +178,8 @@ fn put_wait<K: Sink>(sink: &mut K, path: Path, line: u32, code: u16) -> Result<(
 
 /// Puts that both paths meet.
 fn put_met<K: Sink>(sink: &mut K, number: u64, code: u16, lines: Both<u32>) -> Result<(), PutFault>
-    ensures { IsPut (K.state sink.old) (K.state sink.new) (lines_text (said.Met number code lines.one lines.two ∷ [])) result }
+    ensures { IsPut (K.state sink.old) (K.state sink.new)
+        (lines_text (said.Met number code lines.one lines.two ∷ [])) result }
 {
     put_piece(sink, &met_line(number, code, lines))
 }
@@ -197,8 +200,9 @@ fn put_meeting<K: Sink>(
     code: u16,
 ) -> Result<(), PutFault>
     requires { met ≤ MOST_RECORDS }
-    ensures { IsPut (K.state sink.old) (K.state sink.new) (lines_text
-        (said.Wait path (of_path before.now.lines path) code ∷ said.Met (met + 1) code before.now.lines.one before.now.lines.two ∷ [])) result }
+    ensures { IsPut (K.state sink.old) (K.state sink.new)
+        (lines_text (said.Wait path (of_path before.now.lines path) code
+        ∷ said.Met (met + 1) code before.now.lines.one before.now.lines.two ∷ [])) result }
 {
     match put_wait(sink, path, before.line(path), code) {
         Ok(()) => put_met(sink, met + 1, code, before.lines),

@@ -30,7 +30,8 @@ pub fn a_trace_has_the_moves_of_the_report()
 /// code and their lines, and the meetings are numbered from 1. A path that waits has no line before
 /// it meets the other one.
 pub fn meetings_are_numbered_and_paired()
-    ensures { (tapes : Tapes) (first second : PathView) (entries : List Entry) → IsLegal tapes (opening first second) entries
+    ensures { (tapes : Tapes) (first second : PathView) (entries : List Entry)
+        → IsLegal tapes (opening first second) entries
         → ArePaired None None 0 (traced tapes 0 (opening first second) entries) }
 {}
 

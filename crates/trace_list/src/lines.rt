@@ -1,5 +1,5 @@
 //! The lines of a trace, each as a piece.
-ghost use Rattle.std.specs.Prelude.{◌≡◌, ◌+◌, ◌≤◌, [], ◌++◌, length, codes};
+ghost use Rattle.std.specs.Prelude.{◌≡◌, ◌+◌, ◌≤◌, ◌++◌, length};
 ghost use Rattle.trace_list.specs.TraceText.{event_text, head_text, met_text, path_text, point_line, trace_line_text, waits_text};
 ghost use Rattle.trace_list.specs.TraceText as said;
 

@@ -11,7 +11,7 @@ ghost use Rattle.two_path.specs.Histories.{IsLegal, IsNext, behind_entry};
 ghost use Rattle.two_path.specs.Joined.{AreAtTheirWaits};
 ghost use Rattle.two_path.specs.Again.{IsDoneAgain, turn_of_entry};
 ghost use Rattle.move_list.specs.EndText.{end_text};
-ghost use Rattle.move_list.specs.Report.{machine_at_start};
+ghost use Rattle.two_path.specs.Start.{machine_at_start};
 ghost use Rattle.trace_list.specs.Trace.{begin_lines, lines_of, met_after, trace_text};
 ghost use Rattle.trace_list.specs.TraceText.{head_text, lines_text};
 ghost use Rattle.trace_list.specs.TraceText as said;
@@ -98,7 +98,7 @@ fn put_path<K: Sink>(sink: &mut K, path: Path, at: &PathState, home: Point) -> R
 /// Puts how path 1 begins.
 fn put_first<K: Sink>(sink: &mut K, machine: &Machine, home: Point) -> Result<(), PutFault>
     ensures { IsPut (K.state sink.old) (K.state sink.new)
-        (lines_text (begin_lines Path.One home machine.now.machine.first.path)) result }
+        (lines_text (begin_lines Path.One home machine.now.machine.paths.one.path)) result }
 {
     put_path(sink, Path::One, machine.path(Path::One), home)
 }
@@ -106,15 +106,16 @@ fn put_first<K: Sink>(sink: &mut K, machine: &Machine, home: Point) -> Result<()
 /// Puts how path 2 begins.
 fn put_second<K: Sink>(sink: &mut K, machine: &Machine, home: Point) -> Result<(), PutFault>
     ensures { IsPut (K.state sink.old) (K.state sink.new)
-        (lines_text (begin_lines Path.Two home machine.now.machine.second.path)) result }
+        (lines_text (begin_lines Path.Two home machine.now.machine.paths.two.path)) result }
 {
     put_path(sink, Path::Two, machine.path(Path::Two), home)
 }
 
 /// Puts how both paths begin.
 fn put_paths<K: Sink>(sink: &mut K, machine: &Machine, homes: Both<Point>) -> Result<(), PutFault>
-    ensures { IsPut (K.state sink.old) (K.state sink.new) (lines_text (begin_lines Path.One homes.one machine.now.machine.first.path
-        ++ begin_lines Path.Two homes.two machine.now.machine.second.path)) result }
+    ensures { IsPut (K.state sink.old) (K.state sink.new)
+        (lines_text (begin_lines Path.One homes.one machine.now.machine.paths.one.path
+        ++ begin_lines Path.Two homes.two machine.now.machine.paths.two.path)) result }
 {
     match put_first(sink, machine, homes.one) {
         Ok(()) => put_second(sink, machine, homes.two),
@@ -131,8 +132,9 @@ fn put_head<K: Sink>(sink: &mut K) -> Result<(), PutFault>
 
 /// Puts the first line, and how both paths begin.
 fn put_start<K: Sink>(sink: &mut K, machine: &Machine, homes: Both<Point>) -> Result<(), PutFault>
-    ensures { IsPut (K.state sink.old) (K.state sink.new) (head_text ++ lines_text (begin_lines Path.One homes.one machine.now.machine.first.path
-        ++ begin_lines Path.Two homes.two machine.now.machine.second.path)) result }
+    ensures { IsPut (K.state sink.old) (K.state sink.new)
+        (head_text ++ lines_text (begin_lines Path.One homes.one machine.now.machine.paths.one.path
+        ++ begin_lines Path.Two homes.two machine.now.machine.paths.two.path)) result }
 {
     match put_head(sink) {
         Ok(()) => put_paths(sink, machine, homes),
@@ -178,8 +180,10 @@ fn put_done<K: Sink>(
     requires waits { AreAtTheirWaits left.now.order right.now.order machine.old.machine }
     ensures put { IsPut (K.state sink.old) (K.state sink.new)
         (lines_text (lines_of (tapes_of left.now right.now) met.old machine.old.machine entry.now)) result }
-    ensures machine { OnOk result (machine.new.machine ≡ behind_entry (tapes_of left.now right.now) entry.now machine.old.machine) }
-    ensures met { OnOk result (met.new ≡ met_after met.old (turn_of_entry (tapes_of left.now right.now) entry.now machine.old.machine)) }
+    ensures machine { OnOk result (machine.new.machine
+        ≡ behind_entry (tapes_of left.now right.now) entry.now machine.old.machine) }
+    ensures met { OnOk result (met.new
+        ≡ met_after met.old (turn_of_entry (tapes_of left.now right.now) entry.now machine.old.machine)) }
     ensures no_reads { OnOk result (without_reads machine.new.machine ≡ machine.new.machine) }
     ensures waits { OnOk result (AreAtTheirWaits left.now.order right.now.order machine.new.machine) }
 {
@@ -207,8 +211,10 @@ fn put_again<K: Sink>(
     requires waits { AreAtTheirWaits left.now.order right.now.order machine.old.machine }
     ensures put { IsPut (K.state sink.old) (K.state sink.new)
         (lines_text (lines_of (tapes_of left.now right.now) met.old machine.old.machine entry.now)) result }
-    ensures machine { OnOk result (machine.new.machine ≡ behind_entry (tapes_of left.now right.now) entry.now machine.old.machine) }
-    ensures met { OnOk result (met.new ≡ met_after met.old (turn_of_entry (tapes_of left.now right.now) entry.now machine.old.machine)) }
+    ensures machine { OnOk result (machine.new.machine
+        ≡ behind_entry (tapes_of left.now right.now) entry.now machine.old.machine) }
+    ensures met { OnOk result (met.new
+        ≡ met_after met.old (turn_of_entry (tapes_of left.now right.now) entry.now machine.old.machine)) }
     ensures no_reads { OnOk result (without_reads machine.new.machine ≡ machine.new.machine) }
     ensures waits { OnOk result (AreAtTheirWaits left.now.order right.now.order machine.new.machine) }
 {

@@ -1,6 +1,6 @@
 -- What a turret got in several calls, one after another.
-use Rattle.std.proofs.Common.{arith, ◌≡◌, ◌⊎◌, ◌+◌, ◌≤◌, ℕ, suc, Bool, true, false, true≢false, IsTrue, List, [], ◌∷◌, ◌++◌, length, map, take, refl, ap, sym, ◌∙◌, subst, inl, inr}
-use Rattle.std.proofs.lemmas.List.{length-append, length-map, take-append-le, take-map}
+use Rattle.std.proofs.Common.{arith, ◌≡◌, ◌⊎◌, ◌+◌, ◌≤◌, ℕ, suc, Bool, true, false, true≢false, IsTrue, List, [], ◌∷◌, length, map, take, refl, ap, sym, ◌∙◌, subst, inl, inr}
+use Rattle.std.proofs.lemmas.List.{length-map, take-map}
 use Rattle.nc_number.specs.declared.point.Point.{Point}
 use Rattle.nc_outside.specs.declared.got.Got.{Got}
 use Rattle.nc_outside.specs.declared.got.Got.TheVariants.{Placed, Moved}

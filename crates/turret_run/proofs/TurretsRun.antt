@@ -1,39 +1,36 @@
 -- How a run with turrets ends, from what its threads and the turns behind them left.
-use Rattle.std.proofs.Common.{arith, ◌≡◌, ◌≢◌, ◌*◌, ◌≤◌, ℕ, Bool, true, false, true≢false, List, [], ◌-◌, length, map, refl, ap, sym, ◌∙◌, subst, length-append, Option, Some, None, ⊎_elim, inl, inr}
-use Rattle.std.specs.Prelude.{IsTrue}
+use Rattle.std.proofs.Common.{arith, ◌≡◌, ◌≢◌, ℕ, Bool, true, false, List, [], ◌-◌, length, refl, ap, sym, ◌∙◌, subst, Option, Some, None, ⊎_elim, inl, inr}
+use Rattle.std.specs.Prelude.{IsTrue, IfSome, IfNone, Result, Ok, Err}
 use Rattle.std.proofs.lemmas.List.{drop_all}
 use Rattle.disk_model.specs.Device.{DiskState, Rose}
 use Rattle.gate_file.specs.Gate.{Gate}
 use Rattle.nc_number.specs.declared.both.Both.{Both}
+use Rattle.nc_number.specs.declared.fault.NoMemory.{NoMemory}
 use Rattle.nc_number.specs.declared.path.Path.{Path}
 use Rattle.nc_number.specs.declared.path.Path.TheVariants.{One, Two}
 use Rattle.nc_number.specs.Both.{of_path}
 use Rattle.nc_number.specs.Path.{other_of}
 use Rattle.nc_outside.specs.declared.halt.Halt.{Halt}
 use Rattle.nc_outside.specs.declared.halt.Halt.TheVariants as halt
-use Rattle.nc_outside.specs.declared.got.Got.{Got}
-use Rattle.nc_outside.specs.declared.got.Got.TheVariants.{Moved}
+use Rattle.nc_outside.specs.declared.reason.Reason.{Reason}
+use Rattle.nc_outside.specs.declared.reason.Reason.TheVariants as reason
+use Rattle.nc_outside.specs.Reasons.{first_cause}
 use Rattle.nc_outside.specs.Received.{TurretState}
-use Rattle.nc_verify.specs.declared.verified.Verified.{Verified}
 use Rattle.run_records.specs.Entries.{Entry}
 use Rattle.run_records.specs.declared.version.Version.{Version}
-use Rattle.two_path.specs.Machine.{MachineView}
+use Rattle.two_path.specs.Machine.{MachineView, position_of}
 use Rattle.two_path.specs.Histories.{fold}
 use Rattle.drive_line.specs.Driving.{DrivenState, has_failed, Serves}
 use Rattle.seat_table.specs.Turning.{moves_in}
-use Rattle.run_table.specs.declared.running.RunEnd.{RunEnd}
-use Rattle.run_table.specs.declared.running.RunEnd.TheVariants as run
-use Rattle.run_table.specs.Ending.{HasEnded as Ends}
+use Rattle.run_table.specs.Ending.{IsAtEnd, HasEnded as Ends, HasNotEnded}
 use Rattle.run_table.specs.Holding.{HeldView, held_of, IsOf, ShowsFlushed, answered_from, records_since, without_turret}
 use Rattle.run_table.specs.Kept.{TableView, tapes_in, opening_of}
 use Rattle.run_table.specs.Made.{moves_made}
 use Rattle.run_table.specs.Recording.{RecordingView, Follows}
 use Rattle.run_table.specs.Running.{EndsBy, IsNoneOrAlarm}
 use Rattle.run_table.specs.Since.{Since}
-use Rattle.turret_run.specs.declared.ending.TurretEnd.{TurretEnd}
-use Rattle.turret_run.specs.declared.ending.TurretEnd.TheVariants.{Ended, TurretFault, NoMemory}
-use Rattle.turret_run.specs.Served.{told, GetsAll, GetsPart, FailsAmong, GetsSome, Misses}
-use Rattle.turret_run.specs.Runs.{place_of, due, GetsAt, GetsBeside, StandsBeside, none_missed, Stays, IsNotPlaced, RunsWith}
+use Rattle.turret_run.specs.Served.{told, GetsAll, GetsPart, FailsAmong, Misses}
+use Rattle.turret_run.specs.Runs.{due, GetsAt, GetsBeside, StandsBeside, none_missed, Stays, HasEnded, HasFailed, IsNotPlaced, RunsWith}
 use Rattle.turret_run.specs.Rests.{ArePlaced, FailsAtPlace, first_by, first_failed, HasCause}
 use Rattle.turret_run.proofs.TurretsGet.{GotBy, served, all_of, fails_of, some_of, misses_of, either_of}
 
@@ -80,18 +77,19 @@ module _ {D : Type 0} (state : D → DiskState) (limit : ℕ) (old ready : Table
         (λ rose. inr (subst (λ (file : Gate D). Rose (state file.disk).faults (state new.recording.log.file.disk).faults) stays.file rose)) (since.cause is);
   }
 
-  ends_ready : (new : TableView D) (end : RunEnd) → EndsBy state ready new end → EndsBy state old new end
-  ends_ready new (run.Alarm alarm) e = e
-  ends_ready new run.Done e = e
-  ends_ready new run.Full e = e
-  ends_ready new run.Stopped e = e
-  ends_ready new run.DiskFault e =
+  ends_ready : (new : TableView D) (end : Reason) → EndsBy state ready new end → EndsBy state old new end
+  ends_ready new (reason.Alarm alarm) e = e
+  ends_ready new reason.Done e = e
+  ends_ready new reason.Full e = e
+  ends_ready new reason.Stopped e = e
+  ends_ready new (reason.TurretFault path) e = e
+  ends_ready new reason.DiskFault e =
       (e.0, subst (λ (file : Gate D). Rose (state file.disk).faults (state new.recording.log.file.disk).faults) stays.file e.1)
 
   pub due_ready : (path : Path) (new : TableView D) → due path ready new ≡ due path old new
   due_ready path new =
       ap (λ (m : MachineView). due path (record ready { machine = m }) new) stays.machine
-      ∙ ap (λ (n : ℕ). told (place_of path old.machine) (moves_made new.verified path n new.recording.flushed new.recording.history)) (ap length stays.history)
+      ∙ ap (λ (n : ℕ). told (position_of path old.machine) (moves_made new.verified path n new.recording.flushed new.recording.history)) (ap length stays.history)
 
   stays_ready : (new : TableView D) → Stays ready new → Stays old new
   stays_ready new same = record {
@@ -104,38 +102,54 @@ module _ {D : Type 0} (state : D → DiskState) (limit : ℕ) (old ready : Table
     halt = same.halt ∙ stays.halt;
   }
 
-  stands_ready : (path other : Path) (a b : TurretState) → StandsBeside path (told (place_of other ready.machine) []) a b → StandsBeside path (told (place_of other old.machine) []) a b
+  stands_ready : (path other : Path) (a b : TurretState) → StandsBeside path (told (position_of other ready.machine) []) a b → StandsBeside path (told (position_of other old.machine) []) a b
   stands_ready One other a b same = same
-  stands_ready Two other a b place = subst (λ (m : MachineView). GetsAll (told (place_of other m) []) a b) stays.machine place
+  stands_ready Two other a b place = subst (λ (m : MachineView). GetsAll (told (position_of other m) []) a b) stays.machine place
 
-  -- the run of a table that was made ready is one of the table before
-  pub runs_ready : (new : TableView D) (before after : Both TurretState) (missed : Both ℕ) (end : TurretEnd) → RunsWith state ready.budget ready new before after missed end
-      → RunsWith state limit old new before after missed end
-  runs_ready new before after missed (Ended end) r = record {
+  ended_ready : (new : TableView D) (before after : Both TurretState) (missed : Both ℕ) (end : Reason) → HasEnded state ready.budget ready new before after missed end
+      → HasEnded state limit old new before after missed end
+  ended_ready new before after missed end r = record {
     since = since_ready new r.since;
     ends = ends_ready new end r.ends;
     turrets = λ path. subst (λ what. GetsAt end what (of_path before path) (of_path after path)) (due_ready path new) (r.turrets path);
     misses = λ path. subst (λ what. Misses what (of_path missed path) (of_path before path) (of_path after path)) (due_ready path new) (r.misses path);
   }
-  runs_ready new before after missed (TurretFault path) (inl r) = inl (record {
+
+  failed_ready : (new : TableView D) (before after : Both TurretState) (missed : Both ℕ) (path : Path) → HasFailed state ready.budget ready new before after missed path
+      → HasFailed state limit old new before after missed path
+  failed_ready new before after missed path r = record {
     since = since_ready new r.since;
     disk = r.disk;
     calm = r.calm ∙ ap (λ (file : Gate D). (state file.disk).faults) stays.file;
     failed = subst (λ what. FailsAmong what (of_path before path) (of_path after path)) (due_ready path new) r.failed;
     other = subst (λ what. GetsBeside path what (of_path before (other_of path)) (of_path after (other_of path))) (due_ready (other_of path) new) r.other;
     misses = λ p. subst (λ what. Misses what (of_path missed p) (of_path before p) (of_path after p)) (due_ready p new) (r.misses p);
-  })
-  runs_ready new before after missed (TurretFault path) (inr r) = inr (record {
+  }
+
+  unplaced_ready : (new : TableView D) (before after : Both TurretState) (missed : Both ℕ) (path : Path) → IsNotPlaced state ready.budget ready new before after missed path
+      → IsNotPlaced state limit old new before after missed path
+  unplaced_ready new before after missed path r = record {
     since = since_ready new r.since;
     same = stays_ready new r.same;
     disk = r.disk;
-    failed = subst (λ (m : MachineView). FailsAmong (told (place_of path m) []) (of_path before path) (of_path after path)) stays.machine r.failed;
+    failed = subst (λ (m : MachineView). FailsAmong (told (position_of path m) []) (of_path before path) (of_path after path)) stays.machine r.failed;
     other = stands_ready path (other_of path) (of_path before (other_of path)) (of_path after (other_of path)) r.other;
     none = r.none;
-  })
-  runs_ready new before after missed NoMemory r = record {
+  }
+
+  -- the run of a table that was made ready is one of the table before
+  pub runs_ready : (new : TableView D) (before after : Both TurretState) (missed : Both ℕ) (end : Result Reason NoMemory)
+      → RunsWith state ready.budget ready new before after missed end → RunsWith state limit old new before after missed end
+  runs_ready new before after missed (Ok reason.Done) r = ended_ready new before after missed reason.Done r
+  runs_ready new before after missed (Ok (reason.Alarm alarm)) r = ended_ready new before after missed (reason.Alarm alarm) r
+  runs_ready new before after missed (Ok reason.Stopped) r = ended_ready new before after missed reason.Stopped r
+  runs_ready new before after missed (Ok reason.Full) r = ended_ready new before after missed reason.Full r
+  runs_ready new before after missed (Ok reason.DiskFault) r = ended_ready new before after missed reason.DiskFault r
+  runs_ready new before after missed (Ok (reason.TurretFault path)) (inl r) = inl (failed_ready new before after missed path r)
+  runs_ready new before after missed (Ok (reason.TurretFault path)) (inr r) = inr (unplaced_ready new before after missed path r)
+  runs_ready new before after missed (Err none) r = record {
     same = stays_ready new r.same;
-    turrets = λ path. subst (λ (m : MachineView). GetsPart (told (place_of path m) []) (of_path before path) (of_path after path)) stays.machine (r.turrets path);
+    turrets = λ path. subst (λ (m : MachineView). GetsPart (told (position_of path m) []) (of_path before path) (of_path after path)) stays.machine (r.turrets path);
     none = r.none;
   }
 
@@ -189,16 +203,16 @@ module _ {D : Type 0} (state : D → DiskState) (opened : Option (TableView D)) 
   pub taken_since : Since state start taken
   taken_since = subst (λ o. IsOf state o taken) is of
 
-  pub got : (path : Path) (before now : TurretState) (d : DrivenState) → GetsAll (told (place_of path start.machine) []) before now
+  pub got : (path : Path) (before now : TurretState) (d : DrivenState) → GetsAll (told (position_of path start.machine) []) before now
       → Serves (moves_in (records_since opened held path)) now d → GotBy (has_failed d.phase) d.missed (due path start taken) before d.state
   got path before now d place s =
       let at : Serves (moves_in (records_since (Some start) held path)) now d = subst (λ o. Serves (moves_in (records_since o held path)) now d) is s in
       let moves = moves_made taken.verified path (length start.recording.history) taken.recording.flushed taken.recording.history in
       let told_of = subst (λ o. ShowsFlushed o held taken) is shown path in
-      served (place_of path start.machine) moves before now d place (subst (λ ms. Serves ms now d) told_of at)
+      served (position_of path start.machine) moves before now d place (subst (λ ms. Serves ms now d) told_of at)
 
 -- each turret got no more than its place
-pub placed_only : (m : MachineView) (before now : Both TurretState) → ArePlaced m before now → (path : Path) → GetsPart (told (place_of path m) []) (of_path before path) (of_path now path)
+pub placed_only : (m : MachineView) (before now : Both TurretState) → ArePlaced m before now → (path : Path) → GetsPart (told (position_of path m) []) (of_path before path) (of_path now path)
 placed_only m before now placed path = (1, placed path)
 
 -- a turret failed at its place, and nothing else was done
@@ -209,14 +223,34 @@ module _ {D : Type 0} (state : D → DiskState) (limit : ℕ) (old ready : Table
     since = since_ready state limit old ready stays leave ready itself;
     same = stays;
     disk = subst (λ h. h ≢ Some halt.Disk) (sym stays.halt) (calm_is_no_disk old.halt may);
-    failed = subst (λ (m : MachineView). FailsAmong (told (place_of path m) []) (of_path before path) (of_path after path)) stays.machine f.0;
+    failed = subst (λ (m : MachineView). FailsAmong (told (position_of path m) []) (of_path before path) (of_path after path)) stays.machine f.0;
     other = stands_ready state limit old ready stays leave path (other_of path) (of_path before (other_of path)) (of_path after (other_of path)) f.1;
     none = refl;
   }
 
+-- The first of the causes: the end of the run of a held table, and the turret that failed.
+module _ {D : Type 0} (held : HeldView D) where
+  no_disk : (end : Option Reason) → IsAtEnd held end → held.halt ≢ Some halt.Disk
+  no_disk end at is = subst (λ why. IsNoneOrAlarm (without_turret why)) is at.halt
+
+  pub has_cause : (end : Option Reason) (failed : Option Path) → IfSome end (λ e. Ends held e) → IfNone end (HasNotEnded held)
+      → IfSome (first_cause end failed) (λ e. HasCause held failed e)
+  has_cause None None ends on = tt
+  has_cause None (Some path) ends on = (on.halt, on.live, refl)
+  has_cause (Some reason.DiskFault) failed ends on = (ends, λ other. absurd (other refl))
+  has_cause (Some reason.Done) None ends on = (ends, λ other. refl)
+  has_cause (Some reason.Done) (Some path) ends on = (no_disk (Some reason.Done) ends, ends.live, refl)
+  has_cause (Some (reason.Alarm alarm)) None ends on = (ends, λ other. refl)
+  has_cause (Some (reason.Alarm alarm)) (Some path) ends on = (no_disk (Some (reason.Alarm alarm)) ends, ends.live, refl)
+  has_cause (Some reason.Full) None ends on = (ends, λ other. refl)
+  has_cause (Some reason.Full) (Some path) ends on = (no_disk None ends.0, ends.0.live, refl)
+  has_cause (Some reason.Stopped) None ends on = (ends, λ other. refl)
+  has_cause (Some reason.Stopped) (Some path) ends on = (no_disk None ends.0, ends.0.live, refl)
+  has_cause (Some (reason.TurretFault path)) failed ends on = absurd ends
+
 -- The end of a run: the turns that were left found this cause.
 module _ {D : Type 0} (state : D → DiskState) (start taken : TableView D) (since : Since state start taken) (held : HeldView D) (before after : Both TurretState) (failed : Both Bool) (missed : Both ℕ)
-    (ends : (end : RunEnd) → Ends held end → EndsBy state start taken end) (halt_is : taken.halt ≡ without_turret held.halt) (file_is : taken.recording.log.file ≡ held.file)
+    (ends : (end : Reason) → Ends held end → EndsBy state start taken end) (halt_is : taken.halt ≡ without_turret held.halt) (file_is : taken.recording.log.file ≡ held.file)
     (gots : (path : Path) → GotBy (of_path failed path) (of_path missed path) (due path start taken) (of_path before path) (of_path after path)) where
   misses : (path : Path) → Misses (due path start taken) (of_path missed path) (of_path before path) (of_path after path)
   misses path = misses_of (of_path failed path) (of_path missed path) (due path start taken) (of_path before path) (of_path after path) (gots path)
@@ -224,12 +258,14 @@ module _ {D : Type 0} (state : D → DiskState) (start taken : TableView D) (sin
   gets_all : (path : Path) → of_path failed path ≡ false → GetsAll (due path start taken) (of_path before path) (of_path after path)
   gets_all path none = all_of (of_path failed path) (of_path missed path) (due path start taken) (of_path before path) (of_path after path) (gots path) none
 
-  ended_at : (end : RunEnd) → (end ≢ run.DiskFault → first_failed failed ≡ None) → (path : Path) → GetsAt end (due path start taken) (of_path before path) (of_path after path)
-  ended_at (run.Alarm alarm) none path = gets_all path (none_failed failed (none (λ is. absurd cc)) path)
-  ended_at run.Done none path = gets_all path (none_failed failed (none (λ is. absurd cc)) path)
-  ended_at run.Full none path = gets_all path (none_failed failed (none (λ is. absurd cc)) path)
-  ended_at run.Stopped none path = gets_all path (none_failed failed (none (λ is. absurd cc)) path)
-  ended_at run.DiskFault none path = some_of (of_path failed path) (of_path missed path) (due path start taken) (of_path before path) (of_path after path) (gots path)
+  ended_at : (end : Reason) → (end ≢ reason.DiskFault → first_failed failed ≡ None) → (path : Path)
+      → GetsAt end (due path start taken) (of_path before path) (of_path after path)
+  ended_at (reason.Alarm alarm) none path = gets_all path (none_failed failed (none (λ is. absurd cc)) path)
+  ended_at reason.Done none path = gets_all path (none_failed failed (none (λ is. absurd cc)) path)
+  ended_at reason.Full none path = gets_all path (none_failed failed (none (λ is. absurd cc)) path)
+  ended_at reason.Stopped none path = gets_all path (none_failed failed (none (λ is. absurd cc)) path)
+  ended_at (reason.TurretFault which) none path = gets_all path (none_failed failed (none (λ is. absurd cc)) path)
+  ended_at reason.DiskFault none path = some_of (of_path failed path) (of_path missed path) (due path start taken) (of_path before path) (of_path after path) (gots path)
 
   failed_at : (path : Path) → first_failed failed ≡ Some path → FailsAmong (due path start taken) (of_path before path) (of_path after path)
       × GetsBeside path (due (other_of path) start taken) (of_path before (other_of path)) (of_path after (other_of path))
@@ -253,9 +289,16 @@ module _ {D : Type 0} (state : D → DiskState) (start taken : TableView D) (sin
       two_failed false true e = (refl, refl)
       two_failed false false e = absurd cc
 
-  pub run_ends : (end : TurretEnd) → HasCause held (first_failed failed) end → RunsWith state start.budget start taken before after missed end
-  run_ends (Ended end) cause = record { since = since; ends = ends end cause.0; turrets = ended_at end cause.1; misses = misses }
-  run_ends (TurretFault path) cause =
+  run_ended : (end : Reason) → Ends held end × (end ≢ reason.DiskFault → first_failed failed ≡ None) → HasEnded state start.budget start taken before after missed end
+  run_ended end cause = record { since = since; ends = ends end cause.0; turrets = ended_at end cause.1; misses = misses }
+
+  pub run_ends : (end : Reason) → HasCause held (first_failed failed) end → RunsWith state start.budget start taken before after missed (Ok end)
+  run_ends reason.Done cause = run_ended reason.Done cause
+  run_ends (reason.Alarm alarm) cause = run_ended (reason.Alarm alarm) cause
+  run_ends reason.Stopped cause = run_ended reason.Stopped cause
+  run_ends reason.Full cause = run_ended reason.Full cause
+  run_ends reason.DiskFault cause = run_ended reason.DiskFault cause
+  run_ends (reason.TurretFault path) cause =
       let fails = failed_at path cause.2 in
       let live = subst (λ (file : Gate D). IsTrue file.live) (sym file_is) cause.1 in
       inl (record {
@@ -266,4 +309,3 @@ module _ {D : Type 0} (state : D → DiskState) (start taken : TableView D) (sin
         other = fails.1;
         misses = misses;
       })
-  run_ends NoMemory cause = absurd cause

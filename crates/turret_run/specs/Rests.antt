@@ -11,24 +11,23 @@ use Rattle.drive_line.specs.declared.phase.Phase.{Phase}
 use Rattle.drive_line.specs.declared.phase.Phase.TheVariants.{Still}
 use Rattle.drive_line.specs.Driving.{DrivenState, has_failed, Serves}
 use Rattle.seat_table.specs.Turning.{Records, moves_in}
-use Rattle.two_path.specs.Machine.{MachineView}
-use Rattle.run_table.specs.declared.running.RunEnd.TheVariants as run
+use Rattle.nc_outside.specs.declared.reason.Reason.{Reason}
+use Rattle.nc_outside.specs.declared.reason.Reason.TheVariants as reason
+use Rattle.two_path.specs.Machine.{MachineView, position_of}
 use Rattle.run_table.specs.Ending.{HasEnded}
 use Rattle.run_table.specs.Holding.{HeldView}
-use Rattle.turret_run.specs.declared.ending.TurretEnd.{TurretEnd}
-use Rattle.turret_run.specs.declared.ending.TurretEnd.TheVariants.{Ended, TurretFault, NoMemory}
 use Rattle.turret_run.specs.Served.{told, GetsAll, FailsAmong}
-use Rattle.turret_run.specs.Runs.{place_of, StandsBeside}
+use Rattle.turret_run.specs.Runs.{StandsBeside}
 
 -- each turret got its place
 abbrev pub ArePlaced : MachineView → Both TurretState → Both TurretState → Type 0
-ArePlaced m before after = (path : Path) → GetsAll (told (place_of path m) []) (of_path before path) (of_path after path)
+ArePlaced m before after = (path : Path) → GetsAll (told (position_of path m) []) (of_path before path) (of_path after path)
 
 -- the turret of this path failed at its place, and that of path 1 was placed before that of path 2
 abbrev pub FailsAtPlace : MachineView → Both TurretState → Both TurretState → Path → Type 0
 FailsAtPlace m before after path =
-    FailsAmong (told (place_of path m) []) (of_path before path) (of_path after path)
-    × StandsBeside path (told (place_of (other_of path) m) []) (of_path before (other_of path)) (of_path after (other_of path))
+    FailsAmong (told (position_of path m) []) (of_path before path) (of_path after path)
+    × StandsBeside path (told (position_of (other_of path) m) []) (of_path before (other_of path)) (of_path after (other_of path))
 
 -- a turret that had served the old records serves the new ones
 abbrev pub ServesOn : Records → DrivenState → Records → DrivenState → Type 0
@@ -53,7 +52,6 @@ first_failed failed = first_by failed.one failed.two
 
 -- Why no turn is given any more: a fault of the disk, the turret that failed, or another end of the
 -- run.
-abbrev pub HasCause : {D : Type 0} → HeldView D → Option Path → TurretEnd → Type 0
-HasCause held failed (Ended end) = HasEnded held end × (end ≢ run.DiskFault → failed ≡ None)
-HasCause held failed (TurretFault path) = (held.halt ≢ Some Disk) × IsTrue held.file.live × (failed ≡ Some path)
-HasCause held failed NoMemory = ⊥
+abbrev pub HasCause : {D : Type 0} → HeldView D → Option Path → Reason → Type 0
+HasCause held failed (reason.TurretFault path) = (held.halt ≢ Some Disk) × IsTrue held.file.live × (failed ≡ Some path)
+HasCause held failed end = HasEnded held end × (end ≢ reason.DiskFault → failed ≡ None)

@@ -1,43 +1,34 @@
 -- A run with turrets, and how it ends.
-use Rattle.std.specs.Prelude.{◌≡◌, ◌≢◌, ◌⊎◌, ℕ, List, [], length, Some}
+use Rattle.std.specs.Prelude.{◌≡◌, ◌≢◌, ◌⊎◌, ℕ, List, [], length, Some, Result, Ok, Err}
 use Rattle.disk_model.specs.Device.{DiskState}
 use Rattle.nc_number.specs.declared.both.Both.{Both}
+use Rattle.nc_number.specs.declared.fault.NoMemory.{NoMemory}
 use Rattle.nc_number.specs.declared.path.Path.{Path}
 use Rattle.nc_number.specs.declared.path.Path.TheVariants.{One, Two}
-use Rattle.nc_number.specs.declared.point.Point.{Point}
 use Rattle.nc_number.specs.Both.{of_path}
 use Rattle.nc_number.specs.Path.{other_of}
 use Rattle.nc_outside.specs.declared.halt.Halt.TheVariants.{Disk}
 use Rattle.nc_outside.specs.declared.got.Got.{Got}
 use Rattle.nc_outside.specs.Received.{TurretState}
-use Rattle.two_path.specs.Machine.{MachineView, own_first}
-use Rattle.run_table.specs.declared.running.RunEnd.{RunEnd}
-use Rattle.run_table.specs.declared.running.RunEnd.TheVariants as run
+use Rattle.nc_outside.specs.declared.reason.Reason.{Reason}
+use Rattle.nc_outside.specs.declared.reason.Reason.TheVariants as reason
+use Rattle.two_path.specs.Machine.{position_of}
 use Rattle.run_table.specs.Kept.{TableView}
 use Rattle.run_table.specs.Made.{moves_made}
 use Rattle.run_table.specs.Running.{EndsBy}
 use Rattle.run_table.specs.Since.{Since}
-use Rattle.turret_run.specs.declared.ending.TurretEnd.{TurretEnd}
-use Rattle.turret_run.specs.declared.ending.TurretEnd.TheVariants.{Ended, TurretFault, NoMemory}
 use Rattle.turret_run.specs.Served.{told, GetsAll, GetsPart, GetsSome, FailsAmong, Misses}
-
--- where the turret of a path stands
-abbrev pub place_of : Path → MachineView → Point
-place_of path m = (own_first path m).first.path.position
 
 -- What is due to the turret of a path: its place at the beginning, and the moves of the path's
 -- records since then that are on the disk at the end.
 abbrev pub due : {D : Type 0} → Path → TableView D → TableView D → List Got
-due path old new = told (place_of path old.machine)
+due path old new = told (position_of path old.machine)
     (moves_made new.verified path (length old.recording.history) new.recording.flushed new.recording.history)
 
 -- at an end of the run a turret got all that is due, and where the disk failed a first part of it
-abbrev pub GetsAt : RunEnd → List Got → TurretState → TurretState → Type 0
-GetsAt (run.Alarm alarm) what old new = GetsAll what old new
-GetsAt run.Done what old new = GetsAll what old new
-GetsAt run.Full what old new = GetsAll what old new
-GetsAt run.Stopped what old new = GetsAll what old new
-GetsAt run.DiskFault what old new = GetsSome what old new
+abbrev pub GetsAt : Reason → List Got → TurretState → TurretState → Type 0
+GetsAt reason.DiskFault what old new = GetsSome what old new
+GetsAt end what old new = GetsAll what old new
 
 -- beside the turret that is named as failed the other one got all that is due, or it failed too;
 -- that of path 1 did not, else it were named
@@ -69,8 +60,9 @@ module _ {D : Type 0} (state : D → DiskState) (limit : ℕ) (old new : TableVi
   -- Before and after are the turrets, and missed is how many moves of records that are on the disk
   -- each of them did not get.
 
-  -- The run ended: the table is one that has come of the old one with so many records at most.
-  pub record HasEnded (end : RunEnd) : Type 0 where
+  -- The run ended, and no turret failed before, or the disk did: the table is one that has come of
+  -- the old one with so many records at most.
+  pub record HasEnded (end : Reason) : Type 0 where
     pub since : Since state (record old { budget = limit }) new
     pub ends : EndsBy state old new end
     pub turrets : (path : Path) → GetsAt end (due path old new) (of_path before path) (of_path after path)
@@ -91,19 +83,23 @@ module _ {D : Type 0} (state : D → DiskState) (limit : ℕ) (old new : TableVi
     pub since : Since state (record old { budget = limit }) new
     pub same : Stays old new
     pub disk : new.halt ≢ Some Disk
-    pub failed : FailsAmong (told (place_of path old.machine) []) (of_path before path) (of_path after path)
-    pub other : StandsBeside path (told (place_of (other_of path) old.machine) []) (of_path before (other_of path)) (of_path after (other_of path))
+    pub failed : FailsAmong (told (position_of path old.machine) []) (of_path before path) (of_path after path)
+    pub other : StandsBeside path (told (position_of (other_of path) old.machine) []) (of_path before (other_of path)) (of_path after (other_of path))
     pub none : missed ≡ none_missed
 
   -- Memory was wanting before the first step, or a thread was refused: no record was made, and no
   -- turret got more than its place.
   pub record HasNotBegun : Type 0 where
     pub same : Stays old new
-    pub turrets : (path : Path) → GetsPart (told (place_of path old.machine) []) (of_path before path) (of_path after path)
+    pub turrets : (path : Path) → GetsPart (told (position_of path old.machine) []) (of_path before path) (of_path after path)
     pub none : missed ≡ none_missed
 
+  -- What a run with turrets that ended so comes to.
+  abbrev pub EndsSo : Reason → Type 0
+  EndsSo (reason.TurretFault path) = HasFailed path ⊎ IsNotPlaced path
+  EndsSo end = HasEnded end
+
   -- What a run with turrets comes to, for at most so many records.
-  abbrev pub RunsWith : TurretEnd → Type 0
-  RunsWith (Ended end) = HasEnded end
-  RunsWith (TurretFault path) = HasFailed path ⊎ IsNotPlaced path
-  RunsWith NoMemory = HasNotBegun
+  abbrev pub RunsWith : Result Reason NoMemory → Type 0
+  RunsWith (Ok end) = EndsSo end
+  RunsWith (Err none) = HasNotBegun

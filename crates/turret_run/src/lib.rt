@@ -22,7 +22,7 @@ mod run;
 mod threads;
 mod turns;
 
-pub use ending::{TurretEnd, TurretRun};
+pub use ending::TurretRun;
 pub use run::run_with_turrets;
 
 // For users of the library: both paths of any table, and single turns of them.

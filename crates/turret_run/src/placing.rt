@@ -1,5 +1,5 @@
 //! What comes before a run: leave for its records, and the places of both turrets.
-ghost use Rattle.std.specs.Prelude.{◌≡◌, [], IfErr, OnOk};
+ghost use Rattle.std.specs.Prelude.{◌≡◌, IfErr, OnOk};
 ghost use Rattle.nc_number.specs.Both.{both_of};
 ghost use Rattle.turret_run.specs.Runs.{Stays};
 ghost use Rattle.turret_run.specs.Rests.{ArePlaced, FailsAtPlace};

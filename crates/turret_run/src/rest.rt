@@ -8,13 +8,12 @@ ghost use Rattle.nc_number.specs.declared.path.Path.TheVariants.{One, Two};
 ghost use Rattle.run_table.specs.Holding.{records_since};
 ghost use Rattle.turret_run.specs.Rests.{ServesOn, IsStillOrFailed, HasCause, who_failed, first_failed};
 
-use crate::ending::TurretEnd;
 use crate::turns::give_turn;
 use disk_model::Disk;
 use drive_line::Driven;
 use nc_number::{Both, Path};
-use nc_outside::Turret;
-use run_table::{Held, Opening, RunEnd};
+use nc_outside::{Reason, Turret};
+use run_table::{Held, Opening};
 use std::sync::Wait;
 
 /// Which turrets have failed.
@@ -40,25 +39,15 @@ fn first_failed(failed: Both<bool>) -> Option<Path>
     None
 }
 
-/// The end of the run, where no turn is to be given any more.
+/// Why no turn is to be given any more, if that is so.
 fn end_of_run<D: Disk, O: Opening<D>>(
     table: &mut Held<D, O>,
     failed: Option<Path>,
-) -> Option<TurretEnd>
+) -> Option<Reason>
     ensures ends { IfSome result (HasCause table.new failed) }
     ensures same { (p : OnePath) → records_since O.opened table.new p ≡ records_since O.opened table.old p }
 {
-    let end = table.end();
-    if let Some(RunEnd::DiskFault) = end {
-        return Some(TurretEnd::Ended(RunEnd::DiskFault));
-    }
-    if let Some(path) = failed {
-        return Some(TurretEnd::TurretFault(path));
-    }
-    match end {
-        Some(end) => Some(TurretEnd::Ended(end)),
-        None => None,
-    }
+    Reason::of_causes(table.end(), failed)
 }
 
 /// Waits until the turret stands still, unless it has failed.
@@ -94,7 +83,7 @@ pub(crate) fn give_rest<R: Wait, D: Disk, O: Opening<D>, T: Turret>(
     rt: &R,
     table: &mut Held<D, O>,
     turrets: &mut Both<Driven<T>>,
-) -> TurretEnd
+) -> Reason
     ensures one { ServesOn (records_since O.opened table.old One) turrets.old.one
         (records_since O.opened table.new One) turrets.new.one }
     ensures two { ServesOn (records_since O.opened table.old Two) turrets.old.two

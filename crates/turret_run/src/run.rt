@@ -1,23 +1,23 @@
 //! A run of an opened table with its turrets.
-ghost use Rattle.std.specs.Prelude.{◌≡◌, length, Some, None};
-ghost use Rattle.run_table.specs.Running.{MayRun, IsNoneOrAlarm, end_of};
+ghost use Rattle.std.specs.Prelude.{◌≡◌, length, Some, None, Err};
+ghost use Rattle.run_table.specs.Running.{MayRun, IsNoneOrAlarm};
+ghost use Rattle.two_path.specs.Ending.{end_of};
 ghost use Rattle.nc_number.specs.declared.both.Both.{Both};
 ghost use Rattle.nc_number.specs.Both.{both_of};
 ghost use Rattle.nc_outside.specs.Received.{TurretState};
-ghost use Rattle.turret_run.specs.declared.ending.TurretEnd.TheVariants.{NoMemory};
 ghost use Rattle.turret_run.specs.Runs.{none_missed, RunsWith};
 ghost use Rattle.turret_run.specs.Rests.{ArePlaced};
 
 use crate::crossing::held_crosses;
-use crate::ending::{TurretEnd, TurretRun};
+use crate::ending::TurretRun;
 use crate::pair::{Ran, Unrun, run_pair};
 use crate::placing::{make_ready, place_both};
 use crate::rest::give_rest;
 use crate::threads::can_make_threads;
 use disk_model::Disk;
 use drive_line::Driven;
-use nc_number::Both;
-use nc_outside::Turret;
+use nc_number::{Both, NoMemory};
+use nc_outside::{Reason, Turret};
 use run_table::{Held, Opening, Table, a_table_opens_itself, a_taken_table_ended_so};
 use std::alloc::Global;
 use std::marker::Brand;
@@ -58,7 +58,7 @@ where
             TurretRun {
                 table: table.into_table(),
                 turrets: let_go(turrets),
-                end,
+                end: Ok(end),
                 missed,
             }
         }
@@ -92,12 +92,12 @@ fn let_go<T: Turret>(turrets: Both<Driven<T>>) -> Both<T>
 
 /// A run that has not begun, for want of memory or threads.
 fn unbegun<D: Disk, T: Turret>(table: Table<D>, turrets: Both<T>) -> TurretRun<D, T>
-    ensures { result ≡ record { table = table; turrets = turrets; end = NoMemory; missed = none_missed } }
+    ensures { result ≡ record { table = table; turrets = turrets; end = Err (record {}); missed = none_missed } }
 {
     TurretRun {
         table,
         turrets,
-        end: TurretEnd::NoMemory,
+        end: Err(NoMemory),
         missed: Both { one: 0, two: 0 },
     }
 }
@@ -135,7 +135,7 @@ where
         return unbegun(table, turrets);
     }
     if let Err(path) = place_both(&table, &mut turrets) {
-        let end = TurretEnd::TurretFault(path);
+        let end = Ok(Reason::TurretFault(path));
         return TurretRun {
             table,
             turrets,

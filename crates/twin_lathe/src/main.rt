@@ -25,6 +25,7 @@ const JOURNAL: &str = "twin.journal";
 /// The file of the journal that a branch makes, in the current folder.
 const BRANCH: &str = "branch.journal";
 
+/// Does what the words of its call ask, over the files of the current folder.
 fn main(rt: HostRuntime) -> Ending {
     let Ok(words) = words_given(&rt) else {
         return Ending::without_memory();
@@ -81,6 +82,7 @@ fn names_for_turrets(command: &Option<Command>) -> TurretNames<'_> {
     }
 }
 
+/// The text of a name, if there is one.
 fn text_of(name: &Option<Name>) -> Option<&str> {
     match name {
         Some(name) => Some(name.as_str()),

@@ -7,7 +7,7 @@ use Rattle.nc_number.specs.declared.path.Path.TheVariants.{One, Two}
 use Rattle.nc_moves.specs.declared.motion.Move.{Move}
 use Rattle.nc_outside.specs.declared.lined_move.LinedMove.{LinedMove}
 use Rattle.nc_outside.specs.Lined.{lined_move}
-use Rattle.run_records.specs.Entries.{Entry}
+use Rattle.run_records.specs.Entries.{Entry, is_meeting}
 use Rattle.two_path.specs.declared.turn.Turn.{Turn}
 use Rattle.two_path.specs.declared.turn.Turn.TheVariants.{Read, Did, Arrived, Met, Ended, Waiting, Finished, Alarm, Halted, Edited}
 use Rattle.two_path.specs.Machine.{MachineView}
@@ -19,7 +19,7 @@ use Rattle.two_path.proofs.Replays.{turn_at, fold_more}
 use Rattle.zone_area.specs.Area.{SweptView, swept_at, swept_with, swept_along}
 use Rattle.zone_cell.specs.declared.cell.Zone.{Zone}
 use Rattle.zone_cell.specs.Zones.{ZonesView}
-use Rattle.zone_check.specs.Segments.{Segment, path_moves, segment_of, is_meeting, segments_from, zone_of, zones_of_history}
+use Rattle.zone_check.specs.Segments.{Segment, path_moves, segment_of, segments_from, zone_of, zones_of_history}
 use Rattle.zone_check.specs.Kept.{KeptView, standing_at, moves_by, standing_with, zones_from}
 
 -- the moves of a block without its line
@@ -76,8 +76,8 @@ standing_more : (tapes : Tapes) (m : MachineView) (front : List Entry) (e : Entr
     → standing_of (segment_of tapes m (front ++ e ∷ []))
     ≡ standing_with (standing_of (segment_of tapes m front)) e.path (turn_of_entry tapes e (fold tapes m front))
 standing_more tapes m front e =
-    let left = swept_at m.first.path.position in
-    let right = swept_at m.second.path.position in
+    let left = swept_at m.paths.one.path.position in
+    let right = swept_at m.paths.two.path.position in
     let turn = turn_of_entry tapes e (fold tapes m front) in
     let at : SweptView → SweptView → Both SweptView = λ a b. record { one = a; two = b } in
     let one : swept_along left (path_moves tapes m One (front ++ e ∷ [])) ≡ swept_along (swept_along left (path_moves tapes m One front)) (moves_by One e.path turn)
@@ -119,7 +119,7 @@ folded tapes zones m front done (e ∷ entries) =
     = ap (λ (x : MachineView). zones_from tapes zones x (record { list = done; standing = standing_with (standing_of (segment_of tapes m front)) e.path turn }) entries) is_next
     ∙ (ap (λ (s : Both SweptView). zones_from tapes zones next (record { list = done; standing = s }) entries) (sym (standing_more tapes m front e))
     ∙ folded tapes zones m (front ++ e ∷ []) done entries) in
-    either_way (is_meeting e) (λ k. zones_from tapes zones (behind_entry tapes e now) k entries) (λ ss. done ++ map (zone_of zones) ss)
+    either_way (is_meeting e.kind) (λ k. zones_from tapes zones (behind_entry tapes e now) k entries) (λ ss. done ++ map (zone_of zones) ss)
     (record { list = done ++ zone ∷ []; standing = standing_at (behind_entry tapes e now) })
     (record { list = done; standing = standing_with (standing_of (segment_of tapes m front)) e.path turn })
     (segment_of tapes m front ∷ segments_from tapes next [] entries) (segments_from tapes m (front ++ e ∷ []) entries)

@@ -1,5 +1,5 @@
 -- What a block does leaves its path at the end of its moves.
-use Rattle.std.proofs.Common.{◌≡◌, ℕ, Bool, true, false, List, [], Option, Some, None, Result, Ok, Err, refl, if◌then◌else◌}
+use Rattle.std.proofs.Common.{◌≡◌, ℕ, Bool, true, false, List, [], Option, Some, None, Result, Ok, Err, refl}
 use Rattle.nc_number.specs.declared.cause.Cause.{Cause}
 use Rattle.nc_number.specs.declared.point.Point.{Point}
 use Rattle.nc_number.specs.declared.value.Var.{Var}
@@ -40,11 +40,7 @@ use Rattle.path_state.specs.Statements.{After, along, with_offset, written_path,
 use Rattle.block_values.specs.InForce.{modal_after}
 use Rattle.path_state.specs.Effect.{Effect, Moved, after_motion, motion_with, acted, done_by, controlled, of_moved, of_values, of_arguments, of_purpose, block_of_words, of_after, effect_of_body, effect_of_block, block_at, effect_of}
 use Rattle.path_state.specs.Effect as effect
-
--- what holds of both holds of either
-pub either : {A : Type 0} (P : A → Type 0) (b : Bool) (x y : A) → P x → P y → P (if b then x else y)
-either P true x y one other = one
-either P false x y one other = other
+use Rattle.two_path.proofs.NoCrossing.{either}
 
 -- a statement leaves its path where it stands
 abbrev StaysAt : PathView → Outcome After → Type 0

@@ -4,6 +4,7 @@ use Rattle.std.proofs.lemmas.List.{map-append}
 use Rattle.nc_number.specs.declared.path.Path.{Path}
 use Rattle.nc_number.specs.declared.path.Path.TheVariants.{One, Two}
 use Rattle.nc_number.specs.declared.point.Point.{Point}
+use Rattle.nc_number.specs.Both.{of_path}
 use Rattle.nc_moves.specs.declared.motion.Move.{Move}
 use Rattle.nc_moves.specs.declared.alarm.Alarm.{Alarm}
 use Rattle.nc_moves.specs.Motion.{end_of}
@@ -14,32 +15,33 @@ use Rattle.tape_flow.specs.declared.flow.Flow.{Flow}
 use Rattle.block_values.specs.Moves.{last_end}
 use Rattle.path_state.specs.Effect.{Effect}
 use Rattle.path_state.specs.Effect as effect
-use Rattle.two_path.specs.Machine.{MachineView, own_first}
-use Rattle.two_path.specs.Turns.{TurnResult, Tapes, blocks_of, tapes_of, tape_of, result_at_wait, result_by, unless_idle, block_turn, own_turn, result, behind_meeting, crossed_waits, alarm_result}
+use Rattle.two_path.specs.Machine.{MachineView, own_first, position_of}
+use Rattle.two_path.specs.Turns.{TurnResult, Tapes, blocks_of, tapes_of, result_at_wait, result_by, unless_idle, block_turn, own_turn, result, behind_meeting, crossed_waits, alarm_result}
 use Rattle.two_path.specs.declared.turn.Turn.TheVariants as turn
 use Rattle.two_path.specs.Histories.{with_reads, behind_step, behind_own, behind_entry, fold}
 use Rattle.two_path.specs.Again.{turn_by, turn_of_entry}
 use Rattle.two_path.specs.Made.{moves_of_turn, made_by, moves_in, turns_from, moves_of}
+use Rattle.two_path.proofs.NoCrossing.{either}
 use Rattle.two_path.proofs.Replays.{turn_at}
 use Rattle.zone_check.specs.Segments.{path_moves}
 use Rattle.zone_check.specs.Kept.{moves_by}
 use Rattle.zone_check.proofs.Folded.{what_by}
-use Rattle.zone_check.proofs.MovesLead.{either, LeadsOn, block_leads}
+use Rattle.zone_check.proofs.MovesLead.{LeadsOn, block_leads}
 
 -- a turn leaves the first path at the end of its moves, and the other where it stood
 abbrev LeadsBy : MachineView → TurnResult → Type 0
-LeadsBy m r = (r.machine.first.path.position ≡ last_end m.first.path.position (moves_of_turn r.turn))
-    × (r.machine.second.path.position ≡ m.second.path.position)
+LeadsBy m r = (r.machine.paths.one.path.position ≡ last_end m.paths.one.path.position (moves_of_turn r.turn))
+    × (r.machine.paths.two.path.position ≡ m.paths.two.path.position)
 
 wait_leads : (path : Path) (line : ℕ) (m : MachineView) (code : ℕ) (there : Option ℕ) → LeadsBy m (result_at_wait path line m code there)
 wait_leads path line m code None = (refl, refl)
 wait_leads path line m code (Some other) =
     either (λ (r : TurnResult). LeadsBy m r) (code == other) (result (turn.Met code) (behind_meeting m)) (alarm_result (crossed_waits path line) m) (refl, refl) (refl, refl)
 
-effect_leads : (path : Path) (line : ℕ) (m : MachineView) (what : Effect) → LeadsOn m.first.path.position what → LeadsBy m (result_by path line m what)
+effect_leads : (path : Path) (line : ℕ) (m : MachineView) (what : Effect) → LeadsOn m.paths.one.path.position what → LeadsBy m (result_by path line m what)
 effect_leads path line m (effect.Need variable) is = (refl, refl)
 effect_leads path line m (effect.Done after write moves) is = (is, refl)
-effect_leads path line m (effect.AtWait code) is = wait_leads path line m code m.second.waiting
+effect_leads path line m (effect.AtWait code) is = wait_leads path line m code m.paths.two.waiting
 effect_leads path line m (effect.AtEnd after moves) is = (is, refl)
 effect_leads path line m (effect.Alarm number value) is = (refl, refl)
 
@@ -52,18 +54,14 @@ idle_leads m None false None rest is = is
 
 own_leads : (flow : Flow) (path : Path) (m : MachineView) → LeadsBy m (own_turn (blocks_of flow) path m)
 own_leads flow path m =
-    idle_leads m m.alarm m.first.finished m.first.waiting (block_turn (blocks_of flow) path m)
-    (effect_leads path ((blocks_of flow).line m.first.path.place) m ((blocks_of flow).effect m.first.path m.first.values)
-    (block_leads flow m.first.path m.first.values))
-
--- where a path stands
-abbrev position_of : Path → MachineView → Point
-position_of path m = (own_first path m).first.path.position
+    idle_leads m m.alarm m.paths.one.finished m.paths.one.waiting (block_turn (blocks_of flow) path m)
+    (effect_leads path ((blocks_of flow).line m.paths.one.path.place) m ((blocks_of flow).effect m.paths.one.path m.paths.one.values)
+    (block_leads flow m.paths.one.path m.paths.one.values))
 
 -- a record of this path, with these stamps, and where a path stands behind it
 step_leads : (left right : Flow) (of path : Path) (stamps : List ℕ) (m : MachineView)
-    → position_of path (own_first of (behind_step (tape_of (tapes_of left right) of) of stamps (own_first of m)))
-    ≡ last_end (position_of path m) (moves_by path of (own_turn (tape_of (tapes_of left right) of) of (with_reads (tape_of (tapes_of left right) of) stamps (own_first of m))).turn)
+    → position_of path (own_first of (behind_step (of_path (tapes_of left right) of) of stamps (own_first of m)))
+    ≡ last_end (position_of path m) (moves_by path of (own_turn (of_path (tapes_of left right) of) of (with_reads (of_path (tapes_of left right) of) stamps (own_first of m))).turn)
 step_leads left right One One stamps m = (own_leads left One (with_reads (blocks_of left) stamps m)).0
 step_leads left right One Two stamps m = (own_leads left One (with_reads (blocks_of left) stamps m)).1
 step_leads left right Two One stamps m = (own_leads right Two (with_reads (blocks_of right) stamps (own_first Two m))).1
@@ -71,8 +69,8 @@ step_leads left right Two Two stamps m = (own_leads right Two (with_reads (block
 
 -- a record, which is an edit or has these stamps, and where a path stands behind it
 entry_leads : (left right : Flow) (of path : Path) (edit : Option Edit) (stamps : List ℕ) (m : MachineView)
-    → position_of path (own_first of (behind_own (tape_of (tapes_of left right) of) of edit stamps (own_first of m)))
-    ≡ last_end (position_of path m) (moves_by path of (turn_by (tape_of (tapes_of left right) of) of edit stamps (own_first of m)))
+    → position_of path (own_first of (behind_own (of_path (tapes_of left right) of) of edit stamps (own_first of m)))
+    ≡ last_end (position_of path m) (moves_by path of (turn_by (of_path (tapes_of left right) of) of edit stamps (own_first of m)))
 entry_leads left right of path None stamps m = step_leads left right of path stamps m
 entry_leads left right One One (Some edit) stamps m = refl
 entry_leads left right One Two (Some edit) stamps m = refl

@@ -7,9 +7,9 @@ use Rattle.nc_number.specs.declared.both.Both.{Both}
 use Rattle.nc_number.specs.declared.path.Path.{Path}
 use Rattle.nc_number.specs.declared.path.Path.TheVariants.{One, Two}
 use Rattle.nc_moves.specs.declared.motion.Move.{Move}
-use Rattle.run_records.specs.Entries.{Entry}
+use Rattle.run_records.specs.Entries.{Entry, is_meeting}
 use Rattle.two_path.specs.declared.turn.Turn.{Turn}
-use Rattle.two_path.specs.Machine.{MachineView}
+use Rattle.two_path.specs.Machine.{Part, MachineView}
 use Rattle.two_path.specs.Turns.{Tapes}
 use Rattle.two_path.specs.Histories.{behind_entry}
 use Rattle.two_path.specs.Again.{turn_of_entry}
@@ -17,11 +17,10 @@ use Rattle.two_path.specs.Made.{moves_of_turn}
 use Rattle.zone_area.specs.Area.{SweptView, swept_at, swept_along}
 use Rattle.zone_cell.specs.declared.cell.Zone.{Zone}
 use Rattle.zone_cell.specs.Zones.{ZonesView, zone_of_areas}
-use Rattle.zone_check.specs.Segments.{is_meeting}
 
 -- where a segment begins
 abbrev pub standing_at : MachineView → Both SweptView
-standing_at m = record { one = swept_at m.first.path.position; two = swept_at m.second.path.position }
+standing_at m = both_of (λ (part : Part). swept_at part.path.position) m.paths
 
 -- of a turn of the path its moves, and of the other path's none
 abbrev pub moves_by : Path → Path → Turn → List Move
@@ -44,7 +43,7 @@ pub record KeptView : Type 0 where
 -- after a record that led to this machine by this turn
 abbrev pub kept_with : ZonesView → Entry → Turn → MachineView → KeptView → KeptView
 kept_with zones e turn m k =
-    if is_meeting e then record { list = k.list ++ standing_zone zones k.standing ∷ []; standing = standing_at m }
+    if is_meeting e.kind then record { list = k.list ++ standing_zone zones k.standing ∷ []; standing = standing_at m }
     else record { list = k.list; standing = standing_with k.standing e.path turn }
 
 -- all zones, where these are kept and these records are left

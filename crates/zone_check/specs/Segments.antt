@@ -1,27 +1,18 @@
 -- The segments of a history, and their zones.
-use Rattle.std.specs.Prelude.{Bool, true, false, List, [], ◌∷◌, ◌++◌, map, if◌then◌else◌}
+use Rattle.std.specs.Prelude.{List, [], ◌∷◌, ◌++◌, map, if◌then◌else◌}
 use Rattle.nc_number.specs.declared.path.Path.{Path}
 use Rattle.nc_number.specs.declared.path.Path.TheVariants.{One, Two}
 use Rattle.nc_number.specs.declared.point.Point.{Point}
 use Rattle.nc_moves.specs.declared.motion.Move.{Move}
 use Rattle.nc_outside.specs.declared.lined_move.LinedMove.{LinedMove}
-use Rattle.run_records.specs.Entries.{Entry}
-use Rattle.run_records.specs.declared.entry.EntryKind.{EntryKind}
-use Rattle.run_records.specs.declared.entry.EntryKind.TheVariants as kind
-use Rattle.path_state.specs.Opening.{opening_path}
-use Rattle.two_path.specs.Machine.{MachineView, opening}
+use Rattle.run_records.specs.Entries.{Entry, is_meeting}
+use Rattle.two_path.specs.Machine.{MachineView}
 use Rattle.two_path.specs.Turns.{Tapes}
 use Rattle.two_path.specs.Histories.{fold}
 use Rattle.two_path.specs.Made.{moves_of}
-use Rattle.tape_flow.specs.declared.flow.Flow.{Flow}
-use Rattle.cell_settings.specs.declared.settings.Settings.{Settings}
 use Rattle.zone_area.specs.Area.{area_of}
 use Rattle.zone_cell.specs.declared.cell.Zone.{Zone}
 use Rattle.zone_cell.specs.Zones.{ZonesView, zone_of_areas}
-
--- the machine of a pair before its first record
-abbrev pub first_machine : Flow → Flow → Settings → MachineView
-first_machine left right settings = opening (opening_path left settings One) (opening_path right settings Two)
 
 -- what both paths do between two meetings: where each begins, and its moves
 pub record Segment : Type 0 where
@@ -37,30 +28,18 @@ path_moves tapes m path entries = map (λ (made : LinedMove). made.what) (moves_
 -- the segment that begins at the positions of this machine, and has these records
 abbrev pub segment_of : Tapes → MachineView → List Entry → Segment
 segment_of tapes m entries = record {
-  left_at = m.first.path.position;
+  left_at = m.paths.one.path.position;
   left = path_moves tapes m One entries;
-  right_at = m.second.path.position;
+  right_at = m.paths.two.path.position;
   right = path_moves tapes m Two entries;
 }
-
-abbrev pub is_meeting_kind : EntryKind → Bool
-is_meeting_kind kind.Did = false
-is_meeting_kind kind.Arrived = false
-is_meeting_kind kind.Met = true
-is_meeting_kind kind.Ended = false
-is_meeting_kind kind.Alarmed = false
-is_meeting_kind (kind.Edited edit) = false
-
--- by the record both paths met
-abbrev pub is_meeting : Entry → Bool
-is_meeting entry = is_meeting_kind entry.kind
 
 -- The segments of a history, of which the first began at this machine and has had these records so
 -- far. A meeting ends a segment, and the next begins at the machine behind it.
 abbrev pub segments_from : Tapes → MachineView → List Entry → List Entry → List Segment
 segments_from tapes m so_far [] = segment_of tapes m so_far ∷ []
 segments_from tapes m so_far (e ∷ entries) =
-    if is_meeting e then segment_of tapes m so_far ∷ segments_from tapes (fold tapes m (so_far ++ e ∷ [])) [] entries
+    if is_meeting e.kind then segment_of tapes m so_far ∷ segments_from tapes (fold tapes m (so_far ++ e ∷ [])) [] entries
     else segments_from tapes m (so_far ++ e ∷ []) entries
 
 -- the segments of a history from a machine on

@@ -5,10 +5,11 @@ ghost use Rattle.nc_number.specs.declared.point.Point.{Point};
 ghost use Rattle.zone_area.specs.Passing.{MayPassSome, IsInside, AreApart, point_in_cell};
 ghost use Rattle.zone_cell.specs.Zones.{ZonesView};
 ghost use Rattle.nc_number.specs.declared.path.Path.{Path};
+ghost use Rattle.nc_number.specs.Both.{of_path};
 ghost use Rattle.run_records.specs.Entries.{Entry};
 ghost use Rattle.tape_flow.specs.declared.flow.Flow.{Flow};
 ghost use Rattle.block_values.specs.Moves.{last_end};
-ghost use Rattle.two_path.specs.Machine.{MachineView, own_first};
+ghost use Rattle.two_path.specs.Machine.{MachineView};
 ghost use Rattle.two_path.specs.Turns.{tapes_of};
 ghost use Rattle.two_path.specs.Histories.{fold};
 ghost use Rattle.zone_check.specs.Segments.{Segment, path_moves, zone_of};
@@ -40,6 +41,6 @@ pub fn clear_zones_keep_apart()
 /// that goes somewhere. So a segment begins where the moves of the one before it end.
 pub fn moves_lead_to_positions()
     ensures { (left right : Flow) (m : MachineView) (path : Path) (entries : List Entry)
-        → (own_first path (fold (tapes_of left right) m entries)).first.path.position
-        ≡ last_end (own_first path m).first.path.position (path_moves (tapes_of left right) m path entries) }
+        → (of_path (fold (tapes_of left right) m entries).paths path).path.position
+        ≡ last_end (of_path m.paths path).path.position (path_moves (tapes_of left right) m path entries) }
 {}

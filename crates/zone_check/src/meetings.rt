@@ -3,7 +3,8 @@ ghost use Rattle.std.specs.Prelude.{◌≡◌, ◌≤◌, [], length, IfOk};
 ghost use Rattle.nc_number.specs.declared.limits.TheConstants.{MOST_RECORDS};
 ghost use Rattle.two_path.specs.Turns.{tapes_of};
 ghost use Rattle.two_path.specs.Histories.{IsLegal};
-ghost use Rattle.zone_check.specs.Segments.{first_machine, zones_of_history};
+ghost use Rattle.two_path.specs.Start.{machine_at_start};
+ghost use Rattle.zone_check.specs.Segments.{zones_of_history};
 ghost use Rattle.zone_check.specs.Kept.{standing_at, zones_from};
 
 use crate::standing::Kept;
@@ -26,11 +27,12 @@ fn kept_boxes(
     zones: &Zones,
 ) -> Result<Vec<Zone>, NoMemory>
     requires legal { IsLegal (tapes_of left.now right.now)
-        (first_machine left.now right.now settings.now) entries.now.items }
+        (machine_at_start left.now right.now settings.now) entries.now.items }
     requires few { length entries.now.items ≤ MOST_RECORDS }
     ensures { IfOk result (λ v. v.items ≡ zones_from (tapes_of left.now right.now) zones.now
-        (first_machine left.now right.now settings.now)
-        (record { list = []; standing = standing_at (first_machine left.now right.now settings.now) }) entries.now.items) }
+        (machine_at_start left.now right.now settings.now)
+        (record { list = []; standing = standing_at (machine_at_start left.now right.now settings.now) })
+        entries.now.items) }
 {
     histories_are_runs();
     let mut machine = Machine::new(alloc, left, right, settings)?;
@@ -55,10 +57,10 @@ pub fn boxes(
     zones: &Zones,
 ) -> Result<Vec<Zone>, NoMemory>
     requires legal { IsLegal (tapes_of verified.now.left verified.now.right)
-        (first_machine verified.now.left verified.now.right verified.now.settings) entries.now.items }
+        (machine_at_start verified.now.left verified.now.right verified.now.settings) entries.now.items }
     requires few { length entries.now.items ≤ MOST_RECORDS }
     ensures { IfOk result (λ v. v.items ≡ zones_of_history (tapes_of verified.now.left verified.now.right)
-        (first_machine verified.now.left verified.now.right verified.now.settings) zones.now entries.now.items) }
+        (machine_at_start verified.now.left verified.now.right verified.now.settings) zones.now entries.now.items) }
 {
     kept_boxes(
         alloc,

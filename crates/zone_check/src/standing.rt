@@ -3,13 +3,12 @@ ghost use Rattle.std.specs.Prelude.{◌≡◌, [], ◌∷◌, ◌++◌, IfOk, On
 ghost use Rattle.nc_number.specs.declared.path.Path.TheVariants as Path;
 ghost use Rattle.motion_track.specs.Within.{AreMovesWithin};
 ghost use Rattle.two_path.specs.Made.{moves_of_turn};
-ghost use Rattle.zone_area.specs.Area.{swept_at, swept_along};
-ghost use Rattle.zone_check.specs.Segments.{is_meeting};
-ghost use Rattle.zone_check.specs.Kept.{moves_by, standing_at, standing_with, standing_zone, kept_with};
+ghost use Rattle.zone_area.specs.Area.{swept_along};
+ghost use Rattle.zone_check.specs.Kept.{standing_at, standing_with, standing_zone, kept_with};
 
 use motion_track::LONGEST;
 use nc_number::{Both, NoMemory, Path};
-use run_records::{Entry, EntryKind};
+use run_records::Entry;
 use std::alloc::Global;
 use std::marker::Model;
 use two_path::{Machine, Turn};
@@ -75,20 +74,6 @@ fn standing_zone(zones: &Zones, standing: &Both<Swept>) -> Zone
     })
 }
 
-/// Whether both paths met by the record.
-fn is_meeting(entry: &Entry) -> bool
-    ensures { result ≡ is_meeting entry.now }
-{
-    match entry.kind {
-        EntryKind::Did => false,
-        EntryKind::Arrived => false,
-        EntryKind::Met => true,
-        EntryKind::Ended => false,
-        EntryKind::Alarmed => false,
-        EntryKind::Edited(_) => false,
-    }
-}
-
 impl Kept {
     /// Before the first record of a history, at the machine that it begins with.
     pub(crate) fn at(alloc: Global, machine: &Machine) -> Kept
@@ -112,7 +97,7 @@ impl Kept {
         requires { AreMovesWithin LONGEST (moves_of_turn turn.now) }
         ensures { OnOk result (self.new ≡ kept_with zones.now entry.now turn.now machine.now.machine self.old) }
     {
-        if is_meeting(entry) {
+        if entry.kind.is_meeting() {
             self.list.push(standing_zone(zones, &self.standing))?;
             self.standing = standing_at(machine);
             return Ok(());

@@ -37,7 +37,8 @@ fn hits(zones: &[Zone]) -> u64
 
 /// Puts a line for each zone.
 fn put_zones<K: Sink>(sink: &mut K, zones: &[Zone]) -> Result<(), PutFault>
-    ensures { IsPut (K.state sink.old) (K.state sink.new) (zone_texts 0 zones.now) result }
+    ensures { IsPut (K.state sink.old) (K.state sink.new)
+        (zone_texts 0 zones.now) result }
 {
     let mut number = 0u64;
     for zone in zones {
@@ -49,7 +50,8 @@ fn put_zones<K: Sink>(sink: &mut K, zones: &[Zone]) -> Result<(), PutFault>
 
 /// Puts the lines of the zones, and the last line.
 fn put_rest<K: Sink>(sink: &mut K, zones: &[Zone]) -> Result<(), PutFault>
-    ensures { IsPut (K.state sink.old) (K.state sink.new) (zone_texts 0 zones.now ++ end_text (hits_of zones.now)) result }
+    ensures { IsPut (K.state sink.old) (K.state sink.new)
+        (zone_texts 0 zones.now ++ end_text (hits_of zones.now)) result }
 {
     match put_zones(sink, zones) {
         Ok(()) => put_end(sink, hits(zones)),

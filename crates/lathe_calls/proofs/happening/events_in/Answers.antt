@@ -5,8 +5,8 @@ use Rattle.two_path.specs.Machine.{MachineView}
 use Rattle.two_path.specs.Turns.{tapes_of}
 use Rattle.two_path.specs.Histories.{run, turns_of}
 use Rattle.two_path.specs.Joined.{AreAtTheirWaits}
-use Rattle.move_list.specs.Report.{machine_at_start}
-use Rattle.lathe_calls.specs.Traced.{end_status}
+use Rattle.two_path.specs.Start.{machine_at_start}
+use Rattle.lathe_calls.specs.Statuses.{reason_status}
 use Rattle.lathe_calls.specs.declared.event.Event.{Event}
 use Rattle.lathe_calls.specs.Order.{end_after, events_from, given, path_at, placed_events}
 use Rattle.lathe_calls.proofs.happening.events_in.Goals as goal
@@ -35,6 +35,6 @@ returns c =
       events = subst (λ (x : MachineView). c.give_turns.new.list.items ≡ c.in_ok-list.list.items ++ events_from tapes x (given tapes most x order))
           at c.in_ok-give_turns.ensures.list
           ∙ ap (λ (xs : List Event). xs ++ events_from tapes start (given tapes most start order)) (c.in_ok-list.ensures ∙ ap placed_events at);
-      ends = c.end_status-status.ensures ∙ ap end_status (c.end_after.ensures ∙ ap (end_after most)
+      ends = c.reason_status-status.ensures ∙ ap reason_status (c.end_after.ensures ∙ ap (end_after most)
           (c.in_ok-give_turns.ensures.machine ∙ ap (λ (x : MachineView). run tapes x (turns_of (given tapes most x order))) at));
     }

@@ -6,7 +6,7 @@ use Rattle.two_path.specs.Machine.{MachineView, without_reads}
 use Rattle.two_path.specs.Turns.{tapes_of}
 use Rattle.two_path.specs.Histories.{IsLegal, fold}
 use Rattle.two_path.specs.Joined.{AreAtTheirWaits}
-use Rattle.move_list.specs.Report.{machine_at_start}
+use Rattle.two_path.specs.Start.{machine_at_start}
 use Rattle.two_path.proofs.Replays.{counted, fold_more, next_is_legal, none_waits, records_from, records_to}
 use Rattle.lathe_calls.proofs.machine.machine_done.Goals as goal
 

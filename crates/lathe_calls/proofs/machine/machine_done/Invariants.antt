@@ -4,7 +4,7 @@ use Rattle.two_path.specs.Machine.{without_reads}
 use Rattle.two_path.specs.Turns.{tapes_of}
 use Rattle.two_path.specs.Histories.{IsLegal, fold}
 use Rattle.two_path.specs.Joined.{AreAtTheirWaits}
-use Rattle.move_list.specs.Report.{machine_at_start}
+use Rattle.two_path.specs.Start.{machine_at_start}
 use Rattle.lathe_calls.proofs.machine.machine_done.Given as goal
 
 abbrev pub invariant-loop-index : goal.invariant-loop-index

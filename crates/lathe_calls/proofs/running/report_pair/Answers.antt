@@ -6,9 +6,9 @@ use Rattle.lathe_calls.proofs.running.report_pair.Goals as goal
 pub returns-in-Ok : goal.returns-in-Ok
 returns-in-Ok g c =
     let run = c.in-Ok.run' in
-    rw (c.status_behind.ensures, c.end_status.ensures)
+    rw (c.status_behind.ensures, c.reason_status.ensures)
     (ends_put _ c.write_report-put.result (reported c.args.limit c.args.pair.now run.entries.items run.end c.in-Ok.ensures.turns c.in-Ok.ensures.end)
-    (rw (c.end_reason.ensures) at c.write_report-put.ensures))
+    c.write_report-put.ensures)
 
 pub returns-in-Err : goal.returns-in-Err
 returns-in-Err g c = ends_untold _ unran

@@ -6,7 +6,7 @@ use Rattle.lathe_calls.proofs.running.trace_with.Goals as goal
 pub returns-in-Ok : goal.returns-in-Ok
 returns-in-Ok g c =
     let run = c.in-Ok.run' in
-    rw (c.status_behind.ensures, c.end_status.ensures)
+    rw (c.status_behind.ensures, c.reason_status.ensures)
     (ends_put _ c.write_traced-put.result
     (ran_so c.args.limit c.args.pair.now run.entries.items run.end c.args.races.now c.in-Ok.ensures.turns c.in-Ok.ensures.end c.requires)
     c.write_traced-put.ensures)

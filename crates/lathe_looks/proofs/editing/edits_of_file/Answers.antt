@@ -1,5 +1,4 @@
-use Rattle.std.proofs.Common.{subst, sym}
-use Rattle.lathe_calls.proofs.Ended.{ends_by, ends_just}
+use Rattle.lathe_calls.proofs.Ended.{ends_just}
 use Rattle.lathe_looks.proofs.NotHad.{unfetched_due}
 use Rattle.lathe_looks.proofs.EditsTold.{edits_read, edits_unread}
 use Rattle.lathe_looks.proofs.editing.edits_of_file.Goals as goal

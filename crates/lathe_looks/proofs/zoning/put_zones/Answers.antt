@@ -1,6 +1,3 @@
-use Rattle.std.proofs.Common.{ap, subst}
-use Rattle.nc_verify.specs.Printed.{IsPut}
-use Rattle.zone_cell.specs.Lines.{list_text}
 use Rattle.nc_verify.proofs.InPieces.{none_put}
 use Rattle.lathe_looks.proofs.zoning.put_zones.Goals as goal
 

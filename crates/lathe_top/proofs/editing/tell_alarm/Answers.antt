@@ -1,5 +1,5 @@
 use Rattle.std.proofs.Common.{subst}
-use Rattle.move_list.specs.declared.end_line.Reason.{Reason}
+use Rattle.nc_outside.specs.declared.reason.Reason.{Reason}
 use Rattle.lathe_calls.specs.Answers.{Ends, IsJust, tells}
 use Rattle.lathe_calls.specs.Reported.{report_of}
 use Rattle.lathe_calls.specs.Statuses.{reason_status}

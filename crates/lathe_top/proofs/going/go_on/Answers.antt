@@ -1,4 +1,4 @@
-use Rattle.std.proofs.Common.{List, sym, subst, ℕ}
+use Rattle.std.proofs.Common.{List, sym, subst}
 use Rattle.nc_number.specs.Both.{both_of}
 use Rattle.lathe_top.specs.Lathe.{lathe_with}
 use Rattle.nc_verify.specs.declared.verified.Verified.{Verified}
@@ -7,7 +7,7 @@ use Rattle.two_path.specs.Histories.{IsLegal}
 use Rattle.nc_restart.specs.Pair.{tapes_in, opening_of}
 use Rattle.lathe_calls.specs.Answers.{Ends}
 use Rattle.lathe_top.specs.Going.{IsReport}
-use Rattle.lathe_top.specs.Texts.{end_reason, text_by}
+use Rattle.lathe_top.specs.Texts.{text_by}
 use Rattle.lathe_calls.proofs.Ended.{ends_just}
 use Rattle.lathe_top.proofs.GoingOn.{not_ended}
 use Rattle.lathe_top.proofs.GoingReported.{for_pair, told_same, told_report, pair_is}
@@ -48,7 +48,7 @@ returns g c = λ header journaled.
     left.ensures.parts.disk_is
     (ends_just _ _
     (subst (IsReport c.args.asked.limit text_of _ _ _)
-    (sym (told_same text_of left.result.verified new.verified left.result.entries.items new.recording.history (end_reason run.end)
+    (sym (told_same text_of left.result.verified new.verified left.result.entries.items new.recording.history run.end
     left.ensures.parts.verified_is left.ensures.parts.entries_are))
     (told_report state disks.coherent c.a_held_journal_is_small.ensures c.args.asked.limit old new c.requires.may
     c.requires.behind c.requires.unended left.ensures.kept left.ensures.few left.ensures.pending header journaled before after missed text_of run.end

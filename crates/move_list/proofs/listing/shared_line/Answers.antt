@@ -4,5 +4,5 @@ use Rattle.move_list.proofs.listing.shared_line.Goals as goal
 
 pub shared-requires : goal.shared-requires
 shared-requires c =
-    let fixed = c.args.machine.now.machine.first.path.fixed in
+    let fixed = c.args.machine.now.machine.paths.one.path.fixed in
     rw c.from.ensures (shared_where fixed c.args.v (sym (c.is_shared.ensures fixed c.requires.shares) ∙ c.if-is_shared.true))

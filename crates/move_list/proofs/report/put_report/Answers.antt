@@ -1,5 +1,5 @@
 use Rattle.two_path.specs.Turns.{tapes_of}
-use Rattle.move_list.specs.Report.{machine_at_start}
+use Rattle.two_path.specs.Start.{machine_at_start}
 use Rattle.nc_verify.proofs.InPieces.{none_put}
 use Rattle.move_list.proofs.ReportOfMoves.{report_put}
 use Rattle.move_list.proofs.report.put_report.Goals as goal

@@ -8,7 +8,7 @@ use Rattle.two_path.specs.Histories.{IsLegal, fold}
 use Rattle.two_path.specs.Joined.{AreAtTheirWaits}
 use Rattle.two_path.specs.Made.{made_by}
 use Rattle.run_records.specs.Entries.{Entry}
-use Rattle.move_list.specs.Report.{machine_at_start}
+use Rattle.two_path.specs.Start.{machine_at_start}
 use Rattle.two_path.proofs.Replays.{records_from, records_to, moves_on, moves_at_end, next_is_legal, fold_more, counted, none_waits}
 use Rattle.move_list.proofs.turns.history_done.Goals as goal
 

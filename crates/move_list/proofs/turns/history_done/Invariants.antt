@@ -7,7 +7,7 @@ use Rattle.two_path.specs.Turns.{tapes_of}
 use Rattle.two_path.specs.Histories.{IsLegal, fold}
 use Rattle.two_path.specs.Joined.{AreAtTheirWaits}
 use Rattle.two_path.specs.Made.{moves_in, moves_of, turns_from}
-use Rattle.move_list.specs.Report.{machine_at_start}
+use Rattle.two_path.specs.Start.{machine_at_start}
 use Rattle.move_list.proofs.turns.history_done.Given as goal
 
 abbrev pub invariant-loop-index : goal.invariant-loop-index

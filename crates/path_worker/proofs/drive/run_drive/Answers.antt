@@ -1,10 +1,9 @@
-use Rattle.std.proofs.Common.{◌≡◌, ◌⊎◌, true, false, ◌++◌, ◌∷◌, [], refl, ap, sym, ◌∙◌, subst}
+use Rattle.std.proofs.Common.{◌≡◌, false, ◌++◌, ◌∷◌, [], refl, ap, sym, ◌∙◌, subst}
 use Rattle.nc_outside.specs.Calls.{IsCalled}
 use Rattle.drive_line.specs.declared.item.Item.{Item}
 use Rattle.drive_line.specs.declared.item.Item.TheVariants.{Move, Mark, End}
-use Rattle.drive_line.specs.declared.phase.Phase.TheVariants.{Still, Failed}
-use Rattle.drive_line.specs.Driving.{DrivenState, fresh, has_failed, Serves}
-use Rattle.drive_line.specs.Line.{moves_among, has_end, is_mark, Taking}
+use Rattle.drive_line.specs.Driving.{DrivenState, has_failed, Serves}
+use Rattle.drive_line.specs.Line.{moves_among, has_end, is_mark}
 use Rattle.drive_line.proofs.Items.{end_of_both}
 use Rattle.drive_line.proofs.Serving.{serves_none}
 use Rattle.path_worker.specs.Drive.{halts_at, once_halted, StandsAt}

@@ -1,4 +1,4 @@
-use Rattle.std.proofs.Common.{◌≡◌, List, ◌++◌, ◌∙◌, ap, sym, subst, IsTrue, length, refl, flat_map, inl, inr, ⊎_elim}
+use Rattle.std.proofs.Common.{◌≡◌, List, ◌++◌, ◌∙◌, ap, sym, subst, IsTrue, length, refl, flat_map}
 use Rattle.nc_outside.specs.declared.lined_move.LinedMove.{LinedMove}
 use Rattle.nc_outside.specs.Calls.{IsCalled, moves_answered}
 use Rattle.drive_line.specs.Driving.{Serves}

@@ -1,4 +1,4 @@
-use Rattle.std.proofs.Common.{◌≡◌, ◌∙◌, Some, Ok, sym, subst, arith}
+use Rattle.std.proofs.Common.{◌∙◌, Some, Ok, sym, subst, arith}
 use Rattle.run_branch.specs.Branches.{Branches}
 use Rattle.run_branch.specs.Meetings.{branch_point}
 use Rattle.run_branch.proofs.Points.{enough, none_left, point_is}

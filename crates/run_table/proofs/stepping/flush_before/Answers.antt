@@ -13,4 +13,4 @@ pub returns-in-Err-clause-answer : goal.returns-in-Err-clause-answer
 returns-in-Err-clause-answer g c =
     let dead : c.flush.new.self.log.file.live ≡ false = search rules in
     answer_failed g.D.Disk.state (step_with c.args.answer c.args.moves.now) c.args.recording.now c.flush.new.self c.flush.ensures.flushed.within
-    c.in-Err.ensures.flushed.stays c.requires dead c.flush.ensures.flushed.idle (search rules)
+    c.in-Err.ensures.flushed.stays c.requires.live dead c.flush.ensures.flushed.idle (search rules)

@@ -27,7 +27,7 @@ returns-then-is_shown-clause-answer g c =
         many_pend c.note.new.recording w.pending.result w.pending.ensures.count w.if-pending-eq-MOST_PENDING.true,
       )
     ] in
-    noted_answer d made (is_due c.args.recording.now made the_turn) (Shown the_turn) (step_with c.flush_before.result c.args.moves.now) c.args.recording.now c.note.new.recording c.flush_before.new.recording
+    noted_answer d made (is_due c.args.recording.now made the_turn) (Shown the_turn) (step_with c.flush_before.result c.flush_before.new.moves) c.args.recording.now c.note.new.recording c.flush_before.new.recording
     c.note.ensures.noted both.0 both.1 c.flush_before.ensures.answer
 
 pub returns-clause-records : goal.returns-clause-records

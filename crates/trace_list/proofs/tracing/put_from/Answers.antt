@@ -8,7 +8,7 @@ use Rattle.two_path.specs.Histories.{IsLegal}
 use Rattle.two_path.specs.Joined.{AreAtTheirWaits}
 use Rattle.two_path.specs.Again.{turn_of_entry}
 use Rattle.move_list.specs.EndText.{end_text}
-use Rattle.move_list.specs.Report.{machine_at_start}
+use Rattle.two_path.specs.Start.{machine_at_start}
 use Rattle.two_path.proofs.Replays.{records_from, records_to, next_is_legal, fold_more, counted, none_waits}
 use Rattle.trace_list.proofs.InParts.{has_begun, has_more, has_broken, has_ended}
 use Rattle.trace_list.proofs.Traced.{met_few, none_left, record_parts, start_parts}

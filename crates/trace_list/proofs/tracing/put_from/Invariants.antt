@@ -6,7 +6,7 @@ use Rattle.two_path.specs.Turns.{tapes_of}
 use Rattle.two_path.specs.Histories.{IsLegal, fold}
 use Rattle.two_path.specs.Joined.{AreAtTheirWaits}
 use Rattle.move_list.specs.EndText.{end_text}
-use Rattle.move_list.specs.Report.{machine_at_start}
+use Rattle.two_path.specs.Start.{machine_at_start}
 use Rattle.trace_list.specs.Trace.{trace_text, traced}
 use Rattle.trace_list.specs.TraceText.{lines_text}
 use Rattle.trace_list.proofs.InParts.{HasPut}

@@ -4,7 +4,7 @@ use Rattle.trace_list.proofs.InParts.{lines_then, lines_stop}
 use Rattle.trace_list.proofs.tracing.put_paths.Goals as goal
 
 pub returns-in-Ok : goal.returns-in-Ok
-returns-in-Ok g c = lines_then _ _ _ (begin_lines One c.args.homes.one c.args.machine.now.machine.first.path) (begin_lines Two c.args.homes.two c.args.machine.now.machine.second.path) _ c.in-Ok.ensures c.put_second.ensures
+returns-in-Ok g c = lines_then _ _ _ (begin_lines One c.args.homes.one c.args.machine.now.machine.paths.one.path) (begin_lines Two c.args.homes.two c.args.machine.now.machine.paths.two.path) _ c.in-Ok.ensures c.put_second.ensures
 
 pub returns-in-Err : goal.returns-in-Err
-returns-in-Err g c = lines_stop _ _ (begin_lines One c.args.homes.one c.args.machine.now.machine.first.path) (begin_lines Two c.args.homes.two c.args.machine.now.machine.second.path) _ c.in-Err.ensures
+returns-in-Err g c = lines_stop _ _ (begin_lines One c.args.homes.one c.args.machine.now.machine.paths.one.path) (begin_lines Two c.args.homes.two c.args.machine.now.machine.paths.two.path) _ c.in-Err.ensures

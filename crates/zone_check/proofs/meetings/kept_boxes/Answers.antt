@@ -6,7 +6,7 @@ use Rattle.two_path.specs.Turns.{tapes_of}
 use Rattle.two_path.specs.Histories.{IsLegal}
 use Rattle.two_path.specs.Joined.{AreAtTheirWaits}
 use Rattle.two_path.proofs.Replays.{records_from, records_to, next_is_legal, fold_more, counted, none_waits}
-use Rattle.zone_check.specs.Segments.{first_machine}
+use Rattle.two_path.specs.Start.{machine_at_start}
 use Rattle.zone_check.proofs.Going.{zones_on, zones_at_end, same_list}
 use Rattle.zone_check.proofs.meetings.kept_boxes.Goals as goal
 
@@ -27,7 +27,7 @@ loop-index-init c =
 pub loop-index-preserved : goal.loop-index-preserved
 loop-index-preserved c =
     let tapes = tapes_of c.args.left.now c.args.right.now in
-    let start = first_machine c.args.left.now c.args.right.now c.args.settings.now in
+    let start = machine_at_start c.args.left.now c.args.right.now c.args.settings.now in
     let entries = c.args.entries.now.items in
     let i = c.loop-index.index in
     let m = c.loop-index.machine.machine in
@@ -63,7 +63,7 @@ done_again-turn-requires-clause-room c =
     let settings = c.args.settings.now in
     let law = c.histories_are_runs.ensures (tapes_of left right) (opening_path left settings One) (opening_path right settings Two) in
     let within : c.loop-index.index ≤ length c.args.entries.now.items = omega (arith, c.loop-index-test.true) in
-    let count = counted (tapes_of left right) (first_machine left right settings) c.loop-index.machine.machine c.args.entries.now.items c.loop-index.index law c.requires.legal within c.loop-index.invariant.folds in
+    let count = counted (tapes_of left right) (machine_at_start left right settings) c.loop-index.machine.machine c.args.entries.now.items c.loop-index.index law c.requires.legal within c.loop-index.invariant.folds in
     omega (arith, count, c.loop-index-test.true, c.loop-index.invariant.room)
 
 pub done_again-turn-requires-clause-few : goal.done_again-turn-requires-clause-few
@@ -73,7 +73,7 @@ done_again-turn-requires-clause-few c =
     let settings = c.args.settings.now in
     let law = c.histories_are_runs.ensures (tapes_of left right) (opening_path left settings One) (opening_path right settings Two) in
     let within : c.loop-index.index ≤ length c.args.entries.now.items = omega (arith, c.loop-index-test.true) in
-    let count = counted (tapes_of left right) (first_machine left right settings) c.loop-index.machine.machine c.args.entries.now.items c.loop-index.index law c.requires.legal within c.loop-index.invariant.folds in
+    let count = counted (tapes_of left right) (machine_at_start left right settings) c.loop-index.machine.machine c.args.entries.now.items c.loop-index.index law c.requires.legal within c.loop-index.invariant.folds in
     omega (arith, count, c.loop-index-test.true, c.requires.few)
 
 pub returns : goal.returns

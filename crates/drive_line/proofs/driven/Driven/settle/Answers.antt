@@ -1,4 +1,4 @@
-use Rattle.std.proofs.Common.{◌≡◌, false, true≢false, List, refl, ap, sym, subst}
+use Rattle.std.proofs.Common.{false, true≢false, List, refl, ap, sym, subst}
 use Rattle.nc_outside.specs.declared.lined_move.LinedMove.{LinedMove}
 use Rattle.nc_outside.specs.Received.{TurretState}
 use Rattle.drive_line.specs.declared.phase.Phase.{Phase}

@@ -1,7 +1,7 @@
 use Rattle.std.proofs.Common.{rules, ◌≡◌, ◌≢◌, false, length, refl, sym, ◌∙◌, ap, subst, append-nil, None, Some}
 use Rattle.std.specs.Prelude.{IsTrue}
 use Rattle.nc_outside.specs.declared.halt.Halt.TheVariants as halt
-use Rattle.run_table.specs.declared.running.RunEnd.TheVariants as run
+use Rattle.nc_outside.specs.declared.reason.Reason.TheVariants as cause
 use Rattle.run_table.specs.Kept.{TableView}
 use Rattle.run_table.specs.Ending.{end_ahead, Asks}
 use Rattle.run_table.specs.Ending.Asks.{idle, written, failed}
@@ -61,5 +61,5 @@ returns-in-Err-clause-asks g c =
     let history = c.flush.ensures.records.follows.history ∙ append-nil i.recording.history in
     let dead : c.flush.new.self.log.file.live ≡ false = search rules in
     let live : IsTrue i.recording.log.file.live = open_live i.machine.machine i.recording i.halt c.self.invariant.reason free in
-    subst (λ (t : TableView g.row.D.Denot). Asks t new (Some run.DiskFault)) c.self.view_is
+    subst (λ (t : TableView g.row.D.Denot). Asks t new (Some cause.DiskFault)) c.self.view_is
     (failed free (some_pend i.recording c.flush.new.self c.flush.ensures.flushed.within c.flush.ensures.flushed.idle live dead) refl refl history dead c.in-Err.ensures.flushed.stays)

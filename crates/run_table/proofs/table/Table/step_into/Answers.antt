@@ -2,17 +2,18 @@ use Rattle.std.proofs.Common.{◌≡◌, length, true, false, None, Some, sym, a
 use Rattle.std.specs.Prelude.{IfSome}
 use Rattle.nc_number.specs.declared.path.Path.TheVariants.{One, Two}
 use Rattle.nc_number.specs.Path.{other_of}
+use Rattle.nc_number.specs.Both.{of_path}
 use Rattle.nc_outside.specs.declared.halt.Halt.{Halt}
 use Rattle.path_state.specs.Opening.{opening_path}
 use Rattle.run_records.specs.Entries.{Entry, edit_of}
 use Rattle.tape_flow.specs.declared.flow.Flow.{Flow}
 use Rattle.two_path.specs.declared.turn.Turn.{Turn}
-use Rattle.two_path.specs.Machine.{MachineView, own_first}
+use Rattle.two_path.specs.Machine.{MachineView}
 use Rattle.two_path.specs.Turns.{Tapes, tapes_of, turn_of, entry_of}
 use Rattle.two_path.specs.Joined.{AreAtTheirWaits}
 use Rattle.two_path.specs.Histories.{list_of}
 use Rattle.two_path.specs.Made.{turn_with}
-use Rattle.two_path.proofs.Apart.{is_joined}
+use Rattle.two_path.proofs.Apart.{is_joined, still_apart}
 use Rattle.run_table.specs.Apart.{step_with}
 use Rattle.run_table.specs.declared.answer.TableStep.TheVariants.{Halted}
 use Rattle.run_table.specs.Kept.{TableView, tapes_in, IsTable}
@@ -52,7 +53,7 @@ take-answer-requires-clause-made g c = λ shown.
     let m : MachineView = c.self.inside.machine.machine in
     let tapes : Tapes = tapes_of c.left.result.now c.right.result.now in
     subst (λ (e : Option Entry). length (list_of e) ≡ 1) (sym c.turn_into-turned.ensures.entry)
-    (shown_made c.args.path (own_first c.args.path m).first.stamps (turn_of tapes c.args.path m).turn
+    (shown_made c.args.path (of_path m.paths c.args.path).stamps (turn_of tapes c.args.path m).turn
     (subst (λ (t : Turn). is_shown t ≡ true) (is_joined (turn_of tapes c.args.path m).turn c.turn_into-turned.result.answer c.turn_into-turned.new.moves c.turn_into-turned.ensures.answer c.turn_into-turned.ensures.moves) shown))
 
 pub invariant_of-self-2 : goal.invariant_of-self-2
@@ -77,7 +78,7 @@ invariant_of-self-2 g c =
     (subst (λ (f : Flow). AreAtTheirWaits c.left.result.now.order f.order after) c.right.ensures.same c.turn_into-turned.ensures.waits) in
     subst (λ (h : Option Halt). IsTable d (table_of i.verified c.turn_into-turned.new.self c.take-answer.new.recording h c.take-answer.new.budget c.owed_behind-self-inside.result)) (sym c.reason_of-self-inside-2.ensures)
     (turn_table d i.verified i.machine c.turn_into-turned.new.self i.recording c.take-answer.new.recording i.budget c.take-answer.new.budget i.owed c.owed_behind-self-inside.result c.args.path i.halt c.in_default.is c.self.invariant
-    (turn_with c.turn_into-turned.result.answer c.turn_into-turned.new.moves) c.turn_into-turned.result.entry (step_with c.take-answer.result c.turn_into-turned.new.moves) machine turned entry bound undrained c.take-answer.ensures.answer c.take-answer.ensures.records c.take-answer.ensures.budget
+    (turn_with c.turn_into-turned.result.answer c.turn_into-turned.new.moves) c.turn_into-turned.result.entry (step_with c.take-answer.result c.take-answer.new.moves) machine turned entry bound undrained c.take-answer.ensures.answer c.take-answer.ensures.records c.take-answer.ensures.budget
     keeps runs.counts waits c.turn_into-turned.ensures.room few.1)
 
 pub returns-clause-step : goal.returns-clause-step
@@ -86,7 +87,7 @@ returns-clause-step g c =
     let i = c.self.inside in
     let m : MachineView = i.machine.machine in
     let after : MachineView = c.turn_into-turned.new.self.machine in
-    let answer = (step_with c.take-answer.result c.turn_into-turned.new.moves) in
+    let answer = (step_with c.take-answer.result c.take-answer.new.moves) in
     let undrained : drains (table_of i.verified i.machine i.recording i.halt i.budget i.owed) c.args.path ≡ false =
     subst (λ (t : TableView g.row.D.Denot). drains t c.args.path ≡ false) (sym c.self.view_is) (sym c.drains.ensures ∙ c.if-drains.false) in
     let bound : bound_of (table_of i.verified i.machine i.recording i.halt i.budget i.owed) ≡ None =
@@ -112,7 +113,7 @@ returns-clause-goes_on g c = λ code is.
     let machine = subst (λ (t : Tapes). after ≡ (turn_of t c.args.path m).machine) tapes c.turn_into-turned.ensures.machine in
     let turned = subst (λ (t : Tapes). (turn_with c.turn_into-turned.result.answer c.turn_into-turned.new.moves) ≡ (turn_of t c.args.path m).turn) tapes
     (is_joined (turn_of (tapes_of c.left.result.now c.right.result.now) c.args.path m).turn c.turn_into-turned.result.answer c.turn_into-turned.new.moves c.turn_into-turned.ensures.answer c.turn_into-turned.ensures.moves) in
-    let waits = answer_waits d (is_due i.recording (list_of c.turn_into-turned.result.entry) (turn_with c.turn_into-turned.result.answer c.turn_into-turned.new.moves)) (turn_with c.turn_into-turned.result.answer c.turn_into-turned.new.moves) i.recording c.take-answer.new.recording (step_with c.take-answer.result c.turn_into-turned.new.moves) code c.take-answer.ensures.answer is in
+    let waits = answer_waits d (is_due i.recording (list_of c.turn_into-turned.result.entry) (turn_with c.turn_into-turned.result.answer c.turn_into-turned.new.moves)) (turn_with c.turn_into-turned.result.answer c.turn_into-turned.new.moves) i.recording c.take-answer.new.recording (step_with c.take-answer.result c.take-answer.new.moves) code c.take-answer.ensures.answer is in
     let there = sym turned ∙ waits in
     let goes = c.who_is_waited_for_goes_on.ensures i.verified i.recording.history m c.args.path code c.self.invariant.kept there in
     subst (λ (x : MachineView). GoesOn (tapes_in i.verified) (other_of c.args.path) x) (sym (machine ∙ waits_still (tapes_in i.verified) c.args.path m code there)) goes
@@ -150,4 +151,11 @@ take-answer-requires-clause-step g c =
     let m : MachineView = c.self.inside.machine.machine in
     let tapes : Tapes = tapes_of c.left.result.now c.right.result.now in
     subst (λ (e : Option Entry). IfSome e (λ r. edit_of r.kind ≡ None)) (sym c.turn_into-turned.ensures.entry)
-    (made_step c.args.path (own_first c.args.path m).first.stamps (turn_of tapes c.args.path m).turn)
+    (made_step c.args.path (of_path m.paths c.args.path).stamps (turn_of tapes c.args.path m).turn)
+
+pub take-answer-requires-clause-apart : goal.take-answer-requires-clause-apart
+take-answer-requires-clause-apart g c =
+    let m : MachineView = c.self.inside.machine.machine in
+    let tapes : Tapes = tapes_of c.left.result.now c.right.result.now in
+    still_apart (turn_of tapes c.args.path m).turn c.turn_into-turned.result.answer c.turn_into-turned.new.moves c.turn_into-turned.ensures.answer
+    c.turn_into-turned.ensures.moves

@@ -1,0 +1,62 @@
+//! Why a run ended.
+ghost use Rattle.std.specs.Prelude.{◌≡◌};
+ghost use Rattle.nc_outside.specs.Reasons.{end_or_bound, first_cause, reason_of};
+
+use crate::Halt;
+use nc_moves::Alarm;
+use nc_number::Path;
+
+/// Why a run ended. Of several causes it is the first of these: a fault of the disk, a fault of a
+/// turret, that of path 1 before that of path 2, an alarm, the ends of both paths, as many records
+/// as a journal may have, as many as were allowed.
+#[derive(Clone, Copy, Debug, PartialEq, Eq)]
+pub enum Reason {
+    /// Both paths have finished.
+    Done,
+    /// A path raised an alarm, which stopped both.
+    Alarm(Alarm),
+    /// It made as many records as it was allowed.
+    Stopped,
+    /// The journal has as many records as it may have.
+    Full,
+    /// The disk failed.
+    DiskFault,
+    /// The turret of this path failed.
+    TurretFault(Path),
+}
+
+impl Reason {
+    /// The reason of a run that this halt ended.
+    pub fn of(halt: Halt) -> Reason
+        ensures { result ≡ reason_of halt }
+    {
+        match halt {
+            Halt::Alarm(alarm) => Reason::Alarm(alarm),
+            Halt::Disk => Reason::DiskFault,
+            Halt::Turret(path) => Reason::TurretFault(path),
+            Halt::Full => Reason::Full,
+            Halt::Budget => Reason::Stopped,
+        }
+    }
+
+    /// The reason of a run that its machine ended, or else a bound.
+    pub fn of_end(end: Option<Reason>, bound: Option<Halt>) -> Option<Reason>
+        ensures { result ≡ end_or_bound end bound }
+    {
+        match (end, bound) {
+            (Some(end), _) => Some(end),
+            (None, Some(bound)) => Some(Reason::of(bound)),
+            (None, None) => None,
+        }
+    }
+
+    /// The reason of a run that ended so, if it did, where the turret of this path failed.
+    pub fn of_causes(end: Option<Reason>, turret: Option<Path>) -> Option<Reason>
+        ensures { result ≡ first_cause end turret }
+    {
+        match (turret, end) {
+            (None, _) | (_, Some(Reason::DiskFault)) => end,
+            (Some(path), _) => Some(Reason::TurretFault(path)),
+        }
+    }
+}

@@ -1,0 +1,11 @@
+use Rattle.std.proofs.Common.{subst, sym}
+use Rattle.std.specs.Prelude.{IfSome}
+use Rattle.turret_run.specs.Rests.{HasCause}
+use Rattle.turret_run.proofs.TurretsRun.{has_cause}
+use Rattle.turret_run.proofs.rest.end_of_run.Goals as goal
+
+pub returns-clause-ends : goal.returns-clause-ends
+returns-clause-ends g c =
+    let held = c.end.new.self in
+    subst (λ o. IfSome o (λ e. HasCause held c.args.failed e)) (sym c.of_causes.ensures)
+    (has_cause held c.end.result c.args.failed c.end.ensures.ends c.end.ensures.goes_on)
