@@ -17,6 +17,3 @@ instructions_each() {
     if [[ -z $2 || -z $3 ]]; then return; fi
     awk -v times="$1" -v whole="$2" -v empty="$3" 'BEGIN { printf "%.1f", (whole - empty) / times }'
 }
-
-# Whether instructions can be counted here, by perf or by valgrind.
-counts_instructions() { [[ -n $(instructions_of true) ]]; }

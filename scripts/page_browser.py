@@ -37,6 +37,7 @@ class Browser:
         self.size(width, height, ratio)
 
     def _start(self, words):
+        self.is_closed = False
         if os.geteuid() == 0:
             words = ["--no-sandbox"]
         self.profile = tempfile.mkdtemp(prefix="page_rows.")
@@ -67,6 +68,10 @@ class Browser:
             raise Hung("the browser did not start") from fault
 
     def close(self):
+        """Ends the browser, if it was not ended before."""
+        if self.is_closed:
+            return
+        self.is_closed = True
         self.child.terminate()
         try:
             self.child.wait(20)

@@ -7,9 +7,9 @@ program=$crate/out/twin_lathe
 unproved=$crate/out/twin_lathe.unproved
 # What the toolchain hands to its compiler for the library of include/lathe.h, kept by scripts/build_library.
 library_module=$root/crates/lathe_c/out/lathe_c.bc
-# Beside each of these stands its mark, a file with `.built` after its name, which is as old as the moment when its building
-# began: the checksum and the lines of crates.txt that it stands on. The proved program and the module have one only if they were
-# proved and built whole.
+# Beside each of these stands its mark, a file with `.built` after its name: its checksum, the lines of crates.txt that it stands on,
+# and the checksum of their sources when its building began. The proved program and the module have one only if they were proved and
+# built whole. A file with `.toolchain` after its name has the identity of the toolchain that built it.
 
 # The folder of the toolchain is the one that RATTLE names, or else `rt` is on the PATH.
 find_tool() {
@@ -33,16 +33,17 @@ no_tool() {
     exit 127
 }
 
-# The lines of crates.txt of the crates named and of all that they stand on, by crates.txt's own order.
+# The lines of crates.txt of the crates named and of all that they stand on, by crates.txt's own order. It fails if there is no such crate.
 lines_below() {
     awk -v wanted="$*" '
         BEGIN { count = split(wanted, names, " "); for (k = 1; k <= count; k++) is_wanted[names[k]] = 1 }
         { sub(/#.*/, "") }
         /:/ {
-            name = $1; sub(/:.*/, "", name); order[++lines] = name
+            name = $1; sub(/:.*/, "", name); order[++lines] = name; whole[name] = $0
             text = $0; sub(/^[^:]*:/, "", text); below[name] = text
         }
         END {
+            for (name in is_wanted) if (!(name in below)) exit 1
             for (grown = 1; grown;) {
                 grown = 0
                 for (name in is_wanted) {
@@ -51,57 +52,77 @@ lines_below() {
                         if (names[k] in below && !(names[k] in is_wanted)) { is_wanted[names[k]] = 1; grown = 1 }
                 }
             }
-            for (k = 1; k <= lines; k++) if (order[k] in is_wanted) print order[k] ":" below[order[k]]
+            for (k = 1; k <= lines; k++) if (order[k] in is_wanted) print whole[order[k]]
         }' "$root/crates.txt"
 }
 
-# Copies the sources of the program, or of the crate $2, and of all below it to the new folder $1, as a repository of its own: without the crates of tests and
-# without planted bugs, so that a build does not wait for those.
+# Copies the sources of the program, or of the crate $2, and of all below it to the new folder $1, as a repository of its own: without
+# the crates of tests and without planted bugs, so that a build does not wait for those.
 copy_sources() {
     local name kind
     mkdir -p "$1/.git" "$1/crates" || return
     cp -- "$root/HANDLES" "$1" || return
-    while IFS=: read -r name _; do
-        grep -m 1 "^$name[ :]" "$root/crates.txt" >>"$1/crates.txt"
+    lines_below "${2:-twin_lathe}" >"$1/crates.txt" || return
+    while IFS=': ' read -r name _; do
         mkdir "$1/crates/$name" || return
         for kind in src specs proofs data args stdin stdout status; do
             [[ ! -e $root/crates/$name/$kind ]] || cp -r -- "$root/crates/$name/$kind" "$1/crates/$name" || return
         done
-    done < <(lines_below "${2:-twin_lathe}")
+    done <"$1/crates.txt"
 }
 
-# What the mark of the file $1, which is built of the crate $2, has to say as it stands.
+# The checksum of the names and contents of all files in the folders $2 .. of the crate $1 and of all that it stands on.
+sum_sources() {
+    local top=$1 name kind folders=()
+    shift
+    while IFS=': ' read -r name _; do
+        for kind in "$@"; do [[ ! -d $root/crates/$name/$kind ]] || folders+=("$name/$kind"); done
+    done < <(lines_below "$top")
+    ((${#folders[@]})) && (cd "$root/crates" && find "${folders[@]}" ! -type d -print0 | LC_ALL=C sort -z | xargs -0 sha256sum -- | sha256sum)
+}
+
+# The same of all that is proved, and of all that is compiled without proofs.
+sum_proved() { sum_sources "${1:-twin_lathe}" src specs proofs; }
+sum_unproved() { sum_sources twin_lathe src specs; }
+
+# What the mark of the file $1, which is built of the crate $2 from sources with the checksum $3, has to say.
 mark_text() {
     sha256sum <"$1"
     lines_below "$2"
+    printf '%s\n' "$3"
 }
 
-# Whether the file $1 is built of the crate $2, and nothing in the folders $3 .. of the crates that it stands on has changed since.
+# Whether the file $1 was built by the toolchain that is here, if there is one.
+is_of_toolchain() {
+    local here
+    here=$(tool_version) || return 0
+    [[ -f $1.toolchain && $(<"$1.toolchain") == "$here" ]]
+}
+
+# Whether the file $1 is built of the crate $2, by this toolchain, and neither that nor the sources, whose checksum the words $3 .. give,
+# have changed since.
 is_current() {
-    local built=$1 top=$2 name kind folders=()
+    local built=$1 top=$2
     shift 2
-    [[ -f $built && -f $built.built && $(<"$built.built") == "$(mark_text "$built" "$top")" ]] || return 1
-    while IFS=: read -r name _; do
-        for kind in "$@"; do folders+=("$root/crates/$name/$kind"); done
-    done < <(lines_below "$top")
-    [[ -z $(find "${folders[@]}" -newer "$built.built" -print -quit 2>/dev/null) ]]
+    [[ -f $built && -f $built.built ]] && is_of_toolchain "$built" && [[ $(<"$built.built") == "$(mark_text "$built" "$top" "$("$@")")" ]]
 }
 
 # Whether the proved program is built, the one without proofs is compiled, and the library's module is kept, from the sources as they are.
-is_built() { [[ -x $program ]] && is_current "$program" twin_lathe src specs proofs; }
-is_compiled() { [[ -x $unproved ]] && is_current "$unproved" twin_lathe src specs; }
-is_module_kept() { is_current "$library_module" lathe_c src specs proofs; }
+is_built() { [[ -x $program ]] && is_current "$program" twin_lathe sum_proved; }
+is_compiled() { [[ -x $unproved ]] && is_current "$unproved" twin_lathe sum_unproved; }
+is_module_kept() { is_current "$library_module" lathe_c sum_proved lathe_c; }
 
-# Notes that a file was built (the proved program, if $2 names no other) of the crate $3 or twin_lathe, from the sources as they were
-# when the file $1 was last touched.
+# Notes that a file was built (the proved program, if $2 names no other) of the crate $3 or twin_lathe, by the toolchain that is here and
+# from sources whose checksum stands in the file $1.
 note_built() {
     local built=${2:-$program}
-    mark_text "$built" "${3:-twin_lathe}" >"$built.built"
-    touch -r "$1" "$built.built"
+    tool_version >"$built.toolchain" && mark_text "$built" "${3:-twin_lathe}" "$(<"$1")" >"$built.built"
 }
 
-# The identity of the toolchain, if there is one.
+# The identity of the toolchain, if there is one. (its file is read where there is one, since `rt version` takes half a second)
 tool_version() {
-    local tool
-    tool=$(find_tool) && "$tool" version
+    local tool kit
+    tool=$(find_tool) || return
+    kit=${RATTLE:-$(dirname -- "$(dirname -- "$(readlink -f -- "$tool")")")}
+    if [[ -s $kit/KIT-ID ]]; then cat -- "$kit/KIT-ID"; else "$tool" version; fi
 }
