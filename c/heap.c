@@ -10,6 +10,7 @@ struct given {
 
 static char nothing;
 
+/* The pointer that the C library gave, or `no` if it gave none. */
 static struct given answer(void *at) {
     struct given it = {at != NULL, at != NULL ? at : &nothing};
     return it;

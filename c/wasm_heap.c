@@ -38,6 +38,7 @@ static int reaches(size_type to) {
     return __builtin_wasm_memory_grow(0, wanted - held) != (size_type)-1;
 }
 
+/* A block with room for so many bytes, from the list of its class or else from the end; 0 if there is none. */
 static byte *take(size_type size) {
     size_type class = class_for(size);
     if (class == CLASSES) return 0;
@@ -54,6 +55,7 @@ static byte *take(size_type size) {
     return (byte *)head + HEAD;
 }
 
+/* Puts a block into the list of its class. */
 static void give_back(byte *at) {
     union head *head = (union head *)(at - HEAD);
     size_type class = head->class;
@@ -61,6 +63,7 @@ static void give_back(byte *at) {
     lists[class] = head;
 }
 
+/* The pointer, or `no` if it is 0. */
 static struct given answer(byte *at) {
     struct given it = {at != 0, (size_type)(at != 0 ? at : &nothing)};
     return it;

@@ -41,6 +41,7 @@ const Camera = (() => {
     fitted = isAll ? "all" : "part";
   }
 
+  /** Puts the eye so that a box, in mm, fills the room between the rims. A box under 2 mm counts as one of 2 mm. */
   function lookAt(box) {
     const { left, right, top, bottom } = rim();
     const width = Math.max(50, sheet.width - left - right), height = Math.max(50, sheet.height - top - bottom);
@@ -51,6 +52,7 @@ const Camera = (() => {
   /** A box of another size: what was brought into the picture is so again. */
   function refit() { if (fitted) fit(fitted === "all"); }
 
+  /** Widens a box by a point, in mm. */
   function take(box, z, r) {
     box.z0 = Math.min(box.z0, z);
     box.z1 = Math.max(box.z1, z);
@@ -58,6 +60,7 @@ const Camera = (() => {
     box.r1 = Math.max(box.r1, r);
   }
 
+  /** Widens a box by both ends of each segment that is taken, and by three points of its arc. */
   function takeSegments(box, isTaken) {
     for (const p of PATHS) for (const segment of Look.trace.paths[p].segments) {
       if (!isTaken(segment)) continue;
@@ -70,11 +73,13 @@ const Camera = (() => {
     }
   }
 
+  /** Widens a box by the starts and homes of both paths. */
   function takePlaces(box) {
     for (const p of PATHS) for (const place of placesOf(Look.trace.paths[p]))
       take(box, placedZ(place.segment, place.z), placedR(place.segment, place.r));
   }
 
+  /** Moves the picture by so many points of the page. */
   function drag(dx, dy) {
     camera = { ...camera, z: camera.z - dx / camera.scale, r: camera.r + dy / camera.scale };
     fitted = null;

@@ -30,6 +30,7 @@ const Hands = (() => {
       else if (event.pointerType !== "touch") hoverAt(event);
     });
 
+    /** A pointer that is down and goes on: one drags, two pinch. A mouse that moves 3 points, or a finger 8, still taps. */
     function moveDown(event) {
       const from = down.get(event.pointerId), to = at(event);
       if (Math.abs(to.x - from.x) + Math.abs(to.y - from.y) > (event.pointerType === "touch" ? 8 : 3)) hasMoved = true;
@@ -60,6 +61,7 @@ const Hands = (() => {
       });
     }
 
+    /** Takes what is within reach, in points, as that under the hand, and answers it. */
     function focus(event, reach) {
       const { x, y } = at(event), segment = hands.under(x, y, reach);
       if (segment !== Look.focus) { Look.focus = segment; Look.ask("over"); }

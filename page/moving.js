@@ -4,6 +4,7 @@
 const Moving = (() => {
   let isPlaying = false, before = 0;
 
+  /** Goes to a time, in seconds, and brings it into sight. A time outside the trace is its start or end. */
   function goTo(time) {
     Look.time = TimeLine.within(time);
     TimeLine.follow(Look.time);
@@ -12,6 +13,7 @@ const Moving = (() => {
 
   // ---- playing ----
 
+  /** Plays on from the present time, at the end from the start again; or stops. */
   function play(isOn) {
     if (isOn === isPlaying) return;
     isPlaying = isOn;
@@ -25,6 +27,7 @@ const Moving = (() => {
 
   const endOfPlay = () => (Look.stretch === null ? Look.trace.total : Times.spanOf(Look.trace, Look.stretch)[1]);
 
+  /** A frame of playing: the time goes on by the seconds since the frame before, times the chosen speed. */
   function step(now) {
     if (!isPlaying) return;
     const end = endOfPlay();
@@ -54,6 +57,7 @@ const Moving = (() => {
     say(PATHS.map(p => wordsAt(p, best)).join("; "));
   }
 
+  /** What a path does at a time, with the line of its tape. */
   function wordsAt(p, time) {
     const { segments } = Look.trace.paths[p], segment = segments[Times.lastBegun(segments, time)];
     return segment ? `path ${p} line ${segment.line}: ${segment.words}` : `path ${p} does nothing yet`;
@@ -84,6 +88,7 @@ const Moving = (() => {
     if (segments[at]) focusOn(segments[at]);
   }
 
+  /** Goes to the begin of a segment, takes it as that under the hand, and says it. */
   function focusOn(segment) {
     Look.focus = segment;
     goTo(segment.begin);

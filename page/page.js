@@ -6,6 +6,7 @@ const Page = (() => {
 
   const rates = () => ({ rapid: 1000 * numberIn("rapid", 0.1, 20), change: numberIn("change", 0, 1) });
 
+  /** The number in a field; the usual one if there is none, or one below the least. */
   function numberIn(name, least, usual) {
     const value = Number($(name).value);
     return $(name).value.trim() !== "" && Number.isFinite(value) && value >= least ? value : usual;
@@ -24,12 +25,14 @@ const Page = (() => {
 
   const isTrace = text => /^trace \d/.test(text);
 
+  /** Takes tapes for the trace that is shown; if there is none they wait for one. */
   function takeTapes(tapes) {
     if (Look.trace) return TapeTexts.take(tapes);
     pending = tapes;
     say("hint", `${tapes.map(tape => tape.name).join(" and ")}: now drop the text of the trace too.`);
   }
 
+  /** Shows a trace from its start, with these tapes; a text that is no trace is refused. */
   function load(text, name, tapes) {
     let trace;
     try {
@@ -44,6 +47,7 @@ const Page = (() => {
     show(tapes);
   }
 
+  /** Fills each part of the page from the trace, and draws it. */
   function show(tapes) {
     const { trace, name } = Look;
     $("empty").hidden = true;
@@ -67,6 +71,7 @@ const Page = (() => {
     tellState("drawn");
   }
 
+  /** Takes the picture away, and says why there is none. */
   function refuse(message, name) {
     Moving.play(false);
     Look.trace = null;
@@ -79,6 +84,7 @@ const Page = (() => {
     tellState("refused");
   }
 
+  /** Says a text as the fault or as the hint; the other one says nothing then. */
   function say(name, text) {
     for (const some of ["fault", "hint"]) $(some).textContent = some === name ? text : "";
   }
@@ -94,6 +100,7 @@ const Page = (() => {
 
   // ---- drawing ----
 
+  /** Draws these parts, and always what moves with the time. Other pixels of the screen draw all anew. */
   function drawNow(parts) {
     if (Plane.sheet.ratio !== window.devicePixelRatio) {
       resize();
@@ -109,11 +116,13 @@ const Page = (() => {
   }
   Look.onFrame = drawNow;
 
+  /** Gives both canvases the size of their boxes. */
   function resize() {
     Plane.sheet.resize();
     TimeLine.sheet.resize();
   }
 
+  /** After another size of the boxes: all is drawn anew. */
   function resized() {
     if (!Look.trace) return;
     resize();
@@ -133,11 +142,13 @@ const Page = (() => {
 
   // ---- buttons and fields ----
 
+  /** Makes each button with this attribute do something with its value. */
   function onEach(attribute, does) {
     for (const button of document.querySelectorAll(`[data-${attribute}]`))
       button.addEventListener("click", () => { does(button.dataset[attribute]); markButtons(); });
   }
 
+  /** Shows which buttons of the coordinates and of what is shown are on. */
   function markButtons() {
     const mark = (button, isOn) => { button.classList.toggle("on", isOn); button.setAttribute("aria-pressed", isOn); };
     for (const button of document.querySelectorAll("[data-coordinates]")) mark(button, button.dataset.coordinates === Look.coordinates);
@@ -178,6 +189,7 @@ const Page = (() => {
 
   const MOST_BYTES = 2 ** 28;
 
+  /** Reads files of at most 2^28 bytes each, and takes their texts; says so if one is longer or can't be read. */
   async function takeFiles(files) {
     const list = [...files], long = list.find(file => file.size > MOST_BYTES);
     if (long) return refuse(`${long.name} is too long for this page.`, long.name);

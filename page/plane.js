@@ -14,27 +14,32 @@ const Plane = (() => {
   const isShown = ({ kind, path }) => Look.shown[path] && (Reading.CUTS.has(kind) || (kind === "rapid" && Look.shown.rapid));
   const isPale = segment => Look.stretch !== null && segment.stretch !== Look.stretch;
 
+  /** The segments of both paths that are to be seen. */
   function* shownSegments() {
     for (const p of PATHS) for (const segment of Look.trace.paths[p].segments) if (isShown(segment)) yield segment;
   }
 
   // ---- the eye moves ----
 
+  /** Brings all cuts into the picture, or all moves, and draws it. */
   function fit(isAll) {
     Camera.fit(isAll);
     Look.ask("plane", "over");
   }
 
+  /** After another size: the picture is as it was brought in, and drawn anew. */
   function refit() {
     Camera.refit();
     Look.ask("plane", "over");
   }
 
+  /** Moves the picture by so many points of the page, and draws it. */
   function drag(dx, dy) {
     Camera.drag(dx, dy);
     askMoved();
   }
 
+  /** Comes nearer by a factor, round the point under x and y, and draws it. */
   function zoom(by, x, y) {
     Camera.zoom(by, x, y);
     askMoved();
@@ -49,6 +54,7 @@ const Plane = (() => {
     Look.ask("moved", "over");
   }
 
+  /** Puts the last drawing to where the eye is now; nothing is drawn anew. */
   function drawMoved() {
     if (!still || resting === 0) return;
     const camera = Camera.now, pen = sheet.clean(sheet.under), by = camera.scale / still.camera.scale;
@@ -58,6 +64,7 @@ const Plane = (() => {
 
   // ---- the picture ----
 
+  /** Draws the grid, the segments in their groups, and starts and homes. Keeps a copy, to be moved about. */
   function draw() {
     const pen = sheet.clean(sheet.under), groups = new Map();
     PlaneGrid.draw(pen);
@@ -88,6 +95,7 @@ const Plane = (() => {
     return addLine(line, xIn(segment, segment.z0), yIn(segment, segment.x0 / 2), xIn(segment, segment.z1), yIn(segment, segment.x1 / 2));
   }
 
+  /** Adds an arc as 4 to 120 lines, the more the larger it is on the page, and says whether it may be in the picture. */
   function addArc(line, segment) {
     const { sweep, radius } = segment.arc, centre = onPage(segment, segment.arc), size = radius * Camera.now.scale + RIM;
     if (centre.x < -size || centre.x > sheet.width + size || centre.y < -size || centre.y > sheet.height + size) return false;
@@ -152,6 +160,7 @@ const Plane = (() => {
 
   // ---- what moves with the time ----
 
+  /** Draws the segment under the hand, the moves under way and the tips of the tools. */
   function drawOver() {
     const pen = sheet.clean(sheet.over);
     if (Look.focus) markSegment(pen, Look.focus, 5);
@@ -164,6 +173,7 @@ const Plane = (() => {
     }
   }
 
+  /** Draws a move of a segment once more over the others, in a glow of so many points and five more. */
   function markSegment(pen, segment, width) {
     if (!Reading.MOTIONS.has(segment.kind)) return;
     const line = new Path2D();
@@ -226,6 +236,7 @@ const Plane = (() => {
     return (x - x0 - part * dx) ** 2 + (y - y0 - part * dy) ** 2;
   }
 
+  /** The square of the way from an arc to a point, in points; infinite if the point lies outside its angle. */
   function squareFromArc(segment, x, y) {
     const { arc } = segment, centre = onPage(segment, arc), full = 2 * Math.PI;
     const dx = x - centre.x, dy = (centre.y - y) * (segment.path === 1 ? 1 : -1);

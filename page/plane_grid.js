@@ -4,6 +4,7 @@
 const PlaneGrid = (() => {
   const { INK } = Colours, { sheet, xOf, yOf, onPage } = Camera;
 
+  /** Draws the grid at round lengths, at least 70 points apart, with its numbers, the centre line and the sides. */
   function draw(pen) {
     const camera = Camera.now;
     const step = Ticks.step(70 / camera.scale), halfZ = sheet.width / 2 / camera.scale, halfR = sheet.height / 2 / camera.scale;
@@ -20,6 +21,7 @@ const PlaneGrid = (() => {
     drawTickTexts(pen, columns, rows, step);
   }
 
+  /** Writes Z under the picture and diameters at its left, in mm. */
   function drawTickTexts(pen, columns, rows, step) {
     const letter = Look.coordinates === "work" ? "\u2300 " : "X ";
     pen.font = FONT.plain;
@@ -53,6 +55,7 @@ const PlaneGrid = (() => {
     if (isBeside || axis < sheet.height - 50) pen.fillText("path 2: X down", x, isBeside ? axis + 17 : sheet.height - 32);
   }
 
+  /** Draws the starts, homes and zero points of the paths that are shown. */
   function drawPlaces(pen) {
     pen.lineWidth = 1.4;
     for (const p of PATHS) {
@@ -63,6 +66,7 @@ const PlaneGrid = (() => {
     if (Look.coordinates === "work") drawTarget(pen, xOf(0), yOf(0));
   }
 
+  /** Draws a start as a circle or a home as a rhomb, with its text. */
   function drawPlace(pen, place, p) {
     const { x, y } = onPage(place.segment, place), size = 6;
     pen.strokeStyle = INK.axis;
@@ -84,6 +88,7 @@ const PlaneGrid = (() => {
     plateText(pen, `zero point ${p}, at the first cut`, p === 1 ? x - 12 : x + 12, y + 4, p === 1 ? "right" : "left", INK.axis);
   }
 
+  /** Draws the sign of a zero point: a disc of four quarters. */
   function drawTarget(pen, x, y) {
     pen.strokeStyle = INK.axis;
     pen.lineWidth = 1.2;

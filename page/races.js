@@ -9,6 +9,7 @@ const Races = (() => {
   const ADVICE = "So this run is one of many. Put a wait into both tapes between the two lines, or let one path alone use the variable. "
     + "If both lines are right whoever is first, leave it.";
 
+  /** How many variables race, and what to do about it. */
   function countText(count) {
     if (count === 0) return NONE;
     const what = count === 1 ? "One variable hangs" : `${count} variables hang`;
@@ -22,11 +23,13 @@ const Races = (() => {
     return `after meeting ${after}${meeting ? ` (M${meeting.code})` : ""}`;
   }
 
+  /** Which path may write the variable and which has it, each with the line of its tape. */
   function placesText({ writer, lines }) {
     const other = 3 - writer;
     return `path ${writer} may write it at line ${lines[writer]}, path ${other} has it at line ${lines[other]}`;
   }
 
+  /** Lists the races of the trace, a button each. */
   function fill() {
     const { races } = Look.trace;
     $("races-said").textContent = countText(races.length);
@@ -36,6 +39,7 @@ const Races = (() => {
     mark();
   }
 
+  /** The button of a race, which marks it, and takes the mark away if it has it. */
   function rowOf(race) {
     const row = element("button", "race", element("b", "", `#${race.variable}`), ` ${whenText(race.after)}: ${placesText(race)}`);
     row.addEventListener("click", () => Moving.chooseRace(race === Look.race ? null : race));

@@ -54,12 +54,14 @@ const Reading = (() => {
     return trace;
   }
 
+  /** The lines of a text. Each ends with a line feed, or a return and a line feed; the last one may lack it. */
   function linesOf(text) {
     const lines = text.replace(/\r\n/g, "\n").split("\n");
     if (lines[lines.length - 1] === "") lines.pop();
     return lines;
   }
 
+  /** Refuses a text whose first line is not that of a trace, and says what the text seems to be. */
   function readHead(line = "") {
     if (line === "trace 2") return;
     if (/^trace \d+$/.test(line))
@@ -71,11 +73,13 @@ const Reading = (() => {
     throw noLine(1, line);
   }
 
+  /** A path of which nothing was read: it stands at X0 Z0 and has no shift, no tool and no end. */
   function newPath(number) {
     return { number, segments: [], start: null, home: null, firstShift: { x: 0, z: 0 }, x: 0, z: 0, shiftX: 0, shiftZ: 0, tool: "",
              open: null, ended: null, alarm: null, moves: 0 };
   }
 
+  /** Takes a line of the text into the trace: an event, a meeting, the count of records, the end, or a race. */
   function readLine(trace, line, number) {
     const path = line[1] === " " ? trace.paths[line[0]] : undefined;
     if (trace.end !== null) readRaces(trace, line, number);
@@ -127,12 +131,14 @@ const Reading = (() => {
     }
   }
 
+  /** Adds a segment to a path, from where the path stands to there. */
   function addSegment(path, kind, line, words, stretch) {
     const segment = new Segment(path, kind, line, words, stretch);
     path.segments.push(segment);
     return segment;
   }
 
+  /** A move, after which the path stands at its end. It answers whether the words are one. */
   function readMotion(path, line, words, stretch) {
     const word = words.slice(0, words.indexOf(" ")), found = MOTION.get(word)?.exec(words);
     if (!found) return false;
@@ -147,6 +153,7 @@ const Reading = (() => {
     return true;
   }
 
+  /** The arc of a move, by its radius if the words have one, else by its centre. */
   function arcOf(segment, isClockwise, [, , , i, k, radius]) {
     return i === undefined ? Shapes.arcByRadius(segment, isClockwise, +radius) : Shapes.arcByCentre(segment, isClockwise, +i, +k);
   }

@@ -7,6 +7,7 @@ const Tables = (() => {
 
   // ---- the head ----
 
+  /** Tells how the run ended, and how many records, moves, meetings and races there are. */
   function tellHead() {
     const { trace } = Look, count = p => trace.paths[p].moves;
     const parts = [endBadge(trace), ["", countText(trace.records, "record")], ["", `${count(1)} + ${countText(count(2), "move")}`],
@@ -15,6 +16,7 @@ const Tables = (() => {
     $("badges").replaceChildren(...parts.map(([kind, text]) => element("span", kind, text)));
   }
 
+  /** How the run ended: good, bad or a guess, and the text. */
   function endBadge({ end, records }) {
     if (end === "done") return ["good", "both paths ended"];
     if (end.startsWith("alarm")) return ["bad", end];
@@ -27,6 +29,7 @@ const Tables = (() => {
 
   // ---- where both paths are ----
 
+  /** Tells the time, what both paths do at it, and its stretch or the marked one. */
   function tellNow() {
     const { trace, time } = Look;
     $("now-time").textContent = `At ${time.toFixed(1)} s`;
@@ -38,6 +41,7 @@ const Tables = (() => {
     tellStretch(Look.stretch ?? Times.stretchAt(trace, time));
   }
 
+  /** Tells what a path does at a time, where it is, and its next three segments. */
   function tellPath(path, time) {
     const { segments, number } = path, at = Times.lastBegun(segments, time), segment = segments[at];
     const [what, isBad] = segment ? doingOf(path, segment, time) : ["does nothing yet", false];
@@ -49,6 +53,7 @@ const Tables = (() => {
     for (let k = 0; k < 3; k++) setText($(`now-next-${number}-${k}`), next[k] || "\u00a0");
   }
 
+  /** Gives an element a text, unless it has it already. */
   function setText(place, text) { if (place.textContent !== text) place.textContent = text; }
 
   /** What a path does at a time, and whether it stands still for it. */
@@ -60,6 +65,7 @@ const Tables = (() => {
     return [segment.words, false];
   }
 
+  /** The tool of a segment and where it is at a time, in work coordinates, in mm. */
   function whereText(segment, time) {
     const at = Shapes.onSegment(segment, Times.partAt(segment, time));
     return `${toolText(segment)}, work X${(2 * at.r - segment.shiftX).toFixed(3)} Z${(at.z - segment.shiftZ).toFixed(3)}`;
@@ -67,6 +73,7 @@ const Tables = (() => {
 
   // ---- the meetings ----
 
+  /** Fills the table of meetings: at most 2,000 rows, and one for the end. */
   function fillMeetings() {
     const { meetings } = Look.trace, head = element("tr");
     for (const text of ["#", "code", "line of 1", "line of 2", "waits", "for"]) head.append(element("th", "", text));
@@ -80,6 +87,7 @@ const Tables = (() => {
     markMeeting();
   }
 
+  /** The row of a meeting: who waited for it, and how long, from 0.05 s on. */
   function meetingRow(meeting) {
     const { waits, lines, number, code } = meeting, wait = p => waits[p].end - waits[p].begin;
     const who = wait(1) > wait(2) ? 1 : 2, isLong = wait(who) >= 0.05;
@@ -95,23 +103,27 @@ const Tables = (() => {
                                               element("td", "", two.line), wideCell(2, words)]);
   }
 
+  /** At which line a path stops, and by what. */
   function stopOf(path) {
     const last = path.alarm || path.open || path.ended || path.segments[path.segments.length - 1];
     return { line: last ? last.line : "\u2013", how: path.alarm ? "alarm" : path.open ? "waits" : path.ended ? "ends" : "stopped" };
   }
 
+  /** A cell over so many columns. */
   function wideCell(columns, text) {
     const cell = element("td", "wide", text);
     cell.colSpan = columns;
     return cell;
   }
 
+  /** A row that marks a stretch when it is clicked. */
   function stretchRow(stretch, cells) {
     const row = element("tr", "", ...cells);
     row.dataset.stretch = stretch;
     return row;
   }
 
+  /** Tells who hears the page which part of the time each path waits. */
   function tellShares() {
     const { trace } = Look, share = p => `${Math.round(100 * trace.waited[p] / trace.total)} %`;
     const shares = `By the guess path 1 waits ${share(1)} of the time, and path 2 ${share(2)}.`;
@@ -133,6 +145,7 @@ const Tables = (() => {
 
   // ---- what both paths do between two meetings ----
 
+  /** Tells what both paths do in a stretch, unless it was told last. */
   function tellStretch(stretch) {
     if (toldStretch === stretch) return;
     toldStretch = stretch;
@@ -144,6 +157,7 @@ const Tables = (() => {
     for (const p of PATHS) $(`stretch-${p}`).replaceChildren(...doneIn(p, stretch).map(text => element("div", "", text)));
   }
 
+  /** What a path does in a stretch: its lines, its cuts and their tools, and the seconds of cuts and waits. */
   function doneIn(p, stretch) {
     const segments = Times.segmentsIn(Look.trace, p, stretch);
     const cuts = segments.filter(segment => Reading.CUTS.has(segment.kind)), waits = segments.filter(segment => segment.kind === "wait");
@@ -166,6 +180,7 @@ const Tables = (() => {
 
   // ---- the legend ----
 
+  /** Fills the legend: the kinds of moves in the trace, and the first 16 tools. */
   function fillLegend() {
     const ink = "#333", kinds = new Set(PATHS.flatMap(p => Look.trace.paths[p].segments.map(segment => segment.kind)));
     const lines = [["rapid", { stroke: Colours.INK.rapid, "stroke-dasharray": "4 3" }], ["feed", { stroke: ink, "stroke-width": 1.7 }],
@@ -176,6 +191,7 @@ const Tables = (() => {
     $("legend").replaceChildren(...shown.map(([text, style]) => element("span", "", sample(style), text)));
   }
 
+  /** A short line in this style. */
   function sample(style) {
     const make = (tag, attributes) => {
       const made = document.createElementNS("http://www.w3.org/2000/svg", tag);
@@ -189,6 +205,7 @@ const Tables = (() => {
 
   // ---- the note beside the hand ----
 
+  /** Shows the note of a segment at a point of the window; without a segment there is none. */
   function note(segment, x, y) {
     const box = $("note");
     box.hidden = !segment;

@@ -5,6 +5,7 @@ const TapeTexts = (() => {
   const LINE_HEIGHT = 18, MORE = 12;
   const panels = { 1: newPanel(1), 2: newPanel(2) };
 
+  /** The panel of a path that has no tape yet. */
   function newPanel(p) {
     return { p, tape: null, waits: new Set(), visited: new Set(), now: null, focus: null, race: null,
              box: $(`tape-box-${p}`), scroll: $(`tape-${p}`), rows: $(`tape-rows-${p}`) };
@@ -23,11 +24,13 @@ const TapeTexts = (() => {
     show();
   }
 
+  /** Gives each path the tape of the other. */
   function exchange() {
     [panels[1].tape, panels[2].tape] = [panels[2].tape, panels[1].tape];
     show();
   }
 
+  /** Takes both tapes away. */
   function clear() {
     panels[1].tape = panels[2].tape = null;
     show();
@@ -41,6 +44,7 @@ const TapeTexts = (() => {
     return `This is not the tape of the trace: ${what}.`;
   }
 
+  /** Shows the panels of the paths that have a tape. */
   function show() {
     const isAny = PATHS.some(p => panels[p].tape);
     $("page").classList.toggle("with-tapes", isAny);
@@ -49,6 +53,7 @@ const TapeTexts = (() => {
     if (isAny) mark();
   }
 
+  /** Shows the tape of a panel from its first line, or no panel if there is none. */
   function showPanel(panel) {
     panel.box.hidden = !panel.tape;
     panel.now = panel.focus = panel.race = null;
@@ -65,6 +70,7 @@ const TapeTexts = (() => {
 
   // ---- the lines in sight ----
 
+  /** Puts the lines in sight into the page, and 12 more before and after them. */
   function draw(panel) {
     const { lines } = panel.tape, first = Math.max(0, Math.floor(panel.scroll.scrollTop / LINE_HEIGHT) - MORE);
     const last = Math.min(lines.length, first + Math.ceil((panel.scroll.clientHeight || 600) / LINE_HEIGHT) + 2 * MORE);
@@ -73,6 +79,7 @@ const TapeTexts = (() => {
     panel.rows.replaceChildren(...rows);
   }
 
+  /** The row of a line, with what is marked of it. */
   function rowOf(panel, line, text) {
     const row = element("div", "row", element("span", "number", line), element("span", "text", text));
     row.style.top = `${(line - 1) * LINE_HEIGHT}px`;
@@ -103,6 +110,7 @@ const TapeTexts = (() => {
     }
   }
 
+  /** Scrolls a line to the middle, unless it is in sight and no row at the rim. */
   function bringIntoSight(panel, line) {
     const top = (line - 1) * LINE_HEIGHT, { scrollTop, clientHeight } = panel.scroll;
     const isInSight = top >= scrollTop + LINE_HEIGHT && top + 2 * LINE_HEIGHT <= scrollTop + clientHeight;
@@ -119,6 +127,7 @@ const TapeTexts = (() => {
     });
   }
 
+  /** Draws the tapes that there are anew. */
   function redraw() { for (const p of PATHS) if (panels[p].tape) draw(panels[p]); }
 
   return { take, exchange, clear, mark, redraw, panels };

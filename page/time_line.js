@@ -16,8 +16,10 @@ const TimeLine = (() => {
 
   // ---- what part of the time is shown ----
 
+  /** Shows the whole time. */
   function fit() { show(0, Look.trace.total); }
 
+  /** Shows a span of time, in seconds, moved into the trace. One under 0.001 s or a hundred-thousandth of it is not taken. */
   function show(from, to) {
     const total = Look.trace.total, least = Math.max(1e-3, total / 1e5);
     if (to - from < least) return;
@@ -26,6 +28,7 @@ const TimeLine = (() => {
     Look.ask("times", "over");
   }
 
+  /** Moves the time that is shown by so many points of the page. */
   function drag(dx) {
     const by = timeOf(0) - timeOf(dx);
     show(shown.from + by, shown.to + by);
@@ -51,6 +54,7 @@ const TimeLine = (() => {
 
   // ---- the picture ----
 
+  /** Draws both lanes and their names, the meetings, the marked stretch and the alarms. */
   function draw() {
     const pen = sheet.clean(sheet.under);
     drawTicks(pen);
@@ -67,6 +71,7 @@ const TimeLine = (() => {
     for (const p of PATHS) drawName(pen, p);
   }
 
+  /** Draws a line at each round time, in seconds, at least 90 points apart. */
   function drawTicks(pen) {
     const step = Ticks.step((shown.to - shown.from) / Math.max(2, (sheet.width - LEFT) / 90));
     pen.font = FONT.plain;
@@ -84,6 +89,7 @@ const TimeLine = (() => {
     }
   }
 
+  /** Writes before a lane which path it is, and which part of the time it waits. */
   function drawName(pen, p) {
     const share = Math.round(100 * Look.trace.waited[p] / Look.trace.total);
     pen.textAlign = "left";
@@ -95,6 +101,7 @@ const TimeLine = (() => {
     pen.fillText(`waits \u2248 ${share} %`, 10, LANES[p] + 34);
   }
 
+  /** Draws the bars of a path. Of several under 0.7 points that begin in one point only the first is drawn, but each wait. */
   function drawLane(pen, path) {
     const { segments } = path, y = LANES[path.number];
     pen.fillStyle = INK.lane;
@@ -109,6 +116,7 @@ const TimeLine = (() => {
     }
   }
 
+  /** Draws the bar of a segment, from x on, so wide, with its name. The bar of a rapid is narrower, that of a wait hatched. */
   function drawBar(pen, segment, x, width, y) {
     const isWait = segment.kind === "wait", low = segment.kind === "rapid" ? 13 : 0;
     pen.fillStyle = isWait ? waitPattern : BAR[segment.kind] || Colours.of(segment);
@@ -123,12 +131,14 @@ const TimeLine = (() => {
     else if (segment.kind !== "rapid") nameBar(pen, segment, x, width, y);
   }
 
+  /** Draws the rim of the bar of a wait. */
   function frameWait(pen, x, width, y) {
     pen.strokeStyle = "#dc8a8e";
     pen.lineWidth = 1;
     pen.strokeRect(x + 0.5, y + 0.5, Math.max(0, width - 1), HIGH - 1);
   }
 
+  /** Draws strokes into the bar of a thread, if it has more than 6 points. */
   function drawLeads(pen, x, width, y) {
     if (width <= 6) return;
     pen.strokeStyle = "#ffffff80";
@@ -144,6 +154,7 @@ const TimeLine = (() => {
   /** The middle of what is to be seen of a bar. */
   const middleOf = (x, width) => (Math.max(x, LEFT) + Math.min(x + width, sheet.width - RIGHT)) / 2;
 
+  /** Writes the code and the line of a wait into its bar, or the code alone, if there is room. */
   function nameWait(pen, segment, x, width, y) {
     const texts = [`waits at M${segment.code}, line ${segment.line}${segment.met ? "" : ", to the end"}`, `M${segment.code}`];
     pen.font = FONT.plain;
@@ -179,6 +190,7 @@ const TimeLine = (() => {
     }
   }
 
+  /** Draws a line across both lanes; one with a flag is stronger and reaches up to it. */
   function drawMeetingLine(pen, x, hasFlag) {
     pen.strokeStyle = INK.red;
     pen.lineWidth = hasFlag ? 1.8 : 1;
@@ -190,12 +202,14 @@ const TimeLine = (() => {
     pen.globalAlpha = 1;
   }
 
+  /** The flag of a meeting at x: its text, and its left side and width in points. */
   function flagOf(pen, text, x) {
     pen.font = FONT.bold;
     const width = pen.measureText(text).width + 12;
     return { text, width, left: Math.max(LEFT, Math.min(x - width / 2, sheet.width - width - 2)) };
   }
 
+  /** Draws a flag over the lanes. */
   function drawFlag(pen, { text, left, width }) {
     pen.font = FONT.bold;
     pen.fillStyle = INK.red;
@@ -214,6 +228,7 @@ const TimeLine = (() => {
     return middle + half;
   }
 
+  /** Draws a cross where an alarm stopped a path, with its line and its words. */
   function drawAlarm(pen, path) {
     if (!path.alarm) return;
     const x = Math.max(LEFT + 8, Math.min(sheet.width - 10, xOf(path.alarm.begin))), top = LANES[path.number], y = top + HIGH / 2;
@@ -242,6 +257,7 @@ const TimeLine = (() => {
     pen.strokeRect(from + 1, top, Math.max(2, to - from - 2), high);
   }
 
+  /** The pattern that fills the bar of a wait. */
   function hatched(pen) {
     const tile = document.createElement("canvas"), size = 8;
     tile.width = tile.height = size;
@@ -261,6 +277,7 @@ const TimeLine = (() => {
 
   // ---- what moves with the time ----
 
+  /** Draws a frame round the segment under the hand, and a line at the present time. */
   function drawOver() {
     const pen = sheet.clean(sheet.over), { focus } = Look, x = xOf(Look.time);
     if (focus) {

@@ -29,10 +29,12 @@ const Times = (() => {
     return Object.assign(trace, { total, unknown, waited, last: { 1: clocks[1].time, 2: clocks[2].time } });
   }
 
+  /** The clock of a path at its start: no time has gone, and no speed, limit or tool was said. */
   function newClock() {
     return { time: 0, next: 0, way: "G97", surface: 0, speed: 0, limit: NO_LIMIT, station: "00" };
   }
 
+  /** The seconds that a path waits, with the wait that the run ends in. */
   function waitedBy(trace, p) {
     const { open } = trace.paths[p];
     return trace.meetings.reduce((sum, { waits }) => sum + waits[p].end - waits[p].begin, open ? open.end - open.begin : 0);
@@ -49,10 +51,12 @@ const Times = (() => {
 
   const isPerRevolution = segment => Reading.CUTS.has(segment.kind) && segment.unit !== "min";
 
+  /** Whether a cut is fed by the revolution while no speed is known. */
   function lacksSpeed(segment, clock) {
     return isPerRevolution(segment) && !(clock.way === "G96" ? clock.surface > 0 : clock.speed > 0);
   }
 
+  /** The seconds that a segment takes; what it sets is set on the clock. */
   function secondsOf(segment, clock, rates) {
     if (segment.setting) return takeSetting(segment.setting, clock, rates);
     if (segment.kind === "rapid") return 60 * Shapes.lengthOf(segment) / rates.rapid;

@@ -20,6 +20,7 @@ const Answers = (() => {
 
   const nameOf = place => place.of === "settings" ? `settings line ${place.line}` : `path ${place.of} line ${place.line}`;
 
+  /** Goes to these lines, to the first one last: the cursor stays there. */
   function goTo(places) {
     for (const place of [...places].reverse()) editors[place.of].goTo(place.line);
   }
@@ -32,6 +33,7 @@ const Answers = (() => {
 
   // ---- what is said ----
 
+  /** Puts these elements in the place of what a part of the panel said, in the looks of good or bad. */
   function tell(part, isGood, ...parts) {
     $(`judge-${part}`).replaceChildren(...parts);
     $(`judge-${part}`).className = `judge-said ${isGood ? "good" : "bad"}`;
@@ -85,6 +87,7 @@ const Answers = (() => {
 
   const addMeaning = (part, line) => $(`judge-${part}`).append(...meaningOf(/\d+/.exec(line)[0]));
 
+  /** Shows the meetings, at most 2,000 of them, or why the waits are refused. */
   function showWaits(answer) {
     const lines = answer.text.trimEnd().split("\n"), shown = lines.slice(0, MOST_ROWS + 1);
     refusedWaits = isLine(answer) && answer.status !== 0 ? lines[0] : "";
@@ -97,6 +100,7 @@ const Answers = (() => {
     }
   }
 
+  /** Shows that the pair is accepted, or its refusal with its meaning. */
   function showVerdict(answer) {
     const line = answer.text.trimEnd();
     if (refusedWaits && refusedWaits !== line) addMeaning("waits", refusedWaits);      // else it would be said twice
@@ -115,6 +119,7 @@ const Answers = (() => {
     showRaces(lines.slice(end + 1));
   }
 
+  /** Shows how the run of the picture ended, an alarm with its meaning. */
   function showRun(answer, line) {
     const alarm = /cause (\d+)/.exec(line);
     marks.set("run", placesOf(line));
@@ -123,6 +128,7 @@ const Answers = (() => {
     else tell("run", true, element("p", "answer", line), sentence("The picture ends there, and the run does not."));
   }
 
+  /** Shows the races of the pair, and what to do about them. */
   function showRaces([head, ...races]) {
     if (!races.length) return tell("races", true, element("p", "answer", head), sentence("All runs that both paths finish have the same moves."));
     tell("races", false, element("p", "answer", head), ...races.map(raceRow),
@@ -153,6 +159,7 @@ const Answers = (() => {
     clear("races");
   }
 
+  /** Takes away what a part of the panel said. */
   function clear(part) {
     $(`judge-${part}`).replaceChildren();
     $(`judge-${part}`).className = "judge-said";

@@ -89,6 +89,7 @@ function textOf(bytes) {
   return parts.join("");
 }
 
+/** The bytes of such a text. */
 function bytesOf(text) {
   if (!/[^\0-\xff]/.test(text)) return Uint8Array.from(text, letter => letter.charCodeAt(0));
   const utf8 = new TextEncoder();

@@ -16,6 +16,7 @@ const Judge = (() => {
 
   // ---- the worker ----
 
+  /** Makes a worker, and gives it the module. What it answers is shown if it is of the newest question. */
   function makeWorker() {
     workers += 1;
     isReady = false;
@@ -50,11 +51,13 @@ const Judge = (() => {
 
   // ---- questions and answers ----
 
+  /** Notes how far the question is, for tests: asked, done or stopped. While it is asked the panel shows it. */
   function setState(state) {
     document.documentElement.dataset.judged = state;
     $("judge").classList.toggle("asked", state === "asked");
   }
 
+  /** Asks about the texts as they are now, if both paths have a tape. */
   function ask() {
     clearTimeout(waiting);
     if (isBroken) return setState("stopped");
@@ -73,6 +76,7 @@ const Judge = (() => {
     return found ? [Number(found[1]), Number(found[2])] : [1, 0];
   }
 
+  /** Says that a path has no tape; the picture is of other texts then. */
   function sayLacking(path) {
     document.body.classList.add("stale");
     Answers.sayInstead(`Path ${path} has no tape yet.`, false);
@@ -130,6 +134,7 @@ const Judge = (() => {
     if (others.length) cell.set(others[0].name, others[0].bytes);
   }
 
+  /** Gives each path the tape of the other, and asks. */
   function exchange() {
     const [one, two] = [left, right].map(text => [text.fileName, text.bytes()]);
     left.set(...two);
@@ -137,6 +142,7 @@ const Judge = (() => {
     ask();
   }
 
+  /** Takes the files that were dropped; the picture's own handler does not see them. */
   function takeDropped(event, taker) {
     event.preventDefault();
     event.stopImmediatePropagation();

@@ -11,6 +11,7 @@ let module = null, newest = null;
 /** The browser gives no memory for a call. */
 class NoMemory extends Error {}
 
+/** A new instance of the module, with a memory of its own. */
 function newInstance() {
   try {
     return new WebAssembly.Instance(module, {}).exports;
