@@ -2,12 +2,12 @@
 -- positions, and I, K and R are no larger than the block has them.
 use Rattle.std.proofs.Common.{◌≡◌, ◌≤◌, ℕ, Bool, true, false, List, [], ◌∷◌, All, ℤ, pos, unsigned_abs, Option, Some, None, IfSome, Result, Ok, Err, IfOk, if◌then◌else◌, refl, arith}
 use Rattle.std.proofs.lemmas.List.Elements.{All-nil, All-cons, All-weaker}
-use Rattle.std.proofs.lemmas.Bool.Decides.{nat_tests}
 use Rattle.code_tables.specs.declared.kind.CodeKind.{CodeKind}
 use Rattle.code_tables.specs.declared.kind.CodeKind.TheVariants.{Rapid, Feed, ArcCw, ArcCcw, Thread, Home, Machine}
 use Rattle.nc_number.specs.declared.point.Point.{Point}
 use Rattle.nc_number.specs.Position.{IsPosition, is_position, origin}
 use Rattle.nc_number.specs.Results.{◌>>=◌}
+use Rattle.nc_number.proofs.Points.{tested_position}
 use Rattle.nc_number.specs.Arithmetic.{is_zero}
 use Rattle.nc_moves.specs.declared.motion.Move.{Move}
 use Rattle.nc_moves.specs.declared.motion.Centre.{Centre}
@@ -36,18 +36,17 @@ given_where : {A : Type 0} (b : Bool) (a : A) (alarm : MotionFault) (P : A → T
 given_where true a alarm P holds = holds refl
 given_where false a alarm P holds = tt
 
+-- and one that is given where it does not
 given_unless : {A : Type 0} (b : Bool) (alarm : MotionFault) (step : Result A MotionFault) (P : A → Type 0) → IfOk step P → IfOk (if b then Err alarm else step) P
 given_unless true alarm step P holds = tt
 given_unless false alarm step P holds = holds
 
-passed : (to : Point) → is_position to ≡ true → IsPosition to
-passed to test = grind (arith, nat_tests)
-
 -- a target is a position, and a point of which P holds where it holds of every point that the words
 -- lead to
 targeted : (to : Point) → IfOk (in_travel to) IsPosition
-targeted to = given_where (is_position to) to _ IsPosition (passed to)
+targeted to = given_where (is_position to) to _ IsPosition (tested_position to)
 
+-- what holds of a target holds of the point that is in travel
 targeted_at : (P : Point → Type 0) (to : Point) → P to → IfOk (in_travel to) P
 targeted_at P to holds = given_where (is_position to) to _ P (λ _. holds)
 
@@ -55,19 +54,22 @@ targeted_at P to holds = given_where (is_position to) to _ P (λ _. holds)
 abbrev Leads : (Point → Type 0) → (Option Centre → Type 0) → Move → Type 0
 Leads P C move = IfSome (end_of move) P × C (centre_in move)
 
--- a cut, where the feed is not 0
+-- a cut leads where its move does, if the feed is not 0
 cut_leads : (P : Point → Type 0) (C : Option Centre → Type 0) (feed : ℤ) (move : Move) → Leads P C move → IfOk (at_feed feed move) (Leads P C)
 cut_leads P C feed move holds = given_unless (is_zero feed) _ (Ok move) (Leads P C) holds
 
+-- an arc that ends on its circle leads so,
 arc_leads : (P : Point → Type 0) (C : Option Centre → Type 0) (at to : Point) (clockwise : Bool) (centre : Option Centre) (feed : ℤ) (per_rev : Bool) → P to → C centre → IfOk (arc_of at to clockwise centre feed per_rev) (Leads P C)
 arc_leads P C at to clockwise None feed per_rev holds given = tt
 arc_leads P C at to clockwise (Some centre) feed per_rev holds given =
     given_unless (misses at to centre) _ (at_feed feed (Arc clockwise to centre feed per_rev)) (Leads P C)
     (cut_leads P C feed (Arc clockwise to centre feed per_rev) (holds, given))
 
+-- one move does,
 one_leads : (P : Point → Type 0) (C : Option Centre → Type 0) (move : Move) → Leads P C move → All (Leads P C) (move ∷ [])
 one_leads P C move holds = All-cons (Leads P C) move [] holds (All-nil (Leads P C))
 
+-- and both moves of the way home do
 home_leads : (P : Point → Type 0) (C : Option Centre → Type 0) (between home : Point) → C None → P between → P home → All (Leads P C) (RapidMove between ∷ RapidMove home ∷ [])
 home_leads P C between home none there here = All-cons (Leads P C) (RapidMove between) (RapidMove home ∷ []) (there, none) (one_leads P C (RapidMove home) (here, none))
 
@@ -100,7 +102,7 @@ all_lead P C Machine block none given target machine between home =
     after (target_of block.start origin block.x block.z) (λ to. Ok (RapidMove to ∷ [])) P (All (Leads P C)) machine (λ to holds. one_leads P C (RapidMove to) (holds, none))
 all_lead P C _ block none given target machine between home = All-nil (Leads P C)
 
--- of moves that lead so, where they end
+-- moves that lead so end so
 ends_alone : (P : Point → Type 0) (C : Option Centre → Type 0) (made : Result (List Move) MotionFault) → IfOk made (All (Leads P C)) → IfOk made (AllEnd P)
 ends_alone P C (Ok moves) lead = All-weaker (Leads P C) (λ move. IfSome (end_of move) P) (λ move leads. leads.0) moves lead
 ends_alone P C (Err alarm) lead = tt
@@ -111,12 +113,15 @@ part_kept at shift Keep unnamed = refl
 part_kept at shift (To programmed) unnamed = absurd (cc)
 part_kept at shift (By way) unnamed = absurd (cc)
 
+-- so the point that the axis words reach keeps what isn't named,
 reached_kept : (block : BlockMotion) (shift : Point) → KeepsUnnamed block (reached block.start shift block.x block.z)
 reached_kept block shift = (part_kept block.start.x shift.x block.x, part_kept block.start.z shift.z block.z)
 
+-- and so does the named part of a point
 named_kept : (block : BlockMotion) (to : Point) → KeepsUnnamed block (named block.start to (is_named block.x) (is_named block.z))
 named_kept block to = (λ x. rw x refl, λ z. rw z refl)
 
+-- each move of a block ends where it starts along an axis that it does not name
 pub unnamed_stay : (kind : CodeKind) (block : BlockMotion) → IfOk (moves_due kind block) (AllEnd (KeepsUnnamed block))
 unnamed_stay kind block =
     ends_alone (KeepsUnnamed block) (λ _. Unit {0}) (moves_due kind block)
@@ -141,6 +146,8 @@ centre_within far (Some i) None None at_i at_k at_r = let zero : unsigned_abs (p
 centre_within far None (Some k) None at_i at_k at_r = let zero : unsigned_abs (pos 0) ≤ far = omega arith in (zero, at_k)
 centre_within far (Some i) (Some k) None at_i at_k at_r = (at_i, at_k)
 
+-- the moves of a block within the travel end at positions, and their I, K and R are no larger than
+-- its own
 pub moves_within : (far : ℕ) (kind : CodeKind) (block : BlockMotion) → IsBlockWithin far block → IsPosition block.start → IsPosition block.home → IfOk (moves_due kind block) (AreMovesWithin far)
 moves_within far kind block within start home =
     all_lead IsPosition (IsGivenWithin far) kind block tt
